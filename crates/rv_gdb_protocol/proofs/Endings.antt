@@ -2,8 +2,8 @@
 use Rattle.std.proofs.Common.{◌≡◌, ◌==◌, ℕ, List, ap, cond, get_or, refl, sym, ◌∙◌}
 use Rattle.rv_machine.specs.declared.ending.FaultKind.{FaultKind}
 use Rattle.rv_machine.specs.declared.ending.FaultKind.TheVariants as fault
-use Rattle.rv_gdb_protocol.specs.Stops.{Told, Aborted, BadCall, BusError, Exited, FileTooLarge, IllegalInstruction, NoEnding, SegmentFault, UsedUp, fault_text, stop_text, end_kind_of_stop, end_kind_of_fault}
-use Rattle.rv_gdb_protocol.specs.declared.request.Watched.TheVariants as watch
+use Rattle.rv_gdb_protocol.specs.Stops.{EndKind, Aborted, BadCall, BusError, Exited, FileTooLarge, IllegalInstruction, NoEnding, SegmentFault, UsedUp, fault_text, stop_text, end_kind_of_stop, end_kind_of_fault}
+use Rattle.rv_gdb_protocol.specs.declared.request.WatchKind.TheVariants as watch
 use Rattle.rv_gdb_protocol.specs.declared.stop.Stop.{Stop}
 use Rattle.rv_gdb_protocol.specs.declared.stop.Stop.TheVariants as stop
 
@@ -12,11 +12,11 @@ abbrev byte_at : List ℕ → ℕ → ℕ
 byte_at text place = get_or text place 0
 
 -- of `T05` alone, with a watch, or with the log's begin or end
-abbrev of_trap : List ℕ → Told
+abbrev of_trap : List ℕ → EndKind
 of_trap text = cond (byte_at text 4 == 101) (cond (byte_at text 13 == 101) Exited NoEnding) NoEnding
 
 -- what a reply tells, by its signal
-abbrev of_zero : List ℕ → Told
+abbrev of_zero : List ℕ → EndKind
 of_zero text = cond (byte_at text 2 == 53) (of_trap text)
     (cond (byte_at text 2 == 98) SegmentFault
     (cond (byte_at text 2 == 97) BusError
@@ -24,7 +24,7 @@ of_zero text = cond (byte_at text 2 == 53) (of_trap text)
     (cond (byte_at text 2 == 54) Aborted
     (cond (byte_at text 2 == 99) BadCall NoEnding)))))
 
-abbrev of_reply : List ℕ → Told
+abbrev of_reply : List ℕ → EndKind
 of_reply text = cond (byte_at text 1 == 48) (of_zero text) (cond (byte_at text 2 == 56) UsedUp FileTooLarge)
 
 fault_told : (kind : FaultKind) → of_reply (fault_text kind) ≡ end_kind_of_fault kind
@@ -42,12 +42,12 @@ fault_told fault.ConsoleFull = refl
 
 stop_told : (one : Stop) → of_reply (stop_text one) ≡ end_kind_of_stop one
 unfolding stop_text
-stop_told stop.Here = refl
+stop_told stop.Trap = refl
 stop_told (stop.Watch watch.Writes address) = refl
 stop_told (stop.Watch watch.Reads address) = refl
 stop_told (stop.Watch watch.Accesses address) = refl
 stop_told stop.Interrupt = refl
-stop_told stop.Beginning = refl
+stop_told stop.RunStart = refl
 stop_told stop.Exit = refl
 stop_told stop.Budget = refl
 stop_told (stop.Fault kind) = fault_told kind

@@ -6,7 +6,7 @@ use Rattle.std.proofs.lemmas.List.Folds.{list_all-append}
 use Rattle.std.specs.List.{list_all, prefix_len}
 use Rattle.hex.specs.Hex.{hex_digit_value}
 use Rattle.rv_gdb_protocol.specs.Grammar.{AreTwoNumbers, joined_by}
-use Rattle.rv_gdb_protocol.specs.Numbers.{with_hex_digit, number_of, parse_two_numbers, place_of, until, with_digit}
+use Rattle.rv_gdb_protocol.specs.Numbers.{with_hex_digit, parse_number, parse_two_numbers, delimiter_index, text_before, with_digit}
 use Rattle.rv_gdb_protocol.specs.Requests.{comma}
 
 -- a byte that is not a mark
@@ -24,7 +24,7 @@ prefix_up_to mark (byte ∷ first) second others =
     cond-true (is_other mark byte) (1 + prefix_len (is_other mark) (joined_by mark first second)) 0 parts.0 ∙ omega (arith, rest)
 
 pub place_between : (mark : ℕ) (first second : List ℕ) → list_all (is_other mark) first ≡ true
-    → place_of mark (joined_by mark first second) ≡ Some (length first)
+    → delimiter_index mark (joined_by mark first second) ≡ Some (length first)
 place_between mark first second others =
     let text : List ℕ = joined_by mark first second in
     let at : prefix_len (is_other mark) text ≡ length first = prefix_up_to mark first second others in
@@ -63,11 +63,11 @@ digits_lack mark none value (byte ∷ text) number told =
     ])
     (digits_lack mark none (with_hex_digit value byte) text number told)
 
-folded : (text : List ℕ) (number : ℕ) → number_of text ≡ Some number → fold with_hex_digit (Some 0) text ≡ Some number
-unfolding number_of
+folded : (text : List ℕ) (number : ℕ) → parse_number text ≡ Some number → fold with_hex_digit (Some 0) text ≡ Some number
+unfolding parse_number
 folded text number told = grind arith
 
-pub number_lacks : (mark : ℕ) → hex_digit_value mark ≡ None → (text : List ℕ) (number : ℕ) → number_of text ≡ Some number
+pub number_lacks : (mark : ℕ) → hex_digit_value mark ≡ None → (text : List ℕ) (number : ℕ) → parse_number text ≡ Some number
     → list_all (is_other mark) text ≡ true
 number_lacks mark none text number told = digits_lack mark none (Some 0) text number (folded text number told)
 
@@ -106,14 +106,14 @@ prefix_of_all mark (byte ∷ text) others =
     let rest = prefix_of_all mark text parts.1 in
     cond-true (is_other mark byte) (1 + prefix_len (is_other mark) text) 0 parts.0 ∙ omega (arith, rest)
 
-no_place : (mark : ℕ) (text : List ℕ) → list_all (is_other mark) text ≡ true → place_of mark text ≡ None
+no_place : (mark : ℕ) (text : List ℕ) → list_all (is_other mark) text ≡ true → delimiter_index mark text ≡ None
 no_place mark text others =
     let all = prefix_of_all mark text others in
     cond-false (ltb (prefix_len (is_other mark) text) (length text)) (Some (prefix_len (is_other mark) text)) None
     (le-ltb (prefix_len (is_other mark) text) (length text) (omega (arith, all)))
 
-pub until_all : (mark : ℕ) (text : List ℕ) → list_all (is_other mark) text ≡ true → until mark text ≡ text
-unfolding until
+pub until_all : (mark : ℕ) (text : List ℕ) → list_all (is_other mark) text ≡ true → text_before mark text ≡ text
+unfolding text_before
 until_all mark text others = rw (no_place mark text others) refl
 
 -- ---- what stands before a mark
@@ -127,50 +127,50 @@ prefix_on mark (byte ∷ front) rest others =
     cond-true (is_other mark byte) (1 + prefix_len (is_other mark) (front ++ rest)) 0 parts.0 ∙ omega (arith, later)
 
 -- the text before a mark, where nothing stands before it but the text
-pub until_mark : (mark : ℕ) (text rest : List ℕ) → list_all (is_other mark) text ≡ true → until mark (joined_by mark text rest) ≡ text
-unfolding until
+pub until_mark : (mark : ℕ) (text rest : List ℕ) → list_all (is_other mark) text ≡ true → text_before mark (joined_by mark text rest) ≡ text
+unfolding text_before
 until_mark mark text rest others = rw (place_between mark text rest others) (before_mark mark text rest)
 
 -- a text in front of which a mark does not stand
 until_on_cases : (mark : ℕ) (front rest : List ℕ) (is : Bool)
     → ltb (prefix_len (is_other mark) rest) (length rest) ≡ is → list_all (is_other mark) front ≡ true
-    → until mark (front ++ rest) ≡ front ++ until mark rest
-unfolding until
+    → text_before mark (front ++ rest) ≡ front ++ text_before mark rest
+unfolding text_before
 until_on_cases mark front rest true is others =
     let at = prefix_on mark front rest others in
     let k = prefix_len (is_other mark) rest in
     let within : k < length rest = ltb-true k (length rest) is in
     let long : length (front ++ rest) ≡ length front + length rest = length-append front rest in
-    let there : place_of mark (front ++ rest) ≡ Some (length front + k) =
+    let there : delimiter_index mark (front ++ rest) ≡ Some (length front + k) =
     cond-true (ltb (prefix_len (is_other mark) (front ++ rest)) (length (front ++ rest)))
     (Some (prefix_len (is_other mark) (front ++ rest))) None
     (lt-ltb (prefix_len (is_other mark) (front ++ rest)) (length (front ++ rest)) (omega arith))
     ∙ ap (λ (n : ℕ). Some n) at in
-    let here : place_of mark rest ≡ Some k = cond-true (ltb k (length rest)) (Some k) None is in
+    let here : delimiter_index mark rest ≡ Some k = cond-true (ltb k (length rest)) (Some k) None is in
     rw (there, here) (take-append-add front rest k)
 until_on_cases mark front rest false is others =
     let at = prefix_on mark front rest others in
     let k = prefix_len (is_other mark) rest in
     let past : length rest ≤ k = ltb-false k (length rest) is in
     let long : length (front ++ rest) ≡ length front + length rest = length-append front rest in
-    let there : place_of mark (front ++ rest) ≡ None =
+    let there : delimiter_index mark (front ++ rest) ≡ None =
     cond-false (ltb (prefix_len (is_other mark) (front ++ rest)) (length (front ++ rest)))
     (Some (prefix_len (is_other mark) (front ++ rest))) None
     (le-ltb (prefix_len (is_other mark) (front ++ rest)) (length (front ++ rest)) (omega arith)) in
-    let here : place_of mark rest ≡ None = cond-false (ltb k (length rest)) (Some k) None is in
+    let here : delimiter_index mark rest ≡ None = cond-false (ltb k (length rest)) (Some k) None is in
     rw (there, here) refl
 
 -- what stands before the first of one mark and then of another, where neither stands in the text
 pub until_other : (mark other : ℕ) (text rest : List ℕ) → list_all (is_other mark) text ≡ true
     → list_all (is_other other) text ≡ true → is_other mark other ≡ true
-    → until other (until mark (joined_by other text rest)) ≡ text
+    → text_before other (text_before mark (joined_by other text rest)) ≡ text
 until_other mark other text rest lacks lacks_other differ =
     let both : list_all (is_other mark) (text ++ other ∷ []) ≡ true =
     list_all-append (is_other mark) text (other ∷ [])
     ∙ and_from (list_all (is_other mark) text) (list_all (is_other mark) (other ∷ [])) lacks
     (and_from (is_other mark other) true differ refl) in
-    let split : until mark (joined_by other text rest) ≡ joined_by other text (until mark rest) =
-    ap (until mark) (sym (append_assoc text (other ∷ []) rest))
+    let split : text_before mark (joined_by other text rest) ≡ joined_by other text (text_before mark rest) =
+    ap (text_before mark) (sym (append_assoc text (other ∷ []) rest))
     ∙ until_on_cases mark (text ++ other ∷ []) rest (ltb (prefix_len (is_other mark) rest) (length rest)) refl both
-    ∙ append_assoc text (other ∷ []) (until mark rest) in
-    ap (until other) split ∙ until_mark other text (until mark rest) lacks_other
+    ∙ append_assoc text (other ∷ []) (text_before mark rest) in
+    ap (text_before other) split ∙ until_mark other text (text_before mark rest) lacks_other

@@ -1,13 +1,13 @@
 -- The parts of texts fit a packet.
 use Rattle.std.proofs.Common.{◌≡◌, ◌∷◌, ◌+◌, ◌*◌, ◌≤◌, [], ℕ, List, arith, length, length-append, length-take, min, drop}
 use Rattle.std.proofs.lemmas.Bool.{cond_both}
-use Rattle.rv_gdb_protocol.specs.Escapes.{changed, escape, escaped, escaped_byte, is_special}
-use Rattle.rv_gdb_protocol.specs.Frames.{max_body}
+use Rattle.rv_gdb_protocol.specs.Escapes.{inverted, escape, escaped, escaped_byte, is_special}
+use Rattle.rv_gdb_protocol.specs.ReaderStates.{max_body}
 use Rattle.rv_gdb_protocol.specs.Replies.{max_part, part_of_rest, part_text}
 use Rattle.rv_gdb_protocol.specs.declared.request.Part.{Part}
 
 byte_twice : (byte : ℕ) → length (escaped_byte byte) ≤ 2
-byte_twice byte = cond_both (is_special byte) (escape ∷ changed byte ∷ []) (byte ∷ []) (λ text. length text ≤ 2) (λ is. omega arith) (λ is. omega arith)
+byte_twice byte = cond_both (is_special byte) (escape ∷ inverted byte ∷ []) (byte ∷ []) (λ text. length text ≤ 2) (λ is. omega arith) (λ is. omega arith)
 
 -- escapes at most double a text
 escaped_twice : (text : List ℕ) → length (escaped text) ≤ 2 * length text

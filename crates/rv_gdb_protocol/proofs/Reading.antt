@@ -6,16 +6,16 @@ use Rattle.std.proofs.lemmas.List.Folds.{list_all-append}
 use Rattle.hex.specs.Hex.{encode_with, hex_digit_value, lower_digits}
 use Rattle.hex.proofs.HexLemmas.{IsDigits-lower_digits}
 use Rattle.rv_gdb_protocol.proofs.Hearing.{incoming_in-append, incoming_in-empty}
-use Rattle.rv_gdb_protocol.specs.Escapes.{packet_start, changed, data_of, end_mark, escape, escaped, escaped_byte, is_special, is_escape}
-use Rattle.rv_gdb_protocol.specs.Frames.{Frame, between, state_after_byte, incoming_in, max_body}
-use Rattle.rv_gdb_protocol.specs.Readback.{CanBeSent, IsReceivedAlone, IsReadBack, incoming_in_pieces, is_plain, joined, sent, verdict_of}
-use Rattle.rv_gdb_protocol.specs.Sums.{framed, checksum_verdict, checksum_digits, sum_of, parse_checksum}
+use Rattle.rv_gdb_protocol.specs.Escapes.{packet_start, inverted, data_of, body_end, escape, escaped, escaped_byte, is_special, is_escape}
+use Rattle.rv_gdb_protocol.specs.ReaderStates.{ReaderState, between_packets, state_after_byte, incoming_in, max_body}
+use Rattle.rv_gdb_protocol.specs.Readback.{CanBeSent, IsReceivedAlone, IsReadBack, incoming_in_pieces, is_plain, joined, packet_with_digits, verdict_of}
+use Rattle.rv_gdb_protocol.specs.Checksums.{packet_of, checksum_verdict, checksum_digits, checksum_of, parse_checksum}
 use Rattle.rv_gdb_protocol.specs.declared.frame.Incoming.TheVariants.{Packet}
-use Rattle.rv_gdb_protocol.specs.declared.frame.Place.TheVariants as place
+use Rattle.rv_gdb_protocol.specs.declared.frame.PacketPosition.TheVariants as position
 use Rattle.rv_gdb_protocol.specs.declared.frame.Checksum.TheVariants as verdict
 
-abbrev in_body : List ℕ → Frame
-in_body body = record { place = place.Body; body = body }
+abbrev in_body : List ℕ → ReaderState
+in_body body = record { position = position.Body; body = body }
 
 -- ---- a text in its frame
 
@@ -23,7 +23,7 @@ in_body body = record { place = place.Body; body = body }
 body_longer : (front : List ℕ) (byte : ℕ) → is_plain byte ≡ true → length front < max_body
     → state_after_byte (in_body front) byte ≡ in_body (front ++ byte ∷ [])
 body_longer front byte plain room =
-    let neither = or_parts (byte == packet_start) (byte == end_mark) (not-true (byte == packet_start || byte == end_mark) plain) in
+    let neither = or_parts (byte == packet_start) (byte == body_end) (not-true (byte == packet_start || byte == body_end) plain) in
     rw (neither.0, neither.1, lt-ltb (length front) max_body room) refl
 
 body_heard : (front text rest : List ℕ) → list_all is_plain text ≡ true → length front + length text ≤ max_body
@@ -33,7 +33,7 @@ body_heard front [] rest plain fits = ap (λ (body : List ℕ). incoming_in (in_
 body_heard front (byte ∷ text) rest plain fits =
     let parts = and_parts (is_plain byte) (list_all is_plain text) plain in
     let grown : length (front ++ byte ∷ []) ≡ length front + 1 = length-append front (byte ∷ []) in
-    ap (λ (frame : Frame). incoming_in frame (text ++ rest)) (body_longer front byte parts.0 (omega arith))
+    ap (λ (frame : ReaderState). incoming_in frame (text ++ rest)) (body_longer front byte parts.0 (omega arith))
     ∙ body_heard (front ++ byte ∷ []) text rest parts.1 (omega arith)
     ∙ ap (λ (body : List ℕ). incoming_in (in_body body) rest) (append_assoc front (byte ∷ []) text)
 
@@ -43,21 +43,21 @@ body_behind front [] rest plain fits = ap (λ (body : List ℕ). fold state_afte
 body_behind front (byte ∷ text) rest plain fits =
     let parts = and_parts (is_plain byte) (list_all is_plain text) plain in
     let grown : length (front ++ byte ∷ []) ≡ length front + 1 = length-append front (byte ∷ []) in
-    ap (λ (frame : Frame). fold state_after_byte frame (text ++ rest)) (body_longer front byte parts.0 (omega arith))
+    ap (λ (frame : ReaderState). fold state_after_byte frame (text ++ rest)) (body_longer front byte parts.0 (omega arith))
     ∙ body_behind (front ++ byte ∷ []) text rest parts.1 (omega arith)
     ∙ ap (λ (body : List ℕ). fold state_after_byte (in_body body) rest) (append_assoc front (byte ∷ []) text)
 
 sent_heard : (text : List ℕ) (high low : ℕ) → CanBeSent text
-    → incoming_in between (sent text high low) ≡ Packet text (verdict_of text high low) ∷ []
+    → incoming_in between_packets (packet_with_digits text high low) ≡ Packet text (verdict_of text high low) ∷ []
 unfolding incoming_in
-sent_heard text high low can = body_heard [] text (end_mark ∷ high ∷ low ∷ []) can.plain (omega arith)
+sent_heard text high low can = body_heard [] text (body_end ∷ high ∷ low ∷ []) can.plain (omega arith)
 
-sent_behind : (text : List ℕ) (high low : ℕ) → CanBeSent text → fold state_after_byte between (sent text high low) ≡ between
-sent_behind text high low can = body_behind [] text (end_mark ∷ high ∷ low ∷ []) can.plain (omega arith)
+sent_behind : (text : List ℕ) (high low : ℕ) → CanBeSent text → fold state_after_byte between_packets (packet_with_digits text high low) ≡ between_packets
+sent_behind text high low can = body_behind [] text (body_end ∷ high ∷ low ∷ []) can.plain (omega arith)
 
 -- ---- pieces
 
-pieces_heard : (frame : Frame) (pieces : List (List ℕ)) → incoming_in_pieces frame pieces ≡ incoming_in frame (joined pieces)
+pieces_heard : (frame : ReaderState) (pieces : List (List ℕ)) → incoming_in_pieces frame pieces ≡ incoming_in frame (joined pieces)
 unfolding incoming_in_pieces
 pieces_heard frame [] = sym (incoming_in-empty frame)
 pieces_heard frame (piece ∷ rest) =
@@ -65,9 +65,9 @@ pieces_heard frame (piece ∷ rest) =
     ∙ sym (incoming_in-append frame piece (joined rest))
 
 pub sent_alone : (text : List ℕ) (high low : ℕ) → CanBeSent text
-    → IsReceivedAlone (sent text high low) text (verdict_of text high low)
+    → IsReceivedAlone (packet_with_digits text high low) text (verdict_of text high low)
 sent_alone text high low can = record {
-  received = λ pieces are. pieces_heard between pieces ∙ ap (incoming_in between) are ∙ sent_heard text high low can;
+  received = λ pieces are. pieces_heard between_packets pieces ∙ ap (incoming_in between_packets) are ∙ sent_heard text high low can;
   state_after = sent_behind text high low can;
 }
 
@@ -76,11 +76,11 @@ sent_alone text high low can = record {
 meaning_cases : (byte : ℕ) → is_special byte ≡ true → (byte ≡ 36) ⊎ ((byte ≡ 35) ⊎ ((byte ≡ 125) ⊎ (byte ≡ 42)))
 meaning_cases byte is = grind arith
 
-meaning_escaped : (byte : ℕ) → is_special byte ≡ true → escaped_byte byte ≡ escape ∷ changed byte ∷ []
-meaning_escaped byte is = cond-true (is_special byte) (escape ∷ changed byte ∷ []) (byte ∷ []) is
+meaning_escaped : (byte : ℕ) → is_special byte ≡ true → escaped_byte byte ≡ escape ∷ inverted byte ∷ []
+meaning_escaped byte is = cond-true (is_special byte) (escape ∷ inverted byte ∷ []) (byte ∷ []) is
 
 plain_escaped : (byte : ℕ) → is_special byte ≡ false → escaped_byte byte ≡ byte ∷ []
-plain_escaped byte is = cond-false (is_special byte) (escape ∷ changed byte ∷ []) (byte ∷ []) is
+plain_escaped byte is = cond-false (is_special byte) (escape ∷ inverted byte ∷ []) (byte ∷ []) is
 
 -- what holds of the escapes of the four bytes, and of each other byte as it is, holds of each byte as it is escaped
 escapes_hold : (P : ℕ → List ℕ → Type 0) → P 36 (125 ∷ 4 ∷ []) → P 35 (125 ∷ 3 ∷ []) → P 125 (125 ∷ 93 ∷ [])
@@ -134,14 +134,14 @@ escaped_whole (byte ∷ body) = byte_whole (escaped body) byte ∙ escaped_whole
 
 -- ---- the sum
 
-sum_small : (text : List ℕ) → sum_of text < 256
-unfolding sum_of
+sum_small : (text : List ℕ) → checksum_of text < 256
+unfolding checksum_of
 sum_small text = omega arith
 
-sum_right : (text : List ℕ) → verdict_of text (slice_index lower_digits (sum_of text / 16)) (slice_index lower_digits (sum_of text % 16))
+sum_right : (text : List ℕ) → verdict_of text (slice_index lower_digits (checksum_of text / 16)) (slice_index lower_digits (checksum_of text % 16))
     ≡ verdict.Right
 sum_right text =
-    let s : ℕ = sum_of text in
+    let s : ℕ = checksum_of text in
     let small : s < 256 = sum_small text in
     let high : ℕ = s / 16 in
     let low : ℕ = s % 16 in
@@ -150,12 +150,12 @@ sum_right text =
     ∙ ap (λ (told : Option ℕ). checksum_verdict s (parse_checksum (Some high) told)) (IsDigits-lower_digits low (omega arith))
     ∙ cond-true (high * 16 + low == s) verdict.Right verdict.Wrong (eq-eqb (high * 16 + low) s (omega arith))
 
-framed_alone : (body : List ℕ) → length (escaped body) ≤ max_body → IsReceivedAlone (framed body) (escaped body) verdict.Right
-unfolding framed checksum_digits encode_with
+framed_alone : (body : List ℕ) → length (escaped body) ≤ max_body → IsReceivedAlone (packet_of body) (escaped body) verdict.Right
+unfolding packet_of checksum_digits encode_with
 framed_alone body fits =
     let text : List ℕ = escaped body in
-    let high : ℕ = slice_index lower_digits (sum_of text / 16) in
-    let low : ℕ = slice_index lower_digits (sum_of text % 16) in
+    let high : ℕ = slice_index lower_digits (checksum_of text / 16) in
+    let low : ℕ = slice_index lower_digits (checksum_of text % 16) in
     let can : CanBeSent text = record { plain = escaped_plain body; fits = fits } in
     rw (← sum_right text) (sent_alone text high low can)
 

@@ -2,25 +2,25 @@
 use Rattle.std.proofs.Common.{◌≡◌, ◌∷◌, ◌+◌, ◌≤◌, ℕ, List, Option, Some, true, false, ap, arith, eqb, length, refl}
 use Rattle.std.specs.List.{list_all}
 use Rattle.std.proofs.lemmas.Bool.{eq-eqb, le-leb, ne_eqb}
-use Rattle.rv_gdb_protocol.specs.Grammar.{IsAction, IsRequest, IsStoppointText, accesses, action_of_thread, actions, attached, choose_thread, clear_stoppoint, close_file, command, description, detach, detach_process, features, file_size, file_system, first_action, first_threads, continues_back, goes_on, continues_with_signal, hardware, image_path, is_alive, kill, kill_process, last_stop, more_threads, moves, no_acknowledgements, continue_with_signal, one_action, open_file, plain_move, read_file, read_memory, reads, register, registers, restart, set_stoppoint, software, stay_extended, step_with_signal, steps, steps_back, steps_with_signal, steps_within, this_thread, write_data, write_digits, write_register, write_registers, writes}
+use Rattle.rv_gdb_protocol.specs.Grammar.{IsAction, IsRequest, IsStoppointText, accesses, action_of_thread, actions, attached, choose_thread, clear_stoppoint, close_file, command, description, detach, detach_process, features, file_size, file_system, first_action, first_threads, continues_back, continues, continues_with_signal, hardware, image_path, is_alive, kill, kill_process, last_stop, more_threads, moves, no_acknowledgements, continue_with_signal, one_action, open_file, plain_move, read_file, read_memory, reads, register, registers, restart, set_stoppoint, software, stay_extended, step_with_signal, steps, steps_back, steps_with_signal, steps_within, this_thread, write_data, write_digits, write_register, write_registers, writes}
 use Rattle.rv_gdb_protocol.specs.Numbers.{text_after}
 use Rattle.rv_gdb_protocol.specs.Packets as packet
 use Rattle.rv_gdb_protocol.specs.Requests as args
-use Rattle.rv_gdb_protocol.specs.Requests.{colon, comma, equals, register_of, semicolon, parse_stoppoint, stoppoint_change, parse_watch_range, watched, whole_data, written}
+use Rattle.rv_gdb_protocol.specs.Requests.{colon, comma, equals, register_of, semicolon, parse_stoppoint, stoppoint_change, parse_watch_range, watchpoint_if_valid, whole_data, memory_write}
 use Rattle.rv_gdb_protocol.specs.declared.request.Move.{Move}
 use Rattle.rv_gdb_protocol.specs.declared.request.Range.{Range}
 use Rattle.rv_gdb_protocol.specs.declared.request.Request.{Request}
 use Rattle.rv_gdb_protocol.specs.declared.request.Request.TheVariants as ask
 use Rattle.rv_gdb_protocol.specs.declared.request.Stoppoint.{Stoppoint}
 use Rattle.rv_gdb_protocol.specs.declared.request.Stoppoint.TheVariants as trap
-use Rattle.rv_gdb_protocol.specs.declared.request.Watched.{Watched}
-use Rattle.rv_gdb_protocol.specs.declared.request.Watched.TheVariants as watch
+use Rattle.rv_gdb_protocol.specs.declared.request.WatchKind.{WatchKind}
+use Rattle.rv_gdb_protocol.specs.declared.request.WatchKind.TheVariants as watch
 use Rattle.rv_gdb_protocol.proofs.Marks.{before_mark, behind_mark, is_other, number_lacks, place_between, two_lack, two_numbers, until_all, until_mark, until_other}
 
 -- ---- where to stop
 
-watch_fits : (kind : Watched) (address count : ℕ) → 1 ≤ count → count ≤ 65536 → address + count ≤ 4294967296
-    → watched kind (record { address = address; count = count }) ≡ Some (trap.Watch kind (record { address = address; count = count }))
+watch_fits : (kind : WatchKind) (address count : ℕ) → 1 ≤ count → count ≤ 65536 → address + count ≤ 4294967296
+    → watchpoint_if_valid kind (record { address = address; count = count }) ≡ Some (trap.Watch kind (record { address = address; count = count }))
 watch_fits kind address count some few within =
     rw (le-leb 1 count some, le-leb count 65536 few, le-leb (address + count) 4294967296 within) refl
 
@@ -41,28 +41,28 @@ trap_read text place (accesses fields address count tells some few within) =
 -- ---- bytes that are written
 
 write_of_count : (range : Range) (bytes : List ℕ) → length bytes ≡ range.count
-    → written range bytes ≡ Some (ask.WriteMemory range.address bytes)
+    → memory_write range bytes ≡ Some (ask.WriteMemory range.address bytes)
 write_of_count range bytes same = rw (eq-eqb (length bytes) range.count same) refl
 
 -- ---- actions
 
 action_read : (text : List ℕ) (step : Move) → IsAction text step → packet.action_of text ≡ Some step
 unfolding packet.action_of packet.bare_action text_after
-action_read text step (moves same other goes_on) = refl
+action_read text step (moves same other continues) = refl
 action_read text step (moves same other steps) = refl
 action_read text step (continues_with_signal signal number told) = rw told refl
 action_read text step (steps_with_signal signal number told) = rw told refl
 action_read text step (steps_within range low high tells) = rw (two_numbers range low high tells) refl
 
 action_lacks_semicolon : (text : List ℕ) (step : Move) → IsAction text step → list_all (is_other semicolon) text ≡ true
-action_lacks_semicolon text step (moves same other goes_on) = refl
+action_lacks_semicolon text step (moves same other continues) = refl
 action_lacks_semicolon text step (moves same other steps) = refl
 action_lacks_semicolon text step (continues_with_signal signal number told) = number_lacks semicolon refl signal number told
 action_lacks_semicolon text step (steps_with_signal signal number told) = number_lacks semicolon refl signal number told
 action_lacks_semicolon text step (steps_within range low high tells) = two_lack semicolon refl refl range low high tells
 
 action_lacks_colon : (text : List ℕ) (step : Move) → IsAction text step → list_all (is_other colon) text ≡ true
-action_lacks_colon text step (moves same other goes_on) = refl
+action_lacks_colon text step (moves same other continues) = refl
 action_lacks_colon text step (moves same other steps) = refl
 action_lacks_colon text step (continues_with_signal signal number told) = number_lacks colon refl signal number told
 action_lacks_colon text step (steps_with_signal signal number told) = number_lacks colon refl signal number told
@@ -75,7 +75,7 @@ some_byte byte text = ne_eqb (length (byte ∷ text)) 0 (λ is. omega arith)
 -- ---- each packet
 
 pub is_read : (body : List ℕ) (request : Request) → IsRequest body request → packet.request_of body ≡ request
-unfolding packet.request_of packet.request_without_bytes packet.bare_query packet.bare_command packet.query packet.register_or_memory_request packet.stoppoint_request packet.move_request packet.first_action packet.accepted_request packet.detach packet.is_file_call packet.request_with_bytes packet.command args.description args.register_of args.write_register args.write_registers args.write_digits args.write_data args.stoppoint_change args.plain_move args.signal_move args.read_file args.image_path args.path_to_open text_after
+unfolding packet.request_of packet.request_without_bytes packet.bare_query packet.bare_command packet.query_request packet.register_or_memory_request packet.stoppoint_request packet.move_request packet.first_action packet.accepted_request packet.detach packet.is_file_call packet.request_with_bytes packet.command args.description args.register_of args.write_register args.write_registers args.write_digits args.write_data args.stoppoint_change args.plain_move args.signal_move args.read_file args.image_path args.path_to_open text_after
 is_read body request (features args) = refl
 is_read body request no_acknowledgements = refl
 is_read body request last_stop = refl
@@ -118,7 +118,7 @@ is_read body request (write_data range data_text bytes address count tells told 
     ) refl
 is_read body request (set_stoppoint text place is) = rw (trap_read text place is) refl
 is_read body request (clear_stoppoint text place is) = rw (trap_read text place is) refl
-is_read body request (plain_move text step goes_on) = refl
+is_read body request (plain_move text step continues) = refl
 is_read body request (plain_move text step steps) = refl
 is_read body request (continue_with_signal signal number told) = rw told refl
 is_read body request (step_with_signal signal number told) = rw told refl

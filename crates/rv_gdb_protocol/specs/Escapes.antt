@@ -7,8 +7,8 @@ abbrev pub packet_start : ℕ
 packet_start = 36
 
 -- `#`, which ends the body of a packet
-abbrev pub end_mark : ℕ
-end_mark = 35
+abbrev pub body_end : ℕ
+body_end = 35
 
 -- `}`, which escapes the next byte
 abbrev pub escape : ℕ
@@ -20,15 +20,15 @@ repeat_mark = 42
 
 -- whether a byte has a special meaning in a packet, so that it must be escaped
 abbrev pub is_special : ℕ → Bool
-is_special byte = byte == packet_start || byte == end_mark || byte == escape || byte == repeat_mark
+is_special byte = byte == packet_start || byte == body_end || byte == escape || byte == repeat_mark
 
 -- a byte with bit 5 inverted, as it is written after `}`
-abbrev pub changed : ℕ → ℕ
-changed byte = bit_xor byte 32
+abbrev pub inverted : ℕ → ℕ
+inverted byte = bit_xor byte 32
 
 -- the bytes that represent a byte in a packet: the byte itself, or, if it has a special meaning, `}` and the byte with bit 5 inverted
 abbrev pub escaped_byte : ℕ → List ℕ
-escaped_byte byte = if is_special byte then escape ∷ changed byte ∷ [] else byte ∷ []
+escaped_byte byte = if is_special byte then escape ∷ inverted byte ∷ [] else byte ∷ []
 
 -- a body as it is written in a packet, with escapes
 abbrev pub escaped : List ℕ → List ℕ
@@ -41,7 +41,7 @@ is_escape false byte = byte == escape
 
 -- the data that a byte represents, given whether the previous byte is an escape; empty for an escape
 abbrev pub data_byte : Bool → ℕ → List ℕ
-data_byte true byte = changed byte ∷ []
+data_byte true byte = inverted byte ∷ []
 data_byte false byte = if byte == escape then [] else byte ∷ []
 
 -- the data that a text with escapes represents, given whether the byte before it is an escape

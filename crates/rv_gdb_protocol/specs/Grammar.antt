@@ -2,7 +2,7 @@
 -- rejected.
 use Rattle.std.specs.Prelude.{ℕ, List, ◌∷◌, ◌++◌, ◌≡◌, ◌≤◌, ◌+◌, ◌==◌, true, Some, codes, length, not}
 use Rattle.std.specs.List.{list_all}
-use Rattle.rv_gdb_protocol.specs.Numbers.{bytes_of, number_of, value_of}
+use Rattle.rv_gdb_protocol.specs.Numbers.{parse_bytes, parse_number, parse_value}
 use Rattle.rv_gdb_protocol.specs.Requests.{colon, comma, equals, register_of, semicolon, whole_data}
 use Rattle.rv_gdb_protocol.specs.declared.request.Move.{Move}
 use Rattle.rv_gdb_protocol.specs.declared.request.Move.TheVariants as move
@@ -11,7 +11,7 @@ use Rattle.rv_gdb_protocol.specs.declared.request.Request.{Request}
 use Rattle.rv_gdb_protocol.specs.declared.request.Request.TheVariants as ask
 use Rattle.rv_gdb_protocol.specs.declared.request.Stoppoint.{Stoppoint}
 use Rattle.rv_gdb_protocol.specs.declared.request.Stoppoint.TheVariants as trap
-use Rattle.rv_gdb_protocol.specs.declared.request.Watched.TheVariants as watch
+use Rattle.rv_gdb_protocol.specs.declared.request.WatchKind.TheVariants as watch
 
 -- two texts separated by a delimiter
 abbrev pub joined_by : ℕ → List ℕ → List ℕ → List ℕ
@@ -27,8 +27,8 @@ pub record AreTwoNumbers (text : List ℕ) (first second : ℕ) : Type 0 where
   -- the digits of the second number
   pub second_digits : List ℕ
   pub text_is : text ≡ joined_by comma front second_digits
-  pub front_tells : number_of front ≡ Some first
-  pub behind_tells : number_of second_digits ≡ Some second
+  pub front_tells : parse_number front ≡ Some first
+  pub behind_tells : parse_number second_digits ≡ Some second
 
 -- the text is the arguments of `Z` and `z` for this stoppoint: 0 and 1 are breakpoints, 2 to 4 are watchpoints for writes, reads and both
 pub data IsStoppointText : List ℕ → Stoppoint → Type 0 where
@@ -46,15 +46,15 @@ pub data IsStoppointText : List ℕ → Stoppoint → Type 0 where
 
 -- the text `c` requests to continue, and `s` to step
 pub data IsMove : List ℕ → Move → Type 0 where
-  goes_on : IsMove (codes "c") move.Continue
+  continues : IsMove (codes "c") move.Continue
   steps : IsMove (codes "s") move.Step
 
 -- the text is an action of `vCont;` that requests this move: a signal is ignored, and `r` steps while the pc is in a range of addresses
 pub data IsAction : List ℕ → Move → Type 0 where
   moves : (text : List ℕ) (step : Move) → IsMove text step → IsAction text step
-  continues_with_signal : (signal : List ℕ) (number : ℕ) → number_of signal ≡ Some number
+  continues_with_signal : (signal : List ℕ) (number : ℕ) → parse_number signal ≡ Some number
       → IsAction (codes "C" ++ signal) move.Continue
-  steps_with_signal : (signal : List ℕ) (number : ℕ) → number_of signal ≡ Some number → IsAction (codes "S" ++ signal) move.Step
+  steps_with_signal : (signal : List ℕ) (number : ℕ) → parse_number signal ≡ Some number → IsAction (codes "S" ++ signal) move.Step
   steps_within : (range : List ℕ) (low high : ℕ) → AreTwoNumbers range low high
       → IsAction (codes "r" ++ range) (move.StepWithin low high)
 
@@ -66,16 +66,16 @@ pub data IsRequest : List ℕ → Request → Type 0 where
   description : (part : List ℕ) (offset count : ℕ) → AreTwoNumbers part offset count
       → IsRequest (codes "qXfer:features:read:target.xml:" ++ part) (ask.Description (record { offset = offset; count = count }))
   registers : IsRequest (codes "g") ask.Registers
-  register : (digits : List ℕ) (number : ℕ) (which : Register) → number_of digits ≡ Some number
+  register : (digits : List ℕ) (number : ℕ) (which : Register) → parse_number digits ≡ Some number
       → register_of number ≡ Some which → IsRequest (codes "p" ++ digits) (ask.Register which)
-  write_register : (digits values : List ℕ) (number value : ℕ) (which : Register) → number_of digits ≡ Some number
-      → register_of number ≡ Some which → value_of values ≡ Some value
+  write_register : (digits values : List ℕ) (number value : ℕ) (which : Register) → parse_number digits ≡ Some number
+      → register_of number ≡ Some which → parse_value values ≡ Some value
       → IsRequest (codes "P" ++ joined_by equals digits values) (ask.WriteRegister which value)
-  write_registers : (digits bytes : List ℕ) → bytes_of digits ≡ Some bytes → length bytes ≡ 132
+  write_registers : (digits bytes : List ℕ) → parse_bytes digits ≡ Some bytes → length bytes ≡ 132
       → IsRequest (codes "G" ++ digits) (ask.WriteRegisters bytes)
   read_memory : (range : List ℕ) (address count : ℕ) → AreTwoNumbers range address count
       → IsRequest (codes "m" ++ range) (ask.ReadMemory (record { address = address; count = count }))
-  write_digits : (range digits bytes : List ℕ) (address count : ℕ) → AreTwoNumbers range address count → bytes_of digits ≡ Some bytes
+  write_digits : (range digits bytes : List ℕ) (address count : ℕ) → AreTwoNumbers range address count → parse_bytes digits ≡ Some bytes
       → length bytes ≡ count → IsRequest (codes "M" ++ joined_by colon range digits) (ask.WriteMemory address bytes)
   write_data : (range data_text bytes : List ℕ) (address count : ℕ) → AreTwoNumbers range address count
       → whole_data data_text ≡ Some bytes → length bytes ≡ count
@@ -84,9 +84,9 @@ pub data IsRequest : List ℕ → Request → Type 0 where
   clear_stoppoint : (text : List ℕ) (place : Stoppoint) → IsStoppointText text place → IsRequest (codes "z" ++ text) (ask.Clear place)
   actions : IsRequest (codes "vCont?") ask.Actions
   plain_move : (text : List ℕ) (step : Move) → IsMove text step → IsRequest text (ask.Move step)
-  continue_with_signal : (signal : List ℕ) (number : ℕ) → number_of signal ≡ Some number
+  continue_with_signal : (signal : List ℕ) (number : ℕ) → parse_number signal ≡ Some number
       → IsRequest (codes "C" ++ signal) (ask.Move move.Continue)
-  step_with_signal : (signal : List ℕ) (number : ℕ) → number_of signal ≡ Some number
+  step_with_signal : (signal : List ℕ) (number : ℕ) → parse_number signal ≡ Some number
       → IsRequest (codes "S" ++ signal) (ask.Move move.Step)
   one_action : (text : List ℕ) (step : Move) → IsAction text step → IsRequest (codes "vCont;" ++ text) (ask.Move step)
   first_action : (text rest : List ℕ) (step : Move) → IsAction text step
@@ -95,7 +95,7 @@ pub data IsRequest : List ℕ → Request → Type 0 where
       → IsRequest (codes "vCont;" ++ joined_by colon text rest) (ask.Move step)
   continues_back : IsRequest (codes "bc") (ask.Move move.ContinueBack)
   steps_back : IsRequest (codes "bs") (ask.Move move.StepBack)
-  command : (digits text : List ℕ) → bytes_of digits ≡ Some text → IsRequest (codes "qRcmd," ++ digits) (ask.Command text)
+  command : (digits text : List ℕ) → parse_bytes digits ≡ Some text → IsRequest (codes "qRcmd," ++ digits) (ask.Command text)
   detach : IsRequest (codes "D") ask.Detach
   kill : IsRequest (codes "k") ask.Kill
   detach_process : (process : List ℕ) → IsRequest (codes "D;" ++ process) ask.Detach
@@ -112,7 +112,7 @@ pub data IsRequest : List ℕ → Request → Type 0 where
       → IsRequest (codes "qXfer:exec-file:read:" ++ joined_by colon process part)
       (ask.ImagePath (record { offset = offset; count = count }))
   file_system : IsRequest (codes "vFile:setfs:0") ask.FileSystem
-  open_file : (digits path modes : List ℕ) (mode : ℕ) → HasNoDelimiter comma digits → bytes_of digits ≡ Some path → AreTwoNumbers modes 0 mode
+  open_file : (digits path modes : List ℕ) (mode : ℕ) → HasNoDelimiter comma digits → parse_bytes digits ≡ Some path → AreTwoNumbers modes 0 mode
       → IsRequest (codes "vFile:open:" ++ joined_by comma digits modes) (ask.OpenFile path)
   file_size : IsRequest (codes "vFile:fstat:5") ask.FileSize
   read_file : (part : List ℕ) (count offset : ℕ) → AreTwoNumbers part count offset

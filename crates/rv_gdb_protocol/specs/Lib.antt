@@ -1,6 +1,6 @@
 pub mod Escapes
-pub mod Sums
-pub mod Frames
+pub mod Checksums
+pub mod ReaderStates
 pub mod Numbers
 pub mod Requests
 pub mod Packets
@@ -8,4 +8,4 @@ pub mod Grammar
 pub mod Replies
 pub mod Readback
 pub mod Stops
-pub mod Shown
+pub mod RegisterTexts

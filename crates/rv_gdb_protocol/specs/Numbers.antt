@@ -22,8 +22,8 @@ abbrev pub with_hex_digit : Option ℕ → ℕ → Option ℕ
 with_hex_digit value byte = with_digit value (hex_digit_value byte)
 
 -- the number that 1 to 8 hexadecimal digits represent, in either case, or `None` for any other text
-unfoldable pub number_of : List ℕ → Option ℕ
-number_of text = if nat_le 1 (length text) && nat_le (length text) 8 then fold with_hex_digit (Some 0) text else None
+unfoldable pub parse_number : List ℕ → Option ℕ
+parse_number text = if nat_le 1 (length text) && nat_le (length text) 8 then fold with_hex_digit (Some 0) text else None
 
 -- the decoded bytes, or `None` if decoding failed
 abbrev pub bytes_if_decoded : Result (List ℕ) FromHexError → Option (List ℕ)
@@ -31,8 +31,8 @@ bytes_if_decoded (Ok bytes) = Some bytes
 bytes_if_decoded (Err refused) = None
 
 -- the bytes that hexadecimal digits represent, two digits for each, or `None` for any other text
-unfoldable pub bytes_of : List ℕ → Option (List ℕ)
-bytes_of text = bytes_if_decoded (decode_of text)
+unfoldable pub parse_bytes : List ℕ → Option (List ℕ)
+parse_bytes text = bytes_if_decoded (decode_of text)
 
 -- the value of a register with the decoded bytes, low byte first, or `None` if decoding failed
 abbrev pub value_if_decoded : Result (List ℕ) FromHexError → Option ℕ
@@ -40,19 +40,19 @@ value_if_decoded (Ok bytes) = Some (from_le_bytes w32 bytes)
 value_if_decoded (Err refused) = None
 
 -- the value of a register that eight hexadecimal digits represent, low byte first, or `None` for any other text
-unfoldable pub value_of : List ℕ → Option ℕ
-value_of text = value_if_decoded (decode_sized text 4)
+unfoldable pub parse_value : List ℕ → Option ℕ
+parse_value text = value_if_decoded (decode_sized text 4)
 
 -- the index of the first occurrence of a delimiter, or `None` if there is none
-abbrev pub place_of : ℕ → List ℕ → Option ℕ
-place_of mark text = position (λ byte. byte == mark) text
+abbrev pub delimiter_index : ℕ → List ℕ → Option ℕ
+delimiter_index mark text = position (λ byte. byte == mark) text
 
 -- the two numbers before and after the first occurrence of a delimiter, or `None` if either is not a number
 unfoldable pub parse_two_numbers : ℕ → List ℕ → Option (ℕ × ℕ)
 parse_two_numbers mark text = do
-  place ← place_of mark text
-  first ← number_of (take place text)
-  second ← number_of (drop (place + 1) text)
+  place ← delimiter_index mark text
+  first ← parse_number (take place text)
+  second ← parse_number (drop (place + 1) text)
   Some (first, second)
 
 -- the text up to this index, or the whole text if there is no index
@@ -61,8 +61,8 @@ text_to (Some place) text = take place text
 text_to None text = text
 
 -- the text before the first occurrence of a delimiter, or all of it if there is none
-unfoldable pub until : ℕ → List ℕ → List ℕ
-until mark text = text_to (place_of mark text) text
+unfoldable pub text_before : ℕ → List ℕ → List ℕ
+text_before mark text = text_to (delimiter_index mark text) text
 
 -- the text after `name`, or `None` if the text does not begin with `name`
 unfoldable pub text_after : List ℕ → List ℕ → Option (List ℕ)

@@ -3,8 +3,8 @@ use Rattle.std.specs.Prelude.{ℕ, List, ◌==◌, ◌||◌, Bool, Option, Some,
 use Rattle.std.specs.List.{starts_with}
 use Rattle.std.specs.Option.{option_or}
 use Rattle.std.specs.Str.{bytes_eq}
-use Rattle.rv_gdb_protocol.specs.Numbers.{text_after, bytes_of, until, ◌>>=◌}
-use Rattle.rv_gdb_protocol.specs.Requests.{colon, description, image_path, move_within, open_file, or_refusal, plain_move, read_file, read_memory, read_register, semicolon, signal_move, move_with_signal, stoppoint_change, write_data, write_digits, write_register, write_registers}
+use Rattle.rv_gdb_protocol.specs.Numbers.{text_after, parse_bytes, text_before, ◌>>=◌}
+use Rattle.rv_gdb_protocol.specs.Requests.{colon, description, image_path, move_within_range, open_file, or_refusal, plain_move, read_file, read_memory, read_register, semicolon, signal_move, move_with_signal, stoppoint_change, write_data, write_digits, write_register, write_registers}
 use Rattle.rv_gdb_protocol.specs.declared.request.Move.{Move}
 use Rattle.rv_gdb_protocol.specs.declared.request.Move.TheVariants as move
 use Rattle.rv_gdb_protocol.specs.declared.request.Refusal.TheVariants as refusal
@@ -18,8 +18,8 @@ abbrev pub ◌<|>◌ : {A : Type 0} → Option A → Option A → Option A
 one <|> other = option_or one other
 
 -- the result of `asked` for the arguments of a packet that begins with `name`, or `None` for any other body
-abbrev pub named : List ℕ → (List ℕ → Request) → List ℕ → Option Request
-named name asked body = option_map asked (text_after name body)
+abbrev pub request_if_named : List ℕ → (List ℕ → Request) → List ℕ → Option Request
+request_if_named name asked body = option_map asked (text_after name body)
 
 -- ---- packets without arguments
 
@@ -51,29 +51,29 @@ bare_command body =
 -- ---- packets with arguments
 
 -- the request of a `qSupported` or `qAttached` packet, whose arguments are ignored, or `None` for any other packet
-unfoldable pub query : List ℕ → Option Request
-query body =
+unfoldable pub query_request : List ℕ → Option Request
+query_request body =
     if starts_with nat_eq body (codes "qSupported") then Some ask.Features
     else if starts_with nat_eq body (codes "qAttached") then Some ask.Attached else None
 
 -- the request of a packet that reads a part of the target description, or `None` for any other packet
 abbrev pub description_request : List ℕ → Option Request
-description_request body = named (codes "qXfer:features:read:") description body
+description_request body = request_if_named (codes "qXfer:features:read:") description body
 
 -- the request of a packet that reads a part of the image's path, or `None` for any other packet
 abbrev pub image_path_request : List ℕ → Option Request
-image_path_request body = named (codes "qXfer:exec-file:read:") image_path body
+image_path_request body = request_if_named (codes "qXfer:exec-file:read:") image_path body
 
 -- the request of a packet that reads or writes a register, or reads memory, or `None` for any other packet
 unfoldable pub register_or_memory_request : List ℕ → Option Request
 register_or_memory_request body =
-    named (codes "p") read_register body
-    <|> named (codes "P") write_register body
-    <|> named (codes "m") read_memory body
+    request_if_named (codes "p") read_register body
+    <|> request_if_named (codes "P") write_register body
+    <|> request_if_named (codes "m") read_memory body
 
 -- the request of a packet that sets or clears a stoppoint, or `None` for any other packet
 unfoldable pub stoppoint_request : List ℕ → Option Request
-stoppoint_request body = named (codes "Z") (stoppoint_change ask.Set) body <|> named (codes "z") (stoppoint_change ask.Clear) body
+stoppoint_request body = request_if_named (codes "Z") (stoppoint_change ask.Set) body <|> request_if_named (codes "z") (stoppoint_change ask.Clear) body
 
 -- the move that the action `c` or `s` of `vCont;` requests, or `None` for any other action
 unfoldable pub bare_action : List ℕ → Option Move
@@ -87,7 +87,7 @@ signal_action name step text = text_after name text >>= move_with_signal step
 
 -- the move that the action `r` of `vCont;` requests, which steps while the pc is in a range of addresses, or `None` for any other action
 abbrev pub range_action : List ℕ → Option Move
-range_action text = text_after (codes "r") text >>= move_within
+range_action text = text_after (codes "r") text >>= move_within_range
 
 -- the move that an action of `vCont;` without its thread requests, or `None` for an unknown action
 unfoldable pub action_of : List ℕ → Option Move
@@ -96,16 +96,16 @@ action_of text = bare_action text <|> signal_action (codes "C") move.Continue te
 
 -- the request of `vCont;` with these arguments, or a refusal if they are malformed; only the first action counts, since there is one thread
 unfoldable pub first_action : List ℕ → Request
-first_action args = or_refusal refusal.Malformed (option_map ask.Move (action_of (until colon (until semicolon args))))
+first_action args = or_refusal refusal.Malformed (option_map ask.Move (action_of (text_before colon (text_before semicolon args))))
 
 -- the request of a packet that moves forwards in the run, or `None` for any other packet
 unfoldable pub move_request : List ℕ → Option Request
 move_request body =
-    named (codes "vCont;") first_action body
-    <|> named (codes "c") (plain_move move.Continue) body
-    <|> named (codes "s") (plain_move move.Step) body
-    <|> named (codes "C") (signal_move move.Continue) body
-    <|> named (codes "S") (signal_move move.Step) body
+    request_if_named (codes "vCont;") first_action body
+    <|> request_if_named (codes "c") (plain_move move.Continue) body
+    <|> request_if_named (codes "s") (plain_move move.Step) body
+    <|> request_if_named (codes "C") (signal_move move.Continue) body
+    <|> request_if_named (codes "S") (signal_move move.Step) body
 
 -- a request to detach if nothing follows `D`, or `;` and any text (gdb sends a process number); otherwise the refusal of an unknown packet
 unfoldable pub detach : List ℕ → Request
@@ -121,7 +121,7 @@ accepted_request body =
 
 -- the request of a packet that begins with `D`, or `None` for any other packet
 abbrev pub detach_request : List ℕ → Option Request
-detach_request body = named (codes "D") detach body
+detach_request body = request_if_named (codes "D") detach body
 
 -- whether a packet is a call whose first argument is a file descriptor
 unfoldable pub is_file_call : List ℕ → Bool
@@ -131,7 +131,7 @@ is_file_call body =
 
 -- the request of a packet that reads from file descriptor 5, the only one, or `None` for any other packet
 abbrev pub file_reading : List ℕ → Option Request
-file_reading body = named (codes "vFile:pread:5,") read_file body
+file_reading body = request_if_named (codes "vFile:pread:5,") read_file body
 
 -- the refusal of a call on a file descriptor other than 5, or `None` for any other packet
 abbrev pub other_descriptor_request : List ℕ → Option Request
@@ -139,21 +139,21 @@ other_descriptor_request body = if is_file_call body then Some (ask.Refused refu
 
 -- the request to execute a `monitor` command, which is given in hexadecimal digits, or a refusal for other arguments
 unfoldable pub command : List ℕ → Request
-command args = or_refusal refusal.Failed (option_map ask.Command (bytes_of args))
+command args = or_refusal refusal.Failed (option_map ask.Command (parse_bytes args))
 
 -- the request of a packet whose arguments contain data bytes, or `None` for any other packet
 unfoldable pub request_with_bytes : List ℕ → Option Request
 request_with_bytes body =
-    named (codes "G") write_registers body
-    <|> named (codes "M") write_digits body
-    <|> named (codes "X") write_data body
-    <|> named (codes "vFile:open:") open_file body
-    <|> named (codes "qRcmd,") command body
+    request_if_named (codes "G") write_registers body
+    <|> request_if_named (codes "M") write_digits body
+    <|> request_if_named (codes "X") write_data body
+    <|> request_if_named (codes "vFile:open:") open_file body
+    <|> request_if_named (codes "qRcmd,") command body
 
 -- the request of a packet whose arguments contain no data bytes, or `None` for any other packet
 unfoldable pub request_without_bytes : List ℕ → Option Request
 request_without_bytes body =
-    bare_query body <|> bare_command body <|> query body <|> description_request body <|> image_path_request body <|> register_or_memory_request body <|> stoppoint_request body
+    bare_query body <|> bare_command body <|> query_request body <|> description_request body <|> image_path_request body <|> register_or_memory_request body <|> stoppoint_request body
     <|> move_request body <|> accepted_request body <|> detach_request body <|> file_reading body <|> other_descriptor_request body
 
 -- the request that the body of a packet makes; a packet that makes none is refused as unknown

@@ -2,9 +2,9 @@
 use Rattle.std.specs.Prelude.{ℕ, List, [], ◌∷◌, ◌++◌, ◌≡◌, ◌≤◌, ◌==◌, ◌||◌, Bool, true, false, fold, length, not}
 use Rattle.std.specs.List.{flat_map, list_all}
 use Rattle.hex.specs.Hex.{hex_digit_value}
-use Rattle.rv_gdb_protocol.specs.Escapes.{packet_start, data_of, end_mark, escaped, is_whole}
-use Rattle.rv_gdb_protocol.specs.Frames.{Frame, between, state_after_byte, incoming_in, max_body}
-use Rattle.rv_gdb_protocol.specs.Sums.{framed, checksum_verdict, sum_of, parse_checksum}
+use Rattle.rv_gdb_protocol.specs.Escapes.{packet_start, data_of, body_end, escaped, is_whole}
+use Rattle.rv_gdb_protocol.specs.ReaderStates.{ReaderState, between_packets, state_after_byte, incoming_in, max_body}
+use Rattle.rv_gdb_protocol.specs.Checksums.{packet_of, checksum_verdict, checksum_of, parse_checksum}
 use Rattle.rv_gdb_protocol.specs.declared.frame.Incoming.{Incoming}
 use Rattle.rv_gdb_protocol.specs.declared.frame.Incoming.TheVariants.{Packet}
 use Rattle.rv_gdb_protocol.specs.declared.frame.Checksum.{Checksum}
@@ -12,7 +12,7 @@ use Rattle.rv_gdb_protocol.specs.declared.frame.Checksum.TheVariants as verdict
 
 -- whether a byte is neither `$` nor `#`
 abbrev pub is_plain : ℕ → Bool
-is_plain byte = not (byte == packet_start || byte == end_mark)
+is_plain byte = not (byte == packet_start || byte == body_end)
 
 -- the text can be sent in a packet and is short enough to be stored: it has neither `$` nor `#`
 pub record CanBeSent (text : List ℕ) : Type 0 where
@@ -20,15 +20,15 @@ pub record CanBeSent (text : List ℕ) : Type 0 where
   pub fits : length text ≤ max_body
 
 -- a packet with this text and the digits `high` and `low` as its checksum
-abbrev pub sent : List ℕ → ℕ → ℕ → List ℕ
-sent text high low = packet_start ∷ (text ++ end_mark ∷ high ∷ low ∷ [])
+abbrev pub packet_with_digits : List ℕ → ℕ → ℕ → List ℕ
+packet_with_digits text high low = packet_start ∷ (text ++ body_end ∷ high ∷ low ∷ [])
 
 -- `Right` if the digits `high` and `low` are the checksum of the text, or else `Wrong`
 abbrev pub verdict_of : List ℕ → ℕ → ℕ → Checksum
-verdict_of text high low = checksum_verdict (sum_of text) (parse_checksum (hex_digit_value high) (hex_digit_value low))
+verdict_of text high low = checksum_verdict (checksum_of text) (parse_checksum (hex_digit_value high) (hex_digit_value low))
 
 -- the items that the parser receives, in order, if the bytes arrive in these pieces
-unfoldable pub incoming_in_pieces : Frame → List (List ℕ) → List Incoming
+unfoldable pub incoming_in_pieces : ReaderState → List (List ℕ) → List Incoming
 incoming_in_pieces frame [] = []
 incoming_in_pieces frame (piece ∷ rest) =
     incoming_in frame piece ++ incoming_in_pieces (fold state_after_byte frame piece) rest
@@ -40,13 +40,13 @@ joined pieces = flat_map (λ piece. piece) pieces
 -- however the bytes are split, the parser receives exactly one packet, with this text and checksum, and is then between packets
 pub record IsReceivedAlone (bytes text : List ℕ) (sum : Checksum) : Type 0 where
   -- in whatever pieces the bytes arrive, this packet is the only item received
-  pub received : (pieces : List (List ℕ)) → joined pieces ≡ bytes → incoming_in_pieces between pieces ≡ Packet text sum ∷ []
+  pub received : (pieces : List (List ℕ)) → joined pieces ≡ bytes → incoming_in_pieces between_packets pieces ≡ Packet text sum ∷ []
   -- afterwards the parser is between packets
-  pub state_after : fold state_after_byte between bytes ≡ between
+  pub state_after : fold state_after_byte between_packets bytes ≡ between_packets
 
 -- a framed body is received as one packet with a correct checksum, and its data is the body
 pub record IsReadBack (body : List ℕ) : Type 0 where
-  pub alone : IsReceivedAlone (framed body) (escaped body) verdict.Right
+  pub alone : IsReceivedAlone (packet_of body) (escaped body) verdict.Right
   pub data_is : data_of false (escaped body) ≡ body
   pub whole : is_whole (escaped body) ≡ true
 
@@ -55,6 +55,6 @@ pub record EndsWithPacket (bytes text : List ℕ) (sum : Checksum) : Type 0 wher
   pub front : List ℕ
   pub high : ℕ
   pub low : ℕ
-  pub bytes_are : bytes ≡ front ++ sent text high low
+  pub bytes_are : bytes ≡ front ++ packet_with_digits text high low
   pub can : CanBeSent text
   pub sum_is : sum ≡ verdict_of text high low

@@ -2,7 +2,7 @@
 use Rattle.std.specs.Prelude.{ℕ, List, ◌+◌, ◌==◌, ◌&&◌, Bool, false, Option, Some, None, codes, if◌then◌else◌, length, nat_le, take, drop, option_map, unwrap_or, is_some}
 use Rattle.std.specs.Option.{option_or}
 use Rattle.rv_gdb_protocol.specs.Escapes.{data_of, is_whole}
-use Rattle.rv_gdb_protocol.specs.Numbers.{text_after, bytes_of, number_of, parse_two_numbers, place_of, value_of, ◌>>=◌}
+use Rattle.rv_gdb_protocol.specs.Numbers.{text_after, parse_bytes, parse_number, parse_two_numbers, delimiter_index, parse_value, ◌>>=◌}
 use Rattle.rv_gdb_protocol.specs.declared.request.Move.{Move}
 use Rattle.rv_gdb_protocol.specs.declared.request.Move.TheVariants as move
 use Rattle.rv_gdb_protocol.specs.declared.request.Part.{Part}
@@ -15,8 +15,8 @@ use Rattle.rv_gdb_protocol.specs.declared.request.Request.{Request}
 use Rattle.rv_gdb_protocol.specs.declared.request.Request.TheVariants as ask
 use Rattle.rv_gdb_protocol.specs.declared.request.Stoppoint.{Stoppoint}
 use Rattle.rv_gdb_protocol.specs.declared.request.Stoppoint.TheVariants as trap
-use Rattle.rv_gdb_protocol.specs.declared.request.Watched.{Watched}
-use Rattle.rv_gdb_protocol.specs.declared.request.Watched.TheVariants as watch
+use Rattle.rv_gdb_protocol.specs.declared.request.WatchKind.{WatchKind}
+use Rattle.rv_gdb_protocol.specs.declared.request.WatchKind.TheVariants as watch
 
 -- the delimiter `,`
 abbrev pub comma : ℕ
@@ -45,30 +45,30 @@ abbrev pub part_of : ℕ × ℕ → Part
 part_of pair = record { offset = pair.0; count = pair.1 }
 
 -- the part that the arguments `OFFSET,COUNT` specify, or `None` for other arguments
-abbrev pub part_at : List ℕ → Option Part
-part_at text = option_map part_of (parse_two_numbers comma text)
+abbrev pub parse_part : List ℕ → Option Part
+parse_part text = option_map part_of (parse_two_numbers comma text)
 
 -- the request for a part of the target description, from the arguments `target.xml:OFFSET,COUNT`, or a refusal for other arguments
 unfoldable pub description : List ℕ → Request
 description args = unwrap_or
-    (option_map (λ part. or_refusal refusal.Failed (option_map ask.Description (part_at part))) (text_after (codes "target.xml:") args))
+    (option_map (λ part. or_refusal refusal.Failed (option_map ask.Description (parse_part part))) (text_after (codes "target.xml:") args))
     (ask.Refused refusal.OtherAnnex)
 
 -- the request for a part of the image's path, from the arguments `PROCESS:OFFSET,COUNT`, of which the process is ignored, or a refusal for
 -- other arguments
 unfoldable pub image_path : List ℕ → Request
 image_path args = or_refusal refusal.Failed do
-  place ← place_of colon args
-  part ← part_at (drop (place + 1) args)
+  place ← delimiter_index colon args
+  part ← parse_part (drop (place + 1) args)
   Some (ask.ImagePath part)
 
 -- the path in the arguments `PATH,FLAGS,MODE`, which is in hexadecimal digits, or `None` if they are malformed or the flags are not 0,
 -- which means reading
 unfoldable pub path_to_open : List ℕ → Option (List ℕ)
 path_to_open args = do
-  place ← place_of comma args
+  place ← delimiter_index comma args
   flags ← parse_two_numbers comma (drop (place + 1) args)
-  if flags.0 == 0 then bytes_of (take place args) else None
+  if flags.0 == 0 then parse_bytes (take place args) else None
 
 -- the request to open the file that the arguments `PATH,FLAGS,MODE` name; a refusal for other arguments
 abbrev pub open_file : List ℕ → Request
@@ -93,7 +93,7 @@ register_of number =
 -- the register whose number the text is, or `None` if it is not the number of a register
 abbrev pub parse_register : List ℕ → Option Register
 parse_register text = do
-  number ← number_of text
+  number ← parse_number text
   register_of number
 
 -- the request to read the register with this number, or a refusal if the arguments are not the number of a register
@@ -103,9 +103,9 @@ read_register args = or_refusal refusal.Failed (option_map ask.Register (parse_r
 -- the request to write a register, from the arguments `NUMBER=VALUE`, or `None` for other arguments
 abbrev pub register_write : List ℕ → Option Request
 register_write args = do
-  place ← place_of equals args
+  place ← delimiter_index equals args
   register ← parse_register (take place args)
-  value ← value_of (drop (place + 1) args)
+  value ← parse_value (drop (place + 1) args)
   Some (ask.WriteRegister register value)
 
 -- the request to write a register, from the arguments `NUMBER=VALUE`, or a refusal for other arguments
@@ -119,7 +119,7 @@ all_registers_write bytes = if length bytes == 132 then Some (ask.WriteRegisters
 -- the request to write all registers, from 33 values of four bytes, or a refusal for other arguments
 unfoldable pub write_registers : List ℕ → Request
 write_registers args = or_refusal refusal.Malformed do
-  bytes ← bytes_of args
+  bytes ← parse_bytes args
   all_registers_write bytes
 
 -- ---- memory
@@ -129,36 +129,36 @@ abbrev pub range_of : ℕ × ℕ → Range
 range_of pair = record { address = pair.0; count = pair.1 }
 
 -- the range that the arguments `ADDRESS,COUNT` specify, or `None` for other arguments
-abbrev pub range_at : List ℕ → Option Range
-range_at text = option_map range_of (parse_two_numbers comma text)
+abbrev pub parse_range : List ℕ → Option Range
+parse_range text = option_map range_of (parse_two_numbers comma text)
 
 -- the request to read a range of memory, from the arguments `ADDRESS,COUNT`, or a refusal for other arguments
 abbrev pub read_memory : List ℕ → Request
-read_memory args = or_refusal refusal.Failed (option_map ask.ReadMemory (range_at args))
+read_memory args = or_refusal refusal.Failed (option_map ask.ReadMemory (parse_range args))
 
 -- the request to write these bytes, or `None` if there are not as many as the range has
-abbrev pub written : Range → List ℕ → Option Request
-written range bytes = if length bytes == range.count then Some (ask.WriteMemory range.address bytes) else None
+abbrev pub memory_write : Range → List ℕ → Option Request
+memory_write range bytes = if length bytes == range.count then Some (ask.WriteMemory range.address bytes) else None
 
 -- the data of a text with escapes, or `None` if the text ends with an escape
 abbrev pub whole_data : List ℕ → Option (List ℕ)
 whole_data text = if is_whole text then Some (data_of false text) else None
 
 -- the request to write these bytes, or a refusal if there are none or not as many as the range has
-abbrev pub write_of : Range → Option (List ℕ) → Request
-write_of range bytes = or_refusal refusal.Malformed (bytes >>= written range)
+abbrev pub memory_write_or_refusal : Range → Option (List ℕ) → Request
+memory_write_or_refusal range bytes = or_refusal refusal.Malformed (bytes >>= memory_write range)
 
 -- the request to write memory, from the arguments `ADDRESS,COUNT:BYTES`, where `read` parses the bytes, or `None` if the range is malformed
 abbrev pub write_memory : (List ℕ → Option (List ℕ)) → List ℕ → Option Request
 write_memory read args = do
-  place ← place_of colon args
-  range ← range_at (take place args)
-  Some (write_of range (read (drop (place + 1) args)))
+  place ← delimiter_index colon args
+  range ← parse_range (take place args)
+  Some (memory_write_or_refusal range (read (drop (place + 1) args)))
 
 -- the request to write memory, from the arguments `ADDRESS,COUNT:BYTES` with the bytes in hexadecimal digits, or a refusal for other
 -- arguments
 unfoldable pub write_digits : List ℕ → Request
-write_digits args = or_refusal refusal.Malformed (write_memory bytes_of args)
+write_digits args = or_refusal refusal.Malformed (write_memory parse_bytes args)
 
 -- the request to write memory, from the arguments `ADDRESS,COUNT:BYTES` with the bytes as data with escapes, or a refusal for other
 -- arguments
@@ -171,11 +171,11 @@ write_data args = or_refusal refusal.Malformed (write_memory whole_data args)
 abbrev pub stoppoint_range : List ℕ → Option Range
 stoppoint_range text = do
   fields ← text_after (codes ",") text
-  range_at fields
+  parse_range fields
 
 -- the watchpoint for a range of 1 to 65,536 bytes within the address space, or `None` for any other range
-abbrev pub watched : Watched → Range → Option Stoppoint
-watched kind range = if (nat_le 1 range.count && nat_le range.count 65536) && nat_le (range.address + range.count) 4294967296
+abbrev pub watchpoint_if_valid : WatchKind → Range → Option Stoppoint
+watchpoint_if_valid kind range = if (nat_le 1 range.count && nat_le range.count 65536) && nat_le (range.address + range.count) 4294967296
     then Some (trap.Watch kind range) else None
 
 -- the breakpoint that the arguments `,ADDRESS,KIND` specify, or `None` for other arguments
@@ -183,15 +183,15 @@ abbrev pub parse_breakpoint : List ℕ → Option Stoppoint
 parse_breakpoint text = option_map (λ (range : Range). trap.Break range.address) (stoppoint_range text)
 
 -- the watchpoint of this kind that the arguments `,ADDRESS,COUNT` specify, or `None` for other arguments and for an invalid range
-unfoldable pub parse_watch_range : Watched → List ℕ → Option Stoppoint
+unfoldable pub parse_watch_range : WatchKind → List ℕ → Option Stoppoint
 parse_watch_range kind text = do
   range ← stoppoint_range text
-  watched kind range
+  watchpoint_if_valid kind range
 
 -- the watchpoint that the arguments specify, if their kind is 2 (writes), 3 (reads) or 4 (both), or else `None`; the inner option is `None`
 -- if they are malformed
-abbrev pub kind_at : List ℕ → Option (Option Stoppoint)
-kind_at args = option_or (option_map (parse_watch_range watch.Writes) (text_after (codes "2") args))
+abbrev pub parse_watchpoint : List ℕ → Option (Option Stoppoint)
+parse_watchpoint args = option_or (option_map (parse_watch_range watch.Writes) (text_after (codes "2") args))
     (option_or (option_map (parse_watch_range watch.Reads) (text_after (codes "3") args))
     (option_map (parse_watch_range watch.Accesses) (text_after (codes "4") args)))
 
@@ -199,7 +199,7 @@ kind_at args = option_or (option_map (parse_watch_range watch.Writes) (text_afte
 -- `None` if they are malformed
 abbrev pub parse_stoppoint : List ℕ → Option (Option Stoppoint)
 parse_stoppoint args = option_or (option_map parse_breakpoint (text_after (codes "0") args))
-    (option_or (option_map parse_breakpoint (text_after (codes "1") args)) (kind_at args))
+    (option_or (option_map parse_breakpoint (text_after (codes "1") args)) (parse_watchpoint args))
 
 -- the refusal of arguments that begin with no known kind: malformed if they are empty, and otherwise unknown
 abbrev pub unknown_kind_request : List ℕ → Request
@@ -218,17 +218,17 @@ refusal_of_address is_address = if is_address then refusal.WouldChange else refu
 
 -- the move if the arguments of `c` or `s` are empty, and otherwise a refusal
 unfoldable pub plain_move : Move → List ℕ → Request
-plain_move move args = if length args == 0 then ask.Move move else ask.Refused (refusal_of_address (is_some (number_of args)))
+plain_move move args = if length args == 0 then ask.Move move else ask.Refused (refusal_of_address (is_some (parse_number args)))
 
 -- the move if the arguments of `C` or `S` are only a signal, which is ignored, and otherwise a refusal
 unfoldable pub signal_move : Move → List ℕ → Request
-signal_move move args = if is_some (number_of args) then ask.Move move
+signal_move move args = if is_some (parse_number args) then ask.Move move
     else ask.Refused (refusal_of_address (is_some (parse_two_numbers semicolon args)))
 
 -- the move that steps while the pc is in the range `LOW,HIGH` of addresses, or `None` for other arguments
-abbrev pub move_within : List ℕ → Option Move
-move_within text = option_map (λ pair. move.StepWithin pair.0 pair.1) (parse_two_numbers comma text)
+abbrev pub move_within_range : List ℕ → Option Move
+move_within_range text = option_map (λ pair. move.StepWithin pair.0 pair.1) (parse_two_numbers comma text)
 
 -- the move if the text is the number of a signal, which is ignored, or else `None`
 abbrev pub move_with_signal : Move → List ℕ → Option Move
-move_with_signal move text = if is_some (number_of text) then Some move else None
+move_with_signal move text = if is_some (parse_number text) then Some move else None

@@ -4,8 +4,8 @@ use Rattle.std.specs.Int.{w32, to_be_bytes}
 use Rattle.hex.specs.Hex.{encode_lower}
 use Rattle.rv_machine.specs.declared.ending.FaultKind.{FaultKind}
 use Rattle.rv_machine.specs.declared.ending.FaultKind.TheVariants as fault
-use Rattle.rv_gdb_protocol.specs.declared.request.Watched.{Watched}
-use Rattle.rv_gdb_protocol.specs.declared.request.Watched.TheVariants as watch
+use Rattle.rv_gdb_protocol.specs.declared.request.WatchKind.{WatchKind}
+use Rattle.rv_gdb_protocol.specs.declared.request.WatchKind.TheVariants as watch
 use Rattle.rv_gdb_protocol.specs.declared.stop.Stop.{Stop}
 use Rattle.rv_gdb_protocol.specs.declared.stop.Stop.TheVariants as stop
 
@@ -24,7 +24,7 @@ fault_text fault.UnknownCall = codes "T0c"
 fault_text fault.FetchMisaligned = codes "T0a"
 
 -- the beginning of the stop reply for a watchpoint of this kind, up to the address
-abbrev pub watch_text : Watched → List ℕ
+abbrev pub watch_text : WatchKind → List ℕ
 watch_text watch.Writes = codes "T05watch:"
 watch_text watch.Reads = codes "T05rwatch:"
 watch_text watch.Accesses = codes "T05awatch:"
@@ -32,28 +32,28 @@ watch_text watch.Accesses = codes "T05awatch:"
 -- the body of the stop reply for this stop: SIGTRAP, SIGINT, SIGXCPU or the signal of a fault; never `W` or `X`, since a run can go
 -- backwards from its end
 unfoldable pub stop_text : Stop → List ℕ
-stop_text stop.Here = codes "T05"
+stop_text stop.Trap = codes "T05"
 stop_text (stop.Watch kind address) = watch_text kind ++ (encode_lower (to_be_bytes w32 address) ++ codes ";")
 stop_text stop.Interrupt = codes "T02"
-stop_text stop.Beginning = codes "T05replaylog:begin;"
+stop_text stop.RunStart = codes "T05replaylog:begin;"
 stop_text stop.Exit = codes "T05replaylog:end;"
 stop_text stop.Budget = codes "T18"
 stop_text (stop.Fault kind) = fault_text kind
 
 -- the kind of end that a stop reply reports to gdb; `NoEnding` for a stop before the end
-pub data Told : Type 0 where
-  NoEnding : Told
-  Exited : Told
-  UsedUp : Told
-  SegmentFault : Told
-  BusError : Told
-  IllegalInstruction : Told
-  Aborted : Told
-  BadCall : Told
-  FileTooLarge : Told
+pub data EndKind : Type 0 where
+  NoEnding : EndKind
+  Exited : EndKind
+  UsedUp : EndKind
+  SegmentFault : EndKind
+  BusError : EndKind
+  IllegalInstruction : EndKind
+  Aborted : EndKind
+  BadCall : EndKind
+  FileTooLarge : EndKind
 
 -- the kind of end that the stop reply for a fault reports
-abbrev pub end_kind_of_fault : FaultKind → Told
+abbrev pub end_kind_of_fault : FaultKind → EndKind
 end_kind_of_fault fault.FetchAccess = SegmentFault
 end_kind_of_fault fault.LoadAccess = SegmentFault
 end_kind_of_fault fault.StoreAccess = SegmentFault
@@ -67,11 +67,11 @@ end_kind_of_fault fault.UnknownCall = BadCall
 end_kind_of_fault fault.ConsoleFull = FileTooLarge
 
 -- the kind of end that the stop reply for a stop reports
-abbrev pub end_kind_of_stop : Stop → Told
+abbrev pub end_kind_of_stop : Stop → EndKind
 end_kind_of_stop stop.Exit = Exited
 end_kind_of_stop stop.Budget = UsedUp
 end_kind_of_stop (stop.Fault kind) = end_kind_of_fault kind
-end_kind_of_stop stop.Here = NoEnding
+end_kind_of_stop stop.Trap = NoEnding
 end_kind_of_stop (stop.Watch kind address) = NoEnding
 end_kind_of_stop stop.Interrupt = NoEnding
-end_kind_of_stop stop.Beginning = NoEnding
+end_kind_of_stop stop.RunStart = NoEnding

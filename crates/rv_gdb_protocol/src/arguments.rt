@@ -1,10 +1,10 @@
 //! Parsers for the arguments of packets.
 
 ghost use Rattle.std.specs.Prelude.{◌≡◌};
-ghost use Rattle.rv_gdb_protocol.specs.Requests.{all_registers_write, parse_breakpoint, description, refusal_of_address, image_path, kind_at, move_within, unknown_kind_request, part_at, plain_move, range_at, read_file, read_memory, read_register, parse_register, register_of, register_write, signal_move, move_with_signal, parse_stoppoint, stoppoint_range, parse_watch_range, watched, write_register, written};
+ghost use Rattle.rv_gdb_protocol.specs.Requests.{all_registers_write, parse_breakpoint, description, refusal_of_address, image_path, parse_watchpoint, move_within_range, unknown_kind_request, parse_part, plain_move, parse_range, read_file, read_memory, read_register, parse_register, register_of, register_write, signal_move, move_with_signal, parse_stoppoint, stoppoint_range, parse_watch_range, watchpoint_if_valid, write_register, memory_write};
 
-use crate::number::{number_of, parse_two_numbers, place_of, text_after, value_of};
-use crate::request::{Move, Part, Range, Refusal, Register, Request, Stoppoint, Watched};
+use crate::number::{parse_number, parse_two_numbers, delimiter_index, text_after, parse_value};
+use crate::request::{Move, Part, Range, Refusal, Register, Request, Stoppoint, WatchKind};
 use rv_base::Bytes;
 
 /// Returns the request for a part of the target description, from the arguments `target.xml:OFFSET,COUNT`, or a refusal for other
@@ -14,7 +14,7 @@ pub(crate) fn description(args: &[u8]) -> Request
     ensures { result ≡ description args.now }
 {
     match text_after(b"target.xml:", args) {
-        Some(part) => match part_at(part) {
+        Some(part) => match parse_part(part) {
             Some(part) => Request::Description(part),
             None => Request::Refused(Refusal::Failed),
         },
@@ -23,8 +23,8 @@ pub(crate) fn description(args: &[u8]) -> Request
 }
 
 // Parses `OFFSET,COUNT`. Returns `None` for any other text.
-fn part_at(text: &[u8]) -> Option<Part>
-    ensures { result ≡ part_at text.now }
+fn parse_part(text: &[u8]) -> Option<Part>
+    ensures { result ≡ parse_part text.now }
 {
     let (offset, count) = parse_two_numbers(b',', text)?;
     Some(Part { offset, count })
@@ -36,10 +36,10 @@ fn part_at(text: &[u8]) -> Option<Part>
 pub(crate) fn image_path(args: &[u8]) -> Request
     ensures { result ≡ image_path args.now }
 {
-    let Some(place) = place_of(b':', args) else {
+    let Some(place) = delimiter_index(b':', args) else {
         return Request::Refused(Refusal::Failed);
     };
-    match part_at(&args[place + 1..]) {
+    match parse_part(&args[place + 1..]) {
         Some(part) => Request::ImagePath(part),
         None => Request::Refused(Refusal::Failed),
     }
@@ -70,7 +70,7 @@ pub(crate) fn read_register(args: &[u8]) -> Request
 fn parse_register(text: &[u8]) -> Option<Register>
     ensures { result ≡ parse_register text.now }
 {
-    register_of(number_of(text)?)
+    register_of(parse_number(text)?)
 }
 
 // Returns the register with this number in the target description, or `None` if there is none.
@@ -99,9 +99,9 @@ pub(crate) fn write_register(args: &[u8]) -> Request
 fn register_write(args: &[u8]) -> Option<Request>
     ensures { result ≡ register_write args.now }
 {
-    let place = place_of(b'=', args)?;
+    let place = delimiter_index(b'=', args)?;
     let register = parse_register(&args[..place])?;
-    let value = value_of(&args[place + 1..])?;
+    let value = parse_value(&args[place + 1..])?;
     Some(Request::WriteRegister(register, value))
 }
 
@@ -120,23 +120,23 @@ pub(crate) fn all_registers_write(bytes: Vec<u8>) -> Option<Request>
 pub(crate) fn read_memory(args: &[u8]) -> Request
     ensures { result ≡ read_memory args.now }
 {
-    match range_at(args) {
+    match parse_range(args) {
         Some(range) => Request::ReadMemory(range),
         None => Request::Refused(Refusal::Failed),
     }
 }
 
 /// Parses the range `ADDRESS,COUNT`. Returns `None` for any other text.
-pub(crate) fn range_at(text: &[u8]) -> Option<Range>
-    ensures { result ≡ range_at text.now }
+pub(crate) fn parse_range(text: &[u8]) -> Option<Range>
+    ensures { result ≡ parse_range text.now }
 {
     let (address, count) = parse_two_numbers(b',', text)?;
     Some(Range { address, count })
 }
 
 /// Returns the request to write these bytes, or `None` if there are not as many as the range has.
-pub(crate) fn written(range: Range, bytes: Vec<u8>) -> Option<Request>
-    ensures { result ≡ written range bytes.items }
+pub(crate) fn memory_write(range: Range, bytes: Vec<u8>) -> Option<Request>
+    ensures { result ≡ memory_write range bytes.items }
 {
     if bytes.len() == range.count as usize {
         Some(Request::WriteMemory(range.address, Bytes::new(bytes)))
@@ -156,22 +156,22 @@ pub(crate) fn parse_stoppoint(args: &[u8]) -> Option<Option<Stoppoint>>
     if let Some(fields) = text_after(b"1", args) {
         return Some(parse_breakpoint(fields));
     }
-    kind_at(args)
+    parse_watchpoint(args)
 }
 
 // Parses a kind from 2 to 4 and `,ADDRESS,COUNT` as a watchpoint. Returns `None` for another kind, and `Some(None)` for a known kind with
 // malformed arguments.
-fn kind_at(args: &[u8]) -> Option<Option<Stoppoint>>
-    ensures { result ≡ kind_at args.now }
+fn parse_watchpoint(args: &[u8]) -> Option<Option<Stoppoint>>
+    ensures { result ≡ parse_watchpoint args.now }
 {
     if let Some(fields) = text_after(b"2", args) {
-        return Some(parse_watch_range(Watched::Writes, fields));
+        return Some(parse_watch_range(WatchKind::Writes, fields));
     }
     if let Some(fields) = text_after(b"3", args) {
-        return Some(parse_watch_range(Watched::Reads, fields));
+        return Some(parse_watch_range(WatchKind::Reads, fields));
     }
     let fields = text_after(b"4", args)?;
-    Some(parse_watch_range(Watched::Accesses, fields))
+    Some(parse_watch_range(WatchKind::Accesses, fields))
 }
 
 // Parses `,ADDRESS,KIND` as a breakpoint. Returns `None` for any other text.
@@ -184,22 +184,22 @@ fn parse_breakpoint(text: &[u8]) -> Option<Stoppoint>
 
 // Parses `,ADDRESS,COUNT` as a watchpoint of this kind. Returns `None` for any other text, and for an invalid range.
 #[tactic(auto, unfolding(crate::specs::Requests::parse_watch_range))]
-fn parse_watch_range(kind: Watched, text: &[u8]) -> Option<Stoppoint>
+fn parse_watch_range(kind: WatchKind, text: &[u8]) -> Option<Stoppoint>
     ensures { result ≡ parse_watch_range kind text.now }
 {
-    watched(kind, stoppoint_range(text)?)
+    watchpoint_if_valid(kind, stoppoint_range(text)?)
 }
 
 // Parses the range `,ADDRESS,COUNT`. Returns `None` for any other text.
 fn stoppoint_range(text: &[u8]) -> Option<Range>
     ensures { result ≡ stoppoint_range text.now }
 {
-    range_at(text_after(b",", text)?)
+    parse_range(text_after(b",", text)?)
 }
 
 // Returns the watchpoint for a range of 1 to 65,536 bytes within the address space, or `None` for any other range.
-fn watched(kind: Watched, range: Range) -> Option<Stoppoint>
-    ensures { result ≡ watched kind range }
+fn watchpoint_if_valid(kind: WatchKind, range: Range) -> Option<Stoppoint>
+    ensures { result ≡ watchpoint_if_valid kind range }
 {
     let end = u64::from(range.address) + u64::from(range.count);
     if 1 <= range.count && range.count <= 65_536 && end <= 1 << 32 {
@@ -228,7 +228,7 @@ pub(crate) fn plain_move(step: Move, args: &[u8]) -> Request
     if args.is_empty() {
         return Request::Move(step);
     }
-    Request::Refused(refusal_of_address(number_of(args).is_some()))
+    Request::Refused(refusal_of_address(parse_number(args).is_some()))
 }
 
 /// Returns the move if the arguments of `C` or `S` are only a signal, which is ignored, and otherwise a refusal.
@@ -236,7 +236,7 @@ pub(crate) fn plain_move(step: Move, args: &[u8]) -> Request
 pub(crate) fn signal_move(step: Move, args: &[u8]) -> Request
     ensures { result ≡ signal_move step args.now }
 {
-    if number_of(args).is_some() {
+    if parse_number(args).is_some() {
         return Request::Move(step);
     }
     Request::Refused(refusal_of_address(parse_two_numbers(b';', args).is_some()))
@@ -254,8 +254,8 @@ fn refusal_of_address(is_address: bool) -> Refusal
 }
 
 /// Returns the move that steps while the pc is in the range `LOW,HIGH` of addresses, or `None` for any other text.
-pub(crate) fn move_within(text: &[u8]) -> Option<Move>
-    ensures { result ≡ move_within text.now }
+pub(crate) fn move_within_range(text: &[u8]) -> Option<Move>
+    ensures { result ≡ move_within_range text.now }
 {
     let (low, high) = parse_two_numbers(b',', text)?;
     Some(Move::StepWithin(low, high))
@@ -265,7 +265,7 @@ pub(crate) fn move_within(text: &[u8]) -> Option<Move>
 pub(crate) fn move_with_signal(step: Move, text: &[u8]) -> Option<Move>
     ensures { result ≡ move_with_signal step text.now }
 {
-    if number_of(text).is_some() {
+    if parse_number(text).is_some() {
         Some(step)
     } else {
         None

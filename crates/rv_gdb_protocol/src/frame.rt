@@ -2,10 +2,10 @@
 
 ghost use Rattle.std.specs.Prelude.{◌≡◌, ◌++◌, OnOk};
 ghost use Rattle.rv_gdb_protocol.specs.Escapes.{escaped};
-ghost use Rattle.rv_gdb_protocol.specs.Sums.{framed, checksum_digits};
+ghost use Rattle.rv_gdb_protocol.specs.Checksums.{packet_of, checksum_digits};
 
 use crate::escapes::push_escaped;
-use crate::sum::sum_of;
+use crate::checksum::checksum_of;
 use rv_base::Bytes;
 use std::alloc::{AllocError, Global};
 
@@ -22,9 +22,9 @@ pub enum Incoming {
     /// Ctrl-C: the byte 0x03 between packets.
     Interrupt,
     /// `+`: gdb received the last packet.
-    Arrived,
+    Acknowledged,
     /// `-`: gdb requests the last packet again.
-    Again,
+    ResendRequested,
     /// The body of a packet, still with its escapes, and whether its checksum is correct.
     Packet(Bytes, Checksum),
     /// A body of more than 16,384 bytes, which is not kept. Its checksum is not checked.
@@ -33,7 +33,7 @@ pub enum Incoming {
 
 /// The parser's state: what the next byte belongs to.
 #[derive(Clone, Copy, Debug, PartialEq, Eq)]
-pub(crate) enum Place {
+pub(crate) enum PacketPosition {
     /// Between packets.
     Between,
     /// In a body, or the `#` after it.
@@ -51,9 +51,9 @@ pub(crate) enum Place {
 }
 
 /// Appends the packet with a body: `$`, the body with its escapes, `#` and the checksum.
-#[tactic(auto, unfolding(crate::specs::Sums::framed))]
+#[tactic(auto, unfolding(crate::specs::Checksums::packet_of))]
 pub fn push_frame(alloc: Global, out: &mut Vec<u8>, body: &[u8]) -> Result<(), AllocError>
-    ensures { OnOk result (out.new.items ≡ out.old.items ++ framed body.now) }
+    ensures { OnOk result (out.new.items ≡ out.old.items ++ packet_of body.now) }
 {
     let mut text = Vec::new(alloc);
     push_escaped(&mut text, body)?;
@@ -64,11 +64,11 @@ pub fn push_frame(alloc: Global, out: &mut Vec<u8>, body: &[u8]) -> Result<(), A
 }
 
 // Appends the checksum of a text as two digits.
-#[tactic(auto, unfolding(crate::specs::Sums::checksum_digits))]
+#[tactic(auto, unfolding(crate::specs::Checksums::checksum_digits))]
 fn push_checksum(out: &mut Vec<u8>, text: &[u8]) -> Result<(), AllocError>
     ensures { OnOk result (out.new.items ≡ out.old.items ++ checksum_digits text.now) }
 {
     let mut digits = [0u8; 2];
-    hex::encode_to_slice([sum_of(text)].as_slice(), &mut digits).unwrap();
+    hex::encode_to_slice([checksum_of(text)].as_slice(), &mut digits).unwrap();
     out.extend_from_slice(&digits)
 }

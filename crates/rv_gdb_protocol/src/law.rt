@@ -2,8 +2,8 @@
 
 ghost use Rattle.std.specs.Prelude.{◌≡◌, ◌≤◌, ◌++◌, ◌∷◌, [], ℕ, List, fold, length};
 ghost use Rattle.rv_gdb_protocol.specs.Escapes.{escaped};
-ghost use Rattle.rv_gdb_protocol.specs.Frames.{Frame, between, state_after_byte, incoming_at, incoming_in, max_body};
-ghost use Rattle.rv_gdb_protocol.specs.Readback.{CanBeSent, EndsWithPacket, IsReceivedAlone, IsReadBack, sent, verdict_of};
+ghost use Rattle.rv_gdb_protocol.specs.ReaderStates.{ReaderState, between_packets, state_after_byte, incoming_at, incoming_in, max_body};
+ghost use Rattle.rv_gdb_protocol.specs.Readback.{CanBeSent, EndsWithPacket, IsReceivedAlone, IsReadBack, packet_with_digits, verdict_of};
 ghost use Rattle.rv_gdb_protocol.specs.Grammar.{IsRequest};
 ghost use Rattle.rv_gdb_protocol.specs.Packets.{request_of};
 ghost use Rattle.rv_gdb_protocol.specs.Replies.{part_text};
@@ -16,7 +16,7 @@ ghost use Rattle.rv_gdb_protocol.specs.declared.frame.Incoming.TheVariants.{Pack
 
 /// Proves that what the parser receives does not depend on how the bytes are split.
 pub fn bytes_can_be_split()
-    ensures { (frame : Frame) (front rest : List ℕ) → incoming_in frame (front ++ rest)
+    ensures { (frame : ReaderState) (front rest : List ℕ) → incoming_in frame (front ++ rest)
         ≡ incoming_in frame front ++ incoming_in (fold state_after_byte frame front) rest }
 {}
 
@@ -28,13 +28,13 @@ pub fn framed_bodies_are_read_back()
 /// Proves that a text without `$` and `#`, followed by any two digits as its checksum, is received as one packet.
 pub fn packets_are_received()
     ensures { (text : List ℕ) (high low : ℕ) → CanBeSent text
-        → IsReceivedAlone (sent text high low) text (verdict_of text high low) }
+        → IsReceivedAlone (packet_with_digits text high low) text (verdict_of text high low) }
 {}
 
 /// Proves that if the parser receives a packet, the bytes so far end with this packet.
 pub fn received_packets_were_sent()
     ensures { (bytes text : List ℕ) (byte : ℕ) (sum : Checksum)
-        → incoming_at (fold state_after_byte between bytes) byte ≡ Some (Packet text sum)
+        → incoming_at (fold state_after_byte between_packets bytes) byte ≡ Some (Packet text sum)
         → EndsWithPacket (bytes ++ byte ∷ []) text sum }
 {}
 

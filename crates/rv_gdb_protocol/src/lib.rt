@@ -16,7 +16,7 @@ mod registers;
 mod reply;
 mod request;
 mod stop;
-mod sum;
+mod checksum;
 mod target;
 
 pub use escapes::{push_data, push_escaped};
@@ -29,7 +29,7 @@ pub use parse::parse_request;
 pub use reader::Reader;
 pub use registers::{push_memory, push_printed, push_register, push_registers};
 pub use reply::{fixed_reply, push_part, refusal_text};
-pub use request::{Move, Part, Range, Refusal, Register, Request, Stoppoint, Watched};
+pub use request::{Move, Part, Range, Refusal, Register, Request, Stoppoint, WatchKind};
 pub use stop::{Stop, push_stop};
 pub use target::TARGET;
 

@@ -2,9 +2,9 @@
 
 ghost use Rattle.std.specs.Prelude.{◌≡◌, ◌<◌, ◌^◌, IfOk, IfSome, length, option_copied, option_map};
 ghost use Rattle.hex.specs.Hex.{hex_digit_value};
-ghost use Rattle.rv_gdb_protocol.specs.Numbers.{text_after, bytes_of, with_hex_digit, number_of, parse_two_numbers, place_of, until, value_of};
+ghost use Rattle.rv_gdb_protocol.specs.Numbers.{text_after, parse_bytes, with_hex_digit, parse_number, parse_two_numbers, delimiter_index, text_before, parse_value};
 
-use crate::sum::digit_value;
+use crate::checksum::digit_value;
 use hex::FromHexError;
 use std::alloc::{AllocError, Global};
 
@@ -12,9 +12,9 @@ use std::alloc::{AllocError, Global};
 const MAX_DIGITS: usize = 8;
 
 /// Returns the number that 1 to 8 hexadecimal digits represent, in either case, or `None` for any other text.
-#[tactic(auto, unfolding(crate::specs::Numbers::number_of))]
-pub(crate) fn number_of(text: &[u8]) -> Option<u32>
-    ensures { result ≡ number_of text.now }
+#[tactic(auto, unfolding(crate::specs::Numbers::parse_number))]
+pub(crate) fn parse_number(text: &[u8]) -> Option<u32>
+    ensures { result ≡ parse_number text.now }
 {
     if text.is_empty() || MAX_DIGITS < text.len() {
         return None;
@@ -42,26 +42,26 @@ fn with_hex_digit(value: Option<u32>, byte: u8) -> Option<u32>
 pub(crate) fn parse_two_numbers(mark: u8, text: &[u8]) -> Option<(u32, u32)>
     ensures { result ≡ parse_two_numbers mark text.now }
 {
-    let place = place_of(mark, text)?;
-    let first = number_of(&text[..place])?;
-    let second = number_of(&text[place + 1..])?;
+    let place = delimiter_index(mark, text)?;
+    let first = parse_number(&text[..place])?;
+    let second = parse_number(&text[place + 1..])?;
     Some((first, second))
 }
 
 /// Returns the index of the first occurrence of a delimiter, or `None` if there is none.
-pub(crate) fn place_of(mark: u8, text: &[u8]) -> Option<usize>
-    ensures place { result ≡ place_of mark text.now }
+pub(crate) fn delimiter_index(mark: u8, text: &[u8]) -> Option<usize>
+    ensures place { result ≡ delimiter_index mark text.now }
     ensures within { IfSome result (λ place. place < length text.now) }
 {
     text.iter().position(|byte| *byte == mark)
 }
 
 /// Returns the text before the first occurrence of a delimiter, or all of it if there is none.
-#[tactic(auto, unfolding(crate::specs::Numbers::until))]
-pub(crate) fn until(mark: u8, text: &[u8]) -> &[u8]
-    ensures { result.now ≡ until mark text.now }
+#[tactic(auto, unfolding(crate::specs::Numbers::text_before))]
+pub(crate) fn text_before(mark: u8, text: &[u8]) -> &[u8]
+    ensures { result.now ≡ text_before mark text.now }
 {
-    match place_of(mark, text) {
+    match delimiter_index(mark, text) {
         Some(place) => &text[..place],
         None => text,
     }
@@ -80,9 +80,9 @@ pub(crate) fn text_after<'a>(name: &[u8], text: &'a [u8]) -> Option<&'a [u8]>
 }
 
 /// Returns the bytes that hexadecimal digits represent, two digits for each, or `None` for any other text.
-#[tactic(auto, unfolding(crate::specs::Numbers::bytes_of))]
-pub(crate) fn bytes_of(alloc: Global, text: &[u8]) -> Result<Option<Vec<u8>>, AllocError>
-    ensures { IfOk result (λ bytes. option_map (λ bytes. bytes.items) bytes ≡ bytes_of text.now) }
+#[tactic(auto, unfolding(crate::specs::Numbers::parse_bytes))]
+pub(crate) fn parse_bytes(alloc: Global, text: &[u8]) -> Result<Option<Vec<u8>>, AllocError>
+    ensures { IfOk result (λ bytes. option_map (λ bytes. bytes.items) bytes ≡ parse_bytes text.now) }
 {
     match hex::decode(alloc, text) {
         Ok(bytes) => Ok(Some(bytes)),
@@ -92,9 +92,9 @@ pub(crate) fn bytes_of(alloc: Global, text: &[u8]) -> Result<Option<Vec<u8>>, Al
 }
 
 /// Returns the value of a register that eight hexadecimal digits represent, low byte first, or `None` for any other text.
-#[tactic(auto, unfolding(crate::specs::Numbers::value_of))]
-pub(crate) fn value_of(text: &[u8]) -> Option<u32>
-    ensures { result ≡ value_of text.now }
+#[tactic(auto, unfolding(crate::specs::Numbers::parse_value))]
+pub(crate) fn parse_value(text: &[u8]) -> Option<u32>
+    ensures { result ≡ parse_value text.now }
 {
     let mut bytes = [0u8; 4];
     if hex::decode_to_slice(text, &mut bytes).is_err() {

@@ -4,13 +4,13 @@ ghost use Rattle.std.specs.Prelude.{◌≡◌};
 ghost use Rattle.std.specs.Str.{bytes_eq};
 ghost use Rattle.rv_gdb_protocol.specs.Requests.{stoppoint_change};
 ghost use Rattle.rv_gdb_protocol.specs.declared.request.Request.TheVariants as ask;
-ghost use Rattle.rv_gdb_protocol.specs.Packets.{action_of, bare_action, bare_command, bare_query, description_request, detach, detach_request, file_reading, first_action, accepted_request, image_path_request, is_file_call, request_without_bytes, move_request, other_descriptor_request, query, range_action, register_or_memory_request, signal_action, stoppoint_request};
+ghost use Rattle.rv_gdb_protocol.specs.Packets.{action_of, bare_action, bare_command, bare_query, description_request, detach, detach_request, file_reading, first_action, accepted_request, image_path_request, is_file_call, request_without_bytes, move_request, other_descriptor_request, query_request, range_action, register_or_memory_request, signal_action, stoppoint_request};
 
 use crate::arguments::{
-    description, image_path, move_with_signal, move_within, parse_stoppoint, plain_move, read_file,
+    description, image_path, move_with_signal, move_within_range, parse_stoppoint, plain_move, read_file,
     read_memory, read_register, signal_move, unknown_kind_request, write_register,
 };
-use crate::number::{text_after, until};
+use crate::number::{text_after, text_before};
 use crate::request::{Move, Refusal, Request};
 
 /// Returns the request of a packet whose arguments contain no data bytes, or `None` for any other packet.
@@ -20,7 +20,7 @@ pub(crate) fn request_without_bytes(body: &[u8]) -> Option<Request>
 {
     bare_query(body)
         .or(bare_command(body))
-        .or(query(body))
+        .or(query_request(body))
         .or(description_request(body))
         .or(image_path_request(body))
         .or(register_or_memory_request(body))
@@ -33,7 +33,7 @@ pub(crate) fn request_without_bytes(body: &[u8]) -> Option<Request>
 }
 
 // Whether the body of a packet is exactly this name.
-fn is(body: &[u8], name: &[u8]) -> bool
+fn is_exactly(body: &[u8], name: &[u8]) -> bool
     ensures { result ≡ bytes_eq body.now name.now }
 {
     body == name
@@ -44,19 +44,19 @@ fn is(body: &[u8], name: &[u8]) -> bool
 fn bare_query(body: &[u8]) -> Option<Request>
     ensures { result ≡ bare_query body.now }
 {
-    if is(body, b"?") {
+    if is_exactly(body, b"?") {
         Some(Request::LastStop)
-    } else if is(body, b"QStartNoAckMode") {
+    } else if is_exactly(body, b"QStartNoAckMode") {
         Some(Request::NoAcknowledgements)
-    } else if is(body, b"g") {
+    } else if is_exactly(body, b"g") {
         Some(Request::Registers)
-    } else if is(body, b"qC") {
+    } else if is_exactly(body, b"qC") {
         Some(Request::Thread)
-    } else if is(body, b"qfThreadInfo") {
+    } else if is_exactly(body, b"qfThreadInfo") {
         Some(Request::FirstThreads)
-    } else if is(body, b"qsThreadInfo") {
+    } else if is_exactly(body, b"qsThreadInfo") {
         Some(Request::MoreThreads)
-    } else if is(body, b"vCont?") {
+    } else if is_exactly(body, b"vCont?") {
         Some(Request::Actions)
     } else {
         None
@@ -69,19 +69,19 @@ fn bare_query(body: &[u8]) -> Option<Request>
 fn bare_command(body: &[u8]) -> Option<Request>
     ensures { result ≡ bare_command body.now }
 {
-    if is(body, b"bs") {
+    if is_exactly(body, b"bs") {
         Some(Request::Move(Move::StepBack))
-    } else if is(body, b"bc") {
+    } else if is_exactly(body, b"bc") {
         Some(Request::Move(Move::ContinueBack))
-    } else if is(body, b"k") {
+    } else if is_exactly(body, b"k") {
         Some(Request::Kill)
-    } else if is(body, b"!") {
+    } else if is_exactly(body, b"!") {
         Some(Request::Accepted)
-    } else if is(body, b"vFile:setfs:0") {
+    } else if is_exactly(body, b"vFile:setfs:0") {
         Some(Request::FileSystem)
-    } else if is(body, b"vFile:fstat:5") {
+    } else if is_exactly(body, b"vFile:fstat:5") {
         Some(Request::FileSize)
-    } else if is(body, b"vFile:close:5") {
+    } else if is_exactly(body, b"vFile:close:5") {
         Some(Request::CloseFile)
     } else {
         None
@@ -89,9 +89,9 @@ fn bare_command(body: &[u8]) -> Option<Request>
 }
 
 // Returns the request of a `qSupported` or `qAttached` packet, whose arguments are ignored, or `None` for any other packet.
-#[tactic(auto, unfolding(crate::specs::Packets::query))]
-fn query(body: &[u8]) -> Option<Request>
-    ensures { result ≡ query body.now }
+#[tactic(auto, unfolding(crate::specs::Packets::query_request))]
+fn query_request(body: &[u8]) -> Option<Request>
+    ensures { result ≡ query_request body.now }
 {
     if body.starts_with(b"qSupported") {
         Some(Request::Features)
@@ -196,7 +196,7 @@ fn move_request(body: &[u8]) -> Option<Request>
 fn first_action(args: &[u8]) -> Request
     ensures { result ≡ first_action args.now }
 {
-    match action_of(until(b':', until(b';', args))) {
+    match action_of(text_before(b':', text_before(b';', args))) {
         Some(step) => Request::Move(step),
         None => Request::Refused(Refusal::Malformed),
     }
@@ -218,9 +218,9 @@ fn action_of(text: &[u8]) -> Option<Move>
 fn bare_action(text: &[u8]) -> Option<Move>
     ensures { result ≡ bare_action text.now }
 {
-    if is(text, b"c") {
+    if is_exactly(text, b"c") {
         Some(Move::Continue)
-    } else if is(text, b"s") {
+    } else if is_exactly(text, b"s") {
         Some(Move::Step)
     } else {
         None
@@ -239,7 +239,7 @@ fn signal_action(name: &[u8], step: Move, text: &[u8]) -> Option<Move>
 fn range_action(text: &[u8]) -> Option<Move>
     ensures { result ≡ range_action text.now }
 {
-    move_within(text_after(b"r", text)?)
+    move_within_range(text_after(b"r", text)?)
 }
 
 // Returns the request of a packet that is accepted whatever follows its name, or `None` for any other packet.

@@ -1,13 +1,13 @@
 //! Parses the bodies of packets.
 
 ghost use Rattle.std.specs.Prelude.{◌≡◌, IfOk, option_map};
-ghost use Rattle.rv_gdb_protocol.specs.Numbers.{bytes_of};
+ghost use Rattle.rv_gdb_protocol.specs.Numbers.{parse_bytes};
 ghost use Rattle.rv_gdb_protocol.specs.Packets.{request_with_bytes, command, request_of};
-ghost use Rattle.rv_gdb_protocol.specs.Requests.{open_file, path_to_open, whole_data, write_data, write_digits, write_of, write_registers};
+ghost use Rattle.rv_gdb_protocol.specs.Requests.{open_file, path_to_open, whole_data, write_data, write_digits, memory_write_or_refusal, write_registers};
 
-use crate::arguments::{all_registers_write, range_at, written};
+use crate::arguments::{all_registers_write, parse_range, memory_write};
 use crate::escapes::push_data;
-use crate::number::{bytes_of, parse_two_numbers, place_of, text_after};
+use crate::number::{parse_bytes, parse_two_numbers, delimiter_index, text_after};
 use crate::packets::request_without_bytes;
 use crate::request::{Range, Refusal, Request};
 use rv_base::Bytes;
@@ -55,7 +55,7 @@ fn request_with_bytes(alloc: Global, body: &[u8]) -> Result<Option<Request>, All
 fn write_registers(alloc: Global, args: &[u8]) -> Result<Request, AllocError>
     ensures { IfOk result (λ request. request ≡ write_registers args.now) }
 {
-    match bytes_of(alloc, args)? {
+    match parse_bytes(alloc, args)? {
         Some(bytes) => {
             Ok(all_registers_write(bytes).unwrap_or(Request::Refused(Refusal::Malformed)))
         }
@@ -69,13 +69,13 @@ fn write_registers(alloc: Global, args: &[u8]) -> Result<Request, AllocError>
 fn write_digits(alloc: Global, args: &[u8]) -> Result<Request, AllocError>
     ensures { IfOk result (λ request. request ≡ write_digits args.now) }
 {
-    let Some(place) = place_of(b':', args) else {
+    let Some(place) = delimiter_index(b':', args) else {
         return Ok(Request::Refused(Refusal::Malformed));
     };
-    match range_at(&args[..place]) {
+    match parse_range(&args[..place]) {
         Some(range) => {
-            let bytes = bytes_of(alloc, &args[place + 1..])?;
-            Ok(write_of(range, bytes))
+            let bytes = parse_bytes(alloc, &args[place + 1..])?;
+            Ok(memory_write_or_refusal(range, bytes))
         }
         None => Ok(Request::Refused(Refusal::Malformed)),
     }
@@ -87,24 +87,24 @@ fn write_digits(alloc: Global, args: &[u8]) -> Result<Request, AllocError>
 fn write_data(alloc: Global, args: &[u8]) -> Result<Request, AllocError>
     ensures { IfOk result (λ request. request ≡ write_data args.now) }
 {
-    let Some(place) = place_of(b':', args) else {
+    let Some(place) = delimiter_index(b':', args) else {
         return Ok(Request::Refused(Refusal::Malformed));
     };
-    match range_at(&args[..place]) {
+    match parse_range(&args[..place]) {
         Some(range) => {
             let bytes = whole_data(alloc, &args[place + 1..])?;
-            Ok(write_of(range, bytes))
+            Ok(memory_write_or_refusal(range, bytes))
         }
         None => Ok(Request::Refused(Refusal::Malformed)),
     }
 }
 
 // Returns the request to write these bytes, or a refusal if there are none or not as many as the range has.
-fn write_of(range: Range, bytes: Option<Vec<u8>>) -> Request
-    ensures { result ≡ write_of range (option_map (λ bytes. bytes.items) bytes) }
+fn memory_write_or_refusal(range: Range, bytes: Option<Vec<u8>>) -> Request
+    ensures { result ≡ memory_write_or_refusal range (option_map (λ bytes. bytes.items) bytes) }
 {
     match bytes {
-        Some(bytes) => { written(range, bytes).unwrap_or(Request::Refused(Refusal::Malformed)) }
+        Some(bytes) => { memory_write(range, bytes).unwrap_or(Request::Refused(Refusal::Malformed)) }
         None => Request::Refused(Refusal::Malformed),
     }
 }
@@ -137,11 +137,11 @@ fn open_file(alloc: Global, args: &[u8]) -> Result<Request, AllocError>
 fn path_to_open(alloc: Global, args: &[u8]) -> Result<Option<Vec<u8>>, AllocError>
     ensures { IfOk result (λ path. option_map (λ bytes. bytes.items) path ≡ path_to_open args.now) }
 {
-    let Some(place) = place_of(b',', args) else {
+    let Some(place) = delimiter_index(b',', args) else {
         return Ok(None);
     };
     match parse_two_numbers(b',', &args[place + 1..]) {
-        Some((flags, _)) if flags == 0 => bytes_of(alloc, &args[..place]),
+        Some((flags, _)) if flags == 0 => parse_bytes(alloc, &args[..place]),
         _ => Ok(None),
     }
 }
@@ -151,7 +151,7 @@ fn path_to_open(alloc: Global, args: &[u8]) -> Result<Option<Vec<u8>>, AllocErro
 fn command(alloc: Global, args: &[u8]) -> Result<Request, AllocError>
     ensures { IfOk result (λ request. request ≡ command args.now) }
 {
-    match bytes_of(alloc, args)? {
+    match parse_bytes(alloc, args)? {
         Some(text) => Ok(Request::Command(Bytes::new(text))),
         None => Ok(Request::Refused(Refusal::Failed)),
     }

@@ -2,8 +2,8 @@
 
 ghost use Rattle.std.specs.Prelude.{◌≡◌, ◌≤◌, IfOk, OnErr, OnOk, Some, fold, length, take};
 
-use crate::frame::{Incoming, Place};
-use crate::sum::checksum_verdict;
+use crate::frame::{Incoming, PacketPosition};
+use crate::checksum::checksum_verdict;
 use rv_base::Bytes;
 use std::alloc::{AllocError, Global};
 use std::marker::Model;
@@ -15,31 +15,31 @@ const MAX_BODY: usize = 16384;
 /// A parser for packets from gdb, which arrive in pieces. It keeps the body that is not complete yet: at most 16,384 bytes.
 #[derive(Drop)]
 pub struct Reader {
-    place: Place,
+    position: PacketPosition,
     body: Vec<u8>,
 }
 
 impl Model for Reader {
     ghost use Rattle.std.specs.Prelude.{◌≤◌, length};
-    ghost use Rattle.rv_gdb_protocol.specs.Frames.{Frame, room};
+    ghost use Rattle.rv_gdb_protocol.specs.ReaderStates.{ReaderState, max_body_len};
 
-    ghost Value = { Frame };
+    ghost Value = { ReaderState };
 
-    ghost view = { λ s. record { place = s.place; body = s.body.items } };
+    ghost view = { λ s. record { position = s.position; body = s.body.items } };
 
-    ghost invariant = { λ s. length s.body.items ≤ room s.place };
+    ghost invariant = { λ s. length s.body.items ≤ max_body_len s.position };
 }
 
 impl Reader {
-    ghost use Rattle.rv_gdb_protocol.specs.Frames.{between, state_after_byte, incoming_at, incoming_in, opened, option_list};
-    ghost use Rattle.rv_gdb_protocol.specs.declared.frame.Place.TheVariants as place;
+    ghost use Rattle.rv_gdb_protocol.specs.ReaderStates.{between_packets, state_after_byte, incoming_at, incoming_in, at_body_start, option_list};
+    ghost use Rattle.rv_gdb_protocol.specs.declared.frame.PacketPosition.TheVariants as position;
 
     /// Returns a parser that is between packets.
     pub fn new(alloc: Global) -> Reader
-        ensures { result ≡ between }
+        ensures { result ≡ between_packets }
     {
         Reader {
-            place: Place::Between,
+            position: PacketPosition::Between,
             body: Vec::new(alloc),
         }
     }
@@ -56,7 +56,7 @@ impl Reader {
         ensures frame { IfOk result (λ heard. self.new ≡ fold state_after_byte self.old (take heard.0 bytes.now)) }
     {
         for (at, byte) in bytes.iter().enumerate() {
-            if let Some(heard) = self.take(alloc, *byte)? {
+            if let Some(heard) = self.receive_byte(alloc, *byte)? {
                 return Ok((at + 1, Some(heard)));
             }
         }
@@ -64,32 +64,32 @@ impl Reader {
     }
 
     /// Consumes a byte. Returns the item that it completes, or `None` if it completes none.
-    pub fn take(&mut self, alloc: Global, byte: u8) -> Result<Option<Incoming>, AllocError>
+    pub fn receive_byte(&mut self, alloc: Global, byte: u8) -> Result<Option<Incoming>, AllocError>
         ensures heard { IfOk result (λ heard. heard ≡ incoming_at self.old byte) }
         ensures frame { OnOk result (self.new ≡ state_after_byte self.old byte) }
         ensures same { OnErr result (self.new ≡ self.old) }
     {
-        match self.place {
-            Place::Between => Ok(self.receive_between_packets(byte)),
-            Place::Body => {
+        match self.position {
+            PacketPosition::Between => Ok(self.receive_between_packets(byte)),
+            PacketPosition::Body => {
                 self.receive_body_byte(byte)?;
                 Ok(None)
             }
-            Place::FirstDigit => {
-                self.place = Place::SecondDigit(byte);
+            PacketPosition::FirstDigit => {
+                self.position = PacketPosition::SecondDigit(byte);
                 Ok(None)
             }
-            Place::SecondDigit(high) => Ok(Some(self.finish(alloc, high, byte))),
-            Place::LongBody => {
+            PacketPosition::SecondDigit(high) => Ok(Some(self.finish(alloc, high, byte))),
+            PacketPosition::LongBody => {
                 self.skip_byte(byte);
                 Ok(None)
             }
-            Place::LongFirstDigit => {
-                self.place = Place::LongSecondDigit;
+            PacketPosition::LongFirstDigit => {
+                self.position = PacketPosition::LongSecondDigit;
                 Ok(None)
             }
-            Place::LongSecondDigit => {
-                self.place = Place::Between;
+            PacketPosition::LongSecondDigit => {
+                self.position = PacketPosition::Between;
                 Ok(Some(Incoming::TooLong))
             }
         }
@@ -97,34 +97,34 @@ impl Reader {
 
     // Consumes a byte between packets. Returns the item that it completes, or `None`; bytes without a meaning are ignored.
     fn receive_between_packets(&mut self, byte: u8) -> Option<Incoming>
-        requires { self.old.place ≡ place.Between }
+        requires { self.old.position ≡ position.Between }
         ensures heard { result ≡ incoming_at self.old byte }
         ensures frame { self.new ≡ state_after_byte self.old byte }
     {
         match byte {
             b'$' => {
-                self.open();
+                self.begin_body();
                 None
             }
             0x03 => Some(Incoming::Interrupt),
-            b'+' => Some(Incoming::Arrived),
-            b'-' => Some(Incoming::Again),
+            b'+' => Some(Incoming::Acknowledged),
+            b'-' => Some(Incoming::ResendRequested),
             _ => None,
         }
     }
 
     // Consumes a byte of a body, which becomes too long if the byte does not fit.
     fn receive_body_byte(&mut self, byte: u8) -> Result<(), AllocError>
-        requires { self.old.place ≡ place.Body }
+        requires { self.old.position ≡ position.Body }
         ensures frame { OnOk result (self.new ≡ state_after_byte self.old byte) }
         ensures same { OnErr result (self.new ≡ self.old) }
     {
         match byte {
-            b'$' => self.open(),
-            b'#' => self.place = Place::FirstDigit,
+            b'$' => self.begin_body(),
+            b'#' => self.position = PacketPosition::FirstDigit,
             _ if self.body.len() < MAX_BODY => self.body.push(byte)?,
             _ => {
-                self.place = Place::LongBody;
+                self.position = PacketPosition::LongBody;
                 self.body.clear();
             }
         }
@@ -133,31 +133,31 @@ impl Reader {
 
     // Consumes a byte of a body that is too long to be stored.
     fn skip_byte(&mut self, byte: u8)
-        requires { self.old.place ≡ place.LongBody }
+        requires { self.old.position ≡ position.LongBody }
         ensures { self.new ≡ state_after_byte self.old byte }
     {
         match byte {
-            b'$' => self.open(),
-            b'#' => self.place = Place::LongFirstDigit,
+            b'$' => self.begin_body(),
+            b'#' => self.position = PacketPosition::LongFirstDigit,
             _ => {}
         }
     }
 
     // Begins a body, and drops the bytes of a body that was not complete.
-    fn open(&mut self)
-        ensures { self.new ≡ opened }
+    fn begin_body(&mut self)
+        ensures { self.new ≡ at_body_start }
     {
-        self.place = Place::Body;
+        self.position = PacketPosition::Body;
         self.body.clear();
     }
 
     // Completes a packet with its second checksum digit `low`, and returns the packet. `high` is the first digit.
     fn finish(&mut self, alloc: Global, high: u8, low: u8) -> Incoming
-        requires { self.old.place ≡ place.SecondDigit high }
+        requires { self.old.position ≡ position.SecondDigit high }
         ensures heard { Some result ≡ incoming_at self.old low }
         ensures frame { self.new ≡ state_after_byte self.old low }
     {
-        self.place = Place::Between;
+        self.position = PacketPosition::Between;
         let body = mem::replace(&mut self.body, Vec::new(alloc));
         let sum = checksum_verdict(body.as_slice(), high, low);
         Incoming::Packet(Bytes::new(body), sum)

@@ -3,12 +3,12 @@
 ghost use Rattle.std.specs.Prelude.{◌≡◌, ◌++◌, ◌∷◌, OnOk};
 ghost use Rattle.std.specs.List.{flat_map};
 ghost use Rattle.hex.specs.Hex.{encode_lower};
-ghost use Rattle.rv_gdb_protocol.specs.Shown.{register_text, registers_text};
+ghost use Rattle.rv_gdb_protocol.specs.RegisterTexts.{register_text, registers_text};
 
 use std::alloc::{AllocError, Global};
 
 /// Appends the value of a register as eight hexadecimal digits, low byte first.
-#[tactic(auto, unfolding(crate::specs::Shown::register_text))]
+#[tactic(auto, unfolding(crate::specs::RegisterTexts::register_text))]
 pub fn push_register(out: &mut Vec<u8>, value: u32) -> Result<(), AllocError>
     ensures { OnOk result (out.new.items ≡ out.old.items ++ register_text value) }
 {

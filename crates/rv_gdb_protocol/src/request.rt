@@ -96,7 +96,7 @@ pub enum Register {
 
 /// Which accesses trigger a watchpoint.
 #[derive(Clone, Copy, Debug)]
-pub enum Watched {
+pub enum WatchKind {
     /// Changes to the bytes.
     Writes,
     /// Reads of the bytes.
@@ -111,7 +111,7 @@ pub enum Stoppoint {
     /// Before the instruction at this address.
     Break(u32),
     /// At an access of this kind to one of 1 to 65,536 bytes, all of them within the address space.
-    Watch(Watched, Range),
+    Watch(WatchKind, Range),
 }
 
 /// A move of the session in its run.

@@ -4,7 +4,7 @@ ghost use Rattle.std.specs.Prelude.{◌≡◌, ◌++◌, OnOk};
 ghost use Rattle.rv_gdb_protocol.specs.Stops.{fault_text, stop_text, watch_text};
 ghost use Rattle.rv_gdb_protocol.specs.declared.stop.Stop.TheVariants as stop;
 
-use crate::request::Watched;
+use crate::request::WatchKind;
 use rv_machine::FaultKind;
 use std::alloc::AllocError;
 
@@ -12,13 +12,13 @@ use std::alloc::AllocError;
 #[derive(Clone, Copy)]
 pub enum Stop {
     /// A breakpoint, a step or the end of a range.
-    Here,
+    Trap,
     /// The watchpoint at this address was triggered.
-    Watch(Watched, u32),
+    Watch(WatchKind, u32),
     /// Ctrl-C.
     Interrupt,
     /// Step 0, moving backwards.
-    Beginning,
+    RunStart,
     /// The exit call.
     Exit,
     /// The budget was used up.
@@ -33,10 +33,10 @@ pub fn push_stop(out: &mut Vec<u8>, stop: Stop) -> Result<(), AllocError>
     ensures { OnOk result (out.new.items ≡ out.old.items ++ stop_text stop) }
 {
     match stop {
-        Stop::Here => out.extend_from_slice(b"T05"),
+        Stop::Trap => out.extend_from_slice(b"T05"),
         Stop::Watch(kind, address) => push_watch(out, kind, address),
         Stop::Interrupt => out.extend_from_slice(b"T02"),
-        Stop::Beginning => out.extend_from_slice(b"T05replaylog:begin;"),
+        Stop::RunStart => out.extend_from_slice(b"T05replaylog:begin;"),
         Stop::Exit => out.extend_from_slice(b"T05replaylog:end;"),
         Stop::Budget => out.extend_from_slice(b"T18"),
         Stop::Fault(kind) => out.extend_from_slice(fault_text(kind).as_bytes()),
@@ -45,7 +45,7 @@ pub fn push_stop(out: &mut Vec<u8>, stop: Stop) -> Result<(), AllocError>
 
 // Appends the body of the stop reply for a watchpoint of this kind that was triggered at this address.
 #[tactic(auto, unfolding(crate::specs::Stops::stop_text))]
-fn push_watch(out: &mut Vec<u8>, kind: Watched, address: u32) -> Result<(), AllocError>
+fn push_watch(out: &mut Vec<u8>, kind: WatchKind, address: u32) -> Result<(), AllocError>
     ensures { OnOk result (out.new.items ≡ out.old.items ++ stop_text (stop.Watch kind address)) }
 {
     let mut digits = [0u8; 8];
@@ -57,13 +57,13 @@ fn push_watch(out: &mut Vec<u8>, kind: Watched, address: u32) -> Result<(), Allo
 }
 
 // Returns the beginning of the stop reply for a watchpoint of this kind, up to the address.
-fn watch_text(kind: Watched) -> &'static str
+fn watch_text(kind: WatchKind) -> &'static str
     ensures { result.now ≡ watch_text kind }
 {
     match kind {
-        Watched::Writes => "T05watch:",
-        Watched::Reads => "T05rwatch:",
-        Watched::Accesses => "T05awatch:",
+        WatchKind::Writes => "T05watch:",
+        WatchKind::Reads => "T05rwatch:",
+        WatchKind::Accesses => "T05awatch:",
     }
 }
 

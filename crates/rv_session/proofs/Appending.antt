@@ -2,7 +2,7 @@
 use Rattle.std.proofs.Common.{◌≡◌, ◌∙◌, ◌++◌, [], ℕ, Bool, true, false, List, Some, ap, append-nil, append_assoc, refl, subst, sym}
 use Rattle.std.specs.Prelude.{Option, Result, Ok, Err}
 use Rattle.std.specs.Result.{IfOk, OnOk}
-use Rattle.rv_gdb_protocol.specs.Frames.{Frame, state_after_byte, incoming_at}
+use Rattle.rv_gdb_protocol.specs.ReaderStates.{ReaderState, state_after_byte, incoming_at}
 use Rattle.rv_gdb_protocol.specs.Packets.{request_of}
 use Rattle.rv_gdb_protocol.specs.declared.frame.Incoming.{Incoming}
 use Rattle.rv_session.specs.Answers.{IsAnswered}
@@ -64,9 +64,9 @@ taken session behind next body old middle last reply acknowledged answered sent 
 -- ---- bytes
 
 -- a byte is heard by the reader first
-pub byte_heard : (session next : Session) (reader : Frame) (received : Option Incoming) (byte : ℕ) (out : List ℕ)
+pub byte_heard : (session next : Session) (reader : ReaderState) (received : Option Incoming) (byte : ℕ) (out : List ℕ)
     → reader ≡ state_after_byte session.reader byte → received ≡ incoming_at session.reader byte
     → IsRespondedTo (record session { reader = reader }) received out next → IsByteReceived session byte out next
 byte_heard session next reader received byte out is same response =
-    subst (λ (f : Frame). IsRespondedTo (record session { reader = f }) (incoming_at session.reader byte) out next) is
+    subst (λ (f : ReaderState). IsRespondedTo (record session { reader = f }) (incoming_at session.reader byte) out next) is
     (subst (λ (h : Option Incoming). IsRespondedTo (record session { reader = reader }) h out next) same response)

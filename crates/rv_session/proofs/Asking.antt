@@ -3,7 +3,7 @@ use Rattle.std.proofs.Common.{◌≡◌, ◌∙◌, ◌&&◌, ℕ, List, Bool, t
 use Rattle.std.specs.Prelude.{Option, Result, Ok, Err, if◌then◌else◌, nat_le}
 use Rattle.rv_history.specs.Places.{last_step}
 use Rattle.rv_history.specs.declared.stops.Stops.{Stops}
-use Rattle.rv_gdb_protocol.specs.Frames.{state_after_byte, incoming_at}
+use Rattle.rv_gdb_protocol.specs.ReaderStates.{state_after_byte, incoming_at}
 use Rattle.rv_gdb_protocol.specs.Packets.{request_of}
 use Rattle.rv_gdb_protocol.specs.declared.frame.Incoming.{Incoming}
 use Rattle.rv_gdb_protocol.specs.declared.frame.Incoming.TheVariants as received
@@ -71,8 +71,8 @@ judged_may session next false body out going none judged = taken_may session nex
 response_may : (session next : Session) (received : Incoming) (out : List ℕ) → session.is_over ≡ false → session.requested ≡ None
     → IsResponse session received out next → IsOpenIfRequested next
 response_may session next received.Interrupt out going none response = inl (unasked next session response.1 none)
-response_may session next received.Arrived out going none response = inl (unasked next session response.1 none)
-response_may session next received.Again out going none response = inl (unasked next session response.1 none)
+response_may session next received.Acknowledged out going none response = inl (unasked next session response.1 none)
+response_may session next received.ResendRequested out going none response = inl (unasked next session response.1 none)
 response_may session next received.TooLong out going none response =
     inl (unasked next (with_sent session (refused refusal.TooLong)) response.1 none)
 response_may session next (received.Packet body sum) out going none response =

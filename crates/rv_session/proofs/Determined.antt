@@ -13,7 +13,7 @@ use Rattle.rv_history.specs.declared.stops.Watch.{Watch}
 use Rattle.rv_history.proofs.Public.{one_first_with, one_next_step, one_next_stop, one_step_before, one_stop_before}
 use Rattle.rv_history.specs.State.{State}
 use Rattle.rv_history.specs.Bus.{BusContents}
-use Rattle.rv_gdb_protocol.specs.Frames.{state_after_byte, incoming_at}
+use Rattle.rv_gdb_protocol.specs.ReaderStates.{state_after_byte, incoming_at}
 use Rattle.rv_gdb_protocol.specs.Packets.{request_of}
 use Rattle.rv_gdb_protocol.specs.Stops.{stop_text}
 use Rattle.rv_gdb_protocol.specs.declared.frame.Incoming.{Incoming}
@@ -205,8 +205,8 @@ response_one : (session one other : Session) (received : Incoming) (out more : L
 response_one session one other (received.Packet body sum) out more first second =
     judged_one session one other (session.acknowledges && is_wrong_checksum sum) body out more first second
 response_one session one other received.Interrupt out more first second = (first.0 ∙ sym second.0, first.1 ∙ sym second.1)
-response_one session one other received.Arrived out more first second = (first.0 ∙ sym second.0, first.1 ∙ sym second.1)
-response_one session one other received.Again out more first second = (first.0 ∙ sym second.0, first.1 ∙ sym second.1)
+response_one session one other received.Acknowledged out more first second = (first.0 ∙ sym second.0, first.1 ∙ sym second.1)
+response_one session one other received.ResendRequested out more first second = (first.0 ∙ sym second.0, first.1 ∙ sym second.1)
 response_one session one other received.TooLong out more first second = (first.0 ∙ sym second.0, first.1 ∙ sym second.1)
 
 unless_one : (session one other : Session) (over : Bool) (received : Incoming) (out more : List ℕ)

@@ -9,7 +9,7 @@ use Rattle.rv_history.specs.declared_ending.Ending.{Ending}
 use Rattle.rv_history.specs.declared_ending.Ending.TheVariants as ending
 use Rattle.rv_history.specs.declared_ending.FaultKind.{FaultKind}
 use Rattle.rv_history.specs.declared_ending.FaultKind.TheVariants as fault
-use Rattle.rv_gdb_protocol.specs.Stops.{NoEnding, Told, end_kind_of_stop, end_kind_of_fault}
+use Rattle.rv_gdb_protocol.specs.Stops.{NoEnding, EndKind, end_kind_of_stop, end_kind_of_fault}
 use Rattle.rv_gdb_protocol.specs.declared.request.Move.{Move}
 use Rattle.rv_session.specs.Endings.{text_with, end_kind_of_ending, end_kind_of_move_result}
 use Rattle.rv_session.specs.Moved.{IsMoved, end_stop, end_text_at, is_forward, stop_of, watch_between, stop_of_watch_hit}
@@ -68,5 +68,5 @@ end_told end_text may_break session next requested reply moved =
     ap (λ (s : Session). end_kind_of_stop s.last) moved.next_is ∙ stop_is_told session requested moved.place moved.found in (
       told,
       ap (λ (r : Reply). r.end_text) moved.reply_is ∙ text_is_told end_text moved.found
-          ∙ ap (λ (t : Told). text_with t end_text) (sym told),
+          ∙ ap (λ (t : EndKind). text_with t end_text) (sym told),
     )

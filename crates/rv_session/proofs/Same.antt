@@ -2,7 +2,7 @@
 use Rattle.std.proofs.Common.{◌≡◌, ◌∙◌, ◌&&◌, ℕ, List, Bool, true, false, Some, None, ap, refl}
 use Rattle.std.specs.Prelude.{Result, Ok, Err, Option, if◌then◌else◌, nat_le}
 use Rattle.rv_history.specs.Places.{last_step}
-use Rattle.rv_gdb_protocol.specs.Frames.{state_after_byte, incoming_at}
+use Rattle.rv_gdb_protocol.specs.ReaderStates.{state_after_byte, incoming_at}
 use Rattle.rv_gdb_protocol.specs.Packets.{request_of}
 use Rattle.rv_gdb_protocol.specs.declared.frame.Incoming.{Incoming}
 use Rattle.rv_gdb_protocol.specs.declared.frame.Incoming.TheVariants as received
@@ -123,8 +123,8 @@ judged_quiet session next false body out judged = taken_quiet session next body 
 response_quiet : (session next : Session) (received : Incoming) (out : List ℕ) → IsResponse session received out next
     → IsQuiet session next
 response_quiet session next received.Interrupt out response = stays session next response.1
-response_quiet session next received.Arrived out response = stays session next response.1
-response_quiet session next received.Again out response = stays session next response.1
+response_quiet session next received.Acknowledged out response = stays session next response.1
+response_quiet session next received.ResendRequested out response = stays session next response.1
 response_quiet session next received.TooLong out response = sent_quiet session next (refused refusal.TooLong) response.1
 response_quiet session next (received.Packet body sum) out response =
     judged_quiet session next (session.acknowledges && is_wrong_checksum sum) body out response

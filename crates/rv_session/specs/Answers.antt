@@ -12,7 +12,7 @@ use Rattle.rv_history.specs.declared.counts.Count.TheVariants as count
 use Rattle.rv_history.specs.declared.stops.Stops.{Stops}
 use Rattle.rv_history.specs.State.{register}
 use Rattle.rv_gdb_protocol.specs.Replies.{fixed_reply, part_text}
-use Rattle.rv_gdb_protocol.specs.Shown.{register_text, registers_text}
+use Rattle.rv_gdb_protocol.specs.RegisterTexts.{register_text, registers_text}
 use Rattle.rv_gdb_protocol.specs.Stops.{stop_text}
 use Rattle.rv_gdb_protocol.specs.declared.request.Part.{Part}
 use Rattle.rv_gdb_protocol.specs.declared.request.Refusal.{Refusal}
@@ -188,7 +188,7 @@ IsAnswered session (ask.Clear place) reply next =
     (reply ≡ granted) × (next ≡ record session { stops = without_stoppoint session.stops place })
 IsAnswered session (ask.Command text) reply next = IsCommandHandled session text reply next
 IsAnswered session ask.Restart reply next =
-    (reply ≡ with_body (stop_text stop.Here)) × (next ≡ record (at_place session 0) { last = stop.Here })
+    (reply ≡ with_body (stop_text stop.Trap)) × (next ≡ record (at_place session 0) { last = stop.Trap })
 IsAnswered session ask.NoAcknowledgements reply next = (reply ≡ granted) × (next ≡ record session { acknowledges = false })
 IsAnswered session ask.Detach reply next = (reply ≡ granted) × (next ≡ record session { is_over = true })
 IsAnswered session ask.Kill reply next =

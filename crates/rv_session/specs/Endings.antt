@@ -4,16 +4,16 @@ use Rattle.rv_history.specs.declared.found.Found.{Found}
 use Rattle.rv_history.specs.declared.found.Found.TheVariants as found
 use Rattle.rv_history.specs.declared_ending.Ending.{Ending}
 use Rattle.rv_history.specs.declared_ending.Ending.TheVariants as ending
-use Rattle.rv_gdb_protocol.specs.Stops.{Aborted, BadCall, BusError, Exited, FileTooLarge, IllegalInstruction, NoEnding, SegmentFault, Told, UsedUp, end_kind_of_fault}
+use Rattle.rv_gdb_protocol.specs.Stops.{Aborted, BadCall, BusError, Exited, FileTooLarge, IllegalInstruction, NoEnding, SegmentFault, EndKind, UsedUp, end_kind_of_fault}
 
 -- the kind of end that a stop reports if the run ended with this ending
-abbrev pub end_kind_of_ending : Ending → Told
+abbrev pub end_kind_of_ending : Ending → EndKind
 end_kind_of_ending (ending.Exit code) = Exited
 end_kind_of_ending (ending.Fault kind pc value) = end_kind_of_fault kind
 end_kind_of_ending ending.Budget = UsedUp
 
 -- the kind of end that a move with this result reports; `NoEnding` if it did not reach the end of the run
-abbrev pub end_kind_of_move_result : Found → Told
+abbrev pub end_kind_of_move_result : Found → EndKind
 end_kind_of_move_result (found.End ending) = end_kind_of_ending ending
 end_kind_of_move_result found.Done = NoEnding
 end_kind_of_move_result found.Break = NoEnding
@@ -22,7 +22,7 @@ end_kind_of_move_result found.Begin = NoEnding
 end_kind_of_move_result found.Interrupted = NoEnding
 
 -- the text if a stop reports an end of the run, and an empty text for `NoEnding`
-abbrev pub text_with : Told → List ℕ → List ℕ
+abbrev pub text_with : EndKind → List ℕ → List ℕ
 text_with NoEnding text = []
 text_with Exited text = text
 text_with UsedUp text = text

@@ -2,9 +2,9 @@
 use Rattle.std.specs.Prelude.{ℕ, List, ⊤, [], ◌∷◌, ◌++◌, ◌≡◌, ◌≢◌, ◌&&◌, ◌+◌, ◌*◌, ◌-◌, ◌/◌, ◌==◌, Bool, true, false, Option, Some, None, drop, if◌then◌else◌, length, take}
 use Rattle.std.specs.List.{flat_map, range_with_len}
 use Rattle.hex.specs.Hex.{encode_lower}
-use Rattle.rv_gdb_protocol.specs.Frames.{state_after_byte, incoming_at}
+use Rattle.rv_gdb_protocol.specs.ReaderStates.{state_after_byte, incoming_at}
 use Rattle.rv_gdb_protocol.specs.Packets.{request_of}
-use Rattle.rv_gdb_protocol.specs.Sums.{framed}
+use Rattle.rv_gdb_protocol.specs.Checksums.{packet_of}
 use Rattle.rv_gdb_protocol.specs.declared.frame.Incoming.{Incoming}
 use Rattle.rv_gdb_protocol.specs.declared.frame.Incoming.TheVariants as received
 use Rattle.rv_gdb_protocol.specs.declared.frame.Checksum.{Checksum}
@@ -29,7 +29,7 @@ printed_part printed number = take max_printed (drop (number * max_printed) prin
 
 -- packet `number` of the console output: `O` and its bytes as hexadecimal digits
 abbrev pub printed_packet : List ℕ → ℕ → List ℕ
-printed_packet printed number = framed (79 ∷ encode_lower (printed_part printed number))
+printed_packet printed number = packet_of (79 ∷ encode_lower (printed_part printed number))
 
 -- the packets with all bytes of the console output, in order
 unfoldable pub printed_packets : List ℕ → List ℕ
@@ -38,7 +38,7 @@ printed_packets printed =
 
 -- the packet with this body; empty if there is no body
 abbrev pub body_packet : Option (List ℕ) → List ℕ
-body_packet (Some body) = framed body
+body_packet (Some body) = packet_of body
 body_packet None = []
 
 -- the packets of a reply: first its console output, then the text about the run's end, then its body
@@ -47,7 +47,7 @@ packets_of reply = printed_packets reply.printed ++ (printed_packets reply.end_t
 
 -- the last packet that was sent: the packet with this body, or `sent`, the earlier one, if there is no body
 abbrev pub last_packet_after : List ℕ → Option (List ℕ) → List ℕ
-last_packet_after sent (Some body) = framed body
+last_packet_after sent (Some body) = packet_of body
 last_packet_after sent None = sent
 
 -- the session after a reply was sent; it stores the last packet in case gdb requests it again
@@ -94,8 +94,8 @@ is_wrong_checksum verdict.Right = false
 -- `out` is sent for a received item, and `next` is the session after it; Ctrl-C has no effect, since no move is in progress
 abbrev pub IsResponse : Session → Incoming → List ℕ → Session → Type 0
 IsResponse session received.Interrupt out next = (out ≡ []) × (next ≡ session)
-IsResponse session received.Arrived out next = (out ≡ []) × (next ≡ session)
-IsResponse session received.Again out next = (out ≡ last_packet_if_acknowledged session) × (next ≡ session)
+IsResponse session received.Acknowledged out next = (out ≡ []) × (next ≡ session)
+IsResponse session received.ResendRequested out next = (out ≡ last_packet_if_acknowledged session) × (next ≡ session)
 IsResponse session received.TooLong out next =
     (out ≡ acknowledgement session ++ packets_of (refused refusal.TooLong)) × (next ≡ with_sent session (refused refusal.TooLong))
 IsResponse session (received.Packet body sum) out next =

@@ -15,7 +15,7 @@ use Rattle.rv_history.specs.declared_ending.Ending.TheVariants as ending
 use Rattle.rv_gdb_protocol.specs.Stops.{stop_text}
 use Rattle.rv_gdb_protocol.specs.declared.request.Move.{Move}
 use Rattle.rv_gdb_protocol.specs.declared.request.Move.TheVariants as move
-use Rattle.rv_gdb_protocol.specs.declared.request.Watched.TheVariants as watch
+use Rattle.rv_gdb_protocol.specs.declared.request.WatchKind.TheVariants as watch
 use Rattle.rv_gdb_protocol.specs.declared.stop.Stop.{Stop}
 use Rattle.rv_gdb_protocol.specs.declared.stop.Stop.TheVariants as stop
 use Rattle.rv_session.specs.Replies.{stopping}
@@ -51,7 +51,7 @@ abbrev pub stop_of_watch_hit : Option WatchHit → Stop
 stop_of_watch_hit (Some (set_off.Change address)) = stop.Watch watch.Writes address
 stop_of_watch_hit (Some (set_off.Read address)) = stop.Watch watch.Reads address
 stop_of_watch_hit (Some (set_off.Access address)) = stop.Watch watch.Accesses address
-stop_of_watch_hit None = stop.Here
+stop_of_watch_hit None = stop.Trap
 
 -- the first watchpoint that triggers between the states at the steps `one` and `other`; `None` if none does
 abbrev pub watch_between : Session → ℕ → ℕ → Option WatchHit
@@ -71,11 +71,11 @@ CanReportHit session requested what = what ≡ found.Change → is_forward reque
 
 -- the stop that reports the result `found` of a move to the step `place`
 abbrev pub stop_of : Session → Move → ℕ → Found → Stop
-stop_of session requested place found.Done = stop.Here
-stop_of session requested place found.Break = stop.Here
+stop_of session requested place found.Done = stop.Trap
+stop_of session requested place found.Break = stop.Trap
 stop_of session requested place found.Change = watch_stop session requested place
 stop_of session requested place (found.End ending) = end_stop ending
-stop_of session requested place found.Begin = stop.Beginning
+stop_of session requested place found.Begin = stop.RunStart
 stop_of session requested place found.Interrupted = stop.Interrupt
 
 -- the console output that is sent before the stop in the state `s`: after a forward move, all output that was not sent before; after a

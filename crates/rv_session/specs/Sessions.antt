@@ -3,7 +3,7 @@ use Rattle.std.specs.Prelude.{ℕ, [], ◌≡◌, ◌⊎◌, None, true, false, 
 use Rattle.rv_history.specs.Starts.{start_of}
 use Rattle.rv_history.specs.declared.start.Start.{Start}
 use Rattle.rv_history.specs.State.{State}
-use Rattle.rv_gdb_protocol.specs.Frames.{between}
+use Rattle.rv_gdb_protocol.specs.ReaderStates.{between_packets}
 use Rattle.rv_gdb_protocol.specs.declared.stop.Stop.TheVariants as stop
 use Rattle.rv_history.specs.Trace.{state_after}
 use Rattle.rv_session.specs.declared.program.Program.{Program}
@@ -12,14 +12,14 @@ use Rattle.rv_session.specs.declared.session.Session.{Session}
 -- the session at step 0 of the run from `start` within `budget`, before gdb has sent anything
 abbrev pub at_start : Start → ℕ → Program → Session
 at_start start budget program = record {
-  reader = between;
+  reader = between_packets;
   history = record { start = start_of start; budget = budget; place = 0 };
   program = program;
   script = length start.bus.script;
   stops = record { breaks = []; watches = []; reads = []; accesses = [] };
   acknowledges = true;
   shown = 0;
-  last = stop.Here;
+  last = stop.Trap;
   sent = [];
   requested = None;
   is_over = false;

@@ -10,8 +10,8 @@ use Rattle.rv_gdb_protocol.specs.declared.request.Refusal.{Refusal}
 use Rattle.rv_gdb_protocol.specs.declared.request.Refusal.TheVariants as refusal
 use Rattle.rv_gdb_protocol.specs.declared.request.Stoppoint.{Stoppoint}
 use Rattle.rv_gdb_protocol.specs.declared.request.Stoppoint.TheVariants as trap
-use Rattle.rv_gdb_protocol.specs.declared.request.Watched.{Watched}
-use Rattle.rv_gdb_protocol.specs.declared.request.Watched.TheVariants as watch
+use Rattle.rv_gdb_protocol.specs.declared.request.WatchKind.{WatchKind}
+use Rattle.rv_gdb_protocol.specs.declared.request.WatchKind.TheVariants as watch
 
 -- the maximum number of breakpoints and watchpoints together
 abbrev pub max_stoppoints : ℕ
@@ -22,13 +22,13 @@ abbrev pub is_on : Range → Watch → Bool
 is_on range watch = watch.address == range.address && watch.count == range.count
 
 -- the watchpoints of this kind
-abbrev pub watches_of : Stops → Watched → List Watch
+abbrev pub watches_of : Stops → WatchKind → List Watch
 watches_of stops watch.Writes = stops.watches
 watches_of stops watch.Reads = stops.reads
 watches_of stops watch.Accesses = stops.accesses
 
 -- the stops with `watches` as the watchpoints of this kind
-abbrev pub with_watches : Stops → Watched → List Watch → Stops
+abbrev pub with_watches : Stops → WatchKind → List Watch → Stops
 with_watches stops watch.Writes watches = record stops { watches = watches }
 with_watches stops watch.Reads watches = record stops { reads = watches }
 with_watches stops watch.Accesses watches = record stops { accesses = watches }
@@ -73,7 +73,7 @@ pub record IsWatchAdded (watches : List Watch) (range : Range) (next : List Watc
   pub on : is_on range watch ≡ true
 
 -- `next` is `stops` with a watchpoint of this kind for this range added
-pub record IsKindAdded (stops : Stops) (kind : Watched) (range : Range) (next : Stops) : Type 0 where
+pub record IsKindAdded (stops : Stops) (kind : WatchKind) (range : Range) (next : Stops) : Type 0 where
   pub watches : List Watch
   pub added : IsWatchAdded (watches_of stops kind) range watches
   pub next_is : next ≡ with_watches stops kind watches

@@ -12,7 +12,7 @@ ghost use Rattle.rv_session.specs.Sessions.{IsSameRun, at_place, here};
 use crate::end_text::EndText;
 use crate::reply::Reply;
 use crate::session::Session;
-use rv_gdb_protocol::{Bytes, Move, Stop, Watched, push_stop};
+use rv_gdb_protocol::{Bytes, Move, Stop, WatchKind, push_stop};
 use rv_history::{Bounds, Ending, Found, Interrupt, WatchHit};
 use std::alloc::{AllocError, Global};
 
@@ -92,8 +92,8 @@ impl Session {
         ensures { IfOk result (λ stop. stop ≡ stop_of self.now requested self.now.history.place found) }
     {
         match found {
-            Found::Done | Found::Break => Ok(Stop::Here),
-            Found::Begin => Ok(Stop::Beginning),
+            Found::Done | Found::Break => Ok(Stop::Trap),
+            Found::Begin => Ok(Stop::RunStart),
             Found::Interrupted => Ok(Stop::Interrupt),
             Found::End(ending) => Ok(end_stop(ending)),
             Found::Change => self.watch_stop(alloc, requested),
@@ -189,10 +189,10 @@ fn stop_of_watch_hit(set_off: Option<WatchHit>) -> Stop
     ensures { result ≡ stop_of_watch_hit set_off }
 {
     match set_off {
-        Some(WatchHit::Change(address)) => Stop::Watch(Watched::Writes, address),
-        Some(WatchHit::Read(address)) => Stop::Watch(Watched::Reads, address),
-        Some(WatchHit::Access(address)) => Stop::Watch(Watched::Accesses, address),
-        None => Stop::Here,
+        Some(WatchHit::Change(address)) => Stop::Watch(WatchKind::Writes, address),
+        Some(WatchHit::Read(address)) => Stop::Watch(WatchKind::Reads, address),
+        Some(WatchHit::Access(address)) => Stop::Watch(WatchKind::Accesses, address),
+        None => Stop::Trap,
     }
 }
 

@@ -2,7 +2,7 @@
 
 ghost use Rattle.std.specs.Prelude.{◌≡◌, IfOk};
 ghost use Rattle.std.specs.Str.{bytes_eq};
-ghost use Rattle.rv_gdb_protocol.specs.Shown.{register_text};
+ghost use Rattle.rv_gdb_protocol.specs.RegisterTexts.{register_text};
 ghost use Rattle.rv_session.specs.Answers.{hart_value, memory_reply, current_registers, shown_count, script_bytes_consumed, value_of};
 ghost use Rattle.rv_session.specs.Memory.{bytes_requested, bytes_from};
 ghost use Rattle.rv_session.specs.Replies.{with_body};

@@ -1,7 +1,7 @@
 //! Received bytes, and the packets to send.
 
 ghost use Rattle.std.specs.Prelude.{◌≡◌, ◌++◌, ◌∷◌, ◌&&◌, [], IfOk, None, OnOk, Some};
-ghost use Rattle.rv_gdb_protocol.specs.Sums.{framed};
+ghost use Rattle.rv_gdb_protocol.specs.Checksums.{packet_of};
 ghost use Rattle.rv_session.specs.Incoming.{AppendsSome, IsByteReceived, IsRespondedTo, IsPacketResponse, acknowledgement, is_wrong_checksum, packets_of, printed_packet, printed_packets, printed_part, last_packet_if_acknowledged, with_sent};
 ghost use Rattle.rv_session.specs.Replies.{refused};
 ghost use Rattle.rv_session.specs.Sessions.{IsSameRun, IsOpenIfRequested};
@@ -36,7 +36,7 @@ impl Session {
         ensures { OnOk result (AppendsSome out.old.items out.new.items
             (λ told. IsByteReceived self.old byte told self.new)) }
     {
-        match self.reader.take(alloc, byte)? {
+        match self.reader.receive_byte(alloc, byte)? {
             Some(received) => self.respond(alloc, out, &received),
             None => Ok(()),
         }
@@ -57,8 +57,8 @@ impl Session {
         }
         match received {
             Incoming::Interrupt => Ok(()),
-            Incoming::Arrived => Ok(()),
-            Incoming::Again => self.resend(out),
+            Incoming::Acknowledged => Ok(()),
+            Incoming::ResendRequested => self.resend(out),
             Incoming::TooLong => self.reject_long_packet(alloc, out),
             Incoming::Packet(body, sum) => {
                 if self.is_refused(*sum) {
@@ -138,8 +138,8 @@ impl Session {
 
     // Appends the packet with this body, and stores it in case gdb requests it again.
     fn send_body(&mut self, alloc: Global, out: &mut Vec<u8>, body: &[u8]) -> Result<(), AllocError>
-        ensures out { OnOk result (out.new.items ≡ out.old.items ++ framed body.now) }
-        ensures next { OnOk result (self.new ≡ record self.old { sent = framed body.now }) }
+        ensures out { OnOk result (out.new.items ≡ out.old.items ++ packet_of body.now) }
+        ensures next { OnOk result (self.new ≡ record self.old { sent = packet_of body.now }) }
     {
         let mut packet = Vec::new(alloc);
         push_frame(alloc, &mut packet, body)?;

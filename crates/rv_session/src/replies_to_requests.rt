@@ -95,11 +95,11 @@ impl Session {
 
     // Handles `vRun`: moves to the start of the run, and returns the reply that reports a stop there.
     fn restart(&mut self, alloc: Global) -> Result<Reply, AllocError>
-        ensures { IfOk result (λ reply. (reply ≡ with_body (stop_text stop.Here))
-            × (self.new ≡ record (at_place self.old 0) { last = stop.Here })) }
+        ensures { IfOk result (λ reply. (reply ≡ with_body (stop_text stop.Trap))
+            × (self.new ≡ record (at_place self.old 0) { last = stop.Trap })) }
     {
         self.go_to_start(alloc)?;
-        self.last = Stop::Here;
+        self.last = Stop::Trap;
         self.last_stop(alloc)
     }
 

@@ -56,7 +56,7 @@ impl Session {
             },
             acknowledges: true,
             shown: 0,
-            last: Stop::Here,
+            last: Stop::Trap,
             sent: Bytes::new(Vec::new(alloc)),
             requested: None,
             is_over: false,

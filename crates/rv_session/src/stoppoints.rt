@@ -5,7 +5,7 @@ ghost use Rattle.rv_session.specs.Stoppoints.{IsStoppointAdded, has_byte, is_ful
 ghost use Rattle.rv_history.specs.Bus.{BusContents};
 ghost use Rattle.rv_gdb_protocol.specs.declared.request.Stoppoint.TheVariants as trap;
 
-use rv_gdb_protocol::{Range, Refusal, Sequence, Stoppoint, Watched};
+use rv_gdb_protocol::{Range, Refusal, Sequence, Stoppoint, WatchKind};
 use rv_history::{Bus, Stops, Watch};
 use std::alloc::{AllocError, Global};
 
@@ -79,7 +79,7 @@ fn with_watch(
     alloc: Global,
     stops: &Stops,
     bus: &Bus,
-    kind: Watched,
+    kind: WatchKind,
     range: Range,
 ) -> Result<Result<Stops, Refusal>, AllocError>
     ensures { IfOk result (IsStoppointAdded stops.now bus.now (trap.Watch kind range)) }
@@ -127,7 +127,7 @@ fn without_break(alloc: Global, stops: &Stops, address: u32) -> Result<Stops, Al
 fn without_watch(
     alloc: Global,
     stops: &Stops,
-    kind: Watched,
+    kind: WatchKind,
     range: Range,
 ) -> Result<Stops, AllocError>
     ensures { IfOk result (λ next. next ≡ without_stoppoint stops.now (trap.Watch kind range)) }
@@ -142,24 +142,24 @@ fn without_watch(
 }
 
 // Returns the watchpoints of this kind.
-fn watches_of(stops: &Stops, kind: Watched) -> &[Watch]
+fn watches_of(stops: &Stops, kind: WatchKind) -> &[Watch]
     ensures { result.now ≡ watches_of stops.now kind }
 {
     match kind {
-        Watched::Writes => stops.watches.as_slice(),
-        Watched::Reads => stops.reads.as_slice(),
-        Watched::Accesses => stops.accesses.as_slice(),
+        WatchKind::Writes => stops.watches.as_slice(),
+        WatchKind::Reads => stops.reads.as_slice(),
+        WatchKind::Accesses => stops.accesses.as_slice(),
     }
 }
 
 // Returns the stops with `watches` as the watchpoints of this kind.
-fn with_watches(mut stops: Stops, kind: Watched, watches: Vec<Watch>) -> Stops
+fn with_watches(mut stops: Stops, kind: WatchKind, watches: Vec<Watch>) -> Stops
     ensures { result ≡ with_watches stops kind watches.items }
 {
     match kind {
-        Watched::Writes => stops.watches = Sequence::new(watches),
-        Watched::Reads => stops.reads = Sequence::new(watches),
-        Watched::Accesses => stops.accesses = Sequence::new(watches),
+        WatchKind::Writes => stops.watches = Sequence::new(watches),
+        WatchKind::Reads => stops.reads = Sequence::new(watches),
+        WatchKind::Accesses => stops.accesses = Sequence::new(watches),
     }
     stops
 }
@@ -172,7 +172,7 @@ fn has_break(stops: &Stops, address: u32) -> bool
 }
 
 // Whether a watchpoint of this kind for exactly this range is set.
-fn has_watch(stops: &Stops, kind: Watched, range: Range) -> bool
+fn has_watch(stops: &Stops, kind: WatchKind, range: Range) -> bool
     ensures { result ≡ is_set stops.now (trap.Watch kind range) }
 {
     watches_of(stops, kind)

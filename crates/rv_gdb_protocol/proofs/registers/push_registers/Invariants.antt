@@ -1,6 +1,6 @@
 use Rattle.std.proofs.Common.{◌≡◌, ◌++◌, take}
 use Rattle.std.specs.List.{flat_map}
-use Rattle.rv_gdb_protocol.specs.Shown.{register_text}
+use Rattle.rv_gdb_protocol.specs.RegisterTexts.{register_text}
 use Rattle.rv_gdb_protocol.proofs.registers.push_registers.Given as goal
 
 abbrev pub invariant-loop-value : goal.invariant-loop-value

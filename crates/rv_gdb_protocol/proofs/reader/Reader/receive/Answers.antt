@@ -1,5 +1,5 @@
 use Rattle.std.proofs.Common.{◌<◌, ap, length, refl, rules, ◌∙◌}
-use Rattle.rv_gdb_protocol.specs.Frames.{option_list}
+use Rattle.rv_gdb_protocol.specs.ReaderStates.{option_list}
 use Rattle.rv_gdb_protocol.proofs.Hearing.{frame_at_last, heard_at_last, incoming_in-empty}
 use Rattle.rv_gdb_protocol.proofs.reader.Reader.receive.Goals as goal
 
@@ -19,6 +19,6 @@ loop-at-preserved c =
       heard_at_last c.args.self.now c.loop-at.self c.args.bytes.now c.loop-at.at c.in_ok-heard.field-0 within
           c.loop-at.invariant.0 c.loop-at.invariant.1 c.in_ok-heard.ensures.heard
           ∙ ap option_list c.in_default.is,
-      frame_at_last c.args.self.now c.loop-at.self c.take.new.self c.args.bytes.now c.loop-at.at within
+      frame_at_last c.args.self.now c.loop-at.self c.receive_byte.new.self c.args.bytes.now c.loop-at.at within
           c.loop-at.invariant.1 c.in_ok-heard.ensures.frame,
     )

@@ -1,5 +1,5 @@
 use Rattle.std.proofs.Common.{◌≡◌, take, [], fold}
-use Rattle.rv_gdb_protocol.specs.Frames.{state_after_byte, incoming_in}
+use Rattle.rv_gdb_protocol.specs.ReaderStates.{state_after_byte, incoming_in}
 use Rattle.rv_gdb_protocol.proofs.reader.Reader.receive.Given as goal
 
 abbrev pub invariant-loop-at : goal.invariant-loop-at

@@ -11,14 +11,14 @@ pub returns-in-Interrupt : goal.returns-in-Interrupt
 returns-in-Interrupt c = nothing_more _ _
     (not_over c.args.self.now c.args.self.now c.args.received.now [] c.if-self.false (rw c.in-Interrupt.is (refl, refl)))
 
-pub returns-in-Arrived : goal.returns-in-Arrived
-returns-in-Arrived c = nothing_more _ _
-    (not_over c.args.self.now c.args.self.now c.args.received.now [] c.if-self.false (rw c.in-Arrived.is (refl, refl)))
+pub returns-in-Acknowledged : goal.returns-in-Acknowledged
+returns-in-Acknowledged c = nothing_more _ _
+    (not_over c.args.self.now c.args.self.now c.args.received.now [] c.if-self.false (rw c.in-Acknowledged.is (refl, refl)))
 
-pub returns-in-Again : goal.returns-in-Again
-returns-in-Again c = on_ok_weaker c.resend.result
+pub returns-in-ResendRequested : goal.returns-in-ResendRequested
+returns-in-ResendRequested c = on_ok_weaker c.resend.result
     (λ sent. these_more _ _ _ _ sent
-    (not_over c.args.self.now c.args.self.now c.args.received.now _ c.if-self.false (rw c.in-Again.is (refl, refl))))
+    (not_over c.args.self.now c.args.self.now c.args.received.now _ c.if-self.false (rw c.in-ResendRequested.is (refl, refl))))
     c.resend.ensures
 
 pub returns-in-TooLong : goal.returns-in-TooLong

@@ -1,25 +1,25 @@
 -- A body in its frame, and the checksum that follows it.
 use Rattle.std.specs.Prelude.{ℕ, List, [], ◌∷◌, ◌++◌, ◌==◌, ◌+◌, ◌*◌, ◌%◌, Option, Some, None, if◌then◌else◌, sum}
 use Rattle.hex.specs.Hex.{encode_lower}
-use Rattle.rv_gdb_protocol.specs.Escapes.{packet_start, end_mark, escaped}
+use Rattle.rv_gdb_protocol.specs.Escapes.{packet_start, body_end, escaped}
 use Rattle.rv_gdb_protocol.specs.declared.frame.Checksum.{Checksum}
 use Rattle.rv_gdb_protocol.specs.declared.frame.Checksum.TheVariants as verdict
 
 -- the checksum of a text: the sum of its bytes modulo 256
-unfoldable pub sum_of : List ℕ → ℕ
-sum_of text = sum text % 256
+unfoldable pub checksum_of : List ℕ → ℕ
+checksum_of text = sum text % 256
 
 -- the checksum of a text as two hexadecimal digits
 unfoldable pub checksum_digits : List ℕ → List ℕ
-checksum_digits text = encode_lower (sum_of text ∷ [])
+checksum_digits text = encode_lower (checksum_of text ∷ [])
 
 -- the packet with a text: `$`, the text, `#` and its checksum
-abbrev pub in_frame : List ℕ → List ℕ
-in_frame text = packet_start ∷ (text ++ end_mark ∷ checksum_digits text)
+abbrev pub packet_of_escaped : List ℕ → List ℕ
+packet_of_escaped text = packet_start ∷ (text ++ body_end ∷ checksum_digits text)
 
 -- the packet with a body, which is escaped
-unfoldable pub framed : List ℕ → List ℕ
-framed body = in_frame (escaped body)
+unfoldable pub packet_of : List ℕ → List ℕ
+packet_of body = packet_of_escaped (escaped body)
 
 -- the checksum that two hexadecimal digits represent, given their values, or `None` if one is not a digit
 abbrev pub parse_checksum : Option ℕ → Option ℕ → Option ℕ

@@ -2,14 +2,14 @@
 
 ghost use Rattle.std.specs.Prelude.{◌≡◌, ◌<◌, IfSome};
 ghost use Rattle.hex.specs.Hex.{hex_digit_value};
-ghost use Rattle.rv_gdb_protocol.specs.Sums.{checksum_verdict, sum_of, parse_checksum};
+ghost use Rattle.rv_gdb_protocol.specs.Checksums.{checksum_verdict, checksum_of, parse_checksum};
 
 use crate::frame::Checksum;
 
 /// Returns the checksum of a text: the sum of its bytes modulo 256.
-#[tactic(auto, unfolding(crate::specs::Sums::sum_of))]
-pub(crate) fn sum_of(text: &[u8]) -> u8
-    ensures { result ≡ sum_of text.now }
+#[tactic(auto, unfolding(crate::specs::Checksums::checksum_of))]
+pub(crate) fn checksum_of(text: &[u8]) -> u8
+    ensures { result ≡ checksum_of text.now }
 {
     let mut sum = 0u8;
     for byte in text {
@@ -20,16 +20,16 @@ pub(crate) fn sum_of(text: &[u8]) -> u8
 
 /// Returns `Right` if the digits `high` and `low` are the checksum of a text, and otherwise `Wrong`.
 pub(crate) fn checksum_verdict(text: &[u8], high: u8, low: u8) -> Checksum
-    ensures { result ≡ checksum_verdict (sum_of text.now) (parse_checksum (hex_digit_value high) (hex_digit_value low)) }
+    ensures { result ≡ checksum_verdict (checksum_of text.now) (parse_checksum (hex_digit_value high) (hex_digit_value low)) }
 {
-    match received_sum(high, low) {
-        Some(told) if told == sum_of(text) => Checksum::Right,
+    match parse_checksum(high, low) {
+        Some(told) if told == checksum_of(text) => Checksum::Right,
         _ => Checksum::Wrong,
     }
 }
 
 // Returns the checksum that two hexadecimal digits represent, or `None` if one is not a digit.
-fn received_sum(high: u8, low: u8) -> Option<u8>
+fn parse_checksum(high: u8, low: u8) -> Option<u8>
     ensures { result ≡ parse_checksum (hex_digit_value high) (hex_digit_value low) }
 {
     match (digit_value(high), digit_value(low)) {

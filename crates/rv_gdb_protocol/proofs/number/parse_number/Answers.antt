@@ -2,7 +2,7 @@ use Rattle.std.proofs.Common.{◌<◌, Some, ap, arith, get_or, length, rules}
 use Rattle.rv_gdb_protocol.specs.Numbers.{with_hex_digit}
 use Rattle.rv_gdb_protocol.proofs.Digits.{digit_on_small, room}
 use Rattle.rv_gdb_protocol.proofs.Folds.{fold-take}
-use Rattle.rv_gdb_protocol.proofs.number.number_of.Goals as goal
+use Rattle.rv_gdb_protocol.proofs.number.parse_number.Goals as goal
 
 pub with_hex_digit-value-requires : goal.with_hex_digit-value-requires
 with_hex_digit-value-requires c = room c.loop-byte.value c.loop-byte.byte-index (omega arith) c.loop-byte.invariant.1
