@@ -119,9 +119,9 @@ fn push_word_change_at<'x>(
             Span::Text(": word "),
             Span::Number((len / WORD_LINE_LEN) as u64),
             Span::Text(": "),
-            Span::Shown(digits_at(tail_from(old, place))),
+            Span::Printable(digits_at(tail_from(old, place))),
             Span::Text(" -> "),
-            Span::Shown(digits_at(tail_from(new, place))),
+            Span::Printable(digits_at(tail_from(new, place))),
             Span::Text("\n"),
         ],
     )

@@ -69,7 +69,7 @@ fn push_golden_change(
     ensures { OnOk result (out.new.items ≡ out.old.items ++ golden_change part path.now old.now text.now) }
 {
     match part {
-        Part::Console => push_text_change(out, Span::Shown(path.as_bytes()), old, text),
+        Part::Console => push_text_change(out, Span::Printable(path.as_bytes()), old, text),
         Part::Signature => push_word_change(out, old, text),
     }
 }
@@ -107,10 +107,10 @@ fn push_file_prefix<'x>(
         out,
         &[
             Span::Text(sign),
-            Span::Shown(target.path.as_str().as_bytes()),
+            Span::Printable(target.path.as_str().as_bytes()),
             Span::Text(": "),
             Span::Text(part_text(target.part)),
-            Span::Shown(job_name(jobs, target.job).as_bytes()),
+            Span::Printable(job_name(jobs, target.job).as_bytes()),
         ],
     )
 }
@@ -150,7 +150,7 @@ pub(crate) fn push_skipped_prefix(out: &mut Vec<u8>, name: &str) -> Result<(), A
         out,
         &[
             Span::Text("skipped "),
-            Span::Shown(name.as_bytes()),
+            Span::Printable(name.as_bytes()),
             Span::Text(": "),
         ],
     )
@@ -171,7 +171,7 @@ fn push_file_skip_reason(
             out,
             &[
                 Span::Text("job \""),
-                Span::Shown(job_name(jobs, *job).as_bytes()),
+                Span::Printable(job_name(jobs, *job).as_bytes()),
                 Span::Text("\" also names this file and was skipped\n"),
             ],
         ),
@@ -232,10 +232,10 @@ fn push_disagreeing_texts(
         out,
         &[
             Span::Text(part_text(first.part)),
-            Span::Shown(job_name(jobs, first.job).as_bytes()),
+            Span::Printable(job_name(jobs, first.job).as_bytes()),
             Span::Text(" and "),
             Span::Text(part_text(other.part)),
-            Span::Shown(job_name(jobs, other.job).as_bytes()),
+            Span::Printable(job_name(jobs, other.job).as_bytes()),
             Span::Text(" differ"),
         ],
     )?;

@@ -52,11 +52,11 @@ fn push_value_prefix<'x>(
         out,
         &[
             Span::Text("~ "),
-            Span::Shown(path.as_bytes()),
+            Span::Printable(path.as_bytes()),
             Span::Text(":"),
             Span::Number(value.line as u64),
             Span::Text(": "),
-            Span::Shown(job.name.as_str().as_bytes()),
+            Span::Printable(job.name.as_str().as_bytes()),
             Span::Text(": "),
             Span::Text(value.key.name()),
         ],
@@ -240,7 +240,7 @@ fn push_difference(out: &mut Vec<u8>, list: &[Job], job: &Job) -> Result<(), All
         out,
         &[
             Span::Text("the result differs from that of job \""),
-            Span::Shown(compared_job_name(list, job).as_bytes()),
+            Span::Printable(compared_job_name(list, job).as_bytes()),
             Span::Text("\" (same_as)"),
         ],
     )

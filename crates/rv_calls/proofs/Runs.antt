@@ -2,7 +2,7 @@
 use Rattle.std.proofs.Common.{◌≡◌, ◌∙◌, ◌==◌, ◌+◌, ◌-◌, ◌<◌, ℕ, zero, suc, not, false, List, [], ◌∷◌, Result, Ok, Err, refl, sym, ap, subst, arith, inl, inr}
 use Rattle.std.specs.Prelude.{◌⊎◌, MatchBool, is_ok}
 use Rattle.rv_trace.specs.declared_ending.Ending.{Ending}
-use Rattle.rv_trace.specs.Run.{Ran, run_after_step, step_of, run_of}
+use Rattle.rv_trace.specs.Run.{RunResult, run_after_step, step_of, run_of}
 use Rattle.rv_trace.specs.State.{State}
 use Rattle.rv_trace.specs.Trace.{state_after}
 use Rattle.rv_calls.specs.declared.frames.Frame.{Frame}
@@ -28,7 +28,7 @@ one_run s = told_by s (step_of s)
 
 pub one_step : (s t : State) (n : ℕ) (e : Ending) → run_of 1 s ≡ record { ending = e; steps = n; state = t }
     → Told n s (step_of s) t
-one_step s t n e ran = subst (λ (r : Ran). Told r.steps s (step_of s) r.state) ran (one_run s)
+one_step s t n e ran = subst (λ (r : RunResult). Told r.steps s (step_of s) r.state) ran (one_run s)
 
 -- ---- transfers
 
@@ -55,7 +55,7 @@ after_first : (n : ℕ) (s t : State) → step_of s ≡ Ok t → state_after (su
 unfolding run_of
 after_first n s t e = ap (λ (r : Result State Ending). (run_after_step r s (λ u. run_of n u)).state) e
 
-stays : (r : Result State Ending) (s : State) (rest : State → Ran) → is_ok r ≡ false → (run_after_step r s rest).state ≡ s
+stays : (r : Result State Ending) (s : State) (rest : State → RunResult) → is_ok r ≡ false → (run_after_step r s rest).state ≡ s
 stays (Ok t) s rest h = cc
 stays (Err e) s rest h = refl
 

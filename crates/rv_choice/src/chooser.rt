@@ -364,7 +364,7 @@ fn unmatched_pattern_message<'a>(
         alloc,
         &[
             Span::Text("rvtest: "),
-            Span::Shown(list.as_bytes()),
+            Span::Printable(list.as_bytes()),
             Span::Text(": no job name matches \""),
             Span::Value(pattern.as_bytes()),
             Span::Text("\"\n"),
@@ -391,7 +391,7 @@ fn emptied_choice_message<'a>(
         alloc,
         &[
             Span::Text("rvtest: "),
-            Span::Shown(list.as_bytes()),
+            Span::Printable(list.as_bytes()),
             Span::Text(": no jobs left after --exclude \""),
             Span::Value(pattern.as_bytes()),
             Span::Text("\"\n"),

@@ -141,7 +141,7 @@ fn push_removed_job_note<'a>(
         notes,
         &[
             Span::Text("rvtest: "),
-            Span::Shown(path.as_bytes()),
+            Span::Printable(path.as_bytes()),
             Span::Text(": note: job \""),
             Span::Text(name),
             Span::Text("\" failed, but is no longer in the list\n"),

@@ -42,7 +42,7 @@ fn no_such_job_message<'a>(
         alloc,
         &[
             Span::Text("rvtest: "),
-            Span::Shown(list.as_bytes()),
+            Span::Printable(list.as_bytes()),
             Span::Text(": no job named \""),
             Span::Value(name.as_bytes()),
         ],

@@ -49,7 +49,7 @@ fn job_list_message<'a>(
         alloc,
         &[
             Span::Text("rvtest: "),
-            Span::Shown(path.as_bytes()),
+            Span::Printable(path.as_bytes()),
             Span::Text(": this is a job list, not "),
             Span::Text(kind_text(kind)),
             Span::Text("\n"),
@@ -71,7 +71,7 @@ fn line_message<'a>(
         alloc,
         &[
             Span::Text("rvtest: "),
-            Span::Shown(path.as_bytes()),
+            Span::Printable(path.as_bytes()),
             Span::Text(":"),
             Span::Number(number as u64),
             Span::Text(": invalid "),

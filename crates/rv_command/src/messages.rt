@@ -21,7 +21,7 @@ pub fn path_message<'a>(alloc: Global, path: &'a str, what: &'a str) -> Result<V
         alloc,
         &[
             Span::Text("rvtest: "),
-            Span::Shown(path.as_bytes()),
+            Span::Printable(path.as_bytes()),
             Span::Text(": "),
             Span::Text(what),
             Span::Text("\n"),
@@ -44,7 +44,7 @@ pub fn path_number_message<'a>(
         alloc,
         &[
             Span::Text("rvtest: "),
-            Span::Shown(path.as_bytes()),
+            Span::Printable(path.as_bytes()),
             Span::Text(place),
             Span::Number(number as u64),
             Span::Text(what),

@@ -20,8 +20,8 @@ use Rattle.rv_trace.specs.declared_ending.Ending.TheVariants.{Exit, Fault}
 use Rattle.rv_trace.specs.declared_ending.FaultKind.TheVariants as fault
 use Rattle.rv_trace.specs.State.{State, register, is_misaligned}
 use Rattle.rv_trace.specs.Effect.{effect, effect_of, after_branch, pc_plus_immediate, address, rs2_value, load, after_load, store, after_store, fault_of_load, fault_of_store, next_pc}
-use Rattle.rv_trace.specs.Fetch.{Fetched, fetch, after_half_fetch, decoded_or_illegal, fault_of_fetch, second_half_address}
-use Rattle.rv_trace.specs.Run.{Ran, after_fetch, step_of, run_of, run_after_step}
+use Rattle.rv_trace.specs.Fetch.{FetchResult, fetch, after_half_fetch, decoded_or_illegal, fault_of_fetch, second_half_address}
+use Rattle.rv_trace.specs.Run.{RunResult, after_fetch, step_of, run_of, run_after_step}
 use Rattle.rv_trace.specs.declared.code.Code.{Code}
 use Rattle.rv_trace.specs.Code.{code_at, instr_of}
 use Rattle.rv_trace.proofs.Public.{code_is_fetched}
@@ -131,10 +131,10 @@ of_fetch : (e : FetchFault) → is_executed_at_fault (fault_of_fetch e) ≡ fals
 of_fetch Unmapped = refl
 of_fetch Stale = refl
 
-abbrev IsNoInstr : Fetched → Type 0
+abbrev IsNoInstr : FetchResult → Type 0
 IsNoInstr r = err_is (λ f. is_executed_at_fault f.0 ≡ false) r
 
-behind_half : (r : Result ℕ FetchFault) (a : ℕ) (rest : ℕ → Fetched) → ((h : ℕ) → IsNoInstr (rest h))
+behind_half : (r : Result ℕ FetchFault) (a : ℕ) (rest : ℕ → FetchResult) → ((h : ℕ) → IsNoInstr (rest h))
     → IsNoInstr (after_half_fetch r a rest)
 behind_half (Ok h) a rest k = k h
 behind_half (Err e) a rest k = of_fetch e
@@ -143,7 +143,7 @@ meant : (i : Option Instr) (n bits : ℕ) → IsNoInstr (decoded_or_illegal i n 
 meant (Some i) n bits = tt
 meant None n bits = refl
 
-by_length : (long : Bool) (a b : Fetched) → IsNoInstr a → IsNoInstr b → IsNoInstr (cond long a b)
+by_length : (long : Bool) (a b : FetchResult) → IsNoInstr a → IsNoInstr b → IsNoInstr (cond long a b)
 by_length true a b h k = h
 by_length false a b h k = k
 
@@ -159,7 +159,7 @@ fetch_begins_none isa contents pc =
 -- ---- a step
 
 -- what a step says of its fetch
-abbrev Tells : Fetched → Result State Ending → Type 0
+abbrev Tells : FetchResult → Result State Ending → Type 0
 Tells r (Ok t) = is_executed r ≡ true
 Tells r (Err e) = is_executed_at_end e ≡ is_executed r
 
@@ -167,7 +167,7 @@ effect_tells : (p : Instr × ℕ) (r : Result State Ending) → IsOfEffect r →
 effect_tells p (Ok t) h = refl
 effect_tells p (Err e) h = h
 
-fetch_tells : (r : Fetched) (s : State) → IsNoInstr r → Tells r (after_fetch r s)
+fetch_tells : (r : FetchResult) (s : State) → IsNoInstr r → Tells r (after_fetch r s)
 unfolding effect
 fetch_tells (Ok p) s h = effect_tells p (effect_of p.0.op p.0 (next_pc s p.1) s) (effect_begins p.0.op p.0 (next_pc s p.1) s)
 fetch_tells (Err f) s h = h
@@ -184,7 +184,7 @@ ended_begins s e is = subst (λ (r : Result State Ending). Tells (fetch_at s) r)
 
 -- ---- a run of one step
 
-abbrev RanOnce : Result State Ending → State → Ran → Type 0
+abbrev RanOnce : Result State Ending → State → RunResult → Type 0
 RanOnce (Ok u) s ran = (ran.steps ≡ 1) × (ran.state ≡ u)
 RanOnce (Err e) s ran = (ran.steps ≡ 0) × (ran.state ≡ s) × (ran.ending ≡ e)
 
@@ -204,7 +204,7 @@ some_not_none n h k = omega arith
 pub ended_of : (s t : State) (e : Ending) (n : ℕ) → run_of 1 s ≡ record { ending = e; steps = n; state = t } → n ≡ 0
     → (step_of s ≡ Err e) × (t ≡ s)
 ended_of s t e n is none =
-    let h = subst (λ (ran : Ran). RanOnce (step_of s) s ran) is (one_run s) in by (step_of s) refl h
+    let h = subst (λ (ran : RunResult). RanOnce (step_of s) s ran) is (one_run s) in by (step_of s) refl h
   where
     by : (r : Result State Ending) → step_of s ≡ r → RanOnce r s (record { ending = e; steps = n; state = t })
         → (step_of s ≡ Err e) × (t ≡ s)
@@ -215,7 +215,7 @@ ended_of s t e n is none =
 pub completed_of : (s t : State) (e : Ending) (n : ℕ) → run_of 1 s ≡ record { ending = e; steps = n; state = t }
     → (n ≡ 0 → ⊥) → step_of s ≡ Ok t
 completed_of s t e n is some =
-    let h = subst (λ (ran : Ran). RanOnce (step_of s) s ran) is (one_run s) in by (step_of s) refl h
+    let h = subst (λ (ran : RunResult). RanOnce (step_of s) s ran) is (one_run s) in by (step_of s) refl h
   where
     by : (r : Result State Ending) → step_of s ≡ r → RanOnce r s (record { ending = e; steps = n; state = t })
         → step_of s ≡ Ok t
@@ -224,7 +224,7 @@ completed_of s t e n is some =
 
 -- ---- a branch that is taken
 
-pub begun_is : (r : Fetched) → is_executed r ≡ true → (p : Instr × ℕ) × (r ≡ Ok p)
+pub begun_is : (r : FetchResult) → is_executed r ≡ true → (p : Instr × ℕ) × (r ≡ Ok p)
 begun_is (Ok p) h = (p, refl)
 begun_is (Err f) h = absurd (false≢true h)
 
@@ -238,5 +238,5 @@ taken_is s t e =
     let instr : instr_of code ≡ Some p.0 = ap (λ (o : Option Code). option_and_then instr_of o) (sym shown.there) ∙ shown.same in
     ap (λ (o : Option Code). is_taken_code o s.pc t.pc) shown.there
     ∙ (λ i. is_branch_instr (instr i) && not (t.pc == (s.pc + shown.long i) % 0x1_0000_0000))
-    ∙ sym (ap (λ (r : Fetched). is_taken r s t) f.1)
+    ∙ sym (ap (λ (r : FetchResult). is_taken r s t) f.1)
     ∙ sym (ap (λ (r : Result State Ending). is_taken_step r s) e)

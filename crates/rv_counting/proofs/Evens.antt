@@ -5,7 +5,7 @@ use Rattle.std.specs.List.{AllByRecursion}
 use Rattle.rv_trace.proofs.Public.{effect_even, fetched_steady, ok_is}
 use Rattle.rv_trace.specs.declared_ending.Ending.{Ending}
 use Rattle.rv_trace.specs.Effect.{effect}
-use Rattle.rv_trace.specs.Fetch.{Fetched}
+use Rattle.rv_trace.specs.Fetch.{FetchResult}
 use Rattle.rv_trace.specs.Run.{after_fetch, step_of}
 use Rattle.rv_trace.specs.State.{State}
 use Rattle.rv_count_tables.specs.declared.table.AddressCounts.{AddressCounts}
@@ -21,7 +21,7 @@ two_or_four n (inr e) = omega arith
 abbrev IsEven : State → Type 0
 IsEven s = s.pc % 2 ≡ 0
 
-fetched_even : (s : State) (r : Fetched) → fetch_at s ≡ r → IsEven s → ok_is IsEven (after_fetch r s)
+fetched_even : (s : State) (r : FetchResult) → fetch_at s ≡ r → IsEven s → ok_is IsEven (after_fetch r s)
 unfolding effect
 fetched_even s (Ok p) f even =
     let steady = fetched_steady s.isa s.bus s.pc p f in

@@ -8,7 +8,7 @@ use Rattle.std.specs.Char.{encode_utf8, is_control}
 use Rattle.std.specs.List.{All}
 use Rattle.std.specs.Str.{chars, encode_utf8_all}
 use Rattle.rv_count_tables.specs.Lines.{lacks}
-use Rattle.rv_count_tables.specs.Printable.{IsUtf8WithoutControls, is_format}
+use Rattle.rv_count_tables.specs.Printable.{IsUtf8WithoutControls, is_format_char}
 
 abbrev IsLine : List ℕ → Type 0
 IsLine text = lacks 10 text ≡ true
@@ -62,7 +62,7 @@ character_line c other =
 
 -- a control character, or a format character
 abbrev is_hidden : ℕ → Bool
-is_hidden c = is_control c || is_format c
+is_hidden c = is_control c || is_format_char c
 
 no_feed : (c : ℕ) → is_hidden c ≡ false → c ≡ 10 → ⊥
 no_feed c h e = false≢true (sym h ∙ ap is_hidden e)

@@ -2,7 +2,7 @@
 use Rattle.std.proofs.Common.{◌≡◌, ◌∙◌, ◌+◌, ◌-◌, ◌<◌, ◌≤◌, ◌⊎◌, inl, inr, ℕ, zero, suc, Ok, Err, refl, sym, ap, arith}
 use Rattle.std.specs.Prelude.{◌==◌, ◌&&◌}
 use Rattle.rv_trace.specs.declared_ending.Ending.{Ending}
-use Rattle.rv_trace.specs.Run.{Ran, step_of, run_of, run_after_step}
+use Rattle.rv_trace.specs.Run.{RunResult, step_of, run_of, run_after_step}
 use Rattle.rv_trace.specs.State.{State}
 use Rattle.rv_trace.proofs.Public.{after_none}
 use Rattle.rv_trace.specs.Trace.{state_after}
@@ -45,15 +45,15 @@ ended_early (suc n) s h = by_step s
     = ap (λ k. state_after k s) more ∙ after_first (run_of n t).steps s t e in
     let rest = ended_early n t (omega (arith, first, h)) in
     let same = run_first n s t e in (
-      ap step_of at ∙ rest.0 ∙ ap (λ (r : Ran). Err r.ending) (sym same),
-      at ∙ rest.1 ∙ ap (λ (r : Ran). r.state) (sym same),
+      ap step_of at ∙ rest.0 ∙ ap (λ (r : RunResult). Err r.ending) (sym same),
+      at ∙ rest.1 ∙ ap (λ (r : RunResult). r.state) (sym same),
     ))
     (λ e is.
     let none = steps_end n s e is in
     let at : state_after (run_of (suc n) s).steps s ≡ s = ap (λ k. state_after k s) none ∙ after_none s in
     let same = run_end n s e is in (
-      ap step_of at ∙ is ∙ ap (λ (r : Ran). Err r.ending) (sym same),
-      at ∙ ap (λ (r : Ran). r.state) (sym same),
+      ap step_of at ∙ is ∙ ap (λ (r : RunResult). Err r.ending) (sym same),
+      at ∙ ap (λ (r : RunResult). r.state) (sym same),
     ))
 
 -- the last of so many steps completed, or ended the run

@@ -11,7 +11,7 @@ use Rattle.std.proofs.lemmas.List.Sums.{sum_by-cons}
 use Rattle.rv_elf.specs.declared.function.Function.{Function}
 use Rattle.rv_elf.specs.declared.image.Image.{Image}
 use Rattle.rv_elf.specs.declared.image.Segment.{Segment}
-use Rattle.rv_elf.specs.Functions.{Named, bytes_in_segment, code_of_symbol, function_of_symbol, functions, functions_in, is_code_segment_of, is_sized_function, function_view}
+use Rattle.rv_elf.specs.Functions.{FunctionView, bytes_in_segment, code_of_symbol, function_of_symbol, functions, functions_in, is_code_segment_of, is_sized_function, function_view}
 use Rattle.rv_elf.specs.Sections.{section_bytes, string_table_section, symbol_at_offset, symbol_table_section, symbols_of}
 use Rattle.rv_elf.specs.Symbols.{symbol_and_string_bytes, symbol_tables_check, tables_of_section}
 use Rattle.rv_cover_view.specs.Functions.{bytes_of, code_bytes, named}
@@ -25,7 +25,7 @@ size_of f = length f.code.now
 bytes_named : (fs : List Function) → code_bytes (map named fs) ≡ sum_by size_of fs
 bytes_named [] = refl
 bytes_named (f ∷ fs) =
-    let a = sum_by-cons (λ (g : Named). length (bytes_of g)) (named f) (map named fs) in
+    let a = sum_by-cons (λ (g : FunctionView). length (bytes_of g)) (named f) (map named fs) in
     let b = sum_by-cons size_of f fs in
     let h = bytes_named fs in
     omega (arith, a, b, h)
@@ -68,14 +68,14 @@ module _ (file : List ℕ) (small : length file ≤ 0x100_0000) where
   part_few : (n m : ℕ) → length (take n (drop m file)) ≤ 0x100_0000
   part_few n m = let a = short_take n (drop m file) in let b = length-drop m file in omega (arith, a, b, small)
 
-  abbrev IsFew : Option Named → Type 0
+  abbrev IsFew : Option FunctionView → Type 0
   IsFew o = IfSome o (λ g. length (bytes_of g) ≤ 0x100_0000)
 
-  one_more : (o : Option Named) (rest : List Named) → IsFew o → code_bytes (cons_option o rest) ≤ 0x100_0000 + code_bytes rest
+  one_more : (o : Option FunctionView) (rest : List FunctionView) → IsFew o → code_bytes (cons_option o rest) ≤ 0x100_0000 + code_bytes rest
   one_more None rest h = omega arith
-  one_more (Some g) rest h = let a = sum_by-cons (λ (f : Named). length (bytes_of f)) g rest in omega (arith, a, h)
+  one_more (Some g) rest h = let a = sum_by-cons (λ (f : FunctionView). length (bytes_of f)) g rest in omega (arith, a, h)
 
-  sum_few : {X : Type 0} (h : X → Option Named) → ((x : X) → IsFew (h x)) → (xs : List X) → code_bytes (filter_map h xs) ≤ length xs * 0x100_0000
+  sum_few : {X : Type 0} (h : X → Option FunctionView) → ((x : X) → IsFew (h x)) → (xs : List X) → code_bytes (filter_map h xs) ≤ length xs * 0x100_0000
   sum_few h few [] = omega arith
   sum_few h few (x ∷ xs) =
       let a = one_more (h x) (filter_map h xs) (few x) in

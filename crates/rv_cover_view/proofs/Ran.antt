@@ -4,7 +4,7 @@ use Rattle.std.specs.List.{AllByRecursion, list_any}
 use Rattle.std.proofs.lemmas.Bool.Decides.{nat_tests}
 use Rattle.rv_count_tables.specs.declared.table.AddressCounts.{AddressCounts}
 use Rattle.rv_count_tables.specs.Table.{AreValidCounts, IsCounted, executed_at}
-use Rattle.rv_elf.specs.Functions.{Named}
+use Rattle.rv_elf.specs.Functions.{FunctionView}
 use Rattle.rv_cover_view.specs.Cover.{WasNotExecuted, has_run, never_run}
 use Rattle.rv_cover_view.specs.Functions.{address_of, bytes_of}
 
@@ -74,12 +74,12 @@ negated : (b : Bool) → not b ≡ true → b ≡ false
 negated true e = cc
 negated false e = refl
 
-pub never_run_has_not_begun : (counts : List AddressCounts) (fs : List Named) (f : Named) → AreValidCounts counts
+pub never_run_has_not_begun : (counts : List AddressCounts) (fs : List FunctionView) (f : FunctionView) → AreValidCounts counts
     → Contains (never_run counts fs) f ↔ (Contains fs f × WasNotExecuted counts f)
 never_run_has_not_begun counts fs f good = (
   λ h.
-      let r = passes (λ (g : Named). not (has_run counts g)) fs f h in
+      let r = passes (λ (g : FunctionView). not (has_run counts g)) fs f h in
       (r.0, not_begun (address_of f) (address_of f + length (bytes_of f)) counts (negated (has_run counts f) r.1)),
-  λ h. kept (λ (g : Named). not (has_run counts g)) fs f h.0
+  λ h. kept (λ (g : FunctionView). not (has_run counts g)) fs f h.0
       (ap not (none_within (address_of f) (address_of f + length (bytes_of f)) counts good.each h.1)),
 )

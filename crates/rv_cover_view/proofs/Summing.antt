@@ -6,7 +6,7 @@ use Rattle.std.proofs.lemmas.List.{append-nil, length-append, map-append, take-a
 use Rattle.std.proofs.lemmas.List.Concat.{flat_map-cons}
 use Rattle.std.proofs.lemmas.List.Sums.{sum_by-append, sum_by-cons}
 use Rattle.rv_elf.specs.declared.function.Function.{Function}
-use Rattle.rv_elf.specs.Functions.{Named}
+use Rattle.rv_elf.specs.Functions.{FunctionView}
 use Rattle.rv_cover_view.specs.Functions.{address_of, bytes_of, code_bytes, named}
 use Rattle.rv_count_tables.specs.declared.table.AddressCounts.{AddressCounts}
 use Rattle.rv_counting.specs.declared_code.Code.{Code}
@@ -45,11 +45,11 @@ module _ (counts : List AddressCounts) (address : ℕ) (bytes : List ℕ) (code 
 
 -- ---- functions
 
-codes_bytes : (fs : List Named) → length (flat_map codes_of fs) ≤ code_bytes fs
+codes_bytes : (fs : List FunctionView) → length (flat_map codes_of fs) ≤ code_bytes fs
 codes_bytes [] = omega arith
 codes_bytes (f ∷ fs) =
     let a = ap length (flat_map-cons codes_of f fs) ∙ length-append (codes_of f) (flat_map codes_of fs) in
-    let b = sum_by-cons (λ (g : Named). length (bytes_of g)) f fs in
+    let b = sum_by-cons (λ (g : FunctionView). length (bytes_of g)) f fs in
     let l = codes_few (length (bytes_of f)) (address_of f) (bytes_of f) in
     let h = codes_bytes fs in
     omega (arith, a, b, l, h)
@@ -76,7 +76,7 @@ module _ (counts : List AddressCounts) (fs : List Function) (i : ℕ) (d : Funct
   few_before k =
       let e = ap (λ (gs : List Function). code_bytes (map named gs)) (sym (take-append-drop k fs))
       ∙ ap code_bytes (map-append named (take k fs) (drop k fs))
-      ∙ sum_by-append (λ (g : Named). length (bytes_of g)) (map named (take k fs)) (map named (drop k fs)) in
+      ∙ sum_by-append (λ (g : FunctionView). length (bytes_of g)) (map named (take k fs)) (map named (drop k fs)) in
       omega (arith, e)
 
   pub one_function_fits : (amounts one : CodeTotals) → i < length fs → code_bytes (map named fs) < 2 ^ 64

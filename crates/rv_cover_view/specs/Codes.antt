@@ -1,7 +1,7 @@
 -- The encodings in the bytes of a function, one after another from the first byte on.
 use Rattle.std.specs.Prelude.{◌+◌, ◌*◌, ◌%◌, ◌==◌, ℕ, zero, suc, if◌then◌else◌, List, [], ◌∷◌, Option, Some, None, drop, length, option_and_then, option_map}
 use Rattle.std.specs.Option.{option_map_or}
-use Rattle.rv_elf.specs.Functions.{Named}
+use Rattle.rv_elf.specs.Functions.{FunctionView}
 use Rattle.rv_counting.specs.Bits.{field}
 use Rattle.rv_counting.specs.declared_code.Code.{Code}
 use Rattle.rv_counting.specs.declared_code.Code.TheVariants.{Half, Word}
@@ -37,5 +37,5 @@ codes_from (suc n) address bytes = option_map_or
     (first_code bytes) []
 
 -- all encodings of a function; each has at least one byte
-abbrev pub codes_of : Named → List AddressedCode
+abbrev pub codes_of : FunctionView → List AddressedCode
 codes_of f = codes_from (length (bytes_of f)) (address_of f) (bytes_of f)

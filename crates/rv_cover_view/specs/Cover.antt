@@ -4,7 +4,7 @@ use Rattle.std.specs.List.{count_by, flat_map, list_any}
 use Rattle.rv_count_tables.specs.declared.table.AddressCounts.{AddressCounts}
 use Rattle.rv_count_tables.specs.Table.{executed_at, taken_at}
 use Rattle.rv_counting.specs.Coverage.{is_branch_code}
-use Rattle.rv_elf.specs.Functions.{Named}
+use Rattle.rv_elf.specs.Functions.{FunctionView}
 use Rattle.rv_counting.specs.Code.{instr_of}
 use Rattle.rv_cover_view.specs.declared.totals.CoverageTotals.{CoverageTotals}
 use Rattle.rv_cover_view.specs.declared.totals.CodeTotals.{CodeTotals}
@@ -14,11 +14,11 @@ use Rattle.rv_cover_view.specs.Functions.{address_of, bytes_of}
 -- ---- a function
 
 -- whether an instruction was executed at one of the function's addresses
-abbrev pub has_run : List AddressCounts → Named → Bool
+abbrev pub has_run : List AddressCounts → FunctionView → Bool
 has_run counts f = list_any (λ c. nat_le (address_of f) c.address && nat_lt c.address (address_of f + length (bytes_of f))) counts
 
 -- the functions at whose addresses no instruction was executed, in order
-abbrev pub never_run : List AddressCounts → List Named → List Named
+abbrev pub never_run : List AddressCounts → List FunctionView → List FunctionView
 never_run counts fs = filter (λ f. not (has_run counts f)) fs
 
 -- ---- an encoding with its address
@@ -65,7 +65,7 @@ totals_of_codes counts ps = record {
 }
 
 -- the coverage of functions: how many there are, how many ran, and the coverage of their encodings
-abbrev pub totals_of : List AddressCounts → List Named → CoverageTotals
+abbrev pub totals_of : List AddressCounts → List FunctionView → CoverageTotals
 totals_of counts fs = record {
   functions = length fs;
   functions_run = count_by (has_run counts) fs;
@@ -75,6 +75,6 @@ totals_of counts fs = record {
 -- ---- counts and lines agree
 
 -- no instruction was executed at the function's addresses
-abbrev pub WasNotExecuted : List AddressCounts → Named → Type 0
+abbrev pub WasNotExecuted : List AddressCounts → FunctionView → Type 0
 WasNotExecuted counts f = (address : ℕ) → address_of f ≤ address → address < address_of f + length (bytes_of f)
     → executed_at address counts ≡ 0

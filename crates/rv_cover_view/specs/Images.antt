@@ -1,7 +1,7 @@
 -- The coverage of an image, from the counts of its addresses.
 use Rattle.std.specs.Prelude.{◌≡◌, ℕ, List, map}
 use Rattle.rv_count_tables.specs.declared.table.AddressCounts.{AddressCounts}
-use Rattle.rv_elf.specs.Functions.{Named, functions}
+use Rattle.rv_elf.specs.Functions.{FunctionView, functions}
 use Rattle.rv_elf.specs.declared.image.Image.{Image}
 use Rattle.rv_cover_view.specs.Cover.{totals_of, never_run}
 use Rattle.rv_cover_view.specs.Functions.{IsEachOnce, named}
@@ -10,7 +10,7 @@ use Rattle.rv_cover_view.specs.declared.image_cover.ImageCover.{ImageCover}
 -- `cover` is the coverage of the image with this path: its totals, and its functions that never ran; of several functions at one address,
 -- only the first counts
 pub record IsCoverOf (path : List ℕ) (image : Image) (file : List ℕ) (counts : List AddressCounts) (cover : ImageCover) : Type 0 where
-  pub found : List Named
+  pub found : List FunctionView
   pub once : IsEachOnce (functions image file) found
   pub shown : cover.path.now ≡ path
   pub counted : cover.amounts ≡ totals_of counts found

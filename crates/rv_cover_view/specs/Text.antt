@@ -2,7 +2,7 @@
 use Rattle.std.specs.Prelude.{◌++◌, ◌-◌, ℕ, List, [], ◌∷◌, codes, length, replicate}
 use Rattle.std.specs.Fmt.{decimal}
 use Rattle.std.specs.List.{flat_map}
-use Rattle.rv_elf.specs.Functions.{Named}
+use Rattle.rv_elf.specs.Functions.{FunctionView}
 use Rattle.rv_count_tables.specs.Printable.{printable_name, printable_text}
 use Rattle.rv_cover_view.specs.declared.totals.CoverageTotals.{CoverageTotals}
 use Rattle.rv_cover_view.specs.declared.totals.CodeTotals.{CodeTotals}
@@ -29,10 +29,10 @@ unfoldable pub image_line : List ℕ → CoverageTotals → List ℕ
 image_line path a = function_columns a ++ code_columns a.code ++ codes "  " ++ printable_text path ++ codes "\n"
 
 -- the names of functions, each after a comma and a space
-abbrev pub further_names : List Named → List ℕ
+abbrev pub further_names : List FunctionView → List ℕ
 further_names fs = flat_map (λ f. codes ", " ++ printable_name f.0) fs
 
 -- the line `never run: NAME, NAME` with the names of these functions, or nothing if there are none
-unfoldable pub never_run_line : List Named → List ℕ
+unfoldable pub never_run_line : List FunctionView → List ℕ
 never_run_line [] = []
 never_run_line (f ∷ fs) = codes "never run: " ++ printable_name f.0 ++ further_names fs ++ codes "\n"

@@ -4,11 +4,11 @@ ghost use Rattle.std.specs.Prelude.{◌↔◌, List};
 ghost use Rattle.std.specs.List.{Contains};
 ghost use Rattle.rv_count_tables.specs.declared.table.AddressCounts.{AddressCounts as Counts};
 ghost use Rattle.rv_count_tables.specs.Table.{AreValidCounts};
-ghost use Rattle.rv_elf.specs.Functions.{Named};
+ghost use Rattle.rv_elf.specs.Functions.{FunctionView};
 ghost use Rattle.rv_cover_view.specs.Cover.{WasNotExecuted, never_run};
 
 /// Proves that `never_run` has exactly the functions at whose addresses no instruction was executed.
 pub fn functions_never_run_have_not_begun()
-    ensures { (counts : List Counts) (fs : List Named) (f : Named) → AreValidCounts counts
+    ensures { (counts : List Counts) (fs : List FunctionView) (f : FunctionView) → AreValidCounts counts
         → Contains (never_run counts fs) f ↔ (Contains fs f × WasNotExecuted counts f) }
 {}

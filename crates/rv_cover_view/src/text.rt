@@ -34,7 +34,7 @@ pub fn push_image_line(
     push_code_columns(alloc, bytes, &amounts.code)?;
     push_spans(
         bytes,
-        &[Span::Text("  "), Span::Shown(path), Span::Text("\n")],
+        &[Span::Text("  "), Span::Printable(path), Span::Text("\n")],
     )
 }
 

@@ -11,7 +11,7 @@ use Rattle.rv_elf.specs.declared.image.Segment.{Segment}
 use Rattle.rv_elf.specs.declared.symbols.Symbol.{Symbol}
 use Rattle.rv_elf.specs.declared.error.ImageError.{ImageError}
 use Rattle.rv_elf.specs.declared.image.Image.{Image}
-use Rattle.rv_elf.specs.Functions.{Named, code_of_symbol, function_of_symbol, functions, functions_in, has_bytes_of_symbol, is_code_segment_of, is_executable, is_in_file, is_sized_function, function_view}
+use Rattle.rv_elf.specs.Functions.{FunctionView, code_of_symbol, function_of_symbol, functions, functions_in, has_bytes_of_symbol, is_code_segment_of, is_executable, is_in_file, is_sized_function, function_view}
 use Rattle.rv_elf.specs.Rows.{accepted}
 use Rattle.rv_elf.specs.Symbols.{symbol_and_string_bytes, symbol_tables_check}
 use Rattle.rv_elf.proofs.Reading.{in_file_bounds}
@@ -56,7 +56,7 @@ code_is_placed n s ss g e h l =
 
 module _ (segments : List Segment) (file strings : List ℕ) (symbol_at : ℕ → Symbol) where
   -- the functions among the first k symbols
-  abbrev pub functions_below : ℕ → List Named
+  abbrev pub functions_below : ℕ → List FunctionView
   functions_below k = filter_map (function_of_symbol segments file strings) (map symbol_at (range_with_len 0 k))
 
   one_more : (k : ℕ) → functions_below (k + 1)
@@ -66,7 +66,7 @@ module _ (segments : List Segment) (file strings : List ℕ) (symbol_at : ℕ �
       ∙ filter_map-append (function_of_symbol segments file strings) (map symbol_at (range_with_len 0 k)) (symbol_at k ∷ [])
 
   -- a symbol that is a function with a size gives what it is
-  pub with_function : (k : ℕ) (s : Symbol) → s ≡ symbol_at k → (found longer : List Named) → found ≡ functions_below k
+  pub with_function : (k : ℕ) (s : Symbol) → s ≡ symbol_at k → (found longer : List FunctionView) → found ≡ functions_below k
       → longer ≡ found ++ filter_map (function_of_symbol segments file strings) (s ∷ []) → longer ≡ functions_below (k + 1)
   with_function k s same found longer inv more =
       more ∙ ap (λ xs. xs ++ filter_map (function_of_symbol segments file strings) (s ∷ [])) inv
@@ -74,11 +74,11 @@ module _ (segments : List Segment) (file strings : List ℕ) (symbol_at : ℕ �
 
   nothing : (s : Symbol) → is_sized_function strings s ≡ false
       → filter_map (function_of_symbol segments file strings) (s ∷ []) ≡ []
-  nothing s e = ap (λ (o : Option Named). filter_map (λ (t : Symbol). o) (s ∷ []))
+  nothing s e = ap (λ (o : Option FunctionView). filter_map (λ (t : Symbol). o) (s ∷ []))
       (ap (λ b. cond b (option_map (function_view strings s) (code_of_symbol segments file s)) None) e)
 
   -- another gives nothing
-  pub without_function : (k : ℕ) (s : Symbol) → s ≡ symbol_at k → (found : List Named) → found ≡ functions_below k
+  pub without_function : (k : ℕ) (s : Symbol) → s ≡ symbol_at k → (found : List FunctionView) → found ≡ functions_below k
       → is_sized_function strings s ≡ false → found ≡ functions_below (k + 1)
   without_function k s same found inv e =
       inv ∙ sym (append-nil (functions_below k)) ∙ ap (λ xs. functions_below k ++ xs) (sym (nothing s e))

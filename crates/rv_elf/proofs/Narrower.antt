@@ -10,7 +10,7 @@ use Rattle.rv_elf.specs.declared.error.ImageError.{ImageError}
 use Rattle.rv_elf.specs.declared.error.ImageError.TheVariants.{EntryAlign}
 use Rattle.rv_elf.specs.declared.image.Image.{Image}
 use Rattle.rv_elf.specs.Rows.{ErrorRow, first_error_of}
-use Rattle.rv_elf.specs.Image.{e_entry, refusals, unchecked_image, image_of}
+use Rattle.rv_elf.specs.Image.{e_entry, image_error_rows, unchecked_image, image_of}
 use Rattle.rv_elf.proofs.FirstRow.{none_refused}
 
 -- rows of which none applies leave what follows
@@ -28,15 +28,15 @@ wider (row ∷ rows) was now passes h =
     let p = or_parts row.0 (list_any (λ r. r.0) (rows ++ was ∷ [])) h in rw p.0 (wider rows was now passes p.1)
 
 -- with 16-bit instructions nothing is refused that is not refused without them: the last refusal goes
-refusals_wider : (isa : Isa) (file : List ℕ) → list_any (λ r. r.0) (refusals isa file) ≡ false
-    → list_any (λ r. r.0) (refusals Imc file) ≡ false
+refusals_wider : (isa : Isa) (file : List ℕ) → list_any (λ r. r.0) (image_error_rows isa file) ≡ false
+    → list_any (λ r. r.0) (image_error_rows Imc file) ≡ false
 refusals_wider isa file h =
     let last : Isa → ErrorRow = λ set. (not (has_extension set RV32C) && not (e_entry file % 4 == 0), EntryAlign) in
-    wider (take 13 (refusals Imc file)) (last isa) (last Imc) refl h
+    wider (take 13 (image_error_rows Imc file)) (last isa) (last Imc) refl h
 
 pub image_wider : (isa : Isa) (file : List ℕ) (image : Image) → image_of isa file ≡ Ok image
     → image_of Imc file ≡ Ok image
 unfolding image_of
 image_wider isa file image e =
-    let read = none_refused (refusals isa file) (Ok (unchecked_image file)) image e in
-    passes_all (refusals Imc file) (Ok (unchecked_image file)) (refusals_wider isa file read.0) ∙ read.1
+    let read = none_refused (image_error_rows isa file) (Ok (unchecked_image file)) image e in
+    passes_all (image_error_rows Imc file) (Ok (unchecked_image file)) (refusals_wider isa file read.0) ∙ read.1

@@ -47,24 +47,24 @@ abbrev pub truncated_name : List ℕ → List ℕ
 truncated_name bytes = unwrap_or (text_before_zero (take max_function_name_len bytes)) (take max_function_name_len bytes)
 
 -- a function: its name, its address and its code
-abbrev pub Named : Type 0
-Named = List ℕ × (ℕ × List ℕ)
+abbrev pub FunctionView : Type 0
+FunctionView = List ℕ × (ℕ × List ℕ)
 
 -- the function that the symbol `s` names, with this code
-abbrev pub function_view : List ℕ → Symbol → List ℕ → Named
+abbrev pub function_view : List ℕ → Symbol → List ℕ → FunctionView
 function_view strings s code = (truncated_name (drop s.name strings), (s.value, code))
 
 -- the function that the symbol `s` names, or `None` if it is not a function with a size and a usable name, or if no executable segment has
 -- its bytes
-abbrev pub function_of_symbol : List Segment → List ℕ → List ℕ → Symbol → Option Named
+abbrev pub function_of_symbol : List Segment → List ℕ → List ℕ → Symbol → Option FunctionView
 function_of_symbol segments file strings s =
     if is_sized_function strings s then option_map (function_view strings s) (code_of_symbol segments file s) else None
 
 -- the functions of a symbol table and its string table, in table order
-abbrev pub functions_in : List Segment → List ℕ → List ℕ → List ℕ → List Named
+abbrev pub functions_in : List Segment → List ℕ → List ℕ → List ℕ → List FunctionView
 functions_in segments file table strings = filter_map (function_of_symbol segments file strings) (symbols_of table)
 
 -- the functions of the file's first symbol table, in table order; none if the symbol or string table is rejected
-unfoldable pub functions : Image → List ℕ → List Named
+unfoldable pub functions : Image → List ℕ → List FunctionView
 functions image file = if is_ok (symbol_tables_check file)
     then option_map_or (λ t. functions_in image.segments file t.0 t.1) (symbol_and_string_bytes file) [] else []

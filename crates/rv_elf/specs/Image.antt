@@ -148,8 +148,8 @@ segments file = loaded_segments (program_header_table file)
 -- the errors of an image, in order, each with its condition: errors of the ELF header, of the location of the program header table, of the
 -- program headers (each condition is checked for all headers before the next one), and of the entry; the entry must be a multiple of 4 only
 -- for instruction sets without compressed instructions
-abbrev pub refusals : Isa → List ℕ → List ErrorRow
-refusals isa file = (nat_lt (length file) 52, ShortHeader)
+abbrev pub image_error_rows : Isa → List ℕ → List ErrorRow
+image_error_rows isa file = (nat_lt (length file) 52, ShortHeader)
     ∷ (not (has_magic file), BadMagic)
     ∷ (not (byte_at file 4 == 1), Not32Bit)
     ∷ (not (byte_at file 5 == 1), NotLittleEndian)
@@ -171,7 +171,7 @@ unchecked_image file = record { entry = e_entry file; segments = segments file }
 
 -- the image of a file for a hart with this instruction set, or the first error that applies
 unfoldable pub image_of : Isa → List ℕ → Result Image ImageError
-image_of isa file = first_error_of (refusals isa file) (Ok (unchecked_image file))
+image_of isa file = first_error_of (image_error_rows isa file) (Ok (unchecked_image file))
 
 -- for some instruction set, the file is accepted and has this image
 pub record IsImageOf (file : List ℕ) (image : Image) : Type 0 where

@@ -1,24 +1,24 @@
--- The checks of each step of reading an image: its part of the errors in `refusals`.
+-- The checks of each step of reading an image: its part of the errors in `image_error_rows`.
 use Rattle.std.specs.Prelude.{ℕ, List, drop, take, Result, Ok}
 use Rattle.rv_isa.specs.declared.isa.Isa.{Isa}
 use Rattle.rv_isa.specs.declared.isa.Isa.TheVariants.{Imc}
 use Rattle.rv_elf.specs.declared.error.ImageError.{ImageError}
 use Rattle.rv_elf.specs.declared.image.Image.{Image}
 use Rattle.rv_elf.specs.Rows.{ErrorRow, first_error_of, accepted}
-use Rattle.rv_elf.specs.Image.{refusals, unchecked_image}
+use Rattle.rv_elf.specs.Image.{image_error_rows, unchecked_image}
 
 -- the first eight errors, which concern the header and the location of the program header table; only the last of all errors depends on the
 -- instruction set, so any set will do here
 abbrev pub header_rows : List ℕ → List ErrorRow
-header_rows file = take 8 (refusals Imc file)
+header_rows file = take 8 (image_error_rows Imc file)
 
 -- the next three errors, which concern the program headers
 abbrev pub program_header_rows : List ℕ → List ErrorRow
-program_header_rows file = take 3 (drop 8 (refusals Imc file))
+program_header_rows file = take 3 (drop 8 (image_error_rows Imc file))
 
 -- the last three errors, which concern the loaded segments and the entry
 abbrev pub image_rows : Isa → List ℕ → List ErrorRow
-image_rows isa file = drop 11 (refusals isa file)
+image_rows isa file = drop 11 (image_error_rows isa file)
 
 -- the first error of the header that applies, or `accepted` if none does
 unfoldable pub header_check : List ℕ → Result (Unit {0}) ImageError
@@ -34,4 +34,4 @@ segments_and_entry_check isa file = first_error_of (image_rows isa file) accepte
 
 -- the image of a file whose header is accepted, or the first error that applies after the header
 unfoldable pub image_after_header : Isa → List ℕ → Result Image ImageError
-image_after_header isa file = first_error_of (drop 8 (refusals isa file)) (Ok (unchecked_image file))
+image_after_header isa file = first_error_of (drop 8 (image_error_rows isa file)) (Ok (unchecked_image file))

@@ -9,7 +9,7 @@ use crate::fields::{
     half_field, word_field,
 };
 
-const HEADER_SIZE: usize = 52;
+const ELF_HEADER_SIZE: usize = 52;
 
 /// The size of a program header.
 const PROGRAM_HEADER_SIZE: u16 = 32;
@@ -32,7 +32,7 @@ pub(crate) fn check_header(file: &[u8]) -> Result<(), ImageError>
     ensures value { result ≡ header_check file.now }
     ensures table { OnOk result (HasProgramHeaders file.now) }
 {
-    if file.len() < HEADER_SIZE {
+    if file.len() < ELF_HEADER_SIZE {
         return Err(ImageError::ShortHeader);
     }
     if !has_magic(file) {

@@ -22,7 +22,7 @@ pub(crate) struct Section {
 }
 
 /// The size of a section header.
-const HEADER_SIZE: u16 = 40;
+const SECTION_HEADER_SIZE: u16 = 40;
 
 /// The size of an entry of a symbol table.
 const SYMBOL_SIZE: u32 = 16;
@@ -72,8 +72,8 @@ pub(crate) fn has_bad_section_table(file: &[u8]) -> bool
 {
     let count = half_field(file, E_SHNUM);
     count == 0
-        || half_field(file, E_SHENTSIZE) != HEADER_SIZE
-        || file.len() < word_field(file, E_SHOFF) as usize + HEADER_SIZE as usize * count as usize
+        || half_field(file, E_SHENTSIZE) != SECTION_HEADER_SIZE
+        || file.len() < word_field(file, E_SHOFF) as usize + SECTION_HEADER_SIZE as usize * count as usize
 }
 
 /// Returns the first symbol table of the file, or `None` if there is none.
@@ -109,7 +109,7 @@ fn section_at_index(file: &[u8], index: u32) -> Section
 {
     section_at_offset(
         file,
-        word_field(file, E_SHOFF) as usize + HEADER_SIZE as usize * index as usize,
+        word_field(file, E_SHOFF) as usize + SECTION_HEADER_SIZE as usize * index as usize,
     )
 }
 

@@ -28,7 +28,7 @@ impl From<AllocError> for InputError {
 }
 
 // The maximum number of bytes requested per read: large, for lists and images of megabytes, since each read is a system call.
-const CHUNK: usize = 16_384;
+const BUFFER_SIZE: usize = 16_384;
 
 /// Returns the reader's bytes up to its end, or the first `most` of them if there are more; the others remain in the reader.
 pub fn read_at_most<R: Read>(
@@ -43,9 +43,9 @@ pub fn read_at_most<R: Read>(
     ensures within { IfOk result (λ bytes. length bytes.items ≤ most) }
 {
     let mut bytes = Vec::new(alloc);
-    let mut chunk = [0u8; CHUNK];
+    let mut chunk = [0u8; BUFFER_SIZE];
     'reading: while bytes.len() < most {
-        if read_chunk(input, &mut chunk, &mut bytes, most)? == 0 {
+        if read_once(input, &mut chunk, &mut bytes, most)? == 0 {
             return Ok(bytes);
         }
     }
@@ -54,9 +54,9 @@ pub fn read_at_most<R: Read>(
 
 // Reads once, appends the bytes that were read, so that there are at most `most`, and returns how many they are. A separate buffer receives
 // them, so that a failed allocation is not taken for a failed read.
-fn read_chunk<R: Read>(
+fn read_once<R: Read>(
     input: &mut R,
-    chunk: &mut [u8; CHUNK],
+    chunk: &mut [u8; BUFFER_SIZE],
     bytes: &mut Vec<u8>,
     most: usize,
 ) -> Result<usize, InputError>
@@ -64,7 +64,7 @@ fn read_chunk<R: Read>(
     ensures { IfOk result (AppendsRead most (R.remaining input.old) (R.remaining input.new)
         bytes.old.items bytes.new.items) }
 {
-    let room = (most - bytes.len()).min(CHUNK);
+    let room = (most - bytes.len()).min(BUFFER_SIZE);
     let count = match input.read(&mut chunk[..room]) {
         Ok(count) => count,
         Err(error) => return Err(InputError::Failed(error.kind())),

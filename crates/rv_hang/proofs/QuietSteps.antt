@@ -14,7 +14,7 @@ use Rattle.rv_trace.specs.declared_faults.BusFault.TheVariants as bus
 use Rattle.rv_trace.specs.declared_ending.Ending.{Ending}
 use Rattle.rv_trace.specs.Effect.{address, after_branch, after_store, jump_to, effect, effect_of, pc_plus_immediate}
 use Rattle.rv_trace.specs.Effect.{next_pc, rs2_value, store}
-use Rattle.rv_trace.specs.Fetch.{Fetched, fetch}
+use Rattle.rv_trace.specs.Fetch.{FetchResult, fetch}
 use Rattle.rv_trace.specs.Run.{after_fetch, step_of}
 use Rattle.rv_trace.specs.State.{State, with_pc, is_misaligned, with_bus, with_register}
 use Rattle.rv_trace.proofs.Public.{byte_loaded, half_loaded, ok_is, word_loaded}
@@ -156,7 +156,7 @@ step_same s t h e = go (fetch s.isa s.bus s.pc) refl e
     leaves (Ok u) l same = let is : u ≡ t = cc in (ap (λ v. v.bus) (sym is) ∙ l.0, ap (λ v. v.isa) (sym is) ∙ l.1)
     leaves (Err f) l same = cc
 
-    go : (r : Fetched) → fetch s.isa s.bus s.pc ≡ r → after_fetch r s ≡ Ok t → Same s t
+    go : (r : FetchResult) → fetch s.isa s.bus s.pc ≡ r → after_fetch r s ≡ Ok t → Same s t
     go (Ok p) f same = let code = code_is_fetched s p.0 p.1 f in
         leaves (effect p.0 p.1 s) (effect_leaves p.0.op p.0 (next_pc s p.1) s (found_quiet s p.0 h code.1.same)) same
     go (Err f) fetched same = cc

@@ -8,7 +8,7 @@ use Rattle.rv_trace.specs.DecodeCache.{DecodeCacheView}
 use Rattle.rv_trace.specs.ValidEntries.{IsCached, NoneBecomesValid}
 use Rattle.rv_trace.specs.declared_ending.Ending.{Ending}
 use Rattle.rv_trace.specs.declared_ending.Ending.TheVariants.{Budget}
-use Rattle.rv_trace.specs.Run.{Ran, with_one_more_step, run_of, step_of}
+use Rattle.rv_trace.specs.Run.{RunResult, with_one_more_step, run_of, step_of}
 use Rattle.rv_trace.specs.State.{State}
 use Rattle.rv_trace.proofs.Public.{each_completes}
 use Rattle.rv_history.specs.declared.bounds.Bounds.{Bounds}
@@ -35,8 +35,8 @@ BeginsAtNone stops n s = (j : ℕ) → j < n → is_break stops (run_of j s).sta
 rest_completes : (n : ℕ) (s t u : State) → step_of s ≡ Ok u → Completes (suc n) s t → Completes n u t
 rest_completes n s t u e ran =
     let first : with_one_more_step (run_of n u) ≡ record { ending = Budget; steps = suc n; state = t } = sym (run_goes_on n s u e) ∙ ran in
-    let count : (run_of n u).steps + 1 ≡ suc n = ap (λ (r : Ran). r.steps) first in
-    same_ran (run_of n u) Budget n t (ap (λ (r : Ran). r.ending) first) (omega arith) (ap (λ (r : Ran). r.state) first)
+    let count : (run_of n u).steps + 1 ≡ suc n = ap (λ (r : RunResult). r.steps) first in
+    same_ran (run_of n u) Budget n t (ap (λ (r : RunResult). r.ending) first) (omega arith) (ap (λ (r : RunResult). r.state) first)
 
 -- what stays true behind a step that does not begin at a breakpoint is true behind such a run
 module _ (stops : Stops) (P : ℕ → Type 0) (start : State) (budget : ℕ)
@@ -46,7 +46,7 @@ module _ (stops : Stops) (P : ℕ → Type 0) (start : State) (budget : ℕ)
       → BeginsAtNone stops n s → P place → P (place + n) × IsReached start (place + n) t
   over_run zero place s t reached within ran absent so =
       let none : place ≡ place + zero = omega arith in
-      let here : s ≡ t = sym (ap (λ (r : Ran). r.state) (run_none s)) ∙ ap (λ (r : Ran). r.state) ran in (
+      let here : s ≡ t = sym (ap (λ (r : RunResult). r.state) (run_none s)) ∙ ap (λ (r : RunResult). r.state) ran in (
         subst P none so,
         subst (λ (k : ℕ). IsReached start k t) none (subst (λ (u : State). IsReached start place u) here reached),
       )
@@ -54,14 +54,14 @@ module _ (stops : Stops) (P : ℕ → Type 0) (start : State) (budget : ℕ)
       by_step s (P (place + suc n) × IsReached start (place + suc n) t)
       (λ u e.
       let sum : place + 1 + n ≡ place + suc n = omega arith in
-      let first : is_break stops s.pc ≡ false = ap (λ (r : Ran). is_break stops r.state.pc) (sym (run_none s)) ∙ absent 0 (omega arith) in
+      let first : is_break stops s.pc ≡ false = ap (λ (r : RunResult). is_break stops r.state.pc) (sym (run_none s)) ∙ absent 0 (omega arith) in
       let later = over_run n (place + 1) u t (next_place start s u place reached e) (omega arith) (rest_completes n s t u e ran)
       (λ j low. ap (λ (v : State). is_break stops v.pc) (sym (state_first j s u e)) ∙ absent (suc j) (omega arith))
       (on place s u reached (omega arith) e first so) in
       (subst P sum later.0, subst (λ (k : ℕ). IsReached start k t) sum later.1))
       (λ e is.
       let none = steps_end n s e is in
-      let all = ap (λ (r : Ran). r.steps) ran in
+      let all = ap (λ (r : RunResult). r.steps) ran in
       absurd (omega arith))
 
 -- ---- breakpoints that sleep

@@ -12,7 +12,7 @@ use Rattle.rv_trace.specs.declared_faults.BusFault.{BusFault}
 use Rattle.rv_trace.specs.declared_faults.BusFault.TheVariants.{Access, ConsoleFull, Misaligned}
 use Rattle.rv_trace.specs.declared_ending.Ending.{Ending}
 use Rattle.rv_trace.specs.State.{State, with_pc, is_misaligned, with_bus, with_register}
-use Rattle.rv_trace.specs.Fetch.{Fetched, fetch}
+use Rattle.rv_trace.specs.Fetch.{FetchResult, fetch}
 use Rattle.rv_trace.specs.Effect.{address, after_branch, after_store, jump_to, effect, effect_of, pc_plus_immediate, next_pc, rs2_value, store}
 use Rattle.rv_trace.specs.Run.{after_fetch, step_of}
 use Rattle.rv_trace.proofs.Public.{ok_is}
@@ -186,7 +186,7 @@ step_grows : (s : State) → ok_is (Grows s) (step_of s)
 unfolding step_of effect
 step_grows s = go (fetch s.isa s.bus s.pc)
   where
-    go : (r : Fetched) → ok_is (Grows s) (after_fetch r s)
+    go : (r : FetchResult) → ok_is (Grows s) (after_fetch r s)
     go (Ok p) = effect_grows p.0.op p.0 p.1 s
     go (Err e) = tt
 

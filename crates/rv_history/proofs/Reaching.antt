@@ -2,7 +2,7 @@
 use Rattle.std.proofs.Common.{◌≡◌, ◌∙◌, ◌+◌, ◌-◌, ◌<◌, ◌≤◌, ℕ, zero, suc, Ok, Err, ap, sym, refl, subst, arith, zero-add, add-one}
 use Rattle.rv_trace.specs.declared_ending.Ending.{Ending}
 use Rattle.rv_trace.specs.declared_ending.Ending.TheVariants.{Budget}
-use Rattle.rv_trace.specs.Run.{Ran, run_after_step, run_of, step_of}
+use Rattle.rv_trace.specs.Run.{RunResult, run_after_step, run_of, step_of}
 use Rattle.rv_trace.specs.State.{State}
 use Rattle.rv_trace.specs.Trace.{state_after}
 use Rattle.rv_trace.proofs.Public.{after_more, after_none, completes, steps_more}
@@ -27,10 +27,10 @@ pub by_step : (s : State) (P : Type 0) → ((t : State) → step_of s ≡ Ok t �
 by_step s P ok err = elim (step_of s) as (λ r. step_of s ≡ r → P) [ Ok t ↦ ok t | Err e ↦ err e ] refl
 
 one_steps : (s t : State) → step_of s ≡ Ok t → (run_of 1 s).steps ≡ 1
-one_steps s t e = ap (λ r. r.steps) (run_goes_on 0 s t e) ∙ ap (λ (r : Ran). r.steps + 1) (run_none t)
+one_steps s t e = ap (λ r. r.steps) (run_goes_on 0 s t e) ∙ ap (λ (r : RunResult). r.steps + 1) (run_none t)
 
 one_state : (s t : State) → step_of s ≡ Ok t → state_after 1 s ≡ t
-one_state s t e = ap (λ r. r.state) (run_goes_on 0 s t e) ∙ ap (λ (r : Ran). r.state) (run_none t)
+one_state s t e = ap (λ r. r.state) (run_goes_on 0 s t e) ∙ ap (λ (r : RunResult). r.state) (run_none t)
 
 -- ---- endings
 
@@ -101,7 +101,7 @@ same_end (suc n) s = by_step s (state_after (run_of (suc n) s).steps s ≡ (run_
     ∙ sym (state_first n s t e))
     (λ e is. ap (λ k. state_after k s) (steps_end n s e is) ∙ after_none s ∙ sym (state_end n s e is))
 
-pub same_ran : (r : Ran) (ending : Ending) (steps : ℕ) (state : State) → r.ending ≡ ending → r.steps ≡ steps → r.state ≡ state
+pub same_ran : (r : RunResult) (ending : Ending) (steps : ℕ) (state : State) → r.ending ≡ ending → r.steps ≡ steps → r.state ≡ state
     → r ≡ record { ending = ending; steps = steps; state = state }
 same_ran r ending steps state first second third = rw (← first) (rw (← second) (rw (← third) refl))
 
@@ -118,7 +118,7 @@ run_from start s t from place steps ending reached order ran =
     subst (λ (k : ℕ). run_of k start ≡ record { ending = ending; steps = from + steps; state = t }) sum
     (same_ran (run_of (from + rest) start) ending (from + steps) t
     (ending_more from rest start reached.completed ∙ ap (λ r. r.ending) here)
-    (more ∙ ap (λ (r : Ran). from + r.steps) here)
+    (more ∙ ap (λ (r : RunResult). from + r.steps) here)
     (after_more from rest start reached.completed ∙ ap (λ r. r.state) here))
 
 -- where a run ends is a place of it

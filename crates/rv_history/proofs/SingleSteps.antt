@@ -3,7 +3,7 @@ use Rattle.std.proofs.Common.{◌≡◌, ◌≢◌, ◌==◌, ℕ, Bool, Result,
 use Rattle.std.proofs.lemmas.Bool.{eq-eqb}
 use Rattle.std.specs.Prelude.{MatchBool}
 use Rattle.rv_trace.specs.declared_ending.Ending.{Ending}
-use Rattle.rv_trace.specs.Run.{Ran, run_after_step, step_of, run_of}
+use Rattle.rv_trace.specs.Run.{RunResult, run_after_step, step_of, run_of}
 use Rattle.rv_trace.specs.State.{State}
 
 -- what the steps of it tell: where there is one, the step completed with the state at the end, and else it gave the ending and left the state
@@ -22,7 +22,7 @@ one_run s = told_by s (step_of s)
 
 one_step : (s t : State) (n : ℕ) (e : Ending) → run_of 1 s ≡ record { ending = e; steps = n; state = t }
     → Told s n e (step_of s) t
-one_step s t n e ran = subst (λ (r : Ran). Told s r.steps r.ending (step_of s) r.state) ran (one_run s)
+one_step s t n e ran = subst (λ (r : RunResult). Told s r.steps r.ending (step_of s) r.state) ran (one_run s)
 
 pub went : (s t : State) (n : ℕ) (e : Ending) → run_of 1 s ≡ record { ending = e; steps = n; state = t } → n ≡ 1 → step_of s ≡ Ok t
 went s t n e ran one = subst (λ (b : Bool). MatchBool b (step_of s ≡ Ok t) ((step_of s ≡ Err e) × (t ≡ s))) (eq-eqb n 1 one)

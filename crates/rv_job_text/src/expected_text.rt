@@ -48,7 +48,7 @@ fn expected_console<'a>(
             text: text.as_slice(),
         }),
         Some(ExpectedConsole::File(path)) => Some(ExpectedText {
-            source: Span::Shown(path.as_str().as_bytes()),
+            source: Span::Printable(path.as_str().as_bytes()),
             text: bytes_or_empty(file),
         }),
     }

@@ -129,7 +129,7 @@ fn push_missing_symbol(bytes: &mut Vec<u8>, name: Option<&[u8]>) -> Result<(), A
             bytes,
             &[
                 Span::Text("symbol "),
-                Span::Shown(name),
+                Span::Printable(name),
                 Span::Text(" is not defined"),
             ],
         ),
@@ -187,11 +187,11 @@ fn push_signature_ends(
         bytes,
         &[
             Span::Text("the signature from "),
-            Span::Shown(begin),
+            Span::Printable(begin),
             begin_at,
             begin_address,
             Span::Text(" to "),
-            Span::Shown(end),
+            Span::Printable(end),
             end_at,
             end_address,
             Span::Text(" is not a sequence of up to 65536 words in one region:"),

@@ -50,4 +50,4 @@ pub use verbosity::Verbosity;
 // From the crates below: what this interface names, and what its callers need with it.
 pub use rv_expect::{Judge, Judgement, is_error, is_failure};
 pub use rv_rows::{RowReporter, did_run};
-pub use rv_text::{Span, Within, push_spans, push_text, push_xml_text, text_of_spans};
+pub use rv_text::{Span, XmlContext, push_spans, push_text, push_xml_text, text_of_spans};

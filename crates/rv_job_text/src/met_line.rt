@@ -109,7 +109,7 @@ fn push_met_file<'a>(
         &[
             Span::Text(what),
             Span::Text(" of "),
-            Span::Shown(path.as_bytes()),
+            Span::Printable(path.as_bytes()),
         ],
     )
 }
@@ -126,6 +126,6 @@ fn push_same_as_job(bytes: &mut Vec<u8>, other: Option<&Row>) -> Result<(), Allo
     let name = other.name.as_str().as_bytes();
     push_spans(
         bytes,
-        &[Span::Text("the same result as "), Span::Shown(name)],
+        &[Span::Text("the same result as "), Span::Printable(name)],
     )
 }

@@ -98,7 +98,7 @@ fn push_known_reason(bytes: &mut Vec<u8>, why: &[u8]) -> Result<(), AllocError>
     }
     push_spans(
         bytes,
-        &[Span::Text(" ("), Span::Shown(why), Span::Text(")")],
+        &[Span::Text(" ("), Span::Printable(why), Span::Text(")")],
     )
 }
 
@@ -110,7 +110,7 @@ fn push_now_passes(bytes: &mut Vec<u8>, path: &str) -> Result<(), AllocError>
         bytes,
         &[
             Span::Text("passes, but is listed as known to fail: remove it from "),
-            Span::Shown(path.as_bytes()),
+            Span::Printable(path.as_bytes()),
         ],
     )
 }
@@ -224,7 +224,7 @@ fn push_refusal_ending(
             Span::Text("refused "),
             Span::Text(why.name()),
             Span::Text(": "),
-            Span::Shown(reason),
+            Span::Printable(reason),
         ],
     )
 }

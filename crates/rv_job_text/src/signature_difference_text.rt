@@ -51,7 +51,7 @@ fn push_reference_difference(
     match difference {
         SignatureDifference::Line(number) => push_bad_reference_line(bytes, number),
         SignatureDifference::Word(place) => {
-            let expected = Span::Shown(reference_digits_at(reference, place));
+            let expected = Span::Printable(reference_digits_at(reference, place));
             push_word_difference(
                 bytes,
                 first,

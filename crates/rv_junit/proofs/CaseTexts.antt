@@ -7,7 +7,7 @@ use Rattle.rv_stream.specs.declared_row.Row.{Row}
 use Rattle.rv_stream.specs.Sinks.{AppendsPrefix}
 use Rattle.rv_job_text.specs.Judgement.{Judging, judgement}
 use Rattle.rv_stream.specs.Streams.{row_text_list, joined_row_texts}
-use Rattle.rv_job_text.specs.declared_xml.Within.TheVariants.{Element}
+use Rattle.rv_job_text.specs.declared_xml.XmlContext.TheVariants.{Element}
 use Rattle.rv_job_text.specs.TextWords.{count_text}
 use Rattle.rv_job_text.specs.Xml.{xml_text}
 use Rattle.rv_job_text.specs.Problem.{is_error, is_failure}

@@ -3,7 +3,7 @@ use Rattle.std.specs.Prelude.{ℕ, List, ◌++◌, codes}
 use Rattle.std.specs.Fmt.{decimal}
 use Rattle.rv_junit.specs.declared.pieces.Piece.{Piece}
 use Rattle.rv_junit.specs.declared.pieces.Piece.TheVariants as piece
-use Rattle.rv_job_text.specs.declared_xml.Within.TheVariants.{Attribute, Element}
+use Rattle.rv_job_text.specs.declared_xml.XmlContext.TheVariants.{Attribute, Element}
 use Rattle.rv_job_text.specs.TextWords.{count_text}
 use Rattle.rv_job_text.specs.Xml.{xml_text}
 

@@ -5,7 +5,7 @@ ghost use Rattle.std.specs.List.{flat_map};
 ghost use Rattle.rv_junit.specs.Pieces.{attribute, number_attribute, piece_text};
 ghost use Rattle.rv_job_text.specs.TextWords.{count_text};
 
-use rv_job_text::{Within, push_xml_text};
+use rv_job_text::{XmlContext, push_xml_text};
 use std::alloc::{AllocError, Global};
 use std::fmt::Write;
 
@@ -49,7 +49,7 @@ fn push_piece(alloc: Global, text: &mut String, piece: Piece<'_>) -> Result<(), 
         Piece::Count(number, noun) => push_file_reply_prefix(text, number, noun),
         Piece::Attribute(name, value) => push_attribute(alloc, text, name, value),
         Piece::NumberAttribute(name, number) => push_number_attribute(text, name, number),
-        Piece::Element(bytes) => push_xml_text(alloc, text, Within::Element, bytes),
+        Piece::Element(bytes) => push_xml_text(alloc, text, XmlContext::Element, bytes),
     }
 }
 
@@ -74,7 +74,7 @@ pub(crate) fn push_attribute(
         ≡ string_bytes text.old ++ attribute name.now value.now) }
 {
     write!(text, " {name}=\"")?;
-    push_xml_text(alloc, text, Within::Attribute, value)?;
+    push_xml_text(alloc, text, XmlContext::Attribute, value)?;
     text.push_str("\"")
 }
 

@@ -174,5 +174,5 @@ fn push_line_and_column(message: &mut Vec<u8>, place: Location) -> Result<(), Al
 fn push_message_line(bytes: &mut Vec<u8>, message: &[u8]) -> Result<(), AllocError>
     ensures { OnOk result (bytes.new.items ≡ bytes.old.items ++ printable_line message.now) }
 {
-    push_spans(bytes, &[Span::Shown(message), Span::Text("\n")])
+    push_spans(bytes, &[Span::Printable(message), Span::Text("\n")])
 }

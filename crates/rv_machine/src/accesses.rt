@@ -15,7 +15,7 @@ use rv_memory::Width;
 
 /// How a load extends a value narrower than a word.
 #[derive(Clone, Copy)]
-pub(crate) enum Extend {
+pub(crate) enum LoadExtension {
     Zero,
     Sign,
 }
@@ -28,7 +28,7 @@ impl Hart {
         pc: &mut u32,
         instr: Instr,
         width: Width,
-        extend: Extend,
+        extend: LoadExtension,
         next: u32,
     ) -> Result<(), Incomplete>
         requires { IsWellFormed instr }
@@ -78,13 +78,13 @@ impl Hart {
 
 // Returns a loaded value as a word, sign- or zero-extended from the width of the load.
 #[inline]
-fn load_value(value: u32, width: Width, extend: Extend) -> u32
+fn load_value(value: u32, width: Width, extend: LoadExtension) -> u32
     requires { value < 2 ^ (8 * size_of width) }
     ensures { result ≡ load_value extend width value }
 {
     match (extend, width) {
-        (Extend::Sign, Width::Byte) => sign_extend(value, 8).cast_unsigned(),
-        (Extend::Sign, Width::Half) => sign_extend(value, 16).cast_unsigned(),
+        (LoadExtension::Sign, Width::Byte) => sign_extend(value, 8).cast_unsigned(),
+        (LoadExtension::Sign, Width::Half) => sign_extend(value, 16).cast_unsigned(),
         _ => value,
     }
 }

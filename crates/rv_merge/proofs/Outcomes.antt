@@ -32,7 +32,7 @@ use Rattle.rv_rows.specs.declared_row.RowEnd.TheVariants as ending
 use Rattle.rv_rows.specs.declared_image.Image.{Image}
 use Rattle.rv_rows.specs.declared_ending.Ending.{Ending}
 use Rattle.rv_rows.specs.declared_ending.Ending.TheVariants as machine
-use Rattle.rv_rows.specs.Run.{Ran, run_of}
+use Rattle.rv_rows.specs.Run.{RunResult, run_of}
 use Rattle.rv_rows.specs.Bus.{word_at}
 use Rattle.rv_rows.specs.SignatureWords.{words_of}
 use Rattle.rv_rows.specs.Saved.{max_words}
@@ -227,7 +227,7 @@ few_words memory begin end h =
     let many = length-map-range_with_len (λ k. word_at memory (begin + 4 * k)) 0 ((end - begin) / 4) in
     omega arith
 
-fine_run : (ran : Ran) (range : Option SignatureRange) → IsShort range → IsFine (outcome_of_run ran range)
+fine_run : (ran : RunResult) (range : Option SignatureRange) → IsShort range → IsFine (outcome_of_run ran range)
 fine_run ran None h = record {
   end = λ why e. absurd (no_refusal ran.ending why e);
   words = λ words e. cc;

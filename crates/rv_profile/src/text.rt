@@ -22,7 +22,7 @@ pub(crate) fn push_steps_line(
     push_spans(
         bytes,
         &[
-            Span::Shown(path),
+            Span::Printable(path),
             Span::Text(": "),
             Span::Number(steps),
             Span::Text(steps_word(steps)),

@@ -320,11 +320,11 @@ gather_rows text = with_unfinished_row (with_lines (lines text) (state_between_r
 
 -- ---- the rows before the first row that no report has at its index
 
--- the number of leading job numbers that increase strictly, are greater than `text_before_byte`, and are at most `max_jobs`
+-- the number of leading job numbers that increase strictly, are greater than `previous`, and are at most `max_jobs`
 unfoldable pub increasing_count : ℕ → List ℕ → ℕ
-increasing_count text_before_byte [] = 0
-increasing_count text_before_byte (n ∷ ns) =
-    if nat_lt text_before_byte n && nat_le n max_jobs then increasing_count n ns + 1 else 0
+increasing_count previous [] = 0
+increasing_count previous (n ∷ ns) =
+    if nat_lt previous n && nat_le n max_jobs then increasing_count n ns + 1 else 0
 
 -- the number of leading texts that equal neither an earlier one nor one of `earlier`
 unfoldable pub count_before_repeated_name : List (List ℕ) → List (List ℕ) → ℕ

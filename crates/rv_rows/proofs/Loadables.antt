@@ -16,7 +16,7 @@ use Rattle.rv_jobs.specs.declared.kept.Kept.TheVariants as kept
 use Rattle.rv_machine.specs.declared_map.Region.{Region}
 use Rattle.rv_machine.specs.declared_access.Misaligned.{Misaligned as MisalignedPolicy}
 use Rattle.rv_machine.specs.Bus.{BusContents, new_bus}
-use Rattle.rv_machine.specs.Run.{Ran, run_of}
+use Rattle.rv_machine.specs.Run.{RunResult, run_of}
 use Rattle.rv_machine.specs.State.{State, reset_state, is_misaligned}
 use Rattle.rv_machine.proofs.Public.{run_keeps}
 use Rattle.rv_rows.specs.declared.outcome.Loadable.{Loadable}
@@ -137,10 +137,10 @@ range_there job file loadable state e is =
     subst P (sym (ap (λ (s : State). s.bus.regions) is)) (loadable_parts job file loadable e).range
 
 -- a run leaves the memory map as it is, and so the range of a signature stays there
-pub range_after_run : (range : Option SignatureRange) (budget : ℕ) (state : State) (ran : Ran) → run_of budget state ≡ ran
+pub range_after_run : (range : Option SignatureRange) (budget : ℕ) (state : State) (ran : RunResult) → run_of budget state ≡ ran
     → IfSome range (λ range. signature_check range.begin range.end state.bus.regions ≡ accepted)
     → IfSome range (λ range. signature_check range.begin range.end ran.state.bus.regions ≡ accepted)
 range_after_run range budget state ran is there =
     let P : List Region → Type 0 = λ regions.
     IfSome range (λ range. signature_check range.begin range.end regions ≡ accepted) in
-    subst P (sym (ap (λ (r : Ran). r.state.bus.regions) (sym is) ∙ run_keeps budget state)) there
+    subst P (sym (ap (λ (r : RunResult). r.state.bus.regions) (sym is) ∙ run_keeps budget state)) there

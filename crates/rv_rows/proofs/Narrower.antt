@@ -14,7 +14,7 @@ use Rattle.rv_jobs.specs.Jobs.{AreValidJobs}
 use Rattle.rv_jobs.specs.Plans.{Planned}
 use Rattle.rv_machine.specs.declared.ending.Ending.{Ending}
 use Rattle.rv_machine.specs.declared.ending.Ending.TheVariants as machine
-use Rattle.rv_machine.specs.Run.{Ran, run_of}
+use Rattle.rv_machine.specs.Run.{RunResult, run_of}
 use Rattle.rv_machine.specs.State.{State}
 use Rattle.rv_machine.specs.Sets.{is_independent_of_isa as ends_in_any_set}
 use Rattle.rv_machine.proofs.Public.{run_wider}
@@ -60,7 +60,7 @@ file_outcome_wider job file h = go (loadable_image job file) refl h
         let start : State = loaded_state job file loadable.image in
         let ended = sym (of_any_set (run_of job.budget start).ending) ∙ h in
         ap (outcome_if_loadable (widened_job job) file) (loadable_wider job file loadable is)
-        ∙ ap (λ (r : Ran). outcome_of_run r loadable.range) (run_wider job.budget start ended)
+        ∙ ap (λ (r : RunResult). outcome_of_run r loadable.range) (run_wider job.budget start ended)
     go (Err why) is h = absurd (false≢true h)
 
 outcome_wider : (job : Job) (image : Kept) (reference console : Option Kept)

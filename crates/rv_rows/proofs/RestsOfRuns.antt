@@ -7,7 +7,7 @@ use Rattle.rv_jobs.specs.declared_job.Job.{Job}
 use Rattle.rv_jobs.specs.declared.kept.Kept.{Kept}
 use Rattle.rv_machine.specs.declared_map.Region.{Region}
 use Rattle.rv_machine.specs.declared.ending.Ending.{Ending}
-use Rattle.rv_machine.specs.Run.{Ran, run_after_step, with_one_more_step, run_of, step_of}
+use Rattle.rv_machine.specs.Run.{RunResult, run_after_step, with_one_more_step, run_of, step_of}
 use Rattle.rv_machine.specs.State.{State}
 use Rattle.rv_machine.proofs.Public.{run_keeps}
 use Rattle.rv_rows.specs.declared.outcome.Loadable.{Loadable}
@@ -28,10 +28,10 @@ unfolding run_of
 run_by n s r e = ap (λ x. run_after_step x s (λ t. run_of n t)) e
 
 -- a run that comes behind k steps more
-abbrev pub behind : ℕ → Ran → Ran
+abbrev pub behind : ℕ → RunResult → RunResult
 behind k ran = record ran { steps = ran.steps + k }
 
-same_ran : (ran : Ran) (steps : ℕ) → steps ≡ ran.steps → ran ≡ record ran { steps = steps }
+same_ran : (ran : RunResult) (steps : ℕ) → steps ≡ ran.steps → ran ≡ record ran { steps = steps }
 same_ran ran steps e = λ i. record ran { steps = sym e i }
 
 by_step : (s : State) (P : Type 0) → ((t : State) → step_of s ≡ Ok t → P) → ((e : Ending) → step_of s ≡ Err e → P) → P
@@ -45,22 +45,22 @@ goes_on zero n s e =
 goes_on (suc k) n s e = by_step s (run_of (suc k + n) s ≡ behind (suc k) (run_of n (run_of (suc k) s).state))
     (λ t is.
     let first = run_by k s (Ok t) is in
-    let rest : (run_of k t).steps ≡ k = let count = ap (λ (r : Ran). r.steps) first in omega arith in
+    let rest : (run_of k t).steps ≡ k = let count = ap (λ (r : RunResult). r.steps) first in omega arith in
     let sum : suc k + n ≡ suc (k + n) = omega arith in
-    let there : (run_of (suc k) s).state ≡ (run_of k t).state = ap (λ (r : Ran). r.state) first in
+    let there : (run_of (suc k) s).state ≡ (run_of k t).state = ap (λ (r : RunResult). r.state) first in
     let end = run_of n (run_of k t).state in
     let more : end.steps + k + 1 ≡ end.steps + suc k = omega arith in
     ap (λ m. run_of m s) sum ∙ run_by (k + n) s (Ok t) is ∙ ap with_one_more_step (goes_on k n t rest)
     ∙ (λ i. record end { steps = more i }) ∙ sym (ap (λ u. behind (suc k) (run_of n u)) there))
-    (λ x is. let count = ap (λ (r : Ran). r.steps) (run_by k s (Err x) is) in absurd (omega arith))
+    (λ x is. let count = ap (λ (r : RunResult). r.steps) (run_by k s (Err x) is) in absurd (omega arith))
 
 -- no run completes more steps than its budget
 pub within_budget : (n : ℕ) (s : State) → (run_of n s).steps ≤ n
 within_budget zero s = let none = no_steps s in omega arith
 within_budget (suc n) s = by_step s ((run_of (suc n) s).steps ≤ suc n)
-    (λ t is. let count = ap (λ (r : Ran). r.steps) (run_by n s (Ok t) is) in
+    (λ t is. let count = ap (λ (r : RunResult). r.steps) (run_by n s (Ok t) is) in
     let rest = within_budget n t in omega arith)
-    (λ x is. let count = ap (λ (r : Ran). r.steps) (run_by n s (Err x) is) in omega arith)
+    (λ x is. let count = ap (λ (r : RunResult). r.steps) (run_by n s (Err x) is) in omega arith)
 
 -- the whole run, from a state on its way
 pub rest_is : (budget steps : ℕ) (start state : State) → IsIntermediateState (Ok start) budget steps state

@@ -3,7 +3,7 @@ use Rattle.std.specs.Prelude.{◌≡◌, ⊤, IfSome, option_map}
 use Rattle.rv_elf.specs.Rows.{accepted}
 use Rattle.rv_elf.specs.Symbols.{signature_check}
 use Rattle.rv_rows.specs.declared.outcome.Attempt.{Attempt}
-use Rattle.rv_rows.specs.declared.outcome.Attempt.TheVariants.{Refused, Ran}
+use Rattle.rv_rows.specs.declared.outcome.Attempt.TheVariants.{Refused, RunResult}
 use Rattle.rv_rows.specs.declared.outcome.EndedRun.{EndedRun}
 use Rattle.rv_rows.specs.declared.outcome.Outcome.{Outcome}
 use Rattle.rv_rows.specs.Outcome.{refused_outcome, signature_words_between}
@@ -25,9 +25,9 @@ outcome_in_bus run = record {
 -- if the job was run, its signature, if one is requested, can be read from the bus of the run
 abbrev pub HasReadableSignature : Attempt → Type 0
 HasReadableSignature (Refused why) = ⊤
-HasReadableSignature (Ran run) = HasValidRange run
+HasReadableSignature (RunResult run) = HasValidRange run
 
 -- the outcome of this result of a job: of its ended run, or of its refusal
 abbrev pub outcome_of_attempt : Attempt → Outcome
 outcome_of_attempt (Refused why) = refused_outcome why
-outcome_of_attempt (Ran run) = outcome_in_bus run
+outcome_of_attempt (RunResult run) = outcome_in_bus run

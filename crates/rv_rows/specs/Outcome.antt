@@ -16,7 +16,7 @@ use Rattle.rv_machine.specs.Bus.{BusContents, new_bus}
 use Rattle.rv_machine.specs.SignatureWords.{words_of}
 use Rattle.rv_machine.specs.declared.ending.Ending.{Ending}
 use Rattle.rv_machine.specs.declared.ending.Ending.TheVariants as machine
-use Rattle.rv_machine.specs.Run.{Ran, run_of}
+use Rattle.rv_machine.specs.Run.{RunResult, run_of}
 use Rattle.rv_machine.specs.State.{State, reset_state}
 use Rattle.rv_rows.specs.declared.outcome.Outcome.{Outcome}
 use Rattle.rv_rows.specs.declared.outcome.Loadable.{Loadable}
@@ -112,7 +112,7 @@ abbrev pub signature_words_between : BusContents → SignatureRange → List ℕ
 signature_words_between bus range = words_of bus.memory range.begin range.end
 
 -- the outcome of a run, with the signature read from its final state if one is requested
-abbrev pub outcome_of_run : Ran → Option SignatureRange → Outcome
+abbrev pub outcome_of_run : RunResult → Option SignatureRange → Outcome
 outcome_of_run ran range = record {
   ending = row_end ran.ending;
   steps = ran.steps;

@@ -134,7 +134,7 @@ pub(crate) fn run_image(
         Ok(loadable) => {
             let mut machine = loaded_machine(alloc, job, file, &loadable.image, spare)?;
             let ran = machine.run(job.budget);
-            Ok(Attempt::Ran(ended_run(machine, ran, loadable.range)))
+            Ok(Attempt::RunResult(ended_run(machine, ran, loadable.range)))
         }
         Err(ImageError::OutOfMemory) => Err(AllocError),
         Err(error) => Ok(Attempt::Refused(Refusal::Image(error))),

@@ -88,7 +88,7 @@ fn complete_run_of_file(
     match loadable_image(alloc, job, file) {
         Ok(loadable) => {
             let run = complete_run(machine, steps, job.budget, loadable.range);
-            Ok(Attempt::Ran(run))
+            Ok(Attempt::RunResult(run))
         }
         Err(ImageError::OutOfMemory) => Err(AllocError),
         Err(error) => Ok(Attempt::Refused(Refusal::Image(error))),

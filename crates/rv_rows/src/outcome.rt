@@ -51,7 +51,7 @@ pub(crate) struct EndedRun {
 #[derive(Drop)]
 pub(crate) enum Attempt {
     Refused(Refusal),
-    Ran(EndedRun),
+    RunResult(EndedRun),
 }
 
 impl Attempt {
@@ -62,7 +62,7 @@ impl Attempt {
     {
         match self {
             Attempt::Refused(why) => Ok(refused_outcome(alloc, *why)),
-            Attempt::Ran(run) => run.outcome(alloc),
+            Attempt::RunResult(run) => run.outcome(alloc),
         }
     }
 
@@ -70,7 +70,7 @@ impl Attempt {
     pub(crate) fn size(&self) -> usize {
         match self {
             Attempt::Refused(_) => 0,
-            Attempt::Ran(run) => run.size(),
+            Attempt::RunResult(run) => run.size(),
         }
     }
 }

@@ -39,7 +39,7 @@ impl Spare {
 
     /// Stores the bus of an ended run, whose outcome is no longer needed, so that the next run can use its memory.
     pub(crate) fn keep(&mut self, attempt: Attempt) {
-        if let Attempt::Ran(run) = attempt {
+        if let Attempt::RunResult(run) = attempt {
             self.recycle_bus(run.bus);
         }
     }

@@ -183,7 +183,7 @@ pub(crate) fn is_same_as_attempt(outcome: &Outcome, other: &Attempt) -> bool
 {
     match other {
         Attempt::Refused(why) => are_alike_endings(outcome.ending, RowEnd::Refused(*why)),
-        Attempt::Ran(run) => has_same_outcome_as_run(outcome, run),
+        Attempt::RunResult(run) => has_same_outcome_as_run(outcome, run),
     }
 }
 

@@ -9,7 +9,7 @@ use Rattle.rv_calls.specs.Calls.{transfer_of}
 use Rattle.rv_calls.specs.Stack.{after_transfer}
 use Rattle.rv_counting.specs.Coverage.{completes, fetch_at, is_executed, address_if, IsStateAfter}
 use Rattle.rv_counting.specs.declared_ending.Ending.{Ending}
-use Rattle.rv_counting.specs.Run.{Ran, run_after_step, run_of, step_of}
+use Rattle.rv_counting.specs.Run.{RunResult, run_after_step, run_of, step_of}
 use Rattle.rv_counting.specs.State.{State}
 use Rattle.rv_stacks.specs.declared.walk.Walk.{Walk}
 use Rattle.rv_count_tables.specs.Trees.{ends_with}
@@ -56,7 +56,7 @@ still_at function frames pc begun old mid h counts = record { walk = counts.walk
 -- ---- a step that ends the run
 
 -- a run of one step that does not complete ends as the step does
-abbrev EndsAs : State → Result State Ending → Ran → Type 0
+abbrev EndsAs : State → Result State Ending → RunResult → Type 0
 EndsAs s r ran = is_ok r ≡ false → (r ≡ Err ran.ending) × (ran.state ≡ s)
 
 ends_as : (s : State) (r : Result State Ending) → EndsAs s r (run_after_step r s (λ t. run_of 0 t))
@@ -69,7 +69,7 @@ one_run s = ends_as s (step_of s)
 
 pub ended_with : (s t : State) (n : ℕ) (e : Ending) → run_of 1 s ≡ record { ending = e; steps = n; state = t }
     → is_ok (step_of s) ≡ false → (step_of s ≡ Err e) × (t ≡ s)
-ended_with s t n e ran = subst (λ (r : Ran). EndsAs s (step_of s) r) ran (one_run s)
+ended_with s t n e ran = subst (λ (r : RunResult). EndsAs s (step_of s) r) ran (one_run s)
 
 not_completed : (r : Result State Ending) → is_ok r ≡ false → false ≡ completes r
 not_completed (Ok t) h = sym h

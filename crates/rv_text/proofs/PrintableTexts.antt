@@ -16,13 +16,13 @@ use Rattle.std.proofs.lemmas.Str.{chars-nil, encode_ascii, len_utf8_bounds, leng
 use lib.Utf8.{low_scalar, scalars}
 use Rattle.hex.specs.Hex.{IsBytes, encode_with, lower_digits}
 use Rattle.rv_text.specs.Printable.{IsUtf8WithoutControls, begins_with_control, begins_with_format_char, after_first_printable, escape}
-use Rattle.rv_text.specs.Printable.{first_width, is_format}
+use Rattle.rv_text.specs.Printable.{first_width, is_format_char}
 use Rattle.rv_text.specs.Printable.{first_character_bytes, plain_first_len, printable_from, first_printable, printable_within}
 use Rattle.rv_text.proofs.Pieces.{printable_within-empty, printable_within-front, printable_within-full, shown-empty, shown-front}
 
 -- no control character, and no format character
 abbrev is_hidden : ℕ → Bool
-is_hidden c = is_control c || is_format c
+is_hidden c = is_control c || is_format_char c
 
 abbrev IsNoControl : ℕ → Type 0
 IsNoControl c = is_hidden c ≡ false
@@ -168,7 +168,7 @@ first_character c front scalar spelt =
     ap (λ text. slice_get (chars text) 0) (sym spelt) ∙ ap (λ all. slice_get all 0) one
 
 format_begins : (c : ℕ) (text : List ℕ) → is_utf8 (first_character_bytes text) ≡ true →
-    slice_get (chars (first_character_bytes text)) 0 ≡ Some c → begins_with_format_char text ≡ is_format c
+    slice_get (chars (first_character_bytes text)) 0 ≡ Some c → begins_with_format_char text ≡ is_format_char c
 unfolding begins_with_format_char
 format_begins c text is first = rw (is, first) refl
 
@@ -183,7 +183,7 @@ shown_front_character text some is hidden =
     let no_control : is_control c ≡ false = false_from_ne_true (is_control c) (λ control.
     false≢true (sym plain ∙ ap begins_with_control (sym whole) ∙ control_begins c (drop len text) control)) in
     let first = first_character c (first_character_bytes text) scalar spelt in
-    let is_seen : is_format c ≡ false = sym (format_begins c text is first) ∙ no_format in
+    let is_seen : is_format_char c ≡ false = sym (format_begins c text is first) ∙ no_format in
     subst IsUtf8WithoutControls spelt (shown_character c scalar (rw (no_control, is_seen) refl))
 
 -- ---- the piece in front

@@ -14,8 +14,8 @@ use Rattle.std.proofs.lemmas.List.FromFn.{get_or-range_with_len}
 use Rattle.std.proofs.lemmas.List.Sums.{AllPass-from_list_all}
 use Rattle.std.proofs.lemmas.Str.{encodes-IsAscii, encodes-append}
 use Rattle.hex.specs.Hex.{IsBytes}
-use Rattle.rv_text.specs.declared.xml.Within.{Within}
-use Rattle.rv_text.specs.declared.xml.Within.TheVariants.{Attribute, Element}
+use Rattle.rv_text.specs.declared.xml.XmlContext.{XmlContext}
+use Rattle.rv_text.specs.declared.xml.XmlContext.TheVariants.{Attribute, Element}
 use Rattle.rv_text.specs.Xml.{IsXmlCharacters, reference_or_character, character_text, xml_text, is_xml_character}
 use Rattle.rv_text.specs.Xml.{character_reference, space_reference}
 use Rattle.rv_text.proofs.XmlTexts.{text_escaped}
@@ -85,13 +85,13 @@ if_reference : (P : List ℕ → Type 0) (here : Bool) (text : List ℕ) (other 
 if_reference P true text other holds others = holds
 if_reference P false text other holds others = others
 
-xml_space : (within : Within) (c : ℕ) → IfSome (space_reference within c) IsXmlCharacters
+xml_space : (within : XmlContext) (c : ℕ) → IfSome (space_reference within c) IsXmlCharacters
 xml_space Attribute c =
     if_reference IsXmlCharacters (c == 0x9) (codes "&#9;") _ (xml_plain (codes "&#9;") refl)
     (if_reference IsXmlCharacters (c == 0xA) (codes "&#10;") None (xml_plain (codes "&#10;") refl) tt)
 xml_space Element c = tt
 
-xml_reference : (within : Within) (c : ℕ) → IfSome (character_reference within c) IsXmlCharacters
+xml_reference : (within : XmlContext) (c : ℕ) → IfSome (character_reference within c) IsXmlCharacters
 xml_reference within c =
     let P = IsXmlCharacters in
     if_reference P (c == 60) (codes "&lt;") _ (xml_plain (codes "&lt;") refl)
@@ -105,7 +105,7 @@ by_either : (c : ℕ) (text : Option (List ℕ)) → IfSome text IsXmlCharacters
 by_either c (Some text) holds taken = holds
 by_either c None holds taken = xml_one c taken
 
-xml_texts : (within : Within) (characters : List ℕ) → list_all is_xml_character characters ≡ true →
+xml_texts : (within : XmlContext) (characters : List ℕ) → list_all is_xml_character characters ≡ true →
     IsXmlCharacters (flat_map (character_text within) characters)
 xml_texts within [] all = xml_nil
 xml_texts within (c ∷ characters) all =
@@ -114,7 +114,7 @@ xml_texts within (c ∷ characters) all =
     (by_either c (character_reference within c) (xml_reference within c) parts.0)
     (xml_texts within characters parts.1)
 
-pub xml_escaped : (within : Within) (bytes : List ℕ) → IsBytes bytes → IsXmlCharacters (xml_text within bytes)
+pub xml_escaped : (within : XmlContext) (bytes : List ℕ) → IsBytes bytes → IsXmlCharacters (xml_text within bytes)
 xml_escaped within bytes are =
     let text = text_escaped within 0 bytes are in
     rw text.written (xml_texts within text.characters text.taken)

@@ -20,8 +20,8 @@ first_character_bytes text = take (continuation_len (slice_index text 0) + 1) te
 
 -- whether a character is invisible or changes the direction of the text around it: Unicode's general categories Cf (format), Zl and Zp
 -- (line and paragraph separators), and the unassigned code points of their blocks
-abbrev pub is_format : ℕ → Bool
-is_format c = c == 0xAD || (is_in_range 0x600 0x605 c || (c == 0x61C || (c == 0x6DD || (c == 0x70F ||
+abbrev pub is_format_char : ℕ → Bool
+is_format_char c = c == 0xAD || (is_in_range 0x600 0x605 c || (c == 0x61C || (c == 0x6DD || (c == 0x70F ||
     (is_in_range 0x890 0x891 c || (c == 0x8E2 || (c == 0x180E || (is_in_range 0x200B 0x200F c || (is_in_range
     0x2028 0x202E c || (is_in_range 0x2060 0x206F c || (c == 0xFEFF || (is_in_range 0xFFF9 0xFFFB c || (c ==
     0x1_10BD || (c == 0x1_10CD || (is_in_range 0x1_3430 0x1_343F c || (is_in_range 0x1_BCA0 0x1_BCA3 c ||
@@ -30,7 +30,7 @@ is_format c = c == 0xAD || (is_in_range 0x600 0x605 c || (c == 0x61C || (c == 0x
 -- whether a character is given, and it is a format character
 abbrev pub is_some_format_char : Option ℕ → Bool
 is_some_format_char None = false
-is_some_format_char (Some c) = is_format c
+is_some_format_char (Some c) = is_format_char c
 
 -- whether a text begins with a format character
 unfoldable pub begins_with_format_char : List ℕ → Bool
@@ -111,4 +111,4 @@ after_first_printable text = if plain_first_len text == 0 then drop 1 text else 
 -- the text is UTF-8 without control characters and format characters
 pub record IsUtf8WithoutControls (text : List ℕ) : Type 0 where
   pub utf8 : IsUtf8 text
-  pub without_controls : All (λ character. (is_control character || is_format character) ≡ false) (chars text)
+  pub without_controls : All (λ character. (is_control character || is_format_char character) ≡ false) (chars text)

@@ -13,6 +13,6 @@ span_text (span.Number number) = decimal number
 span_text (span.Count number noun) = count_text number noun.now
 span_text (span.ExitCode code) = exit_code_text code
 span_text (span.Word word) = word_digits word
-span_text (span.Shown text) = printable_text text.now
+span_text (span.Printable text) = printable_text text.now
 span_text (span.Value value) = printable_value value.now
 span_text (span.Name name) = printable_name name.now

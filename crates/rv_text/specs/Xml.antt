@@ -8,8 +8,8 @@ use Rattle.std.specs.Int.{is_in_range}
 use Rattle.std.specs.List.{flat_map, list_all}
 use Rattle.std.specs.Str.{chars, continuation_len, encode_utf8_all, is_utf8}
 use Rattle.hex.specs.Hex.{encode_lower}
-use Rattle.rv_text.specs.declared.xml.Within.{Within}
-use Rattle.rv_text.specs.declared.xml.Within.TheVariants.{Attribute, Element}
+use Rattle.rv_text.specs.declared.xml.XmlContext.{XmlContext}
+use Rattle.rv_text.specs.declared.xml.XmlContext.TheVariants.{Attribute, Element}
 
 -- ---- characters
 
@@ -19,13 +19,13 @@ is_xml_character c = c == 0x9 || (c == 0xA || (c == 0xD || (is_in_range 0x20 0xD
     || (is_in_range 0xE000 0xFFFD c || is_in_range 0x1_0000 0x10_FFFF c))))
 
 -- the reference of a tab or a line feed in an attribute, where an XML parser replaces these characters by spaces; otherwise `None`
-abbrev pub space_reference : Within → ℕ → Option (List ℕ)
+abbrev pub space_reference : XmlContext → ℕ → Option (List ℕ)
 space_reference Attribute c =
     if c == 0x9 then Some (codes "&#9;") else if c == 0xA then Some (codes "&#10;") else None
 space_reference Element c = None
 
 -- the reference of a character that is markup, or that an XML parser would change; `None` for any other character
-abbrev pub character_reference : Within → ℕ → Option (List ℕ)
+abbrev pub character_reference : XmlContext → ℕ → Option (List ℕ)
 character_reference within c =
     if c == 60 then Some (codes "&lt;") else if c == 62 then Some (codes "&gt;")
     else if c == 38 then Some (codes "&amp;") else if c == 34 then Some (codes "&quot;")
@@ -37,7 +37,7 @@ reference_or_character (Some text) c = text
 reference_or_character None c = encode_utf8 c
 
 -- the text of a character in an attribute or an element: its reference if it has one, and otherwise the character in UTF-8
-abbrev pub character_text : Within → ℕ → List ℕ
+abbrev pub character_text : XmlContext → ℕ → List ℕ
 character_text within c = reference_or_character (character_reference within c) c
 
 -- ---- the first character
@@ -62,7 +62,7 @@ abbrev pub escape : ℕ → List ℕ
 escape byte = codes "\\x" ++ encode_lower (byte ∷ [])
 
 -- the text of an XML character, or the escape of `byte` if no character is given
-abbrev pub character_or_escape : Within → ℕ → Option ℕ → List ℕ
+abbrev pub character_or_escape : XmlContext → ℕ → Option ℕ → List ℕ
 character_or_escape within byte (Some c) = character_text within c
 character_or_escape within byte None = escape byte
 
@@ -74,7 +74,7 @@ bytes_after_first None = 0
 -- ---- the text
 
 -- the text in XML for the bytes after the first `left`, which continue a character that began before them
-unfoldable pub xml_text_from : Within → ℕ → List ℕ → List ℕ
+unfoldable pub xml_text_from : XmlContext → ℕ → List ℕ → List ℕ
 xml_text_from within left [] = []
 xml_text_from within zero (byte ∷ rest) = let front = first_xml_character (byte ∷ rest) in
     character_or_escape within byte front ++ xml_text_from within (bytes_after_first front) rest
@@ -82,13 +82,13 @@ xml_text_from within (suc left) (byte ∷ rest) = xml_text_from within left rest
 
 -- the text in XML, in an attribute or an element, for these bytes: XML characters are unchanged or replaced by their references, and every
 -- other byte is replaced by its escape
-abbrev pub xml_text : Within → List ℕ → List ℕ
+abbrev pub xml_text : XmlContext → List ℕ → List ℕ
 xml_text within bytes = xml_text_from within 0 bytes
 
 -- ---- the beginning of the bytes: a character or one byte
 
 -- the text in XML for the first XML character of these bytes, or for their first byte if they do not begin with an XML character
-abbrev pub first_xml_text : Within → List ℕ → List ℕ
+abbrev pub first_xml_text : XmlContext → List ℕ → List ℕ
 first_xml_text within bytes = character_or_escape within (slice_index bytes 0) (first_xml_character bytes)
 
 -- the bytes without their first XML character, or without their first byte if they do not begin with an XML character
@@ -98,7 +98,7 @@ after_first_xml_text bytes = drop (bytes_after_first (first_xml_character bytes)
 -- ---- text of XML documents
 
 -- the text consists of XML characters, each in UTF-8 or, if it has a reference, as that reference
-pub record IsXmlText (within : Within) (text : List ℕ) : Type 0 where
+pub record IsXmlText (within : XmlContext) (text : List ℕ) : Type 0 where
   pub characters : List ℕ
   pub taken : list_all is_xml_character characters ≡ true
   pub written : text ≡ flat_map (character_text within) characters

@@ -2,14 +2,14 @@
 
 ghost use Rattle.std.specs.Prelude.{ℕ, List};
 ghost use Rattle.hex.specs.Hex.{IsBytes};
-ghost use Rattle.rv_text.specs.declared.xml.Within.{Within};
+ghost use Rattle.rv_text.specs.declared.xml.XmlContext.{XmlContext};
 ghost use Rattle.rv_text.specs.Printable.{IsUtf8WithoutControls, printable_name, printable_text, printable_value};
 ghost use Rattle.rv_text.specs.Xml.{IsXmlText, xml_text};
 
 /// Proves that `xml_text` consists of characters of XML 1.0 whatever the bytes, and that none of them is markup: each is written as its
 /// reference, if it has one, and otherwise as it is in UTF-8.
 pub fn escaped_bytes_are_xml()
-    ensures { (within : Within) (bytes : List ℕ) → IsBytes bytes
+    ensures { (within : XmlContext) (bytes : List ℕ) → IsBytes bytes
         → IsXmlText within (xml_text within bytes) }
 {}
 

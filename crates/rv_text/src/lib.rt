@@ -25,4 +25,4 @@ pub use symbol::{push_symbol, push_symbol_in_brackets};
 pub use text_and_numbers::{
     push_exit_code, push_file_reply_prefix, push_number, push_text, push_word_digits,
 };
-pub use xml::{Within, push_xml_text};
+pub use xml::{XmlContext, push_xml_text};

@@ -3,7 +3,7 @@
 ghost use Rattle.std.specs.Prelude.{◌≡◌, ◌<◌, ◌≤◌, ◌++◌, IfOk, OnOk, length};
 ghost use Rattle.std.specs.Str.{is_utf8};
 ghost use Rattle.rv_text.specs.Printable.{after_first_printable, escape, first_width, first_character_bytes, first_printable, begins_with_control};
-ghost use Rattle.rv_text.specs.Printable.{begins_with_format_char, is_format, is_some_format_char, plain_first_len, printable_name, printable_text, printable_value};
+ghost use Rattle.rv_text.specs.Printable.{begins_with_format_char, is_format_char, is_some_format_char, plain_first_len, printable_name, printable_text, printable_value};
 ghost use Rattle.rv_text.specs.Printable.{printable_within};
 
 use crate::slices::{byte_at, char_len, tail_from};
@@ -148,14 +148,14 @@ fn is_some_format_char(character: Option<char>) -> bool
     ensures { result ≡ is_some_format_char character }
 {
     match character {
-        Some(character) => is_format(character),
+        Some(character) => is_format_char(character),
         None => false,
     }
 }
 
 // Whether a character is invisible or changes the direction of the text around it.
-fn is_format(character: char) -> bool
-    ensures { result ≡ is_format character }
+fn is_format_char(character: char) -> bool
+    ensures { result ≡ is_format_char character }
 {
     matches!(
         character,

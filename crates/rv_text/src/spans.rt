@@ -24,7 +24,7 @@ pub enum Span<'a> {
     /// A word as eight lower-case hexadecimal digits.
     Word(u32),
     /// Text from a file, as [`push_printable_text`] shows it.
-    Shown(&'a [u8]),
+    Printable(&'a [u8]),
     /// A value, as [`push_printable_value`] shows it.
     Value(&'a [u8]),
     /// The name of a symbol, as [`push_printable_name`] shows it.
@@ -60,7 +60,7 @@ fn push_span(bytes: &mut Vec<u8>, span: Span<'_>) -> Result<(), AllocError>
         Span::Count(number, noun) => push_file_reply_prefix(bytes, number, noun),
         Span::ExitCode(code) => push_exit_code(bytes, code),
         Span::Word(word) => push_word_digits(bytes, word),
-        Span::Shown(text) => push_printable_text(bytes, text),
+        Span::Printable(text) => push_printable_text(bytes, text),
         Span::Value(value) => push_printable_value(bytes, value),
         Span::Name(name) => push_printable_name(bytes, name),
     }

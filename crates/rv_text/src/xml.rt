@@ -9,7 +9,7 @@ use std::alloc::{AllocError, Global};
 
 /// Where a text is written in a document.
 #[derive(Clone, Copy)]
-pub enum Within {
+pub enum XmlContext {
     /// Between the quotes of an attribute, where an XML parser replaces tabs and line feeds by spaces.
     Attribute,
     /// Between the tags of an element.
@@ -21,7 +21,7 @@ pub enum Within {
 pub fn push_xml_text(
     alloc: Global,
     text: &mut String,
-    within: Within,
+    within: XmlContext,
     bytes: &[u8],
 ) -> Result<(), AllocError>
     ensures { OnOk result (string_bytes text.new
@@ -39,7 +39,7 @@ pub fn push_xml_text(
 fn push_first_xml_text<'a>(
     alloc: Global,
     text: &mut String,
-    within: Within,
+    within: XmlContext,
     bytes: &'a [u8],
 ) -> Result<&'a [u8], AllocError>
     requires { 0 < length bytes.now }
@@ -107,7 +107,7 @@ fn is_xml_character(character: char) -> bool
 }
 
 // Appends the reference of a character if it has one, and otherwise the character in UTF-8.
-fn push_character(text: &mut String, within: Within, character: char) -> Result<(), AllocError>
+fn push_character(text: &mut String, within: XmlContext, character: char) -> Result<(), AllocError>
     ensures { OnOk result (string_bytes text.new
         ≡ string_bytes text.old ++ character_text within character) }
 {
@@ -118,7 +118,7 @@ fn push_character(text: &mut String, within: Within, character: char) -> Result<
 }
 
 // Returns the reference of a character that is markup, or that an XML parser would change; `None` for any other character.
-fn character_reference(within: Within, character: char) -> Option<&'static str>
+fn character_reference(within: XmlContext, character: char) -> Option<&'static str>
     ensures { option_map (λ text. text.now) result ≡ character_reference within character }
 {
     match (within, character) {
@@ -127,8 +127,8 @@ fn character_reference(within: Within, character: char) -> Option<&'static str>
         (_, '&') => Some("&amp;"),
         (_, '"') => Some("&quot;"),
         (_, '\r') => Some("&#13;"),
-        (Within::Attribute, '\t') => Some("&#9;"),
-        (Within::Attribute, '\n') => Some("&#10;"),
+        (XmlContext::Attribute, '\t') => Some("&#9;"),
+        (XmlContext::Attribute, '\n') => Some("&#10;"),
         _ => None,
     }
 }

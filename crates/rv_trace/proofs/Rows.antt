@@ -5,7 +5,7 @@ use Rattle.rv_rows.specs.declared_elf_error.ImageError.{ImageError}
 use Rattle.rv_rows.specs.declared_job.Job.{Job}
 use Rattle.rv_rows.specs.Jobs.{console_path}
 use Rattle.rv_rows.specs.Plans.{Planned, result_or_unreadable}
-use Rattle.rv_machine.specs.Run.{Ran, run_of}
+use Rattle.rv_machine.specs.Run.{RunResult, run_of}
 use Rattle.rv_machine.specs.State.{State}
 use Rattle.rv_rows.specs.declared.outcome.Loadable.{Loadable}
 use Rattle.rv_rows.specs.declared.outcome.Outcome.{Outcome}
@@ -17,7 +17,7 @@ use Rattle.rv_trace.specs.declared.trace.Trace.{Trace}
 use Rattle.rv_trace.specs.Trace.{trace_in, trace_of}
 
 -- an outcome tells of a run
-record Tells (outcome : Outcome) (ran : Ran) : Type 0 where
+record Tells (outcome : Outcome) (ran : RunResult) : Type 0 where
   ending : outcome.ending ≡ row_end ran.ending
   steps : outcome.steps ≡ ran.steps
 

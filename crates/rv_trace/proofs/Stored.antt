@@ -16,7 +16,7 @@ use Rattle.rv_machine.specs.declared_access.Width.TheVariants.{Byte, Half, Word}
 use Rattle.rv_machine.specs.declared_faults.BusFault.{BusFault}
 use Rattle.rv_machine.specs.declared_faults.BusFault.TheVariants as bus
 use Rattle.rv_machine.specs.Effect.{address, after_store, effect, effect_of, next_pc, rs2_value, store}
-use Rattle.rv_machine.specs.Fetch.{Fetched, fetch}
+use Rattle.rv_machine.specs.Fetch.{FetchResult, fetch}
 use Rattle.rv_machine.specs.Run.{after_fetch, step_of}
 use Rattle.rv_machine.specs.State.{State, with_pc, with_bus}
 use Rattle.rv_trace.specs.declared.write_targets.Access.{Access}
@@ -128,7 +128,7 @@ module _ (s t : State) (i : Instr) (next a v : ℕ) (w : Width) where
 
 module _ (s t : State) (a v : ℕ) (w : Width) (e : (traced_step s t).wrote ≡ wrote.Stored a w v)
     (outside : touches_console a (size_of w) ≡ false) where
-  by_fetch : (f : Fetched) → fetch s.isa s.bus s.pc ≡ f → after_fetch f s ≡ Ok t → value_at t.bus.memory a w ≡ v
+  by_fetch : (f : FetchResult) → fetch s.isa s.bus s.pc ≡ f → after_fetch f s ≡ Ok t → value_at t.bus.memory a w ≡ v
   unfolding effect
   by_fetch (Ok p) is done =
       let same = (code_is_fetched s p.0 p.1 is).1.same in

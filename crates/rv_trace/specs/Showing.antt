@@ -2,7 +2,7 @@
 use Rattle.std.specs.Prelude.{◌≡◌, ℕ, ◌+◌, ◌-◌, ◌<◌, ◌⊎◌, length, min, slice_index, slice_index_or, Some, Ok, Err}
 use Rattle.rv_machine.specs.declared_instruction.Instr.{Instr}
 use Rattle.rv_machine.specs.declared.ending.Ending.TheVariants.{Budget}
-use Rattle.rv_machine.specs.Run.{Ran, step_of}
+use Rattle.rv_machine.specs.Run.{RunResult, step_of}
 use Rattle.rv_machine.specs.State.{State, register}
 use Rattle.rv_trace.specs.declared.code.Code.{Code}
 use Rattle.rv_trace.specs.declared.step.TracedStep.{TracedStep}
@@ -14,7 +14,7 @@ use Rattle.rv_trace.specs.Trace.{state_after}
 -- the trace shows the end of the run from the state `s` with the result `ran`: the pc, the encoding there and the registers of the final
 -- state, and the last `last` instructions, or all if there are fewer; each of these completed, and is shown with the states before and
 -- after it
-pub record ShowsEndOfRun (trace : Trace) (last : ℕ) (ran : Ran) (s : State) : Type 0 where
+pub record ShowsEndOfRun (trace : Trace) (last : ℕ) (ran : RunResult) (s : State) : Type 0 where
   pub pc : trace.pc ≡ ran.state.pc
   pub code : trace.code ≡ code_at ran.state.bus ran.state.pc
   pub registers : (n : ℕ) → n < 32 → slice_index trace.registers n ≡ register ran.state n
@@ -25,7 +25,7 @@ pub record ShowsEndOfRun (trace : Trace) (last : ℕ) (ran : Ran) (s : State) : 
 
 -- in the run from the state `s` with the result `ran`, all instructions before the end completed, and the one at the end did not, unless
 -- the budget was used up before it
-pub record IsEndOfRun (ran : Ran) (s : State) : Type 0 where
+pub record IsEndOfRun (ran : RunResult) (s : State) : Type 0 where
   pub completed : (k : ℕ) → k < ran.steps → step_of (state_after k s) ≡ Ok (state_after (k + 1) s)
   pub ended : (ran.ending ≡ Budget) ⊎ (step_of ran.state ≡ Err ran.ending)
 

@@ -384,7 +384,7 @@ fn push_outside_path(text: &mut Vec<u8>, path: &str) -> Result<(), AllocError>
         text,
         &[
             Span::Text(" \""),
-            Span::Shown(path.as_bytes()),
+            Span::Printable(path.as_bytes()),
             Span::Text("\" is outside the directory "),
         ],
     )
@@ -398,7 +398,7 @@ fn push_quoted_text(text: &mut Vec<u8>, quoted: &str) -> Result<(), AllocError>
         text,
         &[
             Span::Text("\""),
-            Span::Shown(quoted.as_bytes()),
+            Span::Printable(quoted.as_bytes()),
             Span::Text("\""),
         ],
     )

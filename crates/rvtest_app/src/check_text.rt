@@ -264,7 +264,7 @@ impl<'a> CheckedList<'a> {
         ensures { OnOk result (text.new.items ≡ text.old.items
             ++ path_and_line self.now.path.now (slice_get self.now.lines.now place)) }
     {
-        let path = Span::Shown(self.path.as_bytes());
+        let path = Span::Printable(self.path.as_bytes());
         match self.lines.get(place) {
             Some(line) => push_spans(text, &[path, Span::Text(":"), Span::Number(*line as u64)]),
             None => push_spans(text, &[path]),
@@ -286,7 +286,7 @@ fn push_refusal(text: &mut Vec<u8>, why: Refusal, reason: Option<Vec<u8>>) -> Re
                 refused,
                 name,
                 Span::Text(": "),
-                Span::Shown(reason.as_slice()),
+                Span::Printable(reason.as_slice()),
             ],
         ),
         None => push_spans(text, &[refused, name]),

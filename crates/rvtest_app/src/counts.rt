@@ -161,7 +161,7 @@ fn two_names_message(alloc: Global, path: &str, function: u32) -> Result<Vec<u8>
         alloc,
         &[
             Span::Text("rvtest: "),
-            Span::Shown(path.as_bytes()),
+            Span::Printable(path.as_bytes()),
             Span::Text(": the function at "),
             Span::Word(function),
             Span::Text(" has two names in one image\n"),
@@ -182,7 +182,7 @@ fn count_overflow_message<'a>(
         alloc,
         &[
             Span::Text("rvtest: "),
-            Span::Shown(path.as_bytes()),
+            Span::Printable(path.as_bytes()),
             Span::Text(what),
             Span::Word(address),
             Span::Text(" does not fit in 64 bits\n"),

@@ -78,7 +78,7 @@ fn known_fault_message(
         &mut message,
         &[
             Span::Text("rvtest: "),
-            Span::Shown(path.as_bytes()),
+            Span::Printable(path.as_bytes()),
             Span::Text(":"),
             Span::Number(fault.line as u64),
             Span::Text(": "),
@@ -121,7 +121,7 @@ fn push_known_fault<'a>(
                 Span::Text("no job named \""),
                 Span::Value(name),
                 Span::Text("\" in "),
-                Span::Shown(list.as_bytes()),
+                Span::Printable(list.as_bytes()),
             ],
         ),
     }

@@ -353,10 +353,10 @@ fn two_parts_message<'a>(
         alloc,
         &[
             Span::Text("rvtest: "),
-            Span::Shown(path.as_bytes()),
+            Span::Printable(path.as_bytes()),
             Span::Text(": "),
             Span::Text(what),
-            Span::Shown(other.as_bytes()),
+            Span::Printable(other.as_bytes()),
             Span::Text(end),
         ],
     )

@@ -58,7 +58,7 @@ fn push_paths_line(told: &mut Vec<u8>, root: Option<&str>) -> Result<(), AllocEr
             told,
             &[
                 Span::Text("no image was found: relative paths are resolved against "),
-                Span::Shown(folder.as_bytes()),
+                Span::Printable(folder.as_bytes()),
                 Span::Text(" (--root)\n"),
             ],
         ),

@@ -147,7 +147,7 @@ fn overwrite_prefix<'a>(
             Span::Text("rvtest: "),
             Span::Text(option),
             Span::Text(" \""),
-            Span::Shown(path.as_bytes()),
+            Span::Printable(path.as_bytes()),
             Span::Text("\" would overwrite "),
         ],
     )
@@ -187,7 +187,7 @@ fn push_input_path(text: &mut Vec<u8>, path: &str) -> Result<(), AllocError>
         text,
         &[
             Span::Text(": \""),
-            Span::Shown(path.as_bytes()),
+            Span::Printable(path.as_bytes()),
             Span::Text("\"\n"),
         ],
     )

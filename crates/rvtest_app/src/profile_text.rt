@@ -44,9 +44,9 @@ fn past_64_bits_message<'a>(
         alloc,
         &[
             Span::Text("rvtest: "),
-            Span::Shown(source.as_bytes()),
+            Span::Printable(source.as_bytes()),
             Span::Text(": "),
-            Span::Shown(path.as_bytes()),
+            Span::Printable(path.as_bytes()),
             Span::Text(": the sum of its stacks does not fit in 64 bits\n"),
         ],
     )

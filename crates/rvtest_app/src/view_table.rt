@@ -158,9 +158,9 @@ fn other_image_message<'a>(
         alloc,
         &[
             Span::Text("rvtest: "),
-            Span::Shown(table.as_bytes()),
+            Span::Printable(table.as_bytes()),
             Span::Text(": "),
-            Span::Shown(path.as_bytes()),
+            Span::Printable(path.as_bytes()),
             Span::Text(": counted with a different image than the selected jobs use\n"),
         ],
     )

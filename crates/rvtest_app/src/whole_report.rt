@@ -131,7 +131,7 @@ fn part_refusal<'a>(
         alloc,
         &[
             Span::Text("rvtest: "),
-            Span::Shown(path.as_bytes()),
+            Span::Printable(path.as_bytes()),
             Span::Text(": a partial report ("),
             Span::Number(rows as u64),
             Span::Text(" of "),
@@ -156,11 +156,11 @@ fn row_count_message<'a>(
         alloc,
         &[
             Span::Text("rvtest: "),
-            Span::Shown(path.as_bytes()),
+            Span::Printable(path.as_bytes()),
             Span::Text(": has "),
             Span::Count(rows as u64, "row"),
             Span::Text(", but "),
-            Span::Shown(list.as_bytes()),
+            Span::Printable(list.as_bytes()),
             Span::Text(" has "),
             Span::Count(jobs as u64, "job"),
             Span::Text(EXPECTED_WHOLE_REPORT),
@@ -182,7 +182,7 @@ fn name_mismatch_message<'a>(
         alloc,
         &[
             Span::Text("rvtest: "),
-            Span::Shown(path.as_bytes()),
+            Span::Printable(path.as_bytes()),
             Span::Text(": job "),
             Span::Number(name.number as u64),
             Span::Text(" is \""),
@@ -190,7 +190,7 @@ fn name_mismatch_message<'a>(
             Span::Text("\", but \""),
             Span::Text(name.listed),
             Span::Text("\" in "),
-            Span::Shown(list.as_bytes()),
+            Span::Printable(list.as_bytes()),
             Span::Text(EXPECTED_WHOLE_REPORT),
         ],
     )

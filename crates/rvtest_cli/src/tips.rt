@@ -60,7 +60,7 @@ fn push_line(text: &mut Vec<u8>, line: &str) -> Result<(), AllocError> {
         Some((front, option, bounds)) => push_spans(
             text,
             &[
-                Span::Shown(front.as_bytes()),
+                Span::Printable(front.as_bytes()),
                 Span::Text("' for '--"),
                 Span::Text(option),
                 Span::Text(" <N>': expected an integer from "),
@@ -70,7 +70,7 @@ fn push_line(text: &mut Vec<u8>, line: &str) -> Result<(), AllocError> {
                 Span::Text("\n"),
             ],
         ),
-        None => push_spans(text, &[Span::Shown(line.as_bytes()), Span::Text("\n")]),
+        None => push_spans(text, &[Span::Printable(line.as_bytes()), Span::Text("\n")]),
     }
 }
 

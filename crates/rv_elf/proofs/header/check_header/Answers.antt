@@ -2,9 +2,9 @@ use Rattle.std.proofs.Common.{rules}
 use Rattle.rv_elf.specs.ImageParts.{header_check}
 use Rattle.rv_elf.proofs.header.check_header.Goals as goal
 
-pub returns-then-file-lt-HEADER_SIZE-clause-value : goal.returns-then-file-lt-HEADER_SIZE-clause-value
+pub returns-then-file-lt-ELF_HEADER_SIZE-clause-value : goal.returns-then-file-lt-ELF_HEADER_SIZE-clause-value
 unfolding header_check
-returns-then-file-lt-HEADER_SIZE-clause-value c = search rules
+returns-then-file-lt-ELF_HEADER_SIZE-clause-value c = search rules
 
 pub returns-then-file-ne-ELFCLASS32-clause-value : goal.returns-then-file-ne-ELFCLASS32-clause-value
 unfolding header_check

@@ -1,5 +1,5 @@
 use Rattle.std.proofs.Common.{◌++◌, ℕ, List, [], codes, string_bytes}
-use Rattle.rv_job_text.specs.declared_xml.Within.TheVariants.{Element}
+use Rattle.rv_job_text.specs.declared_xml.XmlContext.TheVariants.{Element}
 use Rattle.rv_job_text.specs.TextWords.{count_text}
 use Rattle.rv_job_text.specs.Xml.{xml_text}
 use Rattle.rv_job_text.specs.Judgement.{judgement, judge_view}

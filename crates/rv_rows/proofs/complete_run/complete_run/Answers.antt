@@ -1,6 +1,6 @@
 use Rattle.std.proofs.Common.{◌∙◌, ◌≤◌, ◌-◌, ◌+◌, ℕ, ap, arith, subst, sym}
 use Rattle.rv_machine.specs.Machine.{state_of}
-use Rattle.rv_machine.specs.Run.{Ran}
+use Rattle.rv_machine.specs.Run.{RunResult}
 use Rattle.rv_rows.specs.Outcome.{outcome_of_run}
 use Rattle.rv_rows.specs.declared.outcome.Outcome.{Outcome}
 use Rattle.rv_rows.proofs.Loadables.{range_after_run}
@@ -15,13 +15,13 @@ overflow_add-run c =
     let left = c.args.budget - c.args.steps in
     let few : c.ended_run-run.result.steps ≤ left =
     subst (λ (steps : ℕ). steps ≤ left)
-    (ap (λ (ran : Ran). ran.steps) c.run-ran.ensures ∙ sym (ap (λ (o : Outcome). o.steps) c.ended_run-run.ensures.outcome))
+    (ap (λ (ran : RunResult). ran.steps) c.run-ran.ensures ∙ sym (ap (λ (o : Outcome). o.steps) c.ended_run-run.ensures.outcome))
     (within_budget left (state_of c.args.machine)) in
     omega (arith, few, c.requires.within, c.ranges.budget.fits)
 
 pub returns-clause-outcome : goal.returns-clause-outcome
 returns-clause-outcome c = λ start way.
     ap (λ (o : Outcome). record o { steps = o.steps + c.args.steps })
-    (c.ended_run-run.ensures.outcome ∙ ap (λ (ran : Ran). outcome_of_run ran c.args.range) (sym c.run-ran.ensures))
-    ∙ ap (λ (ran : Ran). outcome_of_run ran c.args.range)
+    (c.ended_run-run.ensures.outcome ∙ ap (λ (ran : RunResult). outcome_of_run ran c.args.range) (sym c.run-ran.ensures))
+    ∙ ap (λ (ran : RunResult). outcome_of_run ran c.args.range)
     (sym (rest_is c.args.budget c.args.steps start (state_of c.args.machine) way))

@@ -1,7 +1,7 @@
 use Rattle.std.proofs.Common.{ap, arith, refl}
 use Rattle.std.proofs.lemmas.Bool.{false≢true}
 use Rattle.rv_trace.specs.Machine.{state_of}
-use Rattle.rv_trace.specs.Run.{Ran}
+use Rattle.rv_trace.specs.Run.{RunResult}
 use Rattle.rv_history.proofs.Reaching.{comes, comes_within, ran_there, within_budget}
 use Rattle.rv_history.proofs.history.History.seek.Goals as goal
 
@@ -18,7 +18,7 @@ returns-then-at-place-clause-granted c = (
   λ there. absurd (
       let within = rw (← c.self.view_is) at there in
       let full = comes c.self.inside.budget c.args.place c.self.inside.track within in
-      let count = ap (λ (r : Ran). r.steps) c.in_ok-at.ensures.run in
+      let count = ap (λ (r : RunResult). r.steps) c.in_ok-at.ensures.run in
       omega (arith, full, count)),
 )
 
