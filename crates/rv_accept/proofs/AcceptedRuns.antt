@@ -4,7 +4,7 @@ use Rattle.std.specs.Prelude.{slice_get, slice_index_or}
 use Rattle.std.specs.List.{filter, range_with_len}
 use Rattle.rv_rows.specs.Choices.{selected_indices}
 use Rattle.rv_rows.specs.Jobs.{single_job}
-use Rattle.rv_rows.specs.Plans.{Planned}
+use Rattle.rv_rows.specs.Plans.{PlanView}
 use Rattle.rv_rows.specs.declared_job.Job.{Job}
 use Rattle.rv_rows.specs.Rows.{row_of, rows_at}
 use Rattle.rv_rows.specs.declared_row.Row.{Row}
@@ -62,7 +62,7 @@ none_more : (k : ℕ) → 0 + k ≡ k
 none_more k = omega arith
 
 -- a row that stands at the place of its job is the row of the job there
-pub row_at_place : (plan : Planned) (marks : List Bool) (place : ℕ) (row : Row)
+pub row_at_place : (plan : PlanView) (marks : List Bool) (place : ℕ) (row : Row)
     → slice_get (indexed_rows marks (rows_at plan (selected_indices marks (length marks)))) place ≡ Some (Some row)
     → row ≡ row_of plan (slice_index_or plan.jobs place (single_job [] 0 []))
 unfolding rows_at

@@ -14,7 +14,7 @@ use Rattle.rv_rows.specs.declared_kept.Kept.TheVariants as kept
 use Rattle.rv_rows.specs.declared_job.Job.{Job}
 use Rattle.rv_rows.specs.Outcome.{file_outcome_of, image_file_or_refusal, loadable_image, outcome_if_loadable, outcome_of}
 use Rattle.rv_rows.specs.Verdict.{did_run}
-use Rattle.rv_rows.specs.declared.outcome.Loadable.{Loadable}
+use Rattle.rv_rows.specs.declared.outcome.LoadableImage.{LoadableImage}
 use Rattle.rv_rows.specs.declared_row.RowEnd.{RowEnd}
 use Rattle.rv_accept.specs.Accepted.{accepted_job}
 
@@ -66,7 +66,7 @@ reached : {X Y E : Type 0} (first : Result X E) (next : X → Result Y E) (y : Y
 reached (Ok x) next y is = (x, refl)
 reached (Err why) next y is = cc
 
-loadable_has_magic : (job : Job) (file : List ℕ) (loadable : Loadable) → loadable_image job file ≡ Ok loadable
+loadable_has_magic : (job : Job) (file : List ℕ) (loadable : LoadableImage) → loadable_image job file ≡ Ok loadable
     → has_magic file ≡ true
 unfolding loadable_image
 loadable_has_magic job file loadable is =
@@ -78,7 +78,7 @@ pub image_that_ran : (job : Job) (file : List ℕ) → did_run (file_outcome_of 
 unfolding file_outcome_of
 image_that_ran job file ran = go (loadable_image job file) refl ran
   where
-    go : (read : Result Loadable ImageError) → loadable_image job file ≡ read
+    go : (read : Result LoadableImage ImageError) → loadable_image job file ≡ read
         → did_run (outcome_if_loadable job file read).ending ≡ true
         → starts_with nat_eq file (0x7f ∷ 0x45 ∷ 0x4c ∷ 0x46 ∷ []) ≡ true
     go (Ok loadable) was ran = four_bytes file (loadable_has_magic job file loadable was)

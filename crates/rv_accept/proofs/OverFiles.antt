@@ -1,8 +1,8 @@
 -- An accepted job passes over its golden files, or nothing is expected of it.
 use Rattle.std.proofs.Common.{◌≡◌, ◌∙◌, ℕ, Bool, true, false, List, Option, Some, None, IfSome, ap, option_map, refl, subst, sym}
 use Rattle.rv_rows.specs.Jobs.{console_path, without_expectations}
-use Rattle.rv_rows.specs.Plans.{Planned, result_or_unreadable}
-use Rattle.rv_rows.specs.declared_answers.Answer.{Answer}
+use Rattle.rv_rows.specs.Plans.{PlanView, result_or_unreadable}
+use Rattle.rv_rows.specs.declared_answers.PathResult.{PathResult}
 use Rattle.rv_rows.specs.declared_kept.Kept.TheVariants as kept
 use Rattle.rv_rows.specs.declared_job.ExpectedConsole.{ExpectedConsole}
 use Rattle.rv_rows.specs.declared_job.ExpectedConsole.TheVariants.{Text, File}
@@ -28,21 +28,21 @@ console_path_stays (Some (Text text)) bytes = refl
 console_path_stays (Some (File path)) bytes = refl
 
 -- a golden file that is named was read
-file_read : (answers : List Answer) (named : Option (List ℕ)) (text : List ℕ)
+file_read : (answers : List PathResult) (named : Option (List ℕ)) (text : List ℕ)
     → IfSome named (λ path. result_or_unreadable answers path ≡ kept.Content text)
     → IfSome (option_map (result_or_unreadable answers) named) (λ k. (bytes : List ℕ) × (k ≡ kept.Content bytes))
 file_read answers None text is = tt
 file_read answers (Some path) text is = (text, is)
 
 -- and has this text
-text_read : (answers : List Answer) (named : Option (List ℕ)) (text : List ℕ)
+text_read : (answers : List PathResult) (named : Option (List ℕ)) (text : List ℕ)
     → IfSome named (λ path. result_or_unreadable answers path ≡ kept.Content text)
     → IfSome named (λ path. content_if_read (option_map (result_or_unreadable answers) named) ≡ Some text)
 text_read answers None text is = tt
 text_read answers (Some path) text is = rw is refl
 
 -- the job comes to what it came to
-outcome_again : (earlier later : List Answer) (job : Job) (row : Row)
+outcome_again : (earlier later : List PathResult) (job : Job) (row : Row)
     → outcome_of_row row ≡ outcome_in earlier (without_expectations job) → did_run row.ending ≡ true
     → AreFilesUpdated earlier later job row
     → outcome_in later (accepted_job job row.ending row.console) ≡ outcome_of_row row
@@ -58,7 +58,7 @@ outcome_again earlier later job row came ran finds =
     (file_read later (console_path job.expect_console) row.console finds.console)
     ∙ runs_alike job row.ending row.console over.file ∙ sym over.came ∙ sym came))
 
-passes_again : (acceptance : Acceptance) (stands : CurrentVerdict) (job : Job) (earlier : List Answer) (later : Planned)
+passes_again : (acceptance : Acceptance) (stands : CurrentVerdict) (job : Job) (earlier : List PathResult) (later : PlanView)
     (row : Row) → outcome_of_row row ≡ outcome_in earlier (without_expectations job)
     → chosen_skip_reason acceptance stands job row ≡ None → (stands ≡ standing.Passes → HasExpectedEnd job row)
     → job.same_as ≡ None → AreFilesUpdated earlier later.answers job row
@@ -82,11 +82,11 @@ passes_again acceptance stands job earlier later row came kept well alone finds 
         (text_read later.answers job.expect_signature (lines_of_signature row.signature) finds.signature)
         (text_read later.answers (console_path job.expect_console) row.console finds.console)))
 
-pub outcome_of_its_row : (plan : Planned) (job : Job) → outcome_of_row (row_of plan job) ≡ outcome_in plan.answers job
+pub outcome_of_its_row : (plan : PlanView) (job : Job) → outcome_of_row (row_of plan job) ≡ outcome_in plan.answers job
 unfolding row_of
 outcome_of_its_row plan job = refl
 
-pub passes_over_files : (acceptance : Acceptance) (stands : CurrentVerdict) (job : Job) (earlier later : Planned) (row : Row)
+pub passes_over_files : (acceptance : Acceptance) (stands : CurrentVerdict) (job : Job) (earlier later : PlanView) (row : Row)
     → row ≡ row_of earlier (without_expectations job) → chosen_skip_reason acceptance stands job row ≡ None
     → (stands ≡ standing.Passes → HasExpectedEnd job row) → job.same_as ≡ None
     → AreFilesUpdated earlier.answers later.answers job row

@@ -2,7 +2,7 @@
 use Rattle.std.specs.Prelude.{◌≡◌, Bool, true, false, IfSome, IsTrue, List}
 use Rattle.rv_rows.specs.Jobs.{console_path}
 use Rattle.rv_rows.specs.Plans.{result_or_unreadable}
-use Rattle.rv_rows.specs.declared_answers.Answer.{Answer}
+use Rattle.rv_rows.specs.declared_answers.PathResult.{PathResult}
 use Rattle.rv_rows.specs.declared_kept.Kept.TheVariants as kept
 use Rattle.rv_rows.specs.declared_job.Job.{Job}
 use Rattle.rv_rows.specs.Verdict.{did_run, has_expected_end, has_expected_exit, lines_of_signature}
@@ -26,7 +26,7 @@ outcome_of_row row = record {
 }
 
 -- a later run of the job reads the same image, if the job ran, and finds the results of its row in its golden files
-pub record AreFilesUpdated (earlier later : List Answer) (job : Job) (row : Row) : Type 0 where
+pub record AreFilesUpdated (earlier later : List PathResult) (job : Job) (row : Row) : Type 0 where
   pub image : IsTrue (did_run row.ending) → result_or_unreadable later job.image ≡ result_or_unreadable earlier job.image
   pub signature : IfSome job.expect_signature (λ path. result_or_unreadable later path ≡ kept.Content (lines_of_signature row.signature))
   pub console : IfSome (console_path job.expect_console) (λ path. result_or_unreadable later path ≡ kept.Content row.console)

@@ -3,7 +3,7 @@
 ghost use Rattle.std.specs.Prelude.{◌≡◌, ℕ, List, None, Option, Some, IsTrue};
 ghost use Rattle.std.specs.List.{All};
 ghost use Rattle.rv_rows.specs.Jobs.{without_expectations};
-ghost use Rattle.rv_rows.specs.Plans.{Planned};
+ghost use Rattle.rv_rows.specs.Plans.{PlanView};
 ghost use Rattle.rv_rows.specs.declared_job.Job.{Job};
 ghost use Rattle.rv_rows.specs.declared.outcome.Outcome.{Outcome};
 ghost use Rattle.rv_rows.specs.declared_row.Row.{Row};
@@ -40,7 +40,7 @@ pub fn an_agreed_text_is_given_by_each_job()
 /// holds if it ran without its expectations, has no `same_as`, and the list now has its actual values, and if the later run reads the same
 /// image and finds the earlier results in its golden files. A job that currently passes must have ended as it expects.
 pub fn accepted_jobs_pass_with_their_files()
-    ensures { (acceptance : AnAcceptance) (stands : AStanding) (job : Job) (earlier later : Planned) (row : Row)
+    ensures { (acceptance : AnAcceptance) (stands : AStanding) (job : Job) (earlier later : PlanView) (row : Row)
         → row ≡ row_of earlier (without_expectations job)
         → chosen_skip_reason acceptance stands job row ≡ None
         → (stands ≡ standing.Passes → HasExpectedEnd job row)

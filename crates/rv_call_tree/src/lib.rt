@@ -14,7 +14,7 @@ mod sum;
 pub use index::CallTreeIndex;
 pub use law::{own_steps_sum_to_all, trees_with_equal_counts_are_equal};
 pub use profile::{FunctionSteps, functions_of};
-pub use spot::{Spot, Spots};
+pub use spot::{Spot, CallNodes};
 pub use sum::{CallTreeSumError, sum_of_call_trees};
 
 // From the crates below: what this interface names, and what its callers need with it.

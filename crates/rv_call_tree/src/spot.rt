@@ -3,7 +3,7 @@
 use rv_base::Sequence;
 
 /// The nodes of a call tree in preorder; contracts see them as a list.
-pub type Spots = Sequence<Spot>;
+pub type CallNodes = Sequence<Spot>;
 
 /// A node of a call tree, which represents a path of functions, each of which called the next one: the first functions of the preceding
 /// node's path, as many as the node is deep, then its own function.

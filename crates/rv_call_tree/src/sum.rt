@@ -6,7 +6,7 @@ ghost use Rattle.rv_call_tree.specs.Sums.{sum_of_nodes, comes_first, next_of, no
 ghost use Rattle.rv_call_tree.specs.Trees.{IsTree};
 ghost use Rattle.rv_call_tree.specs.declared.sum.CallTreeSumError.TheVariants.{OutOfMemory};
 
-use crate::spot::{Spot, Spots};
+use crate::spot::{Spot, CallNodes};
 use std::alloc::{AllocError, Global};
 
 /// Why two call trees could not be added.
@@ -29,7 +29,7 @@ impl From<AllocError> for CallTreeSumError {
 
 /// Returns the sum of two call trees, in which the counts of each path are added, or an error if a count would not fit in 64 bits.
 /// Allocates only the sum.
-pub fn sum_of_call_trees(alloc: Global, a: &[Spot], b: &[Spot]) -> Result<Spots, CallTreeSumError>
+pub fn sum_of_call_trees(alloc: Global, a: &[Spot], b: &[Spot]) -> Result<CallNodes, CallTreeSumError>
     requires a { IsTree a.now }
     requires b { IsTree b.now }
     ensures value { IfOk result (λ sum. IsSumOfCallTrees a.now b.now sum) }
@@ -45,7 +45,7 @@ pub fn sum_of_call_trees(alloc: Global, a: &[Spot], b: &[Spot]) -> Result<Spots,
         from_a += next.of_a;
         from_b += next.of_b;
     }
-    Ok(Spots::new(sums))
+    Ok(CallNodes::new(sums))
 }
 
 /// The first node of a sum, and how many nodes of each tree it adds up.

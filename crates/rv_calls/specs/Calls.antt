@@ -1,7 +1,7 @@
 -- The calls of a run that have not returned when it ends.
 use Rattle.std.specs.Prelude.{ℕ, zero, suc, ◌+◌, ◌%◌, List, [], ◌∷◌, Option, Some, None, Result, Ok, Err, option_map, option_and_then, fold}
 use Rattle.std.specs.Result.{result_ok}
-use Rattle.rv_trace.specs.Plans.{Planned}
+use Rattle.rv_trace.specs.Plans.{PlanView}
 use Rattle.rv_trace.specs.declared_job.Job.{Job}
 use Rattle.rv_trace.specs.declared_ending.Ending.{Ending}
 use Rattle.rv_trace.specs.Run.{step_of}
@@ -63,5 +63,5 @@ abbrev pub calls_of_run : ℕ → State → Calls
 calls_of_run n s = record { pc = (state_after n s).pc; frames = frames_of_run n s }
 
 -- the pc and the call stack at the end of the run of a plan's job within its budget, or `None` if the job is refused
-unfoldable pub calls_in : Planned → Job → Option Calls
+unfoldable pub calls_in : PlanView → Job → Option Calls
 calls_in plan job = option_map (calls_of_run job.budget) (result_ok (start_in plan.answers job))

@@ -20,7 +20,7 @@ use crate::order::is_before;
 use crate::read_stacks::read_nodes;
 use crate::table::{AddressCounts, Addresses, Digest, FunctionNames, ImageCounts, Images};
 use crate::text::{push_address_line, push_image_line, push_last_line};
-use rv_call_tree::{Spots, Text};
+use rv_call_tree::{CallNodes, Text};
 use rv_text::tail_from;
 use std::alloc::{AllocError, Global};
 
@@ -201,7 +201,7 @@ fn image_of_line(alloc: Global, line: &[u8]) -> Result<ImageCounts, AllocError>
         path: Text::new(path),
         addresses: Addresses::new(Vec::new(alloc)),
         functions: FunctionNames::new(Vec::new(alloc)),
-        spots: Spots::new(Vec::new(alloc)),
+        spots: CallNodes::new(Vec::new(alloc)),
     })
 }
 

@@ -16,14 +16,14 @@ use crate::line_parts::{
 use crate::names_by_function::NamesByFunction;
 use crate::table::{FunctionName, FunctionNames, NamedCallNode};
 use crate::text::push_node_line;
-use rv_call_tree::{Spot, Spots, Text};
+use rv_call_tree::{Spot, CallNodes, Text};
 use rv_text::tail_from;
 use std::alloc::{AllocError, Global};
 
 /// Parsed nodes, the names of their functions, and the length of their lines in bytes.
 #[derive(Drop)]
 pub(crate) struct ParsedNodes {
-    pub(crate) spots: Spots,
+    pub(crate) spots: CallNodes,
     pub(crate) functions: FunctionNames,
     pub(crate) length: usize,
 }
@@ -48,7 +48,7 @@ pub(crate) fn read_nodes(alloc: Global, text: &[u8]) -> Result<ParsedNodes, Allo
             }
             None => {
                 return Ok(ParsedNodes {
-                    spots: Spots::new(spots),
+                    spots: CallNodes::new(spots),
                     functions: names.into_names(alloc)?,
                     length,
                 });

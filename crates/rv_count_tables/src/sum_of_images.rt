@@ -14,7 +14,7 @@ use crate::sum::SumError;
 use crate::sum_of_counts::sum_of_counts;
 use crate::sum_of_names::{copy_of_names, sum_of_names};
 use crate::table::{Addresses, Digest, ImageCounts, Images};
-use rv_call_tree::{Spots, Text, sum_of_call_trees};
+use rv_call_tree::{CallNodes, Text, sum_of_call_trees};
 use std::alloc::{AllocError, Global};
 
 /// Returns the sum of the images of two tables, sorted by digest, or why there is none. Allocates only the sum.
@@ -162,7 +162,7 @@ fn copy_of_image(alloc: Global, image: &ImageCounts) -> Result<ImageCounts, Allo
     let path = Text::copy(alloc, image.path.as_str())?;
     let addresses = Addresses::new(copy_of(alloc, image.addresses.as_slice())?);
     let functions = copy_of_names(alloc, image.functions.as_slice())?;
-    let spots = Spots::new(copy_of(alloc, image.spots.as_slice())?);
+    let spots = CallNodes::new(copy_of(alloc, image.spots.as_slice())?);
     Ok(ImageCounts {
         digest,
         path,

@@ -1,6 +1,6 @@
 //! The table of counts.
 
-use rv_call_tree::{Bytes, Sequence, Spot, Spots, Text};
+use rv_call_tree::{Bytes, Sequence, Spot, CallNodes, Text};
 
 /// The counts of one image's addresses; contracts see them as a list.
 pub type Addresses = Sequence<AddressCounts>;
@@ -52,7 +52,7 @@ pub struct ImageCounts {
     /// The functions that the nodes end in, each once, sorted by address.
     pub functions: FunctionNames,
     /// The call tree; empty if call paths were not counted.
-    pub spots: Spots,
+    pub spots: CallNodes,
 }
 
 /// How often each instruction of each image was executed in some runs.

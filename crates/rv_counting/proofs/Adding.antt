@@ -14,7 +14,7 @@ use Rattle.rv_fleet.specs.declared_engine.RunError.{RunError}
 use Rattle.rv_fleet.specs.declared_listener.Flow.{Flow}
 use Rattle.rv_fleet.specs.declared_listener.Flow.TheVariants.{Continue, Stop}
 use Rattle.rv_fleet.specs.Results.{IsRunDelivered, HasReceived, HasReceivedSome}
-use Rattle.rv_trace.specs.Plans.{Planned}
+use Rattle.rv_trace.specs.Plans.{PlanView}
 use Rattle.rv_counting.specs.declared.index_ranges.IndexRange.{IndexRange}
 use Rattle.rv_counting.specs.JobTables.{jobs_at, IsTableOfFew, IsTableOfJobs, IsTableOfRange, IsTableOfJobsAt, SumsTo}
 use Rattle.rv_counting.specs.BatchRanges.{range_at, indices_in, range_start, AreIndexRanges}
@@ -201,7 +201,7 @@ take_both (suc n) (suc m) [] = let on : suc n + suc m ≡ suc (n + suc m) = omeg
 take_both (suc n) m (x ∷ xs) =
     let on : suc n + m ≡ suc (n + m) = omega arith in ap (λ k. take k (x ∷ xs)) on ∙ ap (λ ys. x ∷ ys) (take_both n m xs)
 
-module _ (plan : Planned) (places : List ℕ) (pieces : List IndexRange) (are : AreIndexRanges plan places pieces) where
+module _ (plan : PlanView) (places : List ℕ) (pieces : List IndexRange) (are : AreIndexRanges plan places pieces) where
   -- the table of the first pieces
   abbrev OfFirst : ℕ → CountTable → Type 0
   OfFirst n t = IsTableOfRange plan (take (range_start pieces n) places) t

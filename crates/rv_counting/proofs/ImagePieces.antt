@@ -6,7 +6,7 @@ use Rattle.std.proofs.lemmas.List.{get_or-drop, get_or-take, get_or_append_left,
 use Rattle.std.proofs.lemmas.List.Elements.{All-drop, All-take}
 use Rattle.rv_fleet.specs.Choices.{AreJobIndices}
 use Rattle.rv_trace.specs.declared_job.Job.{Job}
-use Rattle.rv_trace.specs.Plans.{Planned}
+use Rattle.rv_trace.specs.Plans.{PlanView}
 use Rattle.rv_trace.specs.Trace.{job_at}
 use Rattle.rv_counting.specs.declared.index_ranges.IndexRange.{IndexRange}
 use Rattle.rv_counting.specs.BatchRanges.{range_at, indices_in, range_start, AreIndexRanges, AreIndexRangesTo, HaveOneImage, IsIndexRange}
@@ -14,11 +14,11 @@ use Rattle.rv_counting.specs.BatchRanges.{range_at, indices_in, range_start, Are
 -- ---- one piece
 
 -- the jobs at the indices from one on name one image, up to another
-abbrev pub HaveOneImageFrom : Planned → List ℕ → ℕ → ℕ → Type 0
+abbrev pub HaveOneImageFrom : PlanView → List ℕ → ℕ → ℕ → Type 0
 HaveOneImageFrom plan places from to = (k : ℕ) (d : Job) → from ≤ k → k < to
     → (job_at plan (get_or places k 0) d).image ≡ (job_at plan (get_or places from 0) d).image
 
-module _ (plan : Planned) (places : List ℕ) (from : ℕ) where
+module _ (plan : PlanView) (places : List ℕ) (from : ℕ) where
   pub first_image : HaveOneImageFrom plan places from (from + 1)
   first_image k d least most = let here : k ≡ from = omega arith in ap (λ j. (job_at plan (get_or places j 0) d).image) here
 
@@ -53,10 +53,10 @@ start_kept pieces piece zero few = refl
 start_kept pieces piece (suc k) few =
     ap (λ (p : IndexRange). p.to) (get_or_append_left pieces (piece ∷ []) (record { from = 0; to = 0 }) k (omega (arith, few)))
 
-pub no_pieces : (plan : Planned) (places : List ℕ) → AreIndexRangesTo plan places 0 []
+pub no_pieces : (plan : PlanView) (places : List ℕ) → AreIndexRangesTo plan places 0 []
 no_pieces plan places = record { few = omega arith; each = λ k lt. absurd (omega (arith, lt)); all = refl }
 
-module _ (plan : Planned) (places : List ℕ) (from : ℕ) (pieces : List IndexRange) (piece : IndexRange) (h : AreIndexRangesTo plan places from pieces)
+module _ (plan : PlanView) (places : List ℕ) (from : ℕ) (pieces : List IndexRange) (piece : IndexRange) (h : AreIndexRangesTo plan places from pieces)
     (next : IsIndexRange plan places from piece) where
   here : range_at (pieces ++ piece ∷ []) (length pieces) ≡ piece
   here = get_or-append_seam pieces piece [] (record { from = 0; to = 0 })
@@ -96,7 +96,7 @@ module _ (plan : Planned) (places : List ℕ) (from : ℕ) (pieces : List IndexR
 
 -- ---- one of them
 
-module _ (plan : Planned) (places : List ℕ) (pieces : List IndexRange) (are : AreIndexRanges plan places pieces) (number : ℕ)
+module _ (plan : PlanView) (places : List ℕ) (pieces : List IndexRange) (are : AreIndexRanges plan places pieces) (number : ℕ)
     (lt : number < length pieces) where
   abbrev pub piece : IndexRange
   piece = range_at pieces number

@@ -7,7 +7,7 @@ use Rattle.std.specs.List.{All, sum_by}
 use Rattle.std.specs.Result.{result_ok}
 use Rattle.rv_count_tables.specs.declared.table.CountTable.{CountTable}
 use Rattle.rv_count_tables.specs.Table.{min_text_of}
-use Rattle.rv_trace.specs.declared_answers.Answer.{Answer}
+use Rattle.rv_trace.specs.declared_answers.PathResult.{PathResult}
 use Rattle.rv_trace.specs.declared_job.Job.{Job}
 use Rattle.rv_trace.specs.State.{State}
 use Rattle.rv_fleet.specs.declared_row.Refusal.{Refusal}
@@ -26,7 +26,7 @@ same_sum f g P (j ∷ js) same all =
     let rest = same_sum f g P js same (All-tail P j js all) in
     omega (arith, one, rest, sum_by-cons f j js, sum_by-cons g j js)
 
-module _ (some others : List Answer) where
+module _ (some others : List PathResult) where
   same_start : (job : Job) → HaveSameResults some others job → start_in some job ≡ start_in others job
   same_start job h = λ i. range_start job (h.image i) (h.reference i) (h.console i)
 

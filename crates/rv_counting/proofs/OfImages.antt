@@ -13,10 +13,10 @@ use Rattle.rv_count_tables.specs.declared.table.AddressCounts.{AddressCounts}
 use Rattle.rv_count_tables.specs.declared.table.CountTable.{CountTable}
 use Rattle.rv_count_tables.specs.Sum.{no_counts}
 use Rattle.rv_count_tables.specs.Table.{executed_at, is_before, min_text, min_text_of, IsTable}
-use Rattle.rv_trace.specs.declared_answers.Answer.{Answer}
+use Rattle.rv_trace.specs.declared_answers.PathResult.{PathResult}
 use Rattle.rv_trace.specs.declared_job.Job.{Job}
 use Rattle.rv_trace.specs.Jobs.{single_job}
-use Rattle.rv_trace.specs.Plans.{result_or_unreadable, Planned}
+use Rattle.rv_trace.specs.Plans.{result_or_unreadable, PlanView}
 use Rattle.rv_trace.specs.State.{State}
 use Rattle.rv_fleet.specs.declared_row.Refusal.{Refusal}
 use Rattle.rv_trace.specs.Rows.{content_if_read, start_in}
@@ -41,7 +41,7 @@ not_ok_if_no_run : (r : Result State Refusal) → address_if (is_ok r) ≡ 0 →
 not_ok_if_no_run (Ok s) h = absurd (omega (arith, h))
 not_ok_if_no_run (Err why) h = refl
 
-module _ (answers : List Answer) where
+module _ (answers : List PathResult) where
   -- ---- jobs that are refused
 
   module _ (j : Job) (none : runs_by answers j ≡ 0) where
@@ -196,7 +196,7 @@ pub both_ok : (r : Result CountTable AllocError) (P Q R : CountTable → Type 0)
 both_ok (Ok t) P Q R f p q = f t p q
 both_ok (Err why) P Q R f p q = tt
 
-module _ (plan : Planned) (places : List ℕ) where
+module _ (plan : PlanView) (places : List ℕ) where
   abbrev pub no_job : Job
   no_job = single_job [] 0 []
 

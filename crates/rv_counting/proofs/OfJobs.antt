@@ -16,7 +16,7 @@ use Rattle.rv_count_tables.specs.declared.table.ImageCounts.{ImageCounts}
 use Rattle.rv_count_tables.specs.declared.sum.SumError.TheVariants.{Names}
 use Rattle.rv_count_tables.specs.Sum.{HasName, HasNameIn, HaveNoSum, IsSumOfTables, no_counts}
 use Rattle.rv_count_tables.specs.Table.{name_at, truncated_name, min_text, min_text_of, digests_increase_from, functions_increase_from, AreValidNames, AreNamesOf, AreValidNodes, IsValidImage, IsTable}
-use Rattle.rv_trace.specs.declared_answers.Answer.{Answer}
+use Rattle.rv_trace.specs.declared_answers.PathResult.{PathResult}
 use Rattle.rv_trace.specs.declared_job.Job.{Job}
 use Rattle.rv_trace.specs.State.{State}
 use Rattle.rv_fleet.specs.declared_row.Refusal.{Refusal}
@@ -136,7 +136,7 @@ no_two_names t u f h have = no_name_in have.0 f have.1 t.images (h.names have.0 
 pub no_counts_are_few : (n : ℕ) → IsTableOfFew n no_counts
 no_counts_are_few n = record { begun = λ digest address. omega arith; runs = omega arith; stacks = no_counts_have_none }
 
-pub none_of_none : (answers : List Answer) → IsTableOfJobs answers [] no_counts
+pub none_of_none : (answers : List PathResult) → IsTableOfJobs answers [] no_counts
 none_of_none answers = record {
   table = no_counts_is_table;
   begun = λ digest address. refl;
@@ -181,7 +181,7 @@ pub picked_path : (b : Bool) (path : List ℕ) (s : State)
 picked_path true path s = refl
 picked_path false path s = refl
 
-module _ (answers : List Answer) (job : Job) where
+module _ (answers : List PathResult) (job : Job) where
   pub not_over : (digest : List ℕ) → result_ok (start_in answers job) ≡ None → start_state_of_image answers digest job ≡ None
   unfolding start_state_of_image
   not_over digest none = picked_none (has_digest digest (image_bytes answers job)) (result_ok (start_in answers job)) none
@@ -193,14 +193,14 @@ module _ (answers : List Answer) (job : Job) where
 
 -- ---- jobs of both
 
-pub first_path-append : (answers : List Answer) (digest : List ℕ) (js ks : List Job) → first_path answers digest (js ++ ks)
+pub first_path-append : (answers : List PathResult) (digest : List ℕ) (js ks : List Job) → first_path answers digest (js ++ ks)
     ≡ min_text_of (first_path answers digest js) (first_path answers digest ks)
 first_path-append answers digest [] ks = refl
 first_path-append answers digest (j ∷ js) ks =
     ap (min_text_of (path_by answers digest j)) (first_path-append answers digest js ks)
     ∙ sym (any_first (path_by answers digest j) (first_path answers digest js) (first_path answers digest ks))
 
-pub joined : (answers : List Answer) (js ks : List Job) (t u sum : CountTable) → IsTableOfJobs answers js t
+pub joined : (answers : List PathResult) (js ks : List Job) (t u sum : CountTable) → IsTableOfJobs answers js t
     → IsTableOfJobs answers ks u → IsSumOfTables t u sum → IsTableOfJobs answers (js ++ ks) sum
 joined answers js ks t u sum h k is = record {
   table = is.table;

@@ -7,13 +7,13 @@ use Rattle.rv_count_tables.specs.declared.table.CountTable.{CountTable}
 use Rattle.rv_count_tables.specs.Sum.{no_counts}
 use Rattle.rv_count_tables.specs.Text.{table_text}
 use Rattle.rv_trace.specs.declared_job.Job.{Job}
-use Rattle.rv_trace.specs.Plans.{Planned}
+use Rattle.rv_trace.specs.Plans.{PlanView}
 use Rattle.rv_counting.specs.JobTables.{jobs_at, AreTablesOfShards, IsTableOfJobs, IsTableOfJobsAt, SumsTo}
 use Rattle.rv_counting.proofs.OfJobs.{joined, none_of_none}
 use Rattle.rv_counting.proofs.Orders.{one_table_of_jobs, reordered}
 use Rattle.rv_counting.proofs.Parted.{all_parts, joined_parts}
 
-module _ (plan : Planned) (part : ℕ → ℕ) (places : List ℕ) where
+module _ (plan : PlanView) (part : ℕ → ℕ) (places : List ℕ) where
   shards_from : (from : ℕ) (js : List Job) (ts : List CountTable) (start sum : CountTable)
       → IsTableOfJobs plan.answers js start
       → ((k : ℕ) (d : CountTable) → k < length ts
@@ -37,7 +37,7 @@ module _ (plan : Planned) (part : ℕ → ℕ) (places : List ℕ) where
       subst (λ ks. IsTableOfJobs plan.answers ks sum)
       (append_assoc js (jobs_at plan shard) (jobs_at plan rest) ∙ ap (λ ks. js ++ ks) (sym (map-append _ shard rest))) all
 
-pub of_shards : (plan : Planned) (shards : ℕ) (places : List ℕ) (ts : List CountTable) (sum whole : CountTable)
+pub of_shards : (plan : PlanView) (shards : ℕ) (places : List ℕ) (ts : List CountTable) (sum whole : CountTable)
     → 0 < shards → AreTablesOfShards plan shards places ts → SumsTo no_counts ts sum → IsTableOfJobsAt plan places whole
     → table_text sum ≡ table_text whole
 of_shards plan shards places ts sum whole some tables sums h =

@@ -8,7 +8,7 @@ use Rattle.rv_count_tables.proofs.Public.{none_before_itself, not_before_back, n
 use Rattle.rv_count_tables.specs.declared.table.CountTable.{CountTable}
 use Rattle.rv_count_tables.specs.Sum.{no_counts}
 use Rattle.rv_count_tables.specs.Table.{is_before, min_text_of}
-use Rattle.rv_trace.specs.declared_answers.Answer.{Answer}
+use Rattle.rv_trace.specs.declared_answers.PathResult.{PathResult}
 use Rattle.rv_trace.specs.declared_job.Job.{Job}
 use Rattle.rv_counting.specs.JobTables.{executed_by, taken_by, path_by, runs_by, first_path, AreTablesOfParts, IsTableOfJobs, SumsTo}
 use Rattle.rv_counting.proofs.OfJobs.{joined, none_of_none}
@@ -92,7 +92,7 @@ moved os qs (Some path) p h = (
 
 -- ---- the jobs in another order
 
-module _ (answers : List Answer) where
+module _ (answers : List PathResult) where
   first_is_least : (digest : List ℕ) (js : List Job) → first_path answers digest js
       ≡ least_of (map (path_by answers digest) js)
   first_is_least digest [] = refl

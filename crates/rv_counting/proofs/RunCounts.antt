@@ -7,10 +7,10 @@ use Rattle.std.specs.List.{sum_by}
 use Rattle.std.specs.Result.{result_ok}
 use Rattle.rv_count_tables.specs.declared.table.AddressCounts.{AddressCounts}
 use Rattle.rv_count_tables.specs.Table.{executed_at, taken_at}
-use Rattle.rv_trace.specs.declared_answers.Answer.{Answer}
+use Rattle.rv_trace.specs.declared_answers.PathResult.{PathResult}
 use Rattle.rv_trace.specs.declared_job.Job.{Job}
 use Rattle.rv_trace.specs.Jobs.{single_job}
-use Rattle.rv_trace.specs.Plans.{Planned}
+use Rattle.rv_trace.specs.Plans.{PlanView}
 use Rattle.rv_trace.specs.State.{State}
 use Rattle.rv_fleet.specs.declared_row.Refusal.{Refusal}
 use Rattle.rv_trace.specs.Rows.{start_in}
@@ -37,16 +37,16 @@ adds_none budget start c h none = subst (λ (o : Option State). AddsRun budget o
     )
 
 -- a refused job has no run
-pub refused_job : (answers : List Answer) (job : Job) (c : RunsCounter) → CanCountRuns c → ((s : State) → start_in answers job ≡ Ok s → ⊥)
+pub refused_job : (answers : List PathResult) (job : Job) (c : RunsCounter) → CanCountRuns c → ((s : State) → start_in answers job ≡ Ok s → ⊥)
     → AddsJob answers job c c
 refused_job answers job c h none =
     adds_none job.budget (result_ok (start_in answers job)) c h (none_if_no_ok (start_in answers job) none)
 
-pub refused_as : (answers : List Answer) (job : Job) (why : Refusal) (c : RunsCounter) → CanCountRuns c → start_in answers job ≡ Err why
+pub refused_as : (answers : List PathResult) (job : Job) (why : Refusal) (c : RunsCounter) → CanCountRuns c → start_in answers job ≡ Err why
     → AddsJob answers job c c
 refused_as answers job why c h is = adds_none job.budget (result_ok (start_in answers job)) c h (ap result_ok is)
 
-pub ran_job : (answers : List Answer) (job : Job) (s : State) (old new : RunsCounter) → start_in answers job ≡ Ok s
+pub ran_job : (answers : List PathResult) (job : Job) (s : State) (old new : RunsCounter) → start_in answers job ≡ Ok s
     → AddsRun job.budget (Some s) old new → AddsJob answers job old new
 ran_job answers job s old new start adds =
     subst (λ (r : Result State Refusal). AddsRun job.budget (result_ok r) old new) (sym start) adds
@@ -81,7 +81,7 @@ ok_is_some : (r : Result State Refusal) → address_if (is_some (result_ok r)) �
 ok_is_some (Ok s) = refl
 ok_is_some (Err why) = refl
 
-pub one_job_more : (answers : List Answer) (js : List Job) (j : Job) (old new : RunsCounter) → HasCountedJobs answers js old
+pub one_job_more : (answers : List PathResult) (js : List Job) (j : Job) (old new : RunsCounter) → HasCountedJobs answers js old
     → AddsJob answers j old new → HasCountedJobs answers (js ++ j ∷ []) new
 one_job_more answers js j old new h adds = record {
   ready = adds.ready;
@@ -102,7 +102,7 @@ one_job_more answers js j old new h adds = record {
       omega (arith, a, b, e);
 }
 
-module _ (plan : Planned) (places : List ℕ) where
+module _ (plan : PlanView) (places : List ℕ) where
   pub next_job : (k : ℕ) (old new : RunsCounter) → k < length places → HasCountedJobs plan.answers (jobs_at plan (take k places)) old
       → ((d : Job) → AddsJob plan.answers (job_at plan (get_or places k 0) d) old new)
       → HasCountedJobs plan.answers (jobs_at plan (take (k + 1) places)) new
@@ -118,7 +118,7 @@ at_most_one : (r : Result State Refusal) → address_if (is_ok r) ≤ 1
 at_most_one (Ok s) = omega arith
 at_most_one (Err why) = omega arith
 
-pub few_runs : (answers : List Answer) (js : List Job) → sum_by (runs_by answers) js ≤ length js
+pub few_runs : (answers : List PathResult) (js : List Job) → sum_by (runs_by answers) js ≤ length js
 few_runs answers [] = omega arith
 few_runs answers (j ∷ js) =
     let first = at_most_one (start_in answers j) in
@@ -126,7 +126,7 @@ few_runs answers (j ∷ js) =
     omega (arith, first, rest, sum_by-cons (runs_by answers) j js)
 
 -- no run executes an instruction at an odd address
-module _ (answers : List Answer) (at : ℕ) (odd : at % 2 ≡ 1) where
+module _ (answers : List PathResult) (at : ℕ) (odd : at % 2 ≡ 1) where
   none_of_job : (j : Job) → executed_of answers at j ≡ 0
   none_of_job j = by (start_in answers j) refl
     where

@@ -9,12 +9,12 @@ use Rattle.rv_trace.specs.Loading.{map_check}
 use Rattle.rv_trace.specs.Jobs.{console_path}
 use Rattle.rv_trace.specs.Plans.{result_or_unreadable}
 use Rattle.rv_trace.specs.Reading.{◌>>=◌}
-use Rattle.rv_trace.specs.declared_answers.Answer.{Answer}
+use Rattle.rv_trace.specs.declared_answers.PathResult.{PathResult}
 use Rattle.rv_trace.specs.declared_kept.Kept.{Kept}
 use Rattle.rv_trace.specs.declared_kept.Kept.TheVariants as kept
 use Rattle.rv_trace.specs.declared_job.Job.{Job}
 use Rattle.rv_trace.specs.State.{State}
-use Rattle.rv_trace.specs.declared_outcome.Loadable.{Loadable}
+use Rattle.rv_trace.specs.declared_outcome.LoadableImage.{LoadableImage}
 use Rattle.rv_fleet.specs.declared_row.Refusal.{Refusal}
 use Rattle.rv_trace.specs.Outcome.{image_file_or_refusal, loadable_image, loaded_state, range_if_requested, reference_or_refusal, start_if_loadable, start_if_readable, range_start}
 use Rattle.rv_trace.specs.Rows.{content_if_read, start_in}
@@ -35,21 +35,21 @@ stepped (Ok x) f y e = (x, refl, e)
 stepped (Err why) f y e = cc
 
 module _ (job : Job) (s : State) where
-  loaded : (file : List ℕ) (r : Result Loadable ImageError) → start_if_loadable job file r ≡ Ok s
-      → (l : Loadable) × (r ≡ Ok l) × (s.pc ≡ l.image.entry)
+  loaded : (file : List ℕ) (r : Result LoadableImage ImageError) → start_if_loadable job file r ≡ Ok s
+      → (l : LoadableImage) × (r ≡ Ok l) × (s.pc ≡ l.image.entry)
   loaded file (Ok l) e =
       let same : loaded_state job file l.image ≡ s = cc in (l, refl, sym (ap (λ (t : State). t.pc) same))
   loaded file (Err why) e = cc
 
-  image_read : (file : List ℕ) (l : Loadable) → loadable_image job file ≡ Ok l → image_of job.isa file ≡ Ok l.image
+  image_read : (file : List ℕ) (l : LoadableImage) → loadable_image job file ≡ Ok l → image_of job.isa file ≡ Ok l.image
   unfolding loadable_image
   image_read file l e =
       let image = stepped (image_of job.isa file) _ l e in
       let fits = stepped (map_check image.0.segments job.regions job.load) _ l image.2 in
       let range = stepped (range_if_requested file job.regions job.signature) _ l fits.2 in
-      let made : Loadable = record { image = image.0; range = range.0 } in
+      let made : LoadableImage = record { image = image.0; range = range.0 } in
       let same : made ≡ l = cc (range.2) in
-      image.1 ∙ ap (λ (x : Loadable). Ok x.image) same
+      image.1 ∙ ap (λ (x : LoadableImage). Ok x.image) same
 
   begun_in_file : (file : List ℕ) → start_if_loadable job file (loadable_image job file) ≡ Ok s
       → IsStart job (Some file) s
@@ -76,20 +76,20 @@ module _ (job : Job) (s : State) where
   started_of kept.Unreadable reference console e = cc
   started_of kept.TooLong reference console e = cc
 
-  pub started : (answers : List Answer) → start_in answers job ≡ Ok s → IsStart job (image_bytes answers job) s
+  pub started : (answers : List PathResult) → start_in answers job ≡ Ok s → IsStart job (image_bytes answers job) s
   started answers e = started_of (result_or_unreadable answers job.image) (option_map (result_or_unreadable answers) job.expect_signature)
       (option_map (result_or_unreadable answers) (console_path job.expect_console)) e
 
-  pub start_even : (answers : List Answer) → start_in answers job ≡ Ok s → s.pc % 2 ≡ 0
+  pub start_even : (answers : List PathResult) → start_in answers job ≡ Ok s → s.pc % 2 ≡ 0
   start_even answers e =
       let start = started answers e in
       ap (λ (n : ℕ). n % 2) start.entry ∙ entry_even job.isa start.file start.image start.read
 
   -- a job without an image has no run
-  pub no_bytes : (answers : List Answer) → image_bytes answers job ≡ None → start_in answers job ≡ Ok s → ⊥
+  pub no_bytes : (answers : List PathResult) → image_bytes answers job ≡ None → start_in answers job ≡ Ok s → ⊥
   no_bytes answers none e = let there = (started answers e).there in cc
 
-  pub no_image : (answers : List Answer) (file : List ℕ) → image_bytes answers job ≡ Some file
+  pub no_image : (answers : List PathResult) (file : List ℕ) → image_bytes answers job ≡ Some file
       → result_ok (image_of job.isa file) ≡ None → start_in answers job ≡ Ok s → ⊥
   no_image answers file bytes none e =
       let start = started answers e in

@@ -1,12 +1,12 @@
 -- The pieces of a batch: consecutive indices whose jobs name one image, so that one worker can count them together.
 use Rattle.std.specs.Prelude.{◌≡◌, ◌<◌, ◌≤◌, ℕ, zero, suc, List, length, slice_index_or, slice_range}
 use Rattle.rv_trace.specs.declared_job.Job.{Job}
-use Rattle.rv_trace.specs.Plans.{Planned}
+use Rattle.rv_trace.specs.Plans.{PlanView}
 use Rattle.rv_trace.specs.Trace.{job_at}
 use Rattle.rv_counting.specs.declared.index_ranges.IndexRange.{IndexRange}
 
 -- the jobs at these indices name one image
-abbrev pub HaveOneImage : Planned → List ℕ → Type 0
+abbrev pub HaveOneImage : PlanView → List ℕ → Type 0
 HaveOneImage plan places = (k : ℕ) (d : Job) → k < length places
     → (job_at plan (slice_index_or places k 0) d).image ≡ (job_at plan (slice_index_or places 0 0) d).image
 
@@ -24,18 +24,18 @@ range_start pieces zero = 0
 range_start pieces (suc k) = (range_at pieces k).to
 
 -- the piece begins at `from`, is not empty, ends within the batch, and its jobs name one image
-pub record IsIndexRange (plan : Planned) (places : List ℕ) (from : ℕ) (piece : IndexRange) : Type 0 where
+pub record IsIndexRange (plan : PlanView) (places : List ℕ) (from : ℕ) (piece : IndexRange) : Type 0 where
   pub starts : piece.from ≡ from
   pub some : piece.from < piece.to
   pub within : piece.to ≤ length places
   pub same : HaveOneImage plan (indices_in places piece)
 
 -- the pieces, one after another, have exactly the first `to` indices of the batch
-pub record AreIndexRangesTo (plan : Planned) (places : List ℕ) (to : ℕ) (pieces : List IndexRange) : Type 0 where
+pub record AreIndexRangesTo (plan : PlanView) (places : List ℕ) (to : ℕ) (pieces : List IndexRange) : Type 0 where
   pub few : length pieces ≤ to
   pub each : (k : ℕ) → k < length pieces → IsIndexRange plan places (range_start pieces k) (range_at pieces k)
   pub all : range_start pieces (length pieces) ≡ to
 
 -- the pieces, one after another, have exactly all indices of the batch
-abbrev pub AreIndexRanges : Planned → List ℕ → List IndexRange → Type 0
+abbrev pub AreIndexRanges : PlanView → List ℕ → List IndexRange → Type 0
 AreIndexRanges plan places pieces = AreIndexRangesTo plan places (length places) pieces

@@ -9,10 +9,10 @@ use Rattle.rv_count_tables.specs.declared.table.AddressCounts.{AddressCounts}
 use Rattle.rv_count_tables.specs.declared.table.CountTable.{CountTable}
 use Rattle.rv_count_tables.specs.Sum.{IsSumOfTables}
 use Rattle.rv_count_tables.specs.Table.{executed_in, taken_in, next_path, truncated_name, arrivals_in, steps_in, min_text_of, IsTable}
-use Rattle.rv_trace.specs.declared_answers.Answer.{Answer}
+use Rattle.rv_trace.specs.declared_answers.PathResult.{PathResult}
 use Rattle.rv_trace.specs.declared_job.Job.{Job}
 use Rattle.rv_trace.specs.Jobs.{single_job}
-use Rattle.rv_trace.specs.Plans.{Planned}
+use Rattle.rv_trace.specs.Plans.{PlanView}
 use Rattle.rv_trace.specs.State.{State}
 use Rattle.rv_trace.specs.Rows.{start_in}
 use Rattle.rv_count_tables.specs.Printable.{printable_text}
@@ -25,7 +25,7 @@ has_digest digest None = false
 has_digest digest (Some bytes) = bytes_eq (sha256 bytes) digest
 
 -- the state in which a job's run begins, or `None` if the job is refused or its image does not have this digest
-unfoldable pub start_state_of_image : List Answer → List ℕ → Job → Option State
+unfoldable pub start_state_of_image : List PathResult → List ℕ → Job → Option State
 start_state_of_image answers digest job =
     if has_digest digest (image_bytes answers job) then result_ok (start_in answers job) else None
 
@@ -40,23 +40,23 @@ taken_from address n None = 0
 taken_from address n (Some s) = taken_in_run address n s
 
 -- how often a job's run executes the instruction at an address, or 0 if the job is refused or its image does not have this digest
-abbrev pub executed_by : List Answer → List ℕ → ℕ → Job → ℕ
+abbrev pub executed_by : List PathResult → List ℕ → ℕ → Job → ℕ
 executed_by answers digest address job = executed_from address job.budget (start_state_of_image answers digest job)
 
 -- how often a job's run takes the branch at an address, or 0 if the job is refused or its image does not have this digest
-abbrev pub taken_by : List Answer → List ℕ → ℕ → Job → ℕ
+abbrev pub taken_by : List PathResult → List ℕ → ℕ → Job → ℕ
 taken_by answers digest address job = taken_from address job.budget (start_state_of_image answers digest job)
 
 -- the printable path of a job's image, or `None` if the job is refused or its image does not have this digest
-abbrev pub path_by : List Answer → List ℕ → Job → Option (List ℕ)
+abbrev pub path_by : List PathResult → List ℕ → Job → Option (List ℕ)
 path_by answers digest job = option_map (λ s. printable_text job.image) (start_state_of_image answers digest job)
 
 -- 1 for a job that runs, 0 for a refused one
-abbrev pub runs_by : List Answer → Job → ℕ
+abbrev pub runs_by : List PathResult → Job → ℕ
 runs_by answers job = address_if (is_ok (start_in answers job))
 
 -- the first path in byte order by which the jobs that run the image with this digest name it, or `None` if none runs it
-abbrev pub first_path : List Answer → List ℕ → List Job → Option (List ℕ)
+abbrev pub first_path : List PathResult → List ℕ → List Job → Option (List ℕ)
 first_path answers digest [] = None
 first_path answers digest (j ∷ js) = min_text_of (path_by answers digest j) (first_path answers digest js)
 
@@ -80,7 +80,7 @@ pub record HasNoStacks (t : CountTable) : Type 0 where
   pub steps : (digest path : List ℕ) → steps_in digest path t.images ≡ 0
 
 -- `t` is the table of the jobs: each of its numbers is the sum of the jobs' numbers
-pub record IsTableOfJobs (answers : List Answer) (jobs : List Job) (t : CountTable) : Type 0 where
+pub record IsTableOfJobs (answers : List PathResult) (jobs : List Job) (t : CountTable) : Type 0 where
   pub table : IsTable t
   pub begun : (digest : List ℕ) (address : ℕ)
       → executed_in digest address t.images ≡ sum_by (executed_by answers digest address) jobs
@@ -91,11 +91,11 @@ pub record IsTableOfJobs (answers : List Answer) (jobs : List Job) (t : CountTab
   pub stacks : HasNoStacks t
 
 -- the jobs at these indices of a plan
-abbrev pub jobs_at : Planned → List ℕ → List Job
+abbrev pub jobs_at : PlanView → List ℕ → List Job
 jobs_at plan places = map (λ place. slice_index_or plan.jobs place (single_job [] 0 [])) places
 
 -- `t` is the table of the jobs at these indices of a plan
-abbrev pub IsTableOfJobsAt : Planned → List ℕ → CountTable → Type 0
+abbrev pub IsTableOfJobsAt : PlanView → List ℕ → CountTable → Type 0
 IsTableOfJobsAt plan places t = IsTableOfJobs plan.answers (jobs_at plan places) t
 
 -- ---- sums that fit
@@ -107,14 +107,14 @@ pub record IsTableOfFew (jobs : ℕ) (t : CountTable) : Type 0 where
   pub stacks : HasNoStacks t
 
 -- `t` is the table of the jobs at some indices, and has at most one run for each of them
-pub record IsTableOfRange (plan : Planned) (places : List ℕ) (t : CountTable) : Type 0 where
+pub record IsTableOfRange (plan : PlanView) (places : List ℕ) (t : CountTable) : Type 0 where
   pub table : IsTableOfJobsAt plan places t
   pub few : IsTableOfFew (length places) t
 
 -- ---- parts
 
 -- there is one table for each part of the jobs, in order: the table of the jobs in that part
-abbrev pub AreTablesOfParts : List Answer → List (List Job) → List CountTable → Type 0
+abbrev pub AreTablesOfParts : List PathResult → List (List Job) → List CountTable → Type 0
 AreTablesOfParts answers [] [] = Unit {0}
 AreTablesOfParts answers (p ∷ ps) (t ∷ ts) = IsTableOfJobs answers p t × AreTablesOfParts answers ps ts
 AreTablesOfParts answers _ _ = ⊥
@@ -126,7 +126,7 @@ SumsTo sum (u ∷ us) t = (next : CountTable) × IsSumOfTables sum u next × Sum
 
 -- there is one table for each shard of the jobs at these indices, in order; a shard has the indices that leave the same remainder when
 -- divided by the number of shards
-pub record AreTablesOfShards (plan : Planned) (shards : ℕ) (places : List ℕ) (ts : List CountTable) : Type 0 where
+pub record AreTablesOfShards (plan : PlanView) (shards : ℕ) (places : List ℕ) (ts : List CountTable) : Type 0 where
   pub count : length ts ≡ shards
   pub each : (k : ℕ) (d : CountTable) → k < shards
       → IsTableOfJobsAt plan (filter (λ place. place % shards == k) places) (slice_index_or ts k d)

@@ -3,7 +3,7 @@ use Rattle.std.specs.Prelude.{◌≡◌, ◌+◌, ◌*◌, ◌^◌, ◌≤◌, �
 use Rattle.std.specs.List.{sum_by}
 use Rattle.std.specs.Result.{result_ok}
 use Rattle.rv_count_tables.specs.Table.{executed_at, taken_at}
-use Rattle.rv_trace.specs.declared_answers.Answer.{Answer}
+use Rattle.rv_trace.specs.declared_answers.PathResult.{PathResult}
 use Rattle.rv_trace.specs.declared_job.Job.{Job}
 use Rattle.rv_trace.specs.State.{State}
 use Rattle.rv_trace.specs.Rows.{start_in}
@@ -30,19 +30,19 @@ pub record AddsRun (budget : ℕ) (start : Option State) (old new : RunsCounter)
   pub taken : (at : ℕ) → taken_at at (counts_of new.counter) ≡ taken_at at (counts_of old.counter) + taken_from at budget start
 
 -- the run of a job was counted in addition to the others, unless the job is refused
-abbrev pub AddsJob : List Answer → Job → RunsCounter → RunsCounter → Type 0
+abbrev pub AddsJob : List PathResult → Job → RunsCounter → RunsCounter → Type 0
 AddsJob answers job old new = AddsRun job.budget (result_ok (start_in answers job)) old new
 
 -- how often a job's run executes the instruction at an address; 0 if the job is refused
-abbrev pub executed_of : List Answer → ℕ → Job → ℕ
+abbrev pub executed_of : List PathResult → ℕ → Job → ℕ
 executed_of answers at job = executed_from at job.budget (result_ok (start_in answers job))
 
 -- how often a job's run takes the branch at an address; 0 if the job is refused
-abbrev pub taken_of : List Answer → ℕ → Job → ℕ
+abbrev pub taken_of : List PathResult → ℕ → Job → ℕ
 taken_of answers at job = taken_from at job.budget (result_ok (start_in answers job))
 
 -- the counter has the counts of the runs of these jobs, and can count another run
-pub record HasCountedJobs (answers : List Answer) (jobs : List Job) (c : RunsCounter) : Type 0 where
+pub record HasCountedJobs (answers : List PathResult) (jobs : List Job) (c : RunsCounter) : Type 0 where
   pub ready : CanCountRuns c
   pub runs : c.runs ≡ sum_by (runs_by answers) jobs
   pub begun : (at : ℕ) → executed_at at (counts_of c.counter) ≡ sum_by (executed_of answers at) jobs

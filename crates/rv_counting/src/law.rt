@@ -8,9 +8,9 @@ ghost use Rattle.rv_count_tables.specs.declared.table.CountTable.{CountTable};
 ghost use Rattle.rv_count_tables.specs.Sum.{no_counts};
 ghost use Rattle.rv_count_tables.specs.Table.{AreValidCounts};
 ghost use Rattle.rv_count_tables.specs.Text.{table_text};
-ghost use Rattle.rv_trace.specs.declared_answers.Answer.{Answer};
+ghost use Rattle.rv_trace.specs.declared_answers.PathResult.{PathResult};
 ghost use Rattle.rv_trace.specs.declared_job.Job.{Job};
-ghost use Rattle.rv_trace.specs.Plans.{Planned};
+ghost use Rattle.rv_trace.specs.Plans.{PlanView};
 ghost use Rattle.rv_trace.specs.declared_ending.Ending.{Ending};
 ghost use Rattle.rv_trace.specs.Run.{run_of, step_of};
 ghost use Rattle.rv_trace.specs.State.{State};
@@ -42,14 +42,14 @@ pub fn counts_have_even_addresses()
 
 /// Proves that the table of a set of jobs does not depend on their order.
 pub fn jobs_have_one_table()
-    ensures { (answers : List Answer) (jobs others : List Job) (t u : CountTable) → IsPermutation jobs others
+    ensures { (answers : List PathResult) (jobs others : List Job) (t u : CountTable) → IsPermutation jobs others
         → IsTableOfJobs answers jobs t → IsTableOfJobs answers others u → t ≡ u }
 {}
 
 /// Proves that the tables of the parts of a list add up to the table of the list, however the jobs are divided, and that the sum has the
 /// text of the list's table.
 pub fn tables_of_parts_sum_to_that_of_the_list()
-    ensures { (answers : List Answer) (jobs : List Job) (parts : List (List Job)) (ts : List CountTable)
+    ensures { (answers : List PathResult) (jobs : List Job) (parts : List (List Job)) (ts : List CountTable)
         (sum whole : CountTable) → IsPermutation (flat_map (λ part. part) parts) jobs
         → AreTablesOfParts answers parts ts → SumsTo no_counts ts sum → IsTableOfJobs answers jobs whole
         → table_text sum ≡ table_text whole }
@@ -58,7 +58,7 @@ pub fn tables_of_parts_sum_to_that_of_the_list()
 /// Proves that the tables of all shards, added in any order, give the table of the whole list, and that the sum has the text of that table.
 /// A shard has the jobs whose indices leave one remainder when divided by the number of shards.
 pub fn tables_of_shards_sum_to_that_of_all()
-    ensures { (plan : Planned) (shards : ℕ) (places : List ℕ) (ts : List CountTable) (sum whole : CountTable)
+    ensures { (plan : PlanView) (shards : ℕ) (places : List ℕ) (ts : List CountTable) (sum whole : CountTable)
         → 0 < shards → AreTablesOfShards plan shards places ts → SumsTo no_counts ts sum
         → IsTableOfJobsAt plan places whole → table_text sum ≡ table_text whole }
 {}
@@ -66,6 +66,6 @@ pub fn tables_of_shards_sum_to_that_of_all()
 /// Proves that jobs have equal tables for any two sets of file contents that give each job the same result, such as the contents of all
 /// files and of the jobs' own files.
 pub fn jobs_have_one_table_over_the_same_files()
-    ensures { (some others : List Answer) (jobs : List Job) (t : CountTable) → All (HaveSameResults some others) jobs
+    ensures { (some others : List PathResult) (jobs : List Job) (t : CountTable) → All (HaveSameResults some others) jobs
         → IsTableOfJobs some jobs t → IsTableOfJobs others jobs t }
 {}

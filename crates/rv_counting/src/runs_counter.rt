@@ -1,7 +1,7 @@
 //! The counts of several runs of one image.
 
 ghost use Rattle.std.specs.Prelude.{◌<◌, [], IfOk, List, OnOk, Some};
-ghost use Rattle.rv_trace.specs.declared_answers.Answer.{Answer};
+ghost use Rattle.rv_trace.specs.declared_answers.PathResult.{PathResult};
 ghost use Rattle.rv_trace.specs.declared_job.Job.{Job as AJob};
 ghost use Rattle.rv_count_tables.specs.Limits.{max_jobs};
 ghost use Rattle.rv_trace.specs.Machine.{state_of};
@@ -10,7 +10,7 @@ ghost use Rattle.rv_counting.specs.RunCounts.{AddsJob, AddsRun, CanCountRuns, Ha
 
 use crate::count::follow_run;
 use crate::counter::Counter;
-use rv_trace::{JobImage, Machine, Spare, machine_at_reusing};
+use rv_trace::{JobImage, Machine, SpareBus, machine_at_reusing};
 use std::alloc::{AllocError, Global};
 
 /// The counts of some runs, and what the next run can use again: the decode cache and the indices of counts.
@@ -24,7 +24,7 @@ pub(crate) struct RunsCounter {
 impl RunsCounter {
     /// Creates a counter of no runs.
     pub(crate) fn new(alloc: Global) -> Result<RunsCounter, AllocError>
-        ensures { IfOk result (λ counter. (answers : List Answer) → HasCountedJobs answers [] counter) }
+        ensures { IfOk result (λ counter. (answers : List PathResult) → HasCountedJobs answers [] counter) }
     {
         let counter = Counter::new(alloc)?;
         Ok(RunsCounter { counter, runs: 0 })
@@ -35,7 +35,7 @@ impl RunsCounter {
         &mut self,
         alloc: Global,
         job: &JobImage<'_>,
-        spare: &mut Spare,
+        spare: &mut SpareBus,
     ) -> Result<(), AllocError>
         requires ready { CanCountRuns self.old }
         requires few { self.old.runs < max_jobs }

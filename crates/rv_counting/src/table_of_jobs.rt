@@ -21,10 +21,10 @@ ghost use Rattle.rv_counting.specs.Tallies.{IsSorted};
 
 use crate::runs_counter::RunsCounter;
 use rv_count_tables::{
-    Bytes, CountTable, FunctionNames, ImageCounts, Images, Spots, Text,
+    Bytes, CountTable, FunctionNames, ImageCounts, Images, CallNodes, Text,
     printable_text_is_utf8_without_controls, push_printable_text,
 };
-use rv_trace::{JobImage, Plan, Spare, image_bytes, image_of_bytes};
+use rv_trace::{JobImage, Plan, SpareBus, image_bytes, image_of_bytes};
 use sha2::{Digest, Sha256};
 use std::alloc::{AllocError, Global};
 
@@ -34,7 +34,7 @@ pub(crate) fn table_of_jobs_at(
     alloc: Global,
     plan: &Plan,
     places: &[usize],
-    spare: &mut Spare,
+    spare: &mut SpareBus,
 ) -> Result<CountTable, AllocError>
     requires some { 0 < length places.now }
     requires few { length places.now ≤ max_jobs }
@@ -62,7 +62,7 @@ fn count_job_at(
     plan: &Plan,
     place: usize,
     counter: &mut RunsCounter,
-    spare: &mut Spare,
+    spare: &mut SpareBus,
 ) -> Result<(), AllocError>
     requires within { place < length plan.now.jobs }
     requires ready { CanCountRuns counter.old }
@@ -118,7 +118,7 @@ fn table_of_runs(
             path,
             addresses,
             functions: FunctionNames::new(Vec::new(alloc)),
-            spots: Spots::new(Vec::new(alloc)),
+            spots: CallNodes::new(Vec::new(alloc)),
         },
     )?;
     Ok(CountTable { images, runs })

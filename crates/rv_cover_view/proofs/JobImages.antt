@@ -9,39 +9,39 @@ use Rattle.rv_count_tables.specs.Limits.{max_file_size}
 use Rattle.rv_counting.specs.JobTables.{jobs_at}
 use Rattle.rv_elf.specs.declared.image.Image.{Image}
 use Rattle.rv_counting.specs.Jobs.{single_job}
-use Rattle.rv_counting.specs.Plans.{Planned}
-use Rattle.rv_counting.specs.declared_answers.Answer.{Answer}
+use Rattle.rv_counting.specs.Plans.{PlanView}
+use Rattle.rv_counting.specs.declared_answers.PathResult.{PathResult}
 use Rattle.rv_counting.specs.declared_job.Job.{Job}
 use Rattle.rv_counting.specs.Rows.{image_if_read}
 use Rattle.rv_counting.specs.Trace.{image_bytes, job_at}
 use Rattle.rv_cover_view.specs.JobImages.{AreSmall, ImageFileView, image_of_file, image_of_job, images_of, images_of_files, with_image, with_image_of}
 use Rattle.rv_cover_view.specs.declared.image_file.ImageFile.{ImageFile}
 
-jobs_more : (plan : Planned) (places : List ℕ) (i place : ℕ) → i < length places → place ≡ get_or places i place
+jobs_more : (plan : PlanView) (places : List ℕ) (i place : ℕ) → i < length places → place ≡ get_or places i place
     → jobs_at plan (take (i + 1) places) ≡ jobs_at plan (take i places) ++ job_at plan place (single_job [] 0 []) ∷ []
 jobs_more plan places i place lt is =
     ap (jobs_at plan) (take_more places i place lt)
     ∙ map-append _ (take i places) (get_or places i place ∷ [])
     ∙ ap (λ (k : ℕ). jobs_at plan (take i places) ++ jobs_at plan (k ∷ [])) (sym is)
 
-pub images_more : (plan : Planned) (places : List ℕ) (i place : ℕ) → i < length places → place ≡ get_or places i place
+pub images_more : (plan : PlanView) (places : List ℕ) (i place : ℕ) → i < length places → place ≡ get_or places i place
     → images_of plan.answers (jobs_at plan (take (i + 1) places))
     ≡ with_image_of plan.answers (images_of plan.answers (jobs_at plan (take i places))) (job_at plan place (single_job [] 0 []))
 images_more plan places i place lt is =
     ap (images_of plan.answers) (jobs_more plan places i place lt is)
     ∙ fold-append (with_image_of plan.answers) [] (jobs_at plan (take i places)) (job_at plan place (single_job [] 0 []) ∷ [])
 
-pub images_whole : (plan : Planned) (places : List ℕ) (i : ℕ) → length places ≤ i
+pub images_whole : (plan : PlanView) (places : List ℕ) (i : ℕ) → length places ≤ i
     → images_of plan.answers (jobs_at plan (take i places)) ≡ images_of plan.answers (jobs_at plan places)
 images_whole plan places i all = ap (λ (ps : List ℕ). images_of plan.answers (jobs_at plan ps)) (take_all i places all)
 
 -- an image that is found is that of the job, and so is none
-pub found_here : (answers : List Answer) (images : List ImageFileView) (job : Job) (found : Option ImageFileView) → found ≡ image_of_job answers job
+pub found_here : (answers : List PathResult) (images : List ImageFileView) (job : Job) (found : Option ImageFileView) → found ≡ image_of_job answers job
     → option_map_or (with_image images) found images ≡ with_image_of answers images job
 found_here answers images job found is = ap (λ (o : Option ImageFileView). option_map_or (with_image images) o images) is
 
 -- an image that was read is that of its job
-pub image_here : (answers : List Answer) (job : Job) (bytes : List ℕ) (image : Image) → Some bytes ≡ image_bytes answers job
+pub image_here : (answers : List PathResult) (job : Job) (bytes : List ℕ) (image : Image) → Some bytes ≡ image_bytes answers job
     → Some image ≡ image_if_read job.isa (Some bytes)
     → Some (record { path = job.image; bytes = bytes; image = image }) ≡ image_of_job answers job
 image_here answers job bytes image read is =
@@ -80,7 +80,7 @@ added_new files slice new file there same is absent pushed =
     ∙ sym (added_by files file false (sym absent ∙ subst (λ (fs : List ImageFile). IsThere fs file there) same is))
 
 -- its file is not larger than those of the plan
-pub small_here : (answers : List Answer) (job : Job) (bytes : List ℕ) → AreSmall answers → Some bytes ≡ image_bytes answers job
+pub small_here : (answers : List PathResult) (job : Job) (bytes : List ℕ) → AreSmall answers → Some bytes ≡ image_bytes answers job
     → length bytes ≤ max_file_size
 small_here answers job bytes small is = subst (λ (o : Option (List ℕ)). IfSome o (λ read. length read ≤ max_file_size)) (sym is) (small job)
 

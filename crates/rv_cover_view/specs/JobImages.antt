@@ -5,7 +5,7 @@ use Rattle.std.specs.Option.{option_map_or}
 use Rattle.std.specs.Str.{bytes_eq}
 use Rattle.rv_count_tables.specs.Limits.{max_file_size}
 use Rattle.rv_elf.specs.declared.image.Image.{Image}
-use Rattle.rv_counting.specs.declared_answers.Answer.{Answer}
+use Rattle.rv_counting.specs.declared_answers.PathResult.{PathResult}
 use Rattle.rv_counting.specs.declared_job.Job.{Job}
 use Rattle.rv_counting.specs.Rows.{image_if_read}
 use Rattle.rv_cover_view.specs.declared.image_file.ImageFile.{ImageFile}
@@ -18,7 +18,7 @@ pub record ImageFileView : Type 0 where
   pub image : Image
 
 -- the image of a job, or `None` if its file was not read or is not an image
-abbrev pub image_of_job : List Answer → Job → Option ImageFileView
+abbrev pub image_of_job : List PathResult → Job → Option ImageFileView
 image_of_job answers job = option_and_then (λ bytes. option_map (λ image. record { path = job.image; bytes = bytes; image = image })
     (image_if_read job.isa (Some bytes))) (image_bytes answers job)
 
@@ -28,15 +28,15 @@ with_image images image =
     if list_any (λ other. bytes_eq image.bytes other.bytes) images then images else images ++ image ∷ []
 
 -- the images with the image of a job appended, or unchanged if the job has no image or one of them has equal bytes
-abbrev pub with_image_of : List Answer → List ImageFileView → Job → List ImageFileView
+abbrev pub with_image_of : List PathResult → List ImageFileView → Job → List ImageFileView
 with_image_of answers images job = option_map_or (with_image images) (image_of_job answers job) images
 
 -- the images of jobs, in job order; images with equal bytes occur once, with the path that the first of their jobs gives
-abbrev pub images_of : List Answer → List Job → List ImageFileView
+abbrev pub images_of : List PathResult → List Job → List ImageFileView
 images_of answers jobs = fold (with_image_of answers) [] jobs
 
 -- no image file is larger than a file that is read may be
-abbrev pub AreSmall : List Answer → Type 0
+abbrev pub AreSmall : List PathResult → Type 0
 AreSmall answers = (job : Job) → IfSome (image_bytes answers job) (λ bytes. length bytes ≤ max_file_size)
 
 -- ---- images as the code has them

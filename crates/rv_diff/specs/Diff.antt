@@ -6,7 +6,7 @@ use Rattle.std.specs.List.{filter, flat_map}
 use Rattle.rv_rows.specs.declared_row.Row.{Row}
 use Rattle.rv_rows.specs.Report.{line}
 use Rattle.rv_rows.specs.Words.{count_text}
-use Rattle.rv_diff.specs.declared.diff.Differing.{Differing}
+use Rattle.rv_diff.specs.declared.diff.DifferenceCounts.{DifferenceCounts}
 use Rattle.rv_diff.specs.declared.diff.StepSums.{StepSums}
 use Rattle.rv_diff.specs.declared.change.Compare.{Compare}
 use Rattle.rv_diff.specs.declared.change.Compare.TheVariants.{Outcomes, Slower, Steps}
@@ -42,7 +42,7 @@ rows_in_both others rows = filter (λ row. not (is_missing_from others row)) row
 -- ---- how many jobs differ
 
 -- how many jobs are only in the old report, are only in the new report, and have rows that differ
-abbrev pub difference_counts : Compare → List Row → List Row → Differing
+abbrev pub difference_counts : Compare → List Row → List Row → DifferenceCounts
 difference_counts compare old new = record {
   gone = count_by (is_missing_from new) old;
   added = count_by (is_missing_from old) new;
@@ -50,7 +50,7 @@ difference_counts compare old new = record {
 }
 
 -- the number of all jobs that differ
-abbrev pub differing_count : Differing → ℕ
+abbrev pub differing_count : DifferenceCounts → ℕ
 differing_count counts = counts.gone + counts.added + counts.changed
 
 -- ---- the text
@@ -63,7 +63,7 @@ difference_lines compare old new =
     ++ flat_map (λ row. changes_of_row compare (row_named old row.name) row) new
 
 -- the words `COUNT gone, COUNT new, COUNT changed`
-unfoldable pub change_counts_text : Differing → List ℕ
+unfoldable pub change_counts_text : DifferenceCounts → List ℕ
 change_counts_text counts = decimal counts.gone ++ codes " gone, " ++ decimal counts.added
     ++ codes " new, " ++ decimal counts.changed ++ codes " changed"
 
@@ -96,7 +96,7 @@ abbrev pub not_compared_text : ℕ → List ℕ
 not_compared_text count = if count == 0 then [] else codes ", " ++ decimal count ++ codes " not compared"
 
 -- the last line: how many of the compared jobs differ and how, how many jobs were not compared, and the total steps, if there are sums
-unfoldable pub count_line : ℕ → Differing → ℕ → Option StepSums → List ℕ
+unfoldable pub count_line : ℕ → DifferenceCounts → ℕ → Option StepSums → List ℕ
 count_line jobs counts left_out sums = line (differing_text (differing_count counts) jobs ++ change_counts_text counts
     ++ not_compared_text left_out ++ sums_text sums)
 

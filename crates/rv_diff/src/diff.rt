@@ -16,7 +16,7 @@ use std::alloc::{AllocError, Global};
 
 /// How many jobs of two reports differ.
 #[derive(Clone, Copy)]
-pub struct Differing {
+pub struct DifferenceCounts {
     /// The number of jobs that only the old report has.
     pub gone: usize,
     /// The number of jobs that only the new report has.
@@ -25,7 +25,7 @@ pub struct Differing {
     pub changed: usize,
 }
 
-impl Differing {
+impl DifferenceCounts {
     /// Whether at least one job differs.
     pub fn has_differences(&self) -> bool
         ensures { result ≡ not (differing_count self.now == 0) }
@@ -36,7 +36,7 @@ impl Differing {
 
 /// The compared rows of two reports.
 #[derive(Clone, Copy)]
-pub struct Compared<'a> {
+pub struct ComparedReports<'a> {
     pub old: &'a [Row],
     pub new: &'a [Row],
     /// The number of jobs that are not compared, since one of the reports is a part without them.
@@ -59,8 +59,8 @@ pub fn push_diff(
     alloc: Global,
     text: &mut Vec<u8>,
     compare: Compare,
-    compared: Compared<'_>,
-) -> Result<Differing, AllocError>
+    compared: ComparedReports<'_>,
+) -> Result<DifferenceCounts, AllocError>
     requires old { length compared.old.now < 2 ^ 32 }
     requires new { length compared.new.now < 2 ^ 32 }
     ensures text { OnOk result (text.new.items ≡ text.old.items
@@ -68,10 +68,10 @@ pub fn push_diff(
     ensures counts { IfOk result (λ counts. counts
         ≡ difference_counts compare compared.entry.old.now compared.entry.new.now) }
 {
-    let Compared { old, new, left_out } = compared;
+    let ComparedReports { old, new, left_out } = compared;
     let gone = push_gone_lines(alloc, text, compare, old, new)?;
     let (added, changed) = push_added_and_changed_lines(alloc, text, compare, old, new)?;
-    let counts = Differing {
+    let counts = DifferenceCounts {
         gone,
         added,
         changed,
@@ -206,7 +206,7 @@ fn push_sign_line<'a>(text: &mut Vec<u8>, sign: &'a str, row: &'a Row) -> Result
 fn push_count_line(
     text: &mut Vec<u8>,
     jobs: usize,
-    counts: Differing,
+    counts: DifferenceCounts,
     left_out: usize,
     sums: Option<StepSums>,
 ) -> Result<(), AllocError>
@@ -262,7 +262,7 @@ fn differ_text(jobs: usize) -> &'static str
 }
 
 // Appends how many of the compared jobs differ, and how many are gone, new and changed.
-fn push_counts(text: &mut Vec<u8>, jobs: usize, counts: Differing) -> Result<(), AllocError>
+fn push_counts(text: &mut Vec<u8>, jobs: usize, counts: DifferenceCounts) -> Result<(), AllocError>
     requires { differing_count counts < 2 ^ 64 }
     ensures { OnOk result (text.new.items ≡ text.old.items
         ++ (differing_text (differing_count counts) jobs ++ change_counts_text counts)) }

@@ -3,7 +3,7 @@ use Rattle.std.proofs.Common.{◌≡◌, ◌==◌, true, length, refl, sym, ap, 
 use Rattle.std.specs.Prelude.{option_and_then, option_map, slice_get}
 use Rattle.std.specs.List.{AllByRecursion}
 use Rattle.rv_rows.specs.declared_job.Job.{Job}
-use Rattle.rv_rows.specs.Plans.{Planned}
+use Rattle.rv_rows.specs.Plans.{PlanView}
 use Rattle.rv_rows.specs.declared.outcome.Outcome.{Outcome}
 use Rattle.rv_rows.specs.Rows.{expected_console_bytes, same_as_outcome, outcome_in, signature_reference_bytes, row_of}
 use Rattle.rv_rows.specs.Verdict.{did_run, verdict_of}
@@ -12,16 +12,16 @@ use Rattle.rv_expect.specs.Reference.{IsWord, signature_words_or_empty}
 use Rattle.rv_expect.specs.UnmetExpectations.{HasRequiredVerdict, ReportsUnmetExpectations, named_outcome, outcome_in_row, passes}
 use Rattle.rv_expect.proofs.Tellings.{passes_where_empty, tells}
 
-outcome_of_row : (plan : Planned) (job : Job) → outcome_in_row (row_of plan job) ≡ outcome_in plan.answers job
+outcome_of_row : (plan : PlanView) (job : Job) → outcome_in_row (row_of plan job) ≡ outcome_in plan.answers job
 unfolding row_of
 outcome_of_row plan job = refl
 
-outcome_of_named : (plan : Planned) (o : Option Job)
+outcome_of_named : (plan : PlanView) (o : Option Job)
     → named_outcome (option_map (row_of plan) o) ≡ option_map (outcome_in plan.answers) o
 outcome_of_named plan None = refl
 outcome_of_named plan (Some job) = ap Some (outcome_of_row plan job)
 
-module _ (plan : Planned) (job : Job) where
+module _ (plan : PlanView) (job : Job) where
   named : Option Job
   named = option_and_then (slice_get plan.jobs) job.same_as
 

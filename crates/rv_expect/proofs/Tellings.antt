@@ -23,9 +23,9 @@ use Rattle.rv_rows.specs.Verdict.{verdict_of}
 use Rattle.rv_expect.specs.declared.difference.SameAsDifference.TheVariants as same
 use Rattle.rv_expect.specs.declared.reference.Reference.{Reference}
 use Rattle.rv_expect.specs.declared.reference.Reference.TheVariants.{Words, BadLine}
-use Rattle.rv_expect.specs.declared.unmet.Unmet.{Unmet}
-use Rattle.rv_expect.specs.declared.unmet.Unmet.TheVariants.{Exit, End, Console, Signature, Same, Nothing}
-use Rattle.rv_expect.specs.Comparisons.{Sides}
+use Rattle.rv_expect.specs.declared.unmet.UnmetExpectation.{UnmetExpectation}
+use Rattle.rv_expect.specs.declared.unmet.UnmetExpectation.TheVariants.{Exit, End, Console, Signature, Same, Nothing}
+use Rattle.rv_expect.specs.Comparisons.{ComparisonView}
 use Rattle.rv_expect.specs.Difference.{console_difference, difference_of_runs, difference_of_outputs, first_difference}
 use Rattle.rv_expect.specs.Difference.{same_as_difference, signatures_difference}
 use Rattle.rv_expect.specs.Reference.{IsWord, difference_from_reference, read_reference}
@@ -154,28 +154,28 @@ same_told (Some place) (Some other) row = runs_told row other
 
 -- ---- an unmet expectation among those that are told
 
-any_if : (p : Unmet → Bool) (u : Unmet) (t : Bool) → p u ≡ true
+any_if : (p : UnmetExpectation → Bool) (u : UnmetExpectation) (t : Bool) → p u ≡ true
     → list_any p (option_to_list (cond t None (Some u))) ≡ not t
 any_if p u true is = refl
 any_if p u false is = ap (λ (b : Bool). b || false) is
 
-none_if : (p : Unmet → Bool) (u : Unmet) (t : Bool) → p u ≡ false
+none_if : (p : UnmetExpectation → Bool) (u : UnmetExpectation) (t : Bool) → p u ≡ false
     → list_any p (option_to_list (cond t None (Some u))) ≡ false
 none_if p u true is = refl
 none_if p u false is = ap (λ (b : Bool). b || false) is
 
-any_map : {A : Type 0} (p : Unmet → Bool) (f : A → Unmet) (o : Option A) → ((x : A) → p (f x) ≡ true)
+any_map : {A : Type 0} (p : UnmetExpectation → Bool) (f : A → UnmetExpectation) (o : Option A) → ((x : A) → p (f x) ≡ true)
     → list_any p (option_to_list (option_map f o)) ≡ is_some o
 any_map p f None is = refl
 any_map p f (Some x) is = ap (λ (b : Bool). b || false) (is x)
 
-none_map : {A : Type 0} (p : Unmet → Bool) (f : A → Unmet) (o : Option A) → ((x : A) → p (f x) ≡ false)
+none_map : {A : Type 0} (p : UnmetExpectation → Bool) (f : A → UnmetExpectation) (o : Option A) → ((x : A) → p (f x) ≡ false)
     → list_any p (option_to_list (option_map f o)) ≡ false
 none_map p f None is = refl
 none_map p f (Some x) is = ap (λ (b : Bool). b || false) (is x)
 
 -- of five parts, by what each has
-any_of_five : (p : Unmet → Bool) (v w x y z : List Unmet) (a b c d e : Bool) → list_any p v ≡ a → list_any p w ≡ b
+any_of_five : (p : UnmetExpectation → Bool) (v w x y z : List UnmetExpectation) (a b c d e : Bool) → list_any p v ≡ a → list_any p w ≡ b
     → list_any p x ≡ c → list_any p y ≡ d → list_any p z ≡ e
     → list_any p (v ++ w ++ x ++ y ++ z) ≡ ((((a || b) || c) || d) || e)
 any_of_five p v w x y z a b c d e ha hb hc hd he =
@@ -203,7 +203,7 @@ alone-4 : (t : Bool) → ((((t || false) || false) || false) || false) ≡ t
 alone-4 t = or_false (((t || false) || false) || false) ∙ alone-3 t
 
 -- what each part of the list tells
-parts_of : (p : Unmet → Bool) (sides : Sides)
+parts_of : (p : UnmetExpectation → Bool) (sides : ComparisonView)
     (a b c d e : Bool)
     → list_any p (option_to_list (cond (has_expected_exit sides.job.expect_exit sides.row.ending) None (Some Exit))) ≡ a
     → list_any p (option_to_list (cond (has_expected_end sides.job.expect_end sides.row.ending) None (Some End))) ≡ b
@@ -215,7 +215,7 @@ parts_of : (p : Unmet → Bool) (sides : Sides)
 parts_of p sides a b c d e ha hb hc hd he =
     any_of_five p _ _ _ _ _ a b c d e ha hb hc hd he
 
-asked : (sides : Sides)
+asked : (sides : ComparisonView)
     → did_run sides.row.ending ≡ true → has_expectations sides.job ≡ true → AllByRecursion IsWord (signature_words_or_empty sides.row.signature)
     → ReportsUnmetExpectations (unmet_of_expecting_job sides) sides.job (outcome_in_row sides.row) sides.console sides.reference
     (named_outcome sides.other)
@@ -283,7 +283,7 @@ no_same : (named : Option ℕ) (other : Option Outcome) (outcome : Outcome) → 
 no_same None other outcome none = refl
 no_same (Some place) other outcome none = cc
 
-unasked : (sides : Sides)
+unasked : (sides : ComparisonView)
     → has_expectations sides.job ≡ false
     → ReportsUnmetExpectations (option_to_list (cond (has_expected_exit (Some 0) sides.row.ending) None (Some Nothing))) sides.job
     (outcome_in_row sides.row) sides.console sides.reference (named_outcome sides.other)
@@ -309,7 +309,7 @@ unasked sides none =
 
 -- ---- the laws
 
-by_asked : (sides : Sides) (asks : Bool)
+by_asked : (sides : ComparisonView) (asks : Bool)
     → has_expectations sides.job ≡ asks → did_run sides.row.ending ≡ true → AllByRecursion IsWord (signature_words_or_empty sides.row.signature)
     → ReportsUnmetExpectations (cond asks (unmet_of_expecting_job sides)
     (option_to_list (cond (has_expected_exit (Some 0) sides.row.ending) None (Some Nothing)))) sides.job (outcome_in_row sides.row) sides.console
@@ -317,7 +317,7 @@ by_asked : (sides : Sides) (asks : Bool)
 by_asked sides true asks runs fit = asked sides runs asks fit
 by_asked sides false none runs fit = unasked sides none
 
-pub tells : (sides : Sides)
+pub tells : (sides : ComparisonView)
     → did_run sides.row.ending ≡ true → AllByRecursion IsWord (signature_words_or_empty sides.row.signature)
     → ReportsUnmetExpectations (unmet_expectations_of sides) sides.job (outcome_in_row sides.row) sides.console sides.reference
     (named_outcome sides.other)
@@ -330,23 +330,23 @@ tells sides runs fit =
 not_zero : (n : ℕ) → (suc n == 0) ≡ false
 not_zero n = ne_eqb (suc n) 0 (λ e. absurd (omega arith))
 
-no_length : (xs ys : List Unmet) → (length (xs ++ ys) == 0) ≡ ((length xs == 0) && (length ys == 0))
+no_length : (xs ys : List UnmetExpectation) → (length (xs ++ ys) == 0) ≡ ((length xs == 0) && (length ys == 0))
 no_length [] ys = refl
 no_length (x ∷ xs) ys =
     not_zero (length (xs ++ ys)) ∙ ap (λ (t : Bool). t && (length ys == 0)) (sym (not_zero (length xs)))
 
-empty_if : (u : Unmet) (t : Bool) → (length (option_to_list (cond t None (Some u))) == 0) ≡ t
+empty_if : (u : UnmetExpectation) (t : Bool) → (length (option_to_list (cond t None (Some u))) == 0) ≡ t
 empty_if u true = refl
 empty_if u false = refl
 
-empty_map : {A : Type 0} (f : A → Unmet) (o : Option A) (t : Bool) → is_some o ≡ not t
+empty_map : {A : Type 0} (f : A → UnmetExpectation) (o : Option A) (t : Bool) → is_some o ≡ not t
     → (length (option_to_list (option_map f o)) == 0) ≡ t
 empty_map f None true is = refl
 empty_map f None false is = cc
 empty_map f (Some x) true is = cc
 empty_map f (Some x) false is = refl
 
-no_length_of_five : (v w x y z : List Unmet) (a b c d e : Bool) → (length v == 0) ≡ a → (length w == 0) ≡ b
+no_length_of_five : (v w x y z : List UnmetExpectation) (a b c d e : Bool) → (length v == 0) ≡ a → (length w == 0) ≡ b
     → (length x == 0) ≡ c → (length y == 0) ≡ d → (length z == 0) ≡ e
     → (length (v ++ w ++ x ++ y ++ z) == 0) ≡ ((((a && b) && c) && d) && e)
 no_length_of_five v w x y z a b c d e ha hb hc hd he =
@@ -365,7 +365,7 @@ to_the_right true b c d e = three b c d e
     three false c d e = refl
 to_the_right false b c d e = refl
 
-asked_passes : (sides : Sides)
+asked_passes : (sides : ComparisonView)
     → did_run sides.row.ending ≡ true → AllByRecursion IsWord (signature_words_or_empty sides.row.signature)
     → (length (unmet_of_expecting_job sides) == 0)
     ≡ meets_all_expectations sides.job (outcome_in_row sides.row) sides.reference sides.console (named_outcome sides.other)
@@ -386,7 +386,7 @@ passes_if : (t : Bool) (end : RowEnd) → passes (cond t verdict.Pass verdict.Fa
 passes_if true end = refl
 passes_if false end = refl
 
-by_verdict : (sides : Sides) (asks : Bool)
+by_verdict : (sides : ComparisonView) (asks : Bool)
     → has_expectations sides.job ≡ asks → did_run sides.row.ending ≡ true → AllByRecursion IsWord (signature_words_or_empty sides.row.signature)
     → (length (cond asks (unmet_of_expecting_job sides)
     (option_to_list (cond (has_expected_exit (Some 0) sides.row.ending) None (Some Nothing)))) == 0)
@@ -398,7 +398,7 @@ by_verdict sides true asks runs fit =
 by_verdict sides false asks runs fit =
     empty_if Nothing (has_expected_exit (Some 0) sides.row.ending)
 
-pub passes_where_empty : (sides : Sides)
+pub passes_where_empty : (sides : ComparisonView)
     → did_run sides.row.ending ≡ true → AllByRecursion IsWord (signature_words_or_empty sides.row.signature)
     → HasRequiredVerdict sides
     → (length (unmet_expectations_of sides) == 0) ≡ passes sides.row.verdict sides.row.ending

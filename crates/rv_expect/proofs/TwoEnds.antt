@@ -8,7 +8,7 @@ use Rattle.rv_rows.specs.declared.outcome.Outcome.{Outcome}
 use Rattle.rv_rows.specs.declared_row.RowEnd.{RowEnd}
 use Rattle.rv_rows.specs.declared_row.RowEnd.TheVariants as ending
 use Rattle.rv_rows.specs.declared_row.Verdict.TheVariants as verdict
-use Rattle.rv_rows.specs.Verdict.{ends_by, exits_with, verdict_of}
+use Rattle.rv_rows.specs.Verdict.{meets_expected_end, exits_with, verdict_of}
 use Rattle.rv_expect.specs.TwoEnds.{expects_two_ends}
 
 and_false : (b : Bool) → (b && false) ≡ false
@@ -17,7 +17,7 @@ and_false false = refl
 
 -- no run ends by the exit call, and in another way too
 not_both : (code : ℕ) (how : ExpectedEnd) (end : RowEnd) (more : Bool)
-    → (exits_with code end && (ends_by how end && more)) ≡ false
+    → (exits_with code end && (meets_expected_end how end && more)) ≡ false
 not_both code expected.Budget (ending.Exit n) more = and_false (n == code)
 not_both code (expected.Fault kind) (ending.Exit n) more = and_false (n == code)
 not_both code how (ending.Fault kind pc value) more = refl

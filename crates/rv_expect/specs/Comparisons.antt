@@ -5,7 +5,7 @@ use Rattle.rv_rows.specs.declared_row.Row.{Row}
 use Rattle.rv_expect.specs.declared.comparison.Comparison.{Comparison}
 
 -- a job and its row, with the data that the row is compared with
-pub record Sides : Type 0 where
+pub record ComparisonView : Type 0 where
   pub job : Job
   pub row : Row
   -- the bytes of the file with the expected console text, if it was read
@@ -16,7 +16,7 @@ pub record Sides : Type 0 where
   pub other : Option Row
 
 -- a comparison of the code as contracts see it, with the values in place of references
-abbrev pub comparison_view : Comparison → Sides
+abbrev pub comparison_view : Comparison → ComparisonView
 comparison_view comparison = record {
   job = comparison.job.now;
   row = comparison.row.now;

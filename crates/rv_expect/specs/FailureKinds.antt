@@ -5,7 +5,7 @@ use Rattle.std.specs.Prelude.{Option, Some, None, length, option_to_list, slice_
 use Rattle.std.specs.List.{flat_map, zip}
 use Rattle.rv_rows.specs.declared_ending.FaultKind.{FaultKind}
 use Rattle.rv_rows.specs.Faults.{fault_kinds}
-use Rattle.rv_rows.specs.Plans.{Planned}
+use Rattle.rv_rows.specs.Plans.{PlanView}
 use Rattle.rv_rows.specs.declared_job.Job.{Job}
 use Rattle.rv_rows.specs.declared_row.Row.{Row}
 use Rattle.rv_rows.specs.declared_row.RowEnd.{RowEnd}
@@ -13,12 +13,12 @@ use Rattle.rv_rows.specs.declared_row.RowEnd.TheVariants as ending
 use Rattle.rv_rows.specs.Verdict.{is_same_kind}
 use Rattle.rv_expect.specs.declared.failure_kind.FailureKind.{FailureKind}
 use Rattle.rv_expect.specs.declared.failure_kind.FailureKind.TheVariants as failure
-use Rattle.rv_expect.specs.Comparisons.{Sides}
-use Rattle.rv_expect.specs.Judgement.{Judging, fails, is_unknown_failure, judgement}
+use Rattle.rv_expect.specs.Comparisons.{ComparisonView}
+use Rattle.rv_expect.specs.Judgement.{JudgeView, fails, is_unknown_failure, judgement}
 use Rattle.rv_expect.specs.Unmet.{unmet_expectations_of}
 use Rattle.rv_expect.specs.UnmetInPlan.{comparison_in}
-use Rattle.rv_expect.specs.declared.unmet.Unmet.{Unmet}
-use Rattle.rv_expect.specs.declared.unmet.Unmet.TheVariants as unmet
+use Rattle.rv_expect.specs.declared.unmet.UnmetExpectation.{UnmetExpectation}
+use Rattle.rv_expect.specs.declared.unmet.UnmetExpectation.TheVariants as unmet
 
 -- ---- the kinds in order
 
@@ -64,7 +64,7 @@ failure_kind_of_end (ending.Fault kind pc value) = failure.Fault kind
 failure_kind_of_end (ending.Refused why) = failure.Refused
 
 -- the kind of a failure, given how the job ended and the first expectation that its run does not meet
-abbrev pub failure_kind_of_first : RowEnd → Unmet → FailureKind
+abbrev pub failure_kind_of_first : RowEnd → UnmetExpectation → FailureKind
 failure_kind_of_first end (unmet.Console difference) = failure.Console
 failure_kind_of_first end (unmet.Signature difference) = failure.Signature
 failure_kind_of_first end (unmet.Same difference) = failure.SameAs
@@ -72,39 +72,39 @@ failure_kind_of_first end _ = failure_kind_of_end end
 
 -- the kind of a failure, given how the job ended and its unmet expectations: the first one decides, or the ending if there are none, as for
 -- a refused job
-abbrev pub failure_kind_of_unmet : RowEnd → List Unmet → FailureKind
+abbrev pub failure_kind_of_unmet : RowEnd → List UnmetExpectation → FailureKind
 failure_kind_of_unmet end [] = failure_kind_of_end end
 failure_kind_of_unmet end (first ∷ others) = failure_kind_of_first end first
 
 -- ---- the failures among rows
 
 -- the kind of failure of a row, by how its job ended, or `None` if the row does not count as a failure
-abbrev pub failure_by_end : Judging → Row → Option FailureKind
+abbrev pub failure_by_end : JudgeView → Row → Option FailureKind
 failure_by_end judging row = if fails judging row then Some (failure_kind_of_end row.ending) else None
 
 -- the kind of failure of each row of a report that counts as a failure, in order, by how its job ended
-abbrev pub failures_by_end : Judging → List Row → List FailureKind
+abbrev pub failures_by_end : JudgeView → List Row → List FailureKind
 failures_by_end judging rows = flat_map (λ row. option_to_list (failure_by_end judging row)) rows
 
 -- a row of a plan with the data that it is compared with, as if the job that `same_as` names had not run; so if a job meets all other
 -- expectations and fails, `same_as` is the unmet one
-abbrev pub comparison_without_same_as : Planned → Job → Row → Sides
+abbrev pub comparison_without_same_as : PlanView → Job → Row → ComparisonView
 comparison_without_same_as plan job row = record (comparison_in plan job row) { other = None }
 
 -- the kind of failure of a row, given its job in a plan, if there is one: the first unmet expectation decides, or the ending for a job that
 -- passes although it is known to fail
-abbrev pub failure_kind_in_plan : Judging → Planned → Option Job → Row → FailureKind
+abbrev pub failure_kind_in_plan : JudgeView → PlanView → Option Job → Row → FailureKind
 failure_kind_in_plan judging plan None row = failure_kind_of_end row.ending
 failure_kind_in_plan judging plan (Some job) row = if is_unknown_failure (judgement judging row)
     then failure_kind_of_unmet row.ending (unmet_expectations_of (comparison_without_same_as plan job row))
     else failure_kind_of_end row.ending
 
 -- the kind of failure of a row, or `None` if the row does not count as a failure; `place` is the index of its job in the plan
-abbrev pub failure_in_plan : Judging → Planned → ℕ → Row → Option FailureKind
+abbrev pub failure_in_plan : JudgeView → PlanView → ℕ → Row → Option FailureKind
 failure_in_plan judging plan place row =
     if fails judging row then Some (failure_kind_in_plan judging plan (slice_get plan.jobs place) row) else None
 
 -- the kind of failure of each row that counts as a failure, in order; `places` are the indices in the plan of the rows' jobs
-abbrev pub failures_in_plan : Judging → Planned → List ℕ → List Row → List FailureKind
+abbrev pub failures_in_plan : JudgeView → PlanView → List ℕ → List Row → List FailureKind
 failures_in_plan judging plan places rows =
     flat_map (λ placed. option_to_list (failure_in_plan judging plan placed.0 placed.1)) (zip places rows)

@@ -3,8 +3,8 @@ use Rattle.std.specs.Prelude.{◌&&◌, Bool, true, false, not, List, is_some}
 use Rattle.std.specs.List.{list_any}
 use Rattle.rv_expect.specs.declared.met_expectations.Expectation.{Expectation}
 use Rattle.rv_expect.specs.declared.met_expectations.Expectation.TheVariants as expectation
-use Rattle.rv_expect.specs.declared.unmet.Unmet.{Unmet}
-use Rattle.rv_expect.specs.declared.unmet.Unmet.TheVariants as unmet
+use Rattle.rv_expect.specs.declared.unmet.UnmetExpectation.{UnmetExpectation}
+use Rattle.rv_expect.specs.declared.unmet.UnmetExpectation.TheVariants as unmet
 use Rattle.rv_rows.specs.declared_job.Job.{Job}
 use Rattle.rv_rows.specs.Verdict.{has_expectations}
 
@@ -18,7 +18,7 @@ job_expects job expectation.Same = is_some job.same_as
 job_expects job expectation.Nothing = not (has_expectations job)
 
 -- whether an unmet expectation is of this kind
-unfoldable pub is_unmet_of_kind : Expectation → Unmet → Bool
+unfoldable pub is_unmet_of_kind : Expectation → UnmetExpectation → Bool
 is_unmet_of_kind expectation.Exit unmet.Exit = true
 is_unmet_of_kind expectation.End unmet.End = true
 is_unmet_of_kind expectation.Console (unmet.Console difference) = true
@@ -28,5 +28,5 @@ is_unmet_of_kind expectation.Nothing unmet.Nothing = true
 is_unmet_of_kind _ _ = false
 
 -- whether a job has an expectation of this kind and its run meets it; `unmet` are the unmet expectations of the job
-abbrev pub is_expectation_met : Job → List Unmet → Expectation → Bool
+abbrev pub is_expectation_met : Job → List UnmetExpectation → Expectation → Bool
 is_expectation_met job unmet one = job_expects job one && not (list_any (is_unmet_of_kind one) unmet)

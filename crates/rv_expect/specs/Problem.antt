@@ -2,12 +2,12 @@
 use Rattle.std.specs.Prelude.{◌&&◌, Bool, not}
 use Rattle.rv_rows.specs.declared_row.Row.{Row}
 use Rattle.rv_rows.specs.Verdict.{did_run}
-use Rattle.rv_expect.specs.Judgement.{Judging, fails}
+use Rattle.rv_expect.specs.Judgement.{JudgeView, fails}
 
 -- whether a row counts as a failure and its job ran
-abbrev pub is_failure : Judging → Row → Bool
+abbrev pub is_failure : JudgeView → Row → Bool
 is_failure judging row = fails judging row && did_run row.ending
 
 -- whether a row counts as a failure and its job was refused
-abbrev pub is_error : Judging → Row → Bool
+abbrev pub is_error : JudgeView → Row → Bool
 is_error judging row = fails judging row && not (did_run row.ending)

@@ -10,40 +10,40 @@ use Rattle.rv_rows.specs.declared_row.Verdict.{Verdict}
 use Rattle.rv_rows.specs.declared_row.Verdict.TheVariants as verdict
 use Rattle.rv_rows.specs.Verdict.{exits_with, has_expected_console, has_expected_end, has_expected_exit, has_expected_signature}
 use Rattle.rv_rows.specs.Verdict.{matches_same_as, has_expectations, verdict_of}
-use Rattle.rv_expect.specs.Comparisons.{Sides}
-use Rattle.rv_expect.specs.declared.unmet.Unmet.{Unmet}
-use Rattle.rv_expect.specs.declared.unmet.Unmet.TheVariants.{Exit, End, Console, Signature}
-use Rattle.rv_expect.specs.declared.unmet.Unmet.TheVariants.{Same, Nothing}
+use Rattle.rv_expect.specs.Comparisons.{ComparisonView}
+use Rattle.rv_expect.specs.declared.unmet.UnmetExpectation.{UnmetExpectation}
+use Rattle.rv_expect.specs.declared.unmet.UnmetExpectation.TheVariants.{Exit, End, Console, Signature}
+use Rattle.rv_expect.specs.declared.unmet.UnmetExpectation.TheVariants.{Same, Nothing}
 
 -- ---- the kind of an unmet expectation
 
 -- whether an unmet expectation is about the exit code
-abbrev pub is_exit : Unmet → Bool
+abbrev pub is_exit : UnmetExpectation → Bool
 is_exit Exit = true
 is_exit _ = false
 
 -- whether an unmet expectation is about the end
-abbrev pub is_end : Unmet → Bool
+abbrev pub is_end : UnmetExpectation → Bool
 is_end End = true
 is_end _ = false
 
 -- whether an unmet expectation is about the console
-abbrev pub is_console : Unmet → Bool
+abbrev pub is_console : UnmetExpectation → Bool
 is_console (Console difference) = true
 is_console _ = false
 
 -- whether an unmet expectation is about the signature
-abbrev pub is_signature : Unmet → Bool
+abbrev pub is_signature : UnmetExpectation → Bool
 is_signature (Signature difference) = true
 is_signature _ = false
 
 -- whether an unmet expectation is about `same_as`
-abbrev pub is_same : Unmet → Bool
+abbrev pub is_same : UnmetExpectation → Bool
 is_same (Same difference) = true
 is_same _ = false
 
 -- whether an unmet expectation is the default one: exit code 0
-abbrev pub is_nothing : Unmet → Bool
+abbrev pub is_nothing : UnmetExpectation → Bool
 is_nothing Nothing = true
 is_nothing _ = false
 
@@ -64,7 +64,7 @@ named_outcome other = option_map outcome_in_row other
 
 -- `told` has each expectation of the job if and only if the outcome does not meet it, and the default one if and only if the job has no
 -- expectations and did not end with exit code 0
-pub record ReportsUnmetExpectations (told : List Unmet) (job : Job) (outcome : Outcome)
+pub record ReportsUnmetExpectations (told : List UnmetExpectation) (job : Job) (outcome : Outcome)
     (file reference : Option (List ℕ)) (other : Option Outcome) : Type 0 where
   pub exit : list_any is_exit told ≡ not (has_expected_exit job.expect_exit outcome.ending)
   pub end : list_any is_end told ≡ not (has_expected_end job.expect_end outcome.ending)
@@ -82,7 +82,7 @@ passes verdict.Fail end = false
 passes verdict.Unasked end = exits_with 0 end
 
 -- the row has the verdict that its outcome requires
-abbrev pub HasRequiredVerdict : Sides → Type 0
+abbrev pub HasRequiredVerdict : ComparisonView → Type 0
 HasRequiredVerdict sides =
     sides.row.verdict ≡ verdict_of sides.job (outcome_in_row sides.row) sides.reference
     sides.console (named_outcome sides.other)

@@ -5,7 +5,7 @@ ghost use Rattle.rv_rows.specs.Faults.{fault_kinds};
 ghost use Rattle.rv_expect.specs.FailureKinds.{failure_kind_at, failure_kind_of_end, failure_kind_of_first, failure_kind_of_unmet, is_same_failure_kind};
 ghost use Rattle.rv_expect.specs.FailureKinds.{failure_kind_after_budget, failure_kind_after_faults};
 
-use crate::unmet::Unmet;
+use crate::unmet::UnmetExpectation;
 use rv_rows::{FaultKind, RowEnd};
 
 /// The kind of a failed job: how it ended, without the exit code, address or value; or, if it ended as expected, the first other
@@ -60,7 +60,7 @@ impl FailureKind {
 
     /// Returns the kind of a failure, given how the job ended and its unmet expectations: the first one decides, or the ending if there are
     /// none.
-    pub fn of_expectations(ending: RowEnd, unmet: &[Unmet]) -> FailureKind
+    pub fn of_expectations(ending: RowEnd, unmet: &[UnmetExpectation]) -> FailureKind
         ensures { result ≡ failure_kind_of_unmet ending unmet.now }
     {
         match unmet.first() {
@@ -109,13 +109,13 @@ fn failure_kind_after_faults(index: usize) -> FailureKind
 }
 
 // Returns the kind of a failure, given how the job ended and its first unmet expectation.
-fn kind_of_first(ending: RowEnd, first: Unmet) -> FailureKind
+fn kind_of_first(ending: RowEnd, first: UnmetExpectation) -> FailureKind
     ensures { result ≡ failure_kind_of_first ending first }
 {
     match first {
-        Unmet::Exit | Unmet::End | Unmet::Nothing => FailureKind::of_end(ending),
-        Unmet::Console(_) => FailureKind::Console,
-        Unmet::Signature(_) => FailureKind::Signature,
-        Unmet::Same(_) => FailureKind::SameAs,
+        UnmetExpectation::Exit | UnmetExpectation::End | UnmetExpectation::Nothing => FailureKind::of_end(ending),
+        UnmetExpectation::Console(_) => FailureKind::Console,
+        UnmetExpectation::Signature(_) => FailureKind::Signature,
+        UnmetExpectation::Same(_) => FailureKind::SameAs,
     }
 }

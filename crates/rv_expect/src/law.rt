@@ -3,12 +3,12 @@
 ghost use Rattle.std.specs.Prelude.{◌≡◌, ◌==◌, ℕ, List, IsTrue, MatchOption, length};
 ghost use Rattle.std.specs.List.{AllByRecursion, flat_map};
 ghost use Rattle.rv_rows.specs.declared_job.Job.{Job};
-ghost use Rattle.rv_rows.specs.Plans.{Planned};
+ghost use Rattle.rv_rows.specs.Plans.{PlanView};
 ghost use Rattle.rv_rows.specs.Report.{word_line};
 ghost use Rattle.rv_rows.specs.Rows.{expected_console_bytes, same_as_outcome, outcome_in, signature_reference_bytes, row_of};
 ghost use Rattle.rv_rows.specs.Verdict.{did_run};
 ghost use Rattle.rv_expect.specs.declared.reference.Reference.TheVariants.{Words};
-ghost use Rattle.rv_expect.specs.Comparisons.{Sides};
+ghost use Rattle.rv_expect.specs.Comparisons.{ComparisonView};
 ghost use Rattle.rv_expect.specs.Difference.{IsDifference, first_difference};
 ghost use Rattle.rv_expect.specs.UnmetInPlan.{unmet_expectations_in};
 ghost use Rattle.rv_expect.specs.Reference.{IsReferenceOf, IsWord, read_reference, signature_words_or_empty};
@@ -33,7 +33,7 @@ pub fn references_are_lines_of_words()
 /// Proves that an expectation is reported as unmet if and only if it does not hold by the definitions of the verdict, for each row whose
 /// job ran and whose signature has 32-bit words.
 pub fn unmet_is_what_does_not_hold()
-    ensures { (sides : Sides)
+    ensures { (sides : ComparisonView)
         → IsTrue (did_run sides.row.ending)
         → AllByRecursion IsWord (signature_words_or_empty sides.row.signature)
         → ReportsUnmetExpectations (unmet_expectations_of sides) sides.job (outcome_in_row sides.row)
@@ -44,7 +44,7 @@ pub fn unmet_is_what_does_not_hold()
 /// words, and whose verdict is the one that its outcome requires. A job passes if its verdict is `pass`, or if it has no expectations and
 /// ended with exit code 0.
 pub fn nothing_is_unmet_where_a_job_passes()
-    ensures { (sides : Sides)
+    ensures { (sides : ComparisonView)
         → IsTrue (did_run sides.row.ending)
         → AllByRecursion IsWord (signature_words_or_empty sides.row.signature)
         → HasRequiredVerdict sides
@@ -55,12 +55,12 @@ pub fn nothing_is_unmet_where_a_job_passes()
 /// does not hold by the definitions of the verdict, given the plan's contents of the job's files and the outcome of the job that its
 /// `same_as` names. No expectation is reported if and only if the job passes.
 pub fn unmet_of_a_plan_is_what_does_not_hold()
-    ensures told { (plan : Planned) (job : Job)
+    ensures told { (plan : PlanView) (job : Job)
         → IsTrue (did_run (row_of plan job).ending)
         → AllByRecursion IsWord (signature_words_or_empty (row_of plan job).signature)
         → ReportsUnmetExpectations (unmet_expectations_in plan job (row_of plan job)) job
         (outcome_in plan.answers job) (expected_console_bytes plan.answers job) (signature_reference_bytes plan.answers job) (same_as_outcome plan job) }
-    ensures passes { (plan : Planned) (job : Job)
+    ensures passes { (plan : PlanView) (job : Job)
         → IsTrue (did_run (row_of plan job).ending)
         → AllByRecursion IsWord (signature_words_or_empty (row_of plan job).signature)
         → (length (unmet_expectations_in plan job (row_of plan job)) == 0)

@@ -4,7 +4,7 @@ ghost use Rattle.std.specs.Prelude.{◌≡◌};
 ghost use Rattle.std.specs.List.{list_any};
 ghost use Rattle.rv_expect.specs.MetExpectations.{job_expects, is_expectation_met, is_unmet_of_kind};
 
-use crate::unmet::Unmet;
+use crate::unmet::UnmetExpectation;
 use rv_rows::{Job, has_expectations};
 
 /// The kinds of expectations that a job can have.
@@ -20,14 +20,14 @@ pub enum Expectation {
 }
 
 /// Whether a job has an expectation of this kind and its run meets it. `unmet` are the unmet expectations of the job.
-pub fn is_expectation_met(job: &Job, unmet: &[Unmet], one: Expectation) -> bool
+pub fn is_expectation_met(job: &Job, unmet: &[UnmetExpectation], one: Expectation) -> bool
     ensures { result ≡ is_expectation_met job.now unmet.now one }
 {
     job_expects(job, one) && !is_expectation_unmet(unmet, one)
 }
 
 // Whether one of these unmet expectations is of this kind.
-fn is_expectation_unmet(unmet: &[Unmet], one: Expectation) -> bool
+fn is_expectation_unmet(unmet: &[UnmetExpectation], one: Expectation) -> bool
     ensures { result ≡ list_any (is_unmet_of_kind one) unmet.now }
 {
     unmet.iter().any(|other| is_unmet_of_kind(one, *other))
@@ -50,16 +50,16 @@ fn job_expects(job: &Job, one: Expectation) -> bool
 
 // Whether an unmet expectation is of this kind.
 #[tactic(auto, unfolding(crate::specs::MetExpectations::is_unmet_of_kind))]
-fn is_unmet_of_kind(one: Expectation, unmet: Unmet) -> bool
+fn is_unmet_of_kind(one: Expectation, unmet: UnmetExpectation) -> bool
     ensures { result ≡ is_unmet_of_kind one unmet }
 {
     match (one, unmet) {
-        (Expectation::Exit, Unmet::Exit)
-        | (Expectation::End, Unmet::End)
-        | (Expectation::Console, Unmet::Console(_))
-        | (Expectation::Signature, Unmet::Signature(_))
-        | (Expectation::Same, Unmet::Same(_))
-        | (Expectation::Nothing, Unmet::Nothing) => true,
+        (Expectation::Exit, UnmetExpectation::Exit)
+        | (Expectation::End, UnmetExpectation::End)
+        | (Expectation::Console, UnmetExpectation::Console(_))
+        | (Expectation::Signature, UnmetExpectation::Signature(_))
+        | (Expectation::Same, UnmetExpectation::Same(_))
+        | (Expectation::Nothing, UnmetExpectation::Nothing) => true,
         _ => false,
     }
 }

@@ -15,7 +15,7 @@ use std::alloc::{AllocError, Global};
 
 /// An expectation of a job that its run does not meet, with the first difference.
 #[derive(Clone, Copy)]
-pub enum Unmet {
+pub enum UnmetExpectation {
     /// The exit code: the run ended with another one, or without an exit call.
     Exit,
     /// The end: the run did not use up its budget, or did not end with a fault of the expected kind.
@@ -34,7 +34,7 @@ pub enum Unmet {
 pub fn unmet_expectations(
     alloc: Global,
     comparison: &Comparison<'_, '_>,
-) -> Result<Vec<Unmet>, AllocError>
+) -> Result<Vec<UnmetExpectation>, AllocError>
     ensures { IfOk result (λ found. found.items ≡ unmet_expectations_of (comparison_view comparison.now)) }
 {
     let (job, row) = (comparison.job, comparison.row);
@@ -57,7 +57,7 @@ pub fn unmet_expectations(
 }
 
 // Appends an unmet expectation, if there is one.
-fn push_if_unmet(found: &mut Vec<Unmet>, unmet: Option<Unmet>) -> Result<(), AllocError>
+fn push_if_unmet(found: &mut Vec<UnmetExpectation>, unmet: Option<UnmetExpectation>) -> Result<(), AllocError>
     ensures { OnOk result (found.new.items ≡ found.old.items ++ option_to_list unmet) }
 {
     if let Some(unmet) = unmet {
@@ -67,66 +67,66 @@ fn push_if_unmet(found: &mut Vec<Unmet>, unmet: Option<Unmet>) -> Result<(), All
 }
 
 // Returns the default expectation, exit code 0, if this ending does not meet it, or else `None`.
-fn unmet_default_exit(ending: RowEnd) -> Option<Unmet>
+fn unmet_default_exit(ending: RowEnd) -> Option<UnmetExpectation>
     ensures { result ≡ unmet_default_exit ending }
 {
     if has_expected_exit(Some(0), ending) {
         None
     } else {
-        Some(Unmet::Nothing)
+        Some(UnmetExpectation::Nothing)
     }
 }
 
 // Returns the expectation of an exit code, or `None` if the job does not have it or this ending meets it.
-fn unmet_exit(job: &Job, ending: RowEnd) -> Option<Unmet>
+fn unmet_exit(job: &Job, ending: RowEnd) -> Option<UnmetExpectation>
     ensures { result ≡ unmet_exit job.now ending }
 {
     if has_expected_exit(job.expect_exit, ending) {
         None
     } else {
-        Some(Unmet::Exit)
+        Some(UnmetExpectation::Exit)
     }
 }
 
 // Returns the expectation of an end, or `None` if the job does not have it or this ending meets it.
-fn unmet_end(job: &Job, ending: RowEnd) -> Option<Unmet>
+fn unmet_end(job: &Job, ending: RowEnd) -> Option<UnmetExpectation>
     ensures { result ≡ unmet_end job.now ending }
 {
     if has_expected_end(job.expect_end, ending) {
         None
     } else {
-        Some(Unmet::End)
+        Some(UnmetExpectation::End)
     }
 }
 
 // Returns the expectation of a console, or `None` if the job does not have it or the row meets it. `file` has the bytes of the file with
 // the expected text, if it was read.
-fn unmet_console(job: &Job, file: Option<&[u8]>, row: &Row) -> Option<Unmet>
+fn unmet_console(job: &Job, file: Option<&[u8]>, row: &Row) -> Option<UnmetExpectation>
     ensures { result ≡ unmet_console job.now (option_map (λ bytes. bytes.now) file.entry) row.now }
 {
     match console_difference(&job.expect_console, file, row.console.as_slice()) {
-        Some(difference) => Some(Unmet::Console(difference)),
+        Some(difference) => Some(UnmetExpectation::Console(difference)),
         None => None,
     }
 }
 
 // Returns the expectation of a signature, with its difference from the actual one, or `None` if there is no difference.
-fn unmet_signature(difference: Option<SignatureDifference>) -> Option<Unmet>
+fn unmet_signature(difference: Option<SignatureDifference>) -> Option<UnmetExpectation>
     ensures { result ≡ unmet_signature difference }
 {
     match difference {
-        Some(difference) => Some(Unmet::Signature(difference)),
+        Some(difference) => Some(UnmetExpectation::Signature(difference)),
         None => None,
     }
 }
 
 // Returns the expectation of `same_as`, or `None` if the job does not have it or the row meets it. `other` is the row of the named job, or
 // `None` if there is none.
-fn unmet_same_as(job: &Job, other: Option<&Row>, row: &Row) -> Option<Unmet>
+fn unmet_same_as(job: &Job, other: Option<&Row>, row: &Row) -> Option<UnmetExpectation>
     ensures { result ≡ unmet_same_as job.now (option_map (λ row. row.now) other.entry) row.now }
 {
     match same_as_difference(job.same_as, other, row) {
-        Some(difference) => Some(Unmet::Same(difference)),
+        Some(difference) => Some(UnmetExpectation::Same(difference)),
         None => None,
     }
 }

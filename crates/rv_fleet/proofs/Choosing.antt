@@ -2,7 +2,7 @@
 use Rattle.std.proofs.Common.{◌≡◌, ℕ, zero, suc, ◌<◌, ◌≤◌, List, [], ◌∷◌, length, get_or, arith, map, sym, ap, subst}
 use Rattle.std.proofs.Common.{◌∙◌, ◌+◌}
 use Rattle.std.specs.List.{All}
-use Rattle.rv_rows.specs.Plans.{Planned}
+use Rattle.rv_rows.specs.Plans.{PlanView}
 use Rattle.rv_fleet.specs.Choices.{AreJobIndices}
 use Rattle.rv_rows.specs.Rows.{rows_at}
 use Rattle.std.specs.List.Sorted.{IsStrictlyIncreasing}
@@ -28,12 +28,12 @@ module _ (places : List ℕ) (each : (k d : ℕ) → k < length places → get_o
   pub counted_rising : IsStrictlyIncreasing places
   counted_rising k inside = let one = each k 0 (omega arith) in let two = each (k + 1) 0 inside in omega arith
 
-pub counted_within : (plan : Planned) (places : List ℕ) → length places ≡ length plan.jobs
+pub counted_within : (plan : PlanView) (places : List ℕ) → length places ≡ length plan.jobs
     → ((k d : ℕ) → k < length places → get_or places k d ≡ k) → AreJobIndices plan places
 counted_within plan places count each k d inside = let is = each k d inside in omega arith
 
 -- the rows at all places are those of the plan
-pub rows_all : (plan : Planned) (places : List ℕ) → length places ≡ length plan.jobs
+pub rows_all : (plan : PlanView) (places : List ℕ) → length places ≡ length plan.jobs
     → ((k d : ℕ) → k < length places → get_or places k d ≡ k) → rows_at plan places ≡ rows_of plan
 unfolding rows_at rows_of
 rows_all plan places count each =

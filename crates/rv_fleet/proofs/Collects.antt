@@ -7,7 +7,7 @@ use Rattle.std.proofs.lemmas.Bool.{ltb-true}
 use Rattle.std.proofs.lemmas.List.{length-map}
 use Rattle.std.proofs.lemmas.List.Elements.{All-head, All-map, All-weaker, All-same, filter_passes}
 use Rattle.rv_rows.specs.Jobs.{single_job}
-use Rattle.rv_rows.specs.Plans.{Planned}
+use Rattle.rv_rows.specs.Plans.{PlanView}
 use Rattle.rv_rows.specs.Rows.{rows_at}
 use Rattle.rv_fleet.specs.declared.piece.Piece.{Piece}
 use Rattle.rv_rows.specs.declared_row.Row.{Row}
@@ -62,7 +62,7 @@ places_left P old new place number e all k =
     (all (suc k)))
 
 -- a row for each place
-pub rows_count : (plan : Planned) (places : List ℕ) → length (rows_at plan places) ≡ length places
+pub rows_count : (plan : PlanView) (places : List ℕ) → length (rows_at plan places) ≡ length places
 unfolding rows_at
 rows_count plan places = length-map places (λ i. row_of plan (slice_index_or plan.jobs i (single_job [] 0 [])))
 

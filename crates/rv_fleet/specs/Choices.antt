@@ -1,8 +1,8 @@
 -- A selection of a plan's jobs, as indices in order.
 use Rattle.std.specs.Prelude.{ℕ, ◌<◌, List, length}
 use Rattle.std.specs.List.{All}
-use Rattle.rv_rows.specs.Plans.{Planned}
+use Rattle.rv_rows.specs.Plans.{PlanView}
 
 -- each number in the list is the index of a job of the plan
-abbrev pub AreJobIndices : Planned → List ℕ → Type 0
+abbrev pub AreJobIndices : PlanView → List ℕ → Type 0
 AreJobIndices plan places = All (λ place. place < length plan.jobs) places

@@ -2,7 +2,7 @@
 use Rattle.std.specs.Prelude.{ℕ, List, length}
 use Rattle.std.specs.Int.{div_ceil}
 use Rattle.std.specs.Fork.{slice_chunk}
-use Rattle.rv_rows.specs.Plans.{Planned}
+use Rattle.rv_rows.specs.Plans.{PlanView}
 use Rattle.rv_fleet.specs.Batches.{batch_rows}
 use Rattle.rv_fleet.specs.declared.piece.Piece.{Piece}
 use Rattle.rv_fleet.specs.declared.pieces.Pieces.{Pieces}
@@ -20,11 +20,11 @@ piece_for rows group k = record { number = k; rows = slice_chunk rows group k }
 -- ---- the chunks of a plan
 
 -- the number of chunks that the jobs of a plan are divided into, with `group` jobs each; the last chunk may have fewer
-abbrev pub pieces_of : Planned → ℕ → ℕ
+abbrev pub pieces_of : PlanView → ℕ → ℕ
 pieces_of plan group = div_ceil (length plan.jobs) group
 
 -- the chunk with the number `k` of a plan's rows, with `group` rows in each chunk
-abbrev pub piece_at : Planned → ℕ → ℕ → Piece
+abbrev pub piece_at : PlanView → ℕ → ℕ → Piece
 piece_at plan group k = piece_for (rows_of plan) group k
 
 -- ---- the chunks of a batch

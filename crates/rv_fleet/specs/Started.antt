@@ -8,19 +8,19 @@ use Rattle.rv_rows.specs.Rows.{rows_at}
 use Rattle.rv_fleet.specs.declared.worker_promise.WorkerResult.{WorkerResult}
 use Rattle.rv_fleet.specs.declared.worker_promise.WorkerPromise.{WorkerPromise}
 use Rattle.rv_engine.specs.Passes.{CounterView}
-use Rattle.rv_rows.specs.Plans.{Planned}
+use Rattle.rv_rows.specs.Plans.{PlanView}
 use Rattle.rv_fleet.specs.Choices.{AreJobIndices}
 use Rattle.rv_fleet.specs.Pieces.{piece_count_of_rows}
 
 -- the jobs at these indices form a batch of the plan, and `group` is a valid chunk size
-pub record IsGroupedBatch (plan : Planned) (places : List ℕ) (group : ℕ) : Type 0 where
+pub record IsGroupedBatch (plan : PlanView) (places : List ℕ) (group : ℕ) : Type 0 where
   pub within : AreJobIndices plan places
   pub rising : IsStrictlyIncreasing places
   pub few : length places ≤ max_jobs
   pub group_few : (0 < group) × (group ≤ max_group)
 
 -- the jobs at these indices form a batch of the plan, and the shared counter has the number of its chunks
-abbrev pub CanStart : Planned → List ℕ → ℕ → CounterView → Type 0
+abbrev pub CanStart : PlanView → List ℕ → ℕ → CounterView → Type 0
 CanStart plan places group draw = IsGroupedBatch plan places group
     × (draw.pieces ≡ piece_count_of_rows (rows_at plan places) group)
 

@@ -12,13 +12,13 @@ use Rattle.rv_trace.specs.declared_isa.Isa.{Isa}
 use Rattle.rv_trace.specs.Jobs.{console_path}
 use Rattle.rv_trace.specs.Plans.{result_or_unreadable}
 use Rattle.rv_trace.specs.Reading.{◌>>=◌}
-use Rattle.rv_trace.specs.declared_answers.Answer.{Answer}
+use Rattle.rv_trace.specs.declared_answers.PathResult.{PathResult}
 use Rattle.rv_trace.specs.declared_kept.Kept.{Kept}
 use Rattle.rv_trace.specs.declared_kept.Kept.TheVariants as kept
 use Rattle.rv_trace.specs.declared_job.Job.{Job}
 use Rattle.rv_trace.specs.State.{State, reset_state, is_misaligned}
 use Rattle.rv_trace.specs.Bus.{BusContents}
-use Rattle.rv_trace.specs.declared_outcome.Loadable.{Loadable}
+use Rattle.rv_trace.specs.declared_outcome.LoadableImage.{LoadableImage}
 use Rattle.rv_trace.specs.declared_row.Refusal.{Refusal}
 use Rattle.rv_trace.specs.Outcome.{image_file_or_refusal, loadable_image, loaded_contents, loaded_state, range_if_requested, reference_or_refusal, start_if_loadable, start_if_readable, start_of}
 use Rattle.rv_trace.specs.Rows.{content_if_read, image_if_read, image_in, start_in}
@@ -51,20 +51,20 @@ read_as isa file image = ok_of (image_of isa file) image
     ok_of (Err why) image e = cc
 
 module _ (job : Job) (s : State) where
-  loaded : (file : List ℕ) (r : Result Loadable ImageError) → start_if_loadable job file r ≡ Ok s
-      → (l : Loadable) × (r ≡ Ok l) × (s ≡ loaded_state job file l.image)
+  loaded : (file : List ℕ) (r : Result LoadableImage ImageError) → start_if_loadable job file r ≡ Ok s
+      → (l : LoadableImage) × (r ≡ Ok l) × (s ≡ loaded_state job file l.image)
   loaded file (Ok l) e = let same : loaded_state job file l.image ≡ s = cc in (l, refl, sym same)
   loaded file (Err why) e = cc
 
-  image_read : (file : List ℕ) (l : Loadable) → loadable_image job file ≡ Ok l → image_of job.isa file ≡ Ok l.image
+  image_read : (file : List ℕ) (l : LoadableImage) → loadable_image job file ≡ Ok l → image_of job.isa file ≡ Ok l.image
   unfolding loadable_image
   image_read file l e =
       let image = stepped (image_of job.isa file) _ l e in
       let fits = stepped (map_check image.0.segments job.regions job.load) _ l image.2 in
       let range = stepped (range_if_requested file job.regions job.signature) _ l fits.2 in
-      let made : Loadable = record { image = image.0; range = range.0 } in
+      let made : LoadableImage = record { image = image.0; range = range.0 } in
       let same : made ≡ l = cc (range.2) in
-      image.1 ∙ ap (λ (x : Loadable). Ok x.image) same
+      image.1 ∙ ap (λ (x : LoadableImage). Ok x.image) same
 
   begun_in_file : (file : List ℕ) → start_if_loadable job file (loadable_image job file) ≡ Ok s
       → IsBegun job (Some file) s
@@ -91,12 +91,12 @@ module _ (job : Job) (s : State) where
   executed_of kept.Unreadable reference console e = cc
   executed_of kept.TooLong reference console e = cc
 
-  pub begun : (answers : List Answer) → start_in answers job ≡ Ok s → IsBegun job (image_bytes answers job) s
+  pub begun : (answers : List PathResult) → start_in answers job ≡ Ok s → IsBegun job (image_bytes answers job) s
   begun answers e = executed_of (result_or_unreadable answers job.image) (option_map (result_or_unreadable answers) job.expect_signature)
       (option_map (result_or_unreadable answers) (console_path job.expect_console)) e
 
   -- it begins at the entry of the image that was read
-  pub begun_at : (answers : List Answer) (image : Image) → start_in answers job ≡ Ok s → image_in answers job ≡ Some image
+  pub begun_at : (answers : List PathResult) (image : Image) → start_in answers job ≡ Ok s → image_in answers job ≡ Some image
       → s ≡ reset_state s.bus image.entry job.isa
   begun_at answers image e there =
       let b = begun answers e in
@@ -114,10 +114,10 @@ not_ok (Ok x) never = absurd (never x refl)
 not_ok (Err why) never = refl
 
 -- a job without an image has no run
-pub no_bytes : (answers : List Answer) (job : Job) → image_bytes answers job ≡ None → is_ok (start_in answers job) ≡ false
+pub no_bytes : (answers : List PathResult) (job : Job) → image_bytes answers job ≡ None → is_ok (start_in answers job) ≡ false
 no_bytes answers job none = not_ok (start_in answers job) (λ s e. let there = (begun job s answers e).there in cc)
 
-pub no_image : (answers : List Answer) (job : Job) (file : List ℕ) → image_bytes answers job ≡ Some file
+pub no_image : (answers : List PathResult) (job : Job) (file : List ℕ) → image_bytes answers job ≡ Some file
     → result_ok (image_of job.isa file) ≡ None → is_ok (start_in answers job) ≡ false
 no_image answers job file bytes none = not_ok (start_in answers job) (λ s e.
     let b = begun job s answers e in
@@ -128,7 +128,7 @@ no_image answers job file bytes none = not_ok (start_in answers job) (λ s e.
     cc)
 
 -- the entry of an image that was read
-pub even_of : (answers : List Answer) (job : Job) (image : Image) (file : List ℕ) → image_bytes answers job ≡ Some file
+pub even_of : (answers : List PathResult) (job : Job) (image : Image) (file : List ℕ) → image_bytes answers job ≡ Some file
     → image_in answers job ≡ Some image → image.entry % 2 ≡ 0
 even_of answers job image file bytes there =
     let found = ap (λ (bytes : Option (List ℕ)). image_if_read job.isa bytes) (sym bytes) ∙ there in
@@ -142,14 +142,14 @@ entry_fits isa entry h = go (has_extension isa RV32C) refl
     go true is = refl
     go false is = rw (h is) refl
 
-pub aligned_of : (answers : List Answer) (job : Job) (image : Image) (file : List ℕ) → image_bytes answers job ≡ Some file
+pub aligned_of : (answers : List PathResult) (job : Job) (image : Image) (file : List ℕ) → image_bytes answers job ≡ Some file
     → image_in answers job ≡ Some image → is_misaligned job.isa image.entry ≡ false
 aligned_of answers job image file bytes there =
     let found = ap (λ (bytes : Option (List ℕ)). image_if_read job.isa bytes) (sym bytes) ∙ there in
     entry_fits job.isa image.entry (entry_aligned job.isa file image (read_as job.isa file image found))
 
 -- a session over a start that is the state in which the run of a job begins
-pub opened : (answers : List Answer) (job : Job) (image : Image) (s : State) (start : Start) (budget : ℕ) (path bytes : List ℕ)
+pub opened : (answers : List PathResult) (job : Job) (image : Image) (s : State) (start : Start) (budget : ℕ) (path bytes : List ℕ)
     (session : Session) → start_in answers job ≡ Ok s → image_in answers job ≡ Some image → image_bytes answers job ≡ Some bytes
     → start.bus ≡ s.bus → start.entry ≡ image.entry → start.isa ≡ job.isa → budget ≡ job.budget
     → session ≡ at_start start budget (record { path = path; image = bytes }) → IsSessionOf answers job path session

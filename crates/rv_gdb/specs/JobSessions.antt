@@ -2,7 +2,7 @@
 use Rattle.std.specs.Prelude.{◌≡◌, ℕ, List, Some, Ok}
 use Rattle.rv_session.specs.Starts.{start_of}
 use Rattle.rv_session.specs.declared_start.Start.{Start}
-use Rattle.rv_trace.specs.declared_answers.Answer.{Answer}
+use Rattle.rv_trace.specs.declared_answers.PathResult.{PathResult}
 use Rattle.rv_trace.specs.declared_job.Job.{Job}
 use Rattle.rv_trace.specs.Rows.{start_in}
 use Rattle.rv_session.specs.Sessions.{at_start}
@@ -11,7 +11,7 @@ use Rattle.rv_trace.specs.Trace.{image_bytes}
 
 -- the session is at the start of the run of a job that is not refused, before gdb has sent anything; `path` is the path by which gdb knows
 -- the job's image
-pub record IsSessionOf (answers : List Answer) (job : Job) (path : List ℕ) (session : Session) : Type 0 where
+pub record IsSessionOf (answers : List PathResult) (job : Job) (path : List ℕ) (session : Session) : Type 0 where
   pub start : Start
   pub starts : start_in answers job ≡ Ok (start_of start)
   pub image : List ℕ

@@ -1,6 +1,6 @@
 -- The analysis of a used-up budget.
 use Rattle.std.specs.Prelude.{◌≡◌, ◌≤◌, ◌-◌, ℕ, min, Option, Some, None, Ok}
-use Rattle.rv_trace.specs.Plans.{Planned}
+use Rattle.rv_trace.specs.Plans.{PlanView}
 use Rattle.rv_trace.specs.declared_job.Job.{Job}
 use Rattle.rv_trace.specs.Run.{run_of}
 use Rattle.rv_trace.specs.State.{State}
@@ -22,7 +22,7 @@ IsBudgetUse steps s (NoRepetition within) = (within ≡ searched_steps steps)
 
 -- how the run of a plan's job used up a budget of `steps` steps, as `IsBudgetUse` says; `None` only if the job is refused or its run does
 -- not complete `steps` steps
-abbrev pub IsBudgetUseIn : Planned → Job → ℕ → Option BudgetUse → Type 0
+abbrev pub IsBudgetUseIn : PlanView → Job → ℕ → Option BudgetUse → Type 0
 IsBudgetUseIn plan job steps None =
     (s : State) → start_in plan.answers job ≡ Ok s → (run_of steps s).steps ≡ steps → ⊥
 IsBudgetUseIn plan job steps (Some found) = (s : State) × (start_in plan.answers job ≡ Ok s)

@@ -6,12 +6,12 @@ use Rattle.rv_rows.specs.Image.{image_of}
 use Rattle.rv_rows.specs.Jobs.{console_path}
 use Rattle.rv_rows.specs.Plans.{result_or_unreadable}
 use Rattle.rv_rows.specs.Reading.{◌>>=◌}
-use Rattle.rv_rows.specs.declared_answers.Answer.{Answer}
+use Rattle.rv_rows.specs.declared_answers.PathResult.{PathResult}
 use Rattle.rv_rows.specs.declared_kept.Kept.{Kept}
 use Rattle.rv_rows.specs.declared_kept.Kept.TheVariants as kept
 use Rattle.rv_rows.specs.declared_job.Job.{Job}
 use Rattle.rv_rows.specs.State.{State}
-use Rattle.rv_rows.specs.declared.outcome.Loadable.{Loadable}
+use Rattle.rv_rows.specs.declared.outcome.LoadableImage.{LoadableImage}
 use Rattle.rv_rows.specs.declared_row.Refusal.{Refusal}
 use Rattle.rv_rows.specs.Outcome.{image_file_or_refusal, loadable_image, reference_or_refusal, start_if_loadable, start_if_readable, start_of}
 use Rattle.rv_rows.specs.Rows.{content_if_read, image_if_read, image_in, start_in}
@@ -22,8 +22,8 @@ stepped (Ok x) f y e = (x, refl)
 stepped (Err why) f y e = cc
 
 module _ (job : Job) (s : State) where
-  loaded : (file : List ℕ) (r : Result Loadable ImageError) → start_if_loadable job file r ≡ Ok s
-      → (l : Loadable) × (r ≡ Ok l)
+  loaded : (file : List ℕ) (r : Result LoadableImage ImageError) → start_if_loadable job file r ≡ Ok s
+      → (l : LoadableImage) × (r ≡ Ok l)
   loaded file (Ok l) e = (l, refl)
   loaded file (Err why) e = cc
 
@@ -51,6 +51,6 @@ module _ (job : Job) (s : State) where
   no_start_of kept.Unreadable reference console none e = cc
   no_start_of kept.TooLong reference console none e = cc
 
-  pub no_start : (answers : List Answer) → image_in answers job ≡ None → start_in answers job ≡ Ok s → ⊥
+  pub no_start : (answers : List PathResult) → image_in answers job ≡ None → start_in answers job ≡ Ok s → ⊥
   no_start answers none e = no_start_of (result_or_unreadable answers job.image) (option_map (result_or_unreadable answers) job.expect_signature)
       (option_map (result_or_unreadable answers) (console_path job.expect_console)) none e

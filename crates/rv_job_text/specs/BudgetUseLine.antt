@@ -4,7 +4,7 @@ use Rattle.rv_hang.specs.BudgetUse.{IsBudgetUseIn}
 use Rattle.rv_hang.specs.declared.budget_use.BudgetUse.{BudgetUse}
 use Rattle.rv_hang.specs.declared.budget_use.BudgetUse.TheVariants.{NoRepetition, Repeats}
 use Rattle.rv_hang.specs.declared.repetition.Repetition.{Repetition}
-use Rattle.rv_rows.specs.Plans.{Planned}
+use Rattle.rv_rows.specs.Plans.{PlanView}
 use Rattle.rv_rows.specs.declared_job.Job.{Job}
 use Rattle.rv_rows.specs.declared_row.Row.{Row}
 use Rattle.rv_rows.specs.declared_row.RowEnd.{RowEnd}
@@ -41,10 +41,10 @@ budget_use_line steps (Some (Repeats r)) = repetition_line r
 budget_use_line steps (Some (NoRepetition within)) = changes_line steps within
 
 -- `found` is an analysis of the run if it used up its budget, or `None` for any other end
-abbrev pub IsBudgetUseAfter : RowEnd → Planned → Job → ℕ → Option BudgetUse → Type 0
+abbrev pub IsBudgetUseAfter : RowEnd → PlanView → Job → ℕ → Option BudgetUse → Type 0
 IsBudgetUseAfter Budget plan job steps found = IsBudgetUseIn plan job steps found
 IsBudgetUseAfter _ plan job steps found = found ≡ None
 
 -- `found` is an analysis of the run that the row describes if it used up its budget, or `None` for any other end
-abbrev pub IsBudgetUseOfRow : Planned → Job → Row → Option BudgetUse → Type 0
+abbrev pub IsBudgetUseOfRow : PlanView → Job → Row → Option BudgetUse → Type 0
 IsBudgetUseOfRow plan job row found = IsBudgetUseAfter row.ending plan job row.steps found

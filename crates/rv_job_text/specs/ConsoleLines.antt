@@ -6,9 +6,9 @@ use Rattle.std.specs.List.{before_first, common_prefix_len, onto_first, position
 use Rattle.std.specs.Str.{bytes_eq, is_utf8}
 use Rattle.rv_expect.specs.declared.difference.Difference.{Difference}
 use Rattle.rv_expect.specs.declared.difference.Difference.TheVariants as difference
-use Rattle.rv_expect.specs.declared.unmet.Unmet.{Unmet}
-use Rattle.rv_expect.specs.declared.unmet.Unmet.TheVariants as unmet
-use Rattle.rv_expect.specs.Comparisons.{Sides}
+use Rattle.rv_expect.specs.declared.unmet.UnmetExpectation.{UnmetExpectation}
+use Rattle.rv_expect.specs.declared.unmet.UnmetExpectation.TheVariants as unmet
+use Rattle.rv_expect.specs.Comparisons.{ComparisonView}
 use Rattle.rv_rows.specs.declared_job.ExpectedConsole.{ExpectedConsole}
 use Rattle.rv_rows.specs.declared_job.ExpectedConsole.TheVariants as console
 use Rattle.rv_rows.specs.Report.{line}
@@ -167,7 +167,7 @@ shown_by_lines difference actual (Some expected) =
     if is_shown_by_lines difference actual expected.text then Some expected else None
 
 -- the expected text of an unmet expectation of a console, or `None` if the difference from it is not shown line by line
-abbrev pub expected_by_lines : Sides → Unmet → Option NamedText
+abbrev pub expected_by_lines : ComparisonView → UnmetExpectation → Option NamedText
 expected_by_lines sides unmet.Exit = None
 expected_by_lines sides unmet.End = None
 expected_by_lines sides (unmet.Console difference) =

@@ -1,8 +1,8 @@
 -- The lines about the expectations that a run meets.
 use Rattle.std.specs.Prelude.{ℕ, List, [], ◌++◌, Option, Some, None, codes}
 use Rattle.std.specs.Prelude.{if◌then◌else◌}
-use Rattle.rv_expect.specs.declared.unmet.Unmet.{Unmet}
-use Rattle.rv_expect.specs.Comparisons.{Sides}
+use Rattle.rv_expect.specs.declared.unmet.UnmetExpectation.{UnmetExpectation}
+use Rattle.rv_expect.specs.Comparisons.{ComparisonView}
 use Rattle.rv_expect.specs.MetExpectations.{is_expectation_met}
 use Rattle.rv_rows.specs.Jobs.{console_path}
 use Rattle.rv_text.specs.Printable.{printable_text}
@@ -23,7 +23,7 @@ same_as_job_text None = codes "the same result as another job"
 same_as_job_text (Some other) = codes "the same result as " ++ printable_text other.name
 
 -- the text of a met expectation, such as `exit 0`
-unfoldable pub met_expectation_text : Sides → Expectation → List ℕ
+unfoldable pub met_expectation_text : ComparisonView → Expectation → List ℕ
 met_expectation_text sides expectation.Exit = expected_exit_text sides.job.expect_exit
 met_expectation_text sides expectation.End = expected_end_text sides.job.expect_end
 met_expectation_text sides expectation.Console =
@@ -34,12 +34,12 @@ met_expectation_text sides expectation.Same = same_as_job_text sides.other
 met_expectation_text sides expectation.Nothing = codes "exit 0, since no expectation is set"
 
 -- the line about an expectation; empty if it is not met
-unfoldable pub met_line : Sides → List Unmet → Expectation → List ℕ
+unfoldable pub met_line : ComparisonView → List UnmetExpectation → Expectation → List ℕ
 met_line sides unmet one =
     if is_expectation_met sides.job unmet one then line (codes "     as expected: " ++ met_expectation_text sides one) else []
 
 -- the lines about all met expectations
-unfoldable pub met_lines : Sides → List Unmet → List ℕ
+unfoldable pub met_lines : ComparisonView → List UnmetExpectation → List ℕ
 met_lines sides unmet =
     met_line sides unmet expectation.Exit ++ met_line sides unmet expectation.End
     ++ met_line sides unmet expectation.Console ++ met_line sides unmet expectation.Signature

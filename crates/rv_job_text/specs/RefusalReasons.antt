@@ -4,7 +4,7 @@ use Rattle.std.specs.Prelude.{ℕ, List, Option, Some, None, option_map}
 use Rattle.std.specs.Option.{option_or}
 use Rattle.rv_rows.specs.declared_elf_error.ImageError.{ImageError}
 use Rattle.rv_files.specs.declared.recording_store.UnreadablePath.{UnreadablePath}
-use Rattle.rv_rows.specs.declared_answers.Answer.{Answer}
+use Rattle.rv_rows.specs.declared_answers.PathResult.{PathResult}
 use Rattle.rv_rows.specs.Plans.{result_or_unreadable}
 use Rattle.rv_rows.specs.declared_job.Job.{Job}
 use Rattle.rv_rows.specs.Jobs.{console_path}
@@ -23,20 +23,20 @@ path_if_unread (Some bytes) path = None
 
 -- the path of the first of a job's expectation files that was not read: the file of the signature, or else the file of the console; `None`
 -- if there is no such file
-unfoldable pub unread_reference_path : List Answer → Job → Option (List ℕ)
+unfoldable pub unread_reference_path : List PathResult → Job → Option (List ℕ)
 unread_reference_path answers job =
     option_or (path_if_unread (signature_reference_bytes answers job) job.expect_signature)
     (path_if_unread (expected_console_bytes answers job) (console_path job.expect_console))
 
 -- the reason why an image that was read is refused, or `None` if it was not read
-abbrev pub image_refusal_text : List Answer → Job → ImageError → Option (List ℕ)
+abbrev pub image_refusal_text : List PathResult → Job → ImageError → Option (List ℕ)
 image_refusal_text answers job why =
     option_map (λ file. image_reason job file why)
     (content_if_read (Some (result_or_unreadable answers job.image)))
 
 -- the reason why a job is refused, or `None` if the file that the refusal concerns is not known; `unread` has the files that could not be
 -- read, with the reasons
-unfoldable pub refusal_reason : List Answer → List UnreadablePath → Job → Refusal → Option (List ℕ)
+unfoldable pub refusal_reason : List PathResult → List UnreadablePath → Job → Refusal → Option (List ℕ)
 refusal_reason answers unread job refusal.ImageUnreadable = Some (unread_file_text unread job.image)
 refusal_reason answers unread job refusal.ImageTooLong = Some (too_long_file_text job.image)
 refusal_reason answers unread job refusal.ReferenceUnreadable =
@@ -46,6 +46,6 @@ refusal_reason answers unread job refusal.ReferenceTooLong =
 refusal_reason answers unread job (refusal.Image why) = image_refusal_text answers job why
 
 -- the reason why a job is refused, or `None` if it is not refused
-unfoldable pub ending_reason : List Answer → List UnreadablePath → Job → RowEnd → Option (List ℕ)
+unfoldable pub ending_reason : List PathResult → List UnreadablePath → Job → RowEnd → Option (List ℕ)
 ending_reason answers unread job (ending.Refused why) = refusal_reason answers unread job why
 ending_reason answers unread job _ = None

@@ -6,7 +6,7 @@ use Rattle.rv_rows.specs.declared_row.RowEnd.{RowEnd}
 use Rattle.rv_rows.specs.declared_row.RowEnd.TheVariants as ending
 use Rattle.rv_rows.specs.Report.{line, refusal_name}
 use Rattle.rv_text.specs.Words.{count_text, exit_code_text, word_digits}
-use Rattle.rv_expect.specs.Judgement.{Judged, failed, known, now_passes, passed}
+use Rattle.rv_expect.specs.Judgement.{JudgementView, failed, known, now_passes, passed}
 use Rattle.rv_text.specs.Printable.{printable_text}
 use Rattle.rv_text.specs.Symbol.{symbol_in_brackets}
 
@@ -31,7 +31,7 @@ result_ending_text (ending.Refused why) steps place reason =
     codes "refused " ++ refusal_name why ++ optional_reason_text reason
 
 -- the first word of the line about a row with this judgement: `PASS `, `FAIL ` or `KNOWN `
-abbrev pub judgement_word : Judged → List ℕ
+abbrev pub judgement_word : JudgementView → List ℕ
 judgement_word passed = codes "PASS "
 judgement_word failed = codes "FAIL "
 judgement_word (known why) = codes "KNOWN "
@@ -46,7 +46,7 @@ abbrev pub now_passes_text : List ℕ → List ℕ
 now_passes_text path = codes "passes, but is listed as known to fail: remove it from " ++ printable_text path
 
 -- how a run ended, with the reason of a known failure, or, for a job that passes although it is known to fail, that message instead
-abbrev pub judged_ending_text : Judged → Row → Option (List ℕ × ℕ) → Option (List ℕ) → List ℕ
+abbrev pub judged_ending_text : JudgementView → Row → Option (List ℕ × ℕ) → Option (List ℕ) → List ℕ
 judged_ending_text passed row place reason = result_ending_text row.ending row.steps place reason
 judged_ending_text failed row place reason = result_ending_text row.ending row.steps place reason
 judged_ending_text (known why) row place reason =
@@ -54,6 +54,6 @@ judged_ending_text (known why) row place reason =
 judged_ending_text (now_passes path) row place reason = now_passes_text path
 
 -- the line about a row: whether it passed, the job's name, and how the run ended
-unfoldable pub result_line : Judged → Row → Option (List ℕ × ℕ) → Option (List ℕ) → List ℕ
+unfoldable pub result_line : JudgementView → Row → Option (List ℕ × ℕ) → Option (List ℕ) → List ℕ
 result_line judged row place reason =
     line (judgement_word judged ++ row.name ++ codes ": " ++ judged_ending_text judged row place reason)

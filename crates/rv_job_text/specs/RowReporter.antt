@@ -2,13 +2,13 @@
 use Rattle.std.specs.Prelude.{ℕ, List, [], ◌++◌, Option, Some, None, Bool, true, false}
 use Rattle.std.specs.Prelude.{if◌then◌else◌, slice_get}
 use Rattle.rv_calls.specs.Calls.{calls_in}
-use Rattle.rv_expect.specs.declared.unmet.Unmet.{Unmet}
-use Rattle.rv_expect.specs.Comparisons.{Sides}
+use Rattle.rv_expect.specs.declared.unmet.UnmetExpectation.{UnmetExpectation}
+use Rattle.rv_expect.specs.Comparisons.{ComparisonView}
 use Rattle.rv_expect.specs.UnmetInPlan.{comparison_in, unmet_expectations_in}
 use Rattle.rv_files.specs.declared.recording_store.UnreadablePath.{UnreadablePath}
 use Rattle.rv_rows.specs.declared_job.Job.{Job}
-use Rattle.rv_rows.specs.Plans.{Planned}
-use Rattle.rv_expect.specs.Judgement.{Judging, fails, is_unknown_failure, judgement, judge_view}
+use Rattle.rv_rows.specs.Plans.{PlanView}
+use Rattle.rv_expect.specs.Judgement.{JudgeView, fails, is_unknown_failure, judgement, judge_view}
 use Rattle.rv_job_text.specs.ConsoleTail.{console_tail}
 use Rattle.rv_job_text.specs.ResultLine.{result_line}
 use Rattle.rv_job_text.specs.MetLines.{met_lines}
@@ -29,11 +29,11 @@ use Rattle.rv_calls.specs.Trace.{image_bytes, trace_in}
 
 -- a reporter of the rows of a plan: what it knows about the jobs, and which rows it shows in which detail
 pub record RowReporter : Type 0 where
-  pub plan : Planned
+  pub plan : PlanView
   -- the files that could not be read, with the reasons
   pub unread : List UnreadablePath
   -- which rows are failures
-  pub judging : Judging
+  pub judging : JudgeView
   -- which rows are shown
   pub verbosity : Verbosity
   -- how many last instructions of a failed job are shown, if any
@@ -50,45 +50,45 @@ reporter_of reporter = record {
 }
 
 -- the address of the first word of a job's signature, if it is known
-abbrev pub signature_address : Planned → Job → Option ℕ
+abbrev pub signature_address : PlanView → Job → Option ℕ
 signature_address plan job = signature_begin job.isa (image_bytes plan.answers job) job.signature
 
 -- the line about a row, with the symbol at the pc of a fault and with the reason of a refusal
-unfoldable pub row_line : Planned → List UnreadablePath → Judging → Job → Row → List ℕ
+unfoldable pub row_line : PlanView → List UnreadablePath → JudgeView → Job → Row → List ℕ
 row_line plan unread judging job row =
     result_line (judgement judging row) row (fault_symbol job.isa (image_bytes plan.answers job) row.ending)
     (ending_reason plan.answers unread job row.ending)
 
 -- the lines about how a run reached its end, with at most `last` of its last instructions
-unfoldable pub end_trace_lines : Planned → Job → Row → ℕ → List ℕ
+unfoldable pub end_trace_lines : PlanView → Job → Row → ℕ → List ℕ
 end_trace_lines plan job row last = optional_trace_text job.isa (image_bytes plan.answers job) row.ending
     (trace_in plan job row.steps last)
 
 -- the lines about how a run reached its end; empty if the number of last instructions is `None`, which means that they are not requested
-abbrev pub end_trace_if_requested : Planned → Job → Row → Option ℕ → List ℕ
+abbrev pub end_trace_if_requested : PlanView → Job → Row → Option ℕ → List ℕ
 end_trace_if_requested plan job row None = []
 end_trace_if_requested plan job row (Some last) = end_trace_lines plan job row last
 
 -- the lines about these unmet expectations and, if `Detail` says so, about the met ones
-abbrev pub compared_lines : Detail → Option ℕ → Sides → List Unmet → List ℕ
-compared_lines detail.Unmet address sides unmet = unmet_lines address sides unmet
+abbrev pub compared_lines : Detail → Option ℕ → ComparisonView → List UnmetExpectation → List ℕ
+compared_lines detail.UnmetExpectation address sides unmet = unmet_lines address sides unmet
 compared_lines detail.All address sides unmet =
     unmet_lines address sides unmet ++ met_lines sides unmet
 
 -- the lines about the unmet expectations of a row and, if `Detail` says so, about the met ones
-abbrev pub expectation_lines : Detail → Planned → Job → Row → List ℕ
+abbrev pub expectation_lines : Detail → PlanView → Job → Row → List ℕ
 expectation_lines which plan job row =
     compared_lines which (signature_address plan job) (comparison_in plan job row)
     (unmet_expectations_in plan job row)
 
 -- the lines about a failed run: its unmet expectations, the end of its console and, if requested, how it reached its end
-unfoldable pub run_lines : Planned → Job → Row → Option ℕ → List ℕ
+unfoldable pub run_lines : PlanView → Job → Row → Option ℕ → List ℕ
 run_lines plan job row last =
-    expectation_lines detail.Unmet plan job row ++ (console_tail row.console
+    expectation_lines detail.UnmetExpectation plan job row ++ (console_tail row.console
     ++ end_trace_if_requested plan job row last)
 
 -- the lines below the result line of a failed row; empty if the job did not run
-abbrev pub lines_below_failure : Planned → Job → Row → Option ℕ → List ℕ
+abbrev pub lines_below_failure : PlanView → Job → Row → Option ℕ → List ℕ
 lines_below_failure plan job row last = if did_run row.ending then run_lines plan job row last else []
 
 -- whether a row is shown, given whether it is a failure
@@ -118,33 +118,33 @@ row_lines_at reporter place row = row_lines_of_job reporter row (slice_get repor
 -- ---- the outcome of a job
 
 -- the lines about the unmet expectations of a row; empty if the job did not run
-abbrev pub unmet_if_run : Planned → Job → Row → List ℕ
-unmet_if_run plan job row = if did_run row.ending then expectation_lines detail.Unmet plan job row else []
+abbrev pub unmet_if_run : PlanView → Job → Row → List ℕ
+unmet_if_run plan job row = if did_run row.ending then expectation_lines detail.UnmetExpectation plan job row else []
 
 -- the line about a row, followed by its unmet expectations
-unfoldable pub outcome_text : Planned → List UnreadablePath → Judging → Job → Row → List ℕ
+unfoldable pub outcome_text : PlanView → List UnreadablePath → JudgeView → Job → Row → List ℕ
 outcome_text plan unread judging job row = row_line plan unread judging job row ++ unmet_if_run plan job row
 
 -- ---- the explanation of a job
 
 -- the line with the calls that had not returned when the job's run ended; empty if all had returned
-unfoldable pub calls_lines : Planned → Job → List ℕ
+unfoldable pub calls_lines : PlanView → Job → List ℕ
 calls_lines plan job = optional_calls_text job.isa (image_bytes plan.answers job) (calls_in plan job)
 
 -- the lines that explain a run: its expectations, the end of its console, the use of its budget, how it reached its end, and the calls that
 -- had not returned
-unfoldable pub run_explanation : Planned → Job → Row → TraceOptions → List ℕ
+unfoldable pub run_explanation : PlanView → Job → Row → TraceOptions → List ℕ
 run_explanation plan job row way =
     expectation_lines detail.All plan job row ++ (console_tail row.console
     ++ (budget_use_line row.steps way.budget_use
     ++ (end_trace_lines plan job row way.last ++ calls_lines plan job)))
 
 -- the lines that explain a run; empty if the job did not run
-abbrev pub explanation_if_run : Planned → Job → Row → TraceOptions → List ℕ
+abbrev pub explanation_if_run : PlanView → Job → Row → TraceOptions → List ℕ
 explanation_if_run plan job row way =
     if did_run row.ending then run_explanation plan job row way else []
 
 -- the line about a row, followed by the lines that explain its run
-unfoldable pub explanation_text : Planned → List UnreadablePath → Judging → Job → Row → TraceOptions → List ℕ
+unfoldable pub explanation_text : PlanView → List UnreadablePath → JudgeView → Job → Row → TraceOptions → List ℕ
 explanation_text plan unread judging job row way =
     row_line plan unread judging job row ++ explanation_if_run plan job row way

@@ -3,12 +3,12 @@ use Rattle.std.specs.Prelude.{◌==◌, ℕ, zero, suc, List, [], ◌∷◌, ◌
 use Rattle.std.specs.Prelude.{codes, if◌then◌else◌, length, sum_by, count_by}
 use Rattle.std.specs.List.{flat_map}
 use Rattle.std.specs.Fmt.{decimal}
-use Rattle.rv_rows.specs.Plans.{Planned}
+use Rattle.rv_rows.specs.Plans.{PlanView}
 use Rattle.rv_rows.specs.Faults.{fault_name}
 use Rattle.rv_rows.specs.declared_row.Row.{Row}
 use Rattle.rv_rows.specs.Report.{line}
 use Rattle.rv_text.specs.Words.{count_text}
-use Rattle.rv_expect.specs.Judgement.{Judging, fails, is_known_failure, is_passed, judgement}
+use Rattle.rv_expect.specs.Judgement.{JudgeView, fails, is_known_failure, is_passed, judgement}
 use Rattle.rv_expect.specs.declared.failure_kind.FailureKind.{FailureKind}
 use Rattle.rv_expect.specs.declared.failure_kind.FailureKind.TheVariants as failure
 use Rattle.rv_expect.specs.FailureKinds.{failure_kind_at, failure_kind_count, failures_by_end, failures_in_plan, is_same_failure_kind}
@@ -28,15 +28,15 @@ failure_kind_name failure.SameAs = codes "same_as"
 -- ---- counts
 
 -- the number of rows that passed
-abbrev pub passed_count : Judging → List Row → ℕ
+abbrev pub passed_count : JudgeView → List Row → ℕ
 passed_count judging rows = count_by (λ row. is_passed (judgement judging row)) rows
 
 -- the number of rows that count as failures
-abbrev pub failed_count : Judging → List Row → ℕ
+abbrev pub failed_count : JudgeView → List Row → ℕ
 failed_count judging rows = count_by (fails judging) rows
 
 -- the number of rows that failed and are listed as known failures
-abbrev pub known_count : Judging → List Row → ℕ
+abbrev pub known_count : JudgeView → List Row → ℕ
 known_count judging rows = count_by (λ row. is_known_failure (judgement judging row)) rows
 
 -- how many of the failures are of this kind
@@ -82,13 +82,13 @@ abbrev pub known_count_text : ℕ → List ℕ
 known_count_text count = if count == 0 then [] else codes ", " ++ count_text count (codes "known failure")
 
 -- the last line for rows with these failures, without its line feed
-unfoldable pub totals_text : Judging → List FailureKind → List Row → List ℕ
+unfoldable pub totals_text : JudgeView → List FailureKind → List Row → List ℕ
 totals_text judging failures rows = passed_counts_text (length rows) (passed_count judging rows) (failed_count judging rows)
     ++ bracket_text (failure_texts_below (failure_count failures) failure_kind_count)
     ++ known_count_text (known_count judging rows) ++ codes ", " ++ count_text (total_steps rows) (codes "step")
 
 -- the last line for the rows of a report, whose failures are counted by how they ended
-abbrev pub totals_line : Judging → List Row → List ℕ
+abbrev pub totals_line : JudgeView → List Row → List ℕ
 totals_line judging rows = line (totals_text judging (failures_by_end judging rows) rows)
 
 -- how many jobs have no row since a failure stopped the run; empty if there are none
@@ -96,6 +96,6 @@ abbrev pub hidden_text : ℕ → List ℕ
 hidden_text count = if count == 0 then [] else codes "; " ++ decimal count ++ job_word count ++ codes " not shown"
 
 -- the last line of a run of the jobs at these indices: it has these rows, and `hidden` jobs have none
-abbrev pub run_totals_line : Judging → Planned → List ℕ → List Row → ℕ → List ℕ
+abbrev pub run_totals_line : JudgeView → PlanView → List ℕ → List Row → ℕ → List ℕ
 run_totals_line judging plan places rows hidden =
     line (totals_text judging (failures_in_plan judging plan places rows) rows ++ hidden_text hidden)

@@ -11,9 +11,9 @@ use Rattle.rv_expect.specs.declared.difference.SameAsDifference.{SameAsDifferenc
 use Rattle.rv_expect.specs.declared.difference.SameAsDifference.TheVariants as same
 use Rattle.rv_expect.specs.declared.difference.SignatureDifference.{SignatureDifference}
 use Rattle.rv_expect.specs.declared.difference.SignatureDifference.TheVariants as signature
-use Rattle.rv_expect.specs.declared.unmet.Unmet.{Unmet}
-use Rattle.rv_expect.specs.declared.unmet.Unmet.TheVariants as unmet
-use Rattle.rv_expect.specs.Comparisons.{Sides}
+use Rattle.rv_expect.specs.declared.unmet.UnmetExpectation.{UnmetExpectation}
+use Rattle.rv_expect.specs.declared.unmet.UnmetExpectation.TheVariants as unmet
+use Rattle.rv_expect.specs.Comparisons.{ComparisonView}
 use Rattle.rv_expect.specs.Reference.{signature_words_or_empty}
 use Rattle.rv_rows.specs.declared_job.ExpectedConsole.{ExpectedConsole}
 use Rattle.rv_rows.specs.declared_job.ExpectedConsole.TheVariants as console
@@ -170,7 +170,7 @@ same_difference_text first row (Some other) difference =
 -- ---- the line
 
 -- the text of an unmet expectation, such as `exit 0`; `address` is the address of the signature's first word, if it is known
-unfoldable pub unmet_expectation_text : Option ℕ → Sides → Unmet → List ℕ
+unfoldable pub unmet_expectation_text : Option ℕ → ComparisonView → UnmetExpectation → List ℕ
 unmet_expectation_text address sides unmet.Exit = expected_exit_text sides.job.expect_exit
 unmet_expectation_text address sides unmet.End = expected_end_text sides.job.expect_end
 unmet_expectation_text address sides (unmet.Console difference) =
@@ -182,21 +182,21 @@ unmet_expectation_text address sides (unmet.Same difference) =
 unmet_expectation_text address sides unmet.Nothing = codes "exit 0, since no expectation is set"
 
 -- the text before an unmet expectation in its line: five spaces, and `expected: ` unless the text itself says what differs
-abbrev pub unmet_margin : Unmet → List ℕ
+abbrev pub unmet_margin : UnmetExpectation → List ℕ
 unmet_margin (unmet.Console difference) = codes "     "
 unmet_margin (unmet.Signature difference) = codes "     "
 unmet_margin _ = codes "     expected: "
 
 -- the lines about an unmet expectation: the differing lines if the expected text is given, and otherwise a single line
-abbrev pub unmet_line_with : Option ℕ → Sides → Unmet → Option NamedText → List ℕ
+abbrev pub unmet_line_with : Option ℕ → ComparisonView → UnmetExpectation → Option NamedText → List ℕ
 unmet_line_with address sides unmet None =
     line (unmet_margin unmet ++ unmet_expectation_text address sides unmet)
 unmet_line_with address sides unmet (Some expected) = console_lines expected.source sides.row.console expected.text
 
 -- the lines about an unmet expectation
-unfoldable pub unmet_line : Option ℕ → Sides → Unmet → List ℕ
+unfoldable pub unmet_line : Option ℕ → ComparisonView → UnmetExpectation → List ℕ
 unmet_line address sides unmet = unmet_line_with address sides unmet (expected_by_lines sides unmet)
 
 -- the lines about the unmet expectations, in order
-abbrev pub unmet_lines : Option ℕ → Sides → List Unmet → List ℕ
+abbrev pub unmet_lines : Option ℕ → ComparisonView → List UnmetExpectation → List ℕ
 unmet_lines address sides unmet = flat_map (unmet_line address sides) unmet

@@ -5,7 +5,7 @@ ghost use Rattle.rv_expect.specs.Comparisons.{comparison_view};
 ghost use Rattle.rv_job_text.specs.ConsoleLines.{is_shown_by_lines, shown_by_lines, expected_by_lines, expected_console, named_text_of};
 
 use crate::difference_text::bytes_or_empty;
-use rv_expect::{Comparison, Difference, Unmet};
+use rv_expect::{Comparison, Difference, UnmetExpectation};
 use rv_rows::ExpectedConsole;
 use rv_text::{Span, is_utf8};
 
@@ -19,16 +19,16 @@ pub(crate) struct ExpectedText<'a> {
 /// Returns the expected text of an unmet expectation of a console, or `None` if the difference from it is not shown line by line.
 pub(crate) fn expected_by_lines<'a>(
     comparison: &Comparison<'a, '_>,
-    unmet: Unmet,
+    unmet: UnmetExpectation,
 ) -> Option<ExpectedText<'a>>
     ensures { option_map named_text_of result ≡ expected_by_lines (comparison_view comparison.now) unmet }
 {
     match unmet {
-        Unmet::Console(difference) => {
+        UnmetExpectation::Console(difference) => {
             let expected = expected_console(&comparison.job.expect_console, comparison.console);
             shown_by_lines(difference, comparison.row.console.as_slice(), expected)
         }
-        Unmet::Exit | Unmet::End | Unmet::Signature(_) | Unmet::Same(_) | Unmet::Nothing => None,
+        UnmetExpectation::Exit | UnmetExpectation::End | UnmetExpectation::Signature(_) | UnmetExpectation::Same(_) | UnmetExpectation::Nothing => None,
     }
 }
 

@@ -7,7 +7,7 @@ ghost use Rattle.rv_job_text.specs.MetLines.{met_line, met_lines, met_expectatio
 
 use crate::paths::{console_path, reference_path};
 use crate::unmet_line::{push_expected_end, push_expected_exit};
-use rv_expect::{Comparison, Expectation, Unmet, is_expectation_met};
+use rv_expect::{Comparison, Expectation, UnmetExpectation, is_expectation_met};
 use rv_rows::Row;
 use rv_text::{Span, push_spans, push_text};
 use std::alloc::AllocError;
@@ -17,7 +17,7 @@ use std::alloc::AllocError;
 pub(crate) fn push_met_lines(
     bytes: &mut Vec<u8>,
     comparison: &Comparison<'_, '_>,
-    unmet: &[Unmet],
+    unmet: &[UnmetExpectation],
 ) -> Result<(), AllocError>
     ensures { OnOk result (bytes.new.items
         ≡ bytes.old.items ++ met_lines (comparison_view comparison.now) unmet.now) }
@@ -41,7 +41,7 @@ pub(crate) fn push_met_lines(
 fn push_each_met_line(
     bytes: &mut Vec<u8>,
     comparison: &Comparison<'_, '_>,
-    unmet: &[Unmet],
+    unmet: &[UnmetExpectation],
     expectations: &[Expectation],
 ) -> Result<(), AllocError>
     ensures { OnOk result (bytes.new.items ≡ bytes.old.items
@@ -58,7 +58,7 @@ fn push_each_met_line(
 fn push_met_line(
     bytes: &mut Vec<u8>,
     comparison: &Comparison<'_, '_>,
-    unmet: &[Unmet],
+    unmet: &[UnmetExpectation],
     one: Expectation,
 ) -> Result<(), AllocError>
     ensures { OnOk result (bytes.new.items

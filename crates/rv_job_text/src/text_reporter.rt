@@ -20,7 +20,7 @@ use crate::refusal_reasons::ending_reason;
 use crate::result_line::{EndDetail, push_result_line};
 use crate::unmet_line::push_unmet_lines;
 use crate::verbosity::{Detail, Verbosity};
-use rv_expect::{Comparison, Judge, Unmet, row_of_same_as_job, unmet_expectations};
+use rv_expect::{Comparison, Judge, UnmetExpectation, row_of_same_as_job, unmet_expectations};
 use rv_files::UnreadablePath;
 use rv_rows::{
     Plan, Row, RowEnd, RowReporter, SymbolAt, did_run, expected_console_bytes,
@@ -153,7 +153,7 @@ impl<'a> TextReporter<'a> {
             row,
             file,
         }
-        .push_expectation_lines(alloc, Detail::Unmet, text)
+        .push_expectation_lines(alloc, Detail::UnmetExpectation, text)
     }
 
     /// Appends only the line about the row of the job at index `place`, whatever the verbosity. Parses the image only if the run ended with
@@ -232,7 +232,7 @@ impl<'a> JobRow<'a> {
             ++ run_lines self.now.plan.now (job_at self.now.plan.now self.now.place d)
             self.now.row.now last) }
     {
-        self.push_expectation_lines(alloc, Detail::Unmet, text)?;
+        self.push_expectation_lines(alloc, Detail::UnmetExpectation, text)?;
         push_console_tail(text, self.row.console.as_slice())?;
         match last {
             Some(last) => self.push_end_trace(alloc, last, text),
@@ -309,7 +309,7 @@ impl<'a> JobRow<'a> {
 fn push_compared_lines(
     comparison: &Comparison<'_, '_>,
     address: Option<u32>,
-    unmet: &[Unmet],
+    unmet: &[UnmetExpectation],
     detail: Detail,
     text: &mut Vec<u8>,
 ) -> Result<(), AllocError>
@@ -318,7 +318,7 @@ fn push_compared_lines(
 {
     push_unmet_lines(text, comparison, address, unmet)?;
     match detail {
-        Detail::Unmet => Ok(()),
+        Detail::UnmetExpectation => Ok(()),
         Detail::All => push_met_lines(text, comparison, unmet),
     }
 }

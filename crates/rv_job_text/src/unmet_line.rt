@@ -9,7 +9,7 @@ use crate::console_lines::push_console_lines;
 use crate::difference_text::{push_bytes_difference, push_console_difference, push_prefixed_name};
 use crate::expected_text::{ExpectedText, expected_by_lines};
 use crate::signature_difference_text::{push_signature_difference, push_signatures_difference};
-use rv_expect::{Comparison, SameAsDifference, Unmet};
+use rv_expect::{Comparison, SameAsDifference, UnmetExpectation};
 use rv_rows::{ExpectedEnd, Row, RowEnd};
 use rv_text::{Span, push_spans, push_text};
 use std::alloc::AllocError;
@@ -19,7 +19,7 @@ pub(crate) fn push_unmet_lines(
     bytes: &mut Vec<u8>,
     comparison: &Comparison<'_, '_>,
     address: Option<u32>,
-    unmet: &[Unmet],
+    unmet: &[UnmetExpectation],
 ) -> Result<(), AllocError>
     ensures { OnOk result (bytes.new.items
         ≡ bytes.old.items ++ unmet_lines address (comparison_view comparison.now) unmet.now) }
@@ -36,7 +36,7 @@ fn push_unmet_line(
     bytes: &mut Vec<u8>,
     comparison: &Comparison<'_, '_>,
     address: Option<u32>,
-    unmet: Unmet,
+    unmet: UnmetExpectation,
 ) -> Result<(), AllocError>
     ensures { OnOk result (bytes.new.items
         ≡ bytes.old.items ++ unmet_line address (comparison_view comparison.now) unmet) }
@@ -54,7 +54,7 @@ fn push_expected_line(
     bytes: &mut Vec<u8>,
     comparison: &Comparison<'_, '_>,
     address: Option<u32>,
-    unmet: Unmet,
+    unmet: UnmetExpectation,
 ) -> Result<(), AllocError>
     ensures { OnOk result (bytes.new.items ≡ bytes.old.items
         ++ unmet_line_with address (comparison_view comparison.now) unmet None) }
@@ -65,12 +65,12 @@ fn push_expected_line(
 }
 
 // Returns the text before an unmet expectation in its line: five spaces, and `expected: ` unless the text itself says what differs.
-fn unmet_margin(unmet: Unmet) -> &'static str
+fn unmet_margin(unmet: UnmetExpectation) -> &'static str
     ensures { result.now ≡ unmet_margin unmet }
 {
     match unmet {
-        Unmet::Console(_) | Unmet::Signature(_) => "     ",
-        Unmet::Exit | Unmet::End | Unmet::Same(_) | Unmet::Nothing => "     expected: ",
+        UnmetExpectation::Console(_) | UnmetExpectation::Signature(_) => "     ",
+        UnmetExpectation::Exit | UnmetExpectation::End | UnmetExpectation::Same(_) | UnmetExpectation::Nothing => "     expected: ",
     }
 }
 
@@ -80,7 +80,7 @@ fn push_unmet_expectation(
     bytes: &mut Vec<u8>,
     comparison: &Comparison<'_, '_>,
     address: Option<u32>,
-    unmet: Unmet,
+    unmet: UnmetExpectation,
 ) -> Result<(), AllocError>
     ensures { OnOk result (bytes.new.items
         ≡ bytes.old.items ++ unmet_expectation_text address (comparison_view comparison.now) unmet) }
@@ -88,9 +88,9 @@ fn push_unmet_expectation(
     let job = comparison.job;
     let row = comparison.row;
     match unmet {
-        Unmet::Exit => push_expected_exit(bytes, job.expect_exit),
-        Unmet::End => push_expected_end(bytes, job.expect_end),
-        Unmet::Console(difference) => {
+        UnmetExpectation::Exit => push_expected_exit(bytes, job.expect_exit),
+        UnmetExpectation::End => push_expected_end(bytes, job.expect_end),
+        UnmetExpectation::Console(difference) => {
             let actual = row.console.as_slice();
             push_console_difference(
                 bytes,
@@ -100,17 +100,17 @@ fn push_unmet_expectation(
                 difference,
             )
         }
-        Unmet::Signature(difference) => push_signature_difference(
+        UnmetExpectation::Signature(difference) => push_signature_difference(
             bytes, comparison, address, difference,
         ),
-        Unmet::Same(difference) => push_same_difference(
+        UnmetExpectation::Same(difference) => push_same_difference(
             bytes,
             address,
             row,
             comparison.other,
             difference,
         ),
-        Unmet::Nothing => push_text(bytes, "exit 0, since no expectation is set"),
+        UnmetExpectation::Nothing => push_text(bytes, "exit 0, since no expectation is set"),
     }
 }
 

@@ -21,7 +21,7 @@ pub enum Verbosity {
 #[derive(Clone, Copy)]
 pub(crate) enum Detail {
     /// Only the unmet ones.
-    Unmet,
+    UnmetExpectation,
     /// The unmet ones, and then the met ones.
     All,
 }

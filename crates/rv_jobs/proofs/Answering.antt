@@ -12,8 +12,8 @@ use Rattle.std.proofs.lemmas.List.Elements.{All-push}
 use Rattle.rv_lists.specs.declared.job.Job.{Job}
 use Rattle.rv_jobs.specs.declared.kept.Kept.{Kept}
 use Rattle.rv_jobs.specs.declared.kept.Kept.TheVariants.{Unreadable}
-use Rattle.rv_jobs.specs.declared.answers.Answer.{Answer}
-use Rattle.rv_jobs.specs.declared.path_reading.Places.{Places}
+use Rattle.rv_jobs.specs.declared.answers.PathResult.{PathResult}
+use Rattle.rv_jobs.specs.declared.path_reading.ResultIndices.{ResultIndices}
 use Rattle.rv_lists.specs.Names.{index_in}
 use Rattle.rv_lists.specs.Files.{FileContents}
 use Rattle.rv_jobs.specs.Kept.{AgreesWithContents, is_unreadable, faults_after_read}
@@ -27,27 +27,27 @@ use Rattle.std.proofs.lemmas.Slice.Eq.{bytes_eq-Decides}
 
 -- ---- what is kept of a path
 
-result_indices_of_job : (b : Bool) (o : Option ℕ) (a : Answer) (ans : List Answer) (f : Option Answer) (k : ℕ) (d : Answer)
-    → ((j : ℕ) → o ≡ Some j → option_map (λ (x : Answer). x.kept) f ≡ Some (get_or ans j d).kept)
+result_indices_of_job : (b : Bool) (o : Option ℕ) (a : PathResult) (ans : List PathResult) (f : Option PathResult) (k : ℕ) (d : PathResult)
+    → ((j : ℕ) → o ≡ Some j → option_map (λ (x : PathResult). x.kept) f ≡ Some (get_or ans j d).kept)
     → cond b (Some 0) (option_map (λ j. j + 1) o) ≡ Some k
-    → option_map (λ (x : Answer). x.kept) (cond b (Some a) f) ≡ Some (get_or (a ∷ ans) k d).kept
+    → option_map (λ (x : PathResult). x.kept) (cond b (Some a) f) ≡ Some (get_or (a ∷ ans) k d).kept
 result_indices_of_job true o a ans f k d ih e = let z : 0 ≡ k = cc in ap (λ j. Some (get_or (a ∷ ans) j d).kept) z
 result_indices_of_job false None a ans f k d ih e = cc
 result_indices_of_job false (Some j) a ans f k d ih e = let z : j + 1 ≡ k = cc in let s : suc j ≡ k = omega arith in ih j refl
     ∙ ap (λ i. Some (get_or (a ∷ ans) i d).kept) s
 
 -- the answer at the place of the path
-pub cached_or_invalidated_at : (ans : List Answer) (p : List ℕ) (k : ℕ) (d : Answer) → index_in (paths_of ans) p ≡ Some k
+pub cached_or_invalidated_at : (ans : List PathResult) (p : List ℕ) (k : ℕ) (d : PathResult) → index_in (paths_of ans) p ≡ Some k
     → result_of_path ans p ≡ Some (get_or ans k d).kept
 unfolding index_in
 cached_or_invalidated_at [] p k d e = cc
 cached_or_invalidated_at (a ∷ ans) p k d e = result_indices_of_job (bytes_eq p a.path) (index_in (paths_of ans) p) a ans
-    (find (λ (x : Answer). bytes_eq p x.path) ans) k d (λ j h. cached_or_invalidated_at ans p j d h) e
+    (find (λ (x : PathResult). bytes_eq p x.path) ans) k d (λ j h. cached_or_invalidated_at ans p j d h) e
 
-absent : (b : Bool) (o : Option ℕ) (a : Answer) (f : Option Answer)
-    → (o ≡ None → option_map (λ (x : Answer). x.kept) f ≡ None)
+absent : (b : Bool) (o : Option ℕ) (a : PathResult) (f : Option PathResult)
+    → (o ≡ None → option_map (λ (x : PathResult). x.kept) f ≡ None)
     → cond b (Some 0) (option_map (λ j. j + 1) o) ≡ None
-    → option_map (λ (x : Answer). x.kept) (cond b (Some a) f) ≡ None
+    → option_map (λ (x : PathResult). x.kept) (cond b (Some a) f) ≡ None
 absent true o a f ih e = cc
 absent false None a f ih e = ih refl
 absent false (Some k) a f ih e = cc
@@ -61,7 +61,7 @@ paths-with (p ∷ ps) [] e = absurd (omega arith)
 paths-with (p ∷ ps) (k ∷ ks) e = ap (λ l. p ∷ l) (paths-with ps ks (omega arith))
 
 pub kept-with : (ps : List (List ℕ)) (ks : List Kept) → length ps ≡ length ks
-    → ks ≡ map (λ (a : Answer). a.kept) (results_with ps ks)
+    → ks ≡ map (λ (a : PathResult). a.kept) (results_with ps ks)
 kept-with [] [] e = refl
 kept-with [] (k ∷ ks) e = absurd (omega arith)
 kept-with (p ∷ ps) [] e = absurd (omega arith)
@@ -75,15 +75,15 @@ with-push (q ∷ qs) [] p k e = absurd (omega arith)
 with-push (q ∷ qs) (x ∷ xs) p k e =
     ap (λ l. record { path = q; kept = x } ∷ l) (with-push qs xs p k (omega arith))
 
-with-parts : (all : List Answer) → results_with (paths_of all) (map (λ (a : Answer). a.kept) all) ≡ all
+with-parts : (all : List PathResult) → results_with (paths_of all) (map (λ (a : PathResult). a.kept) all) ≡ all
 with-parts [] = refl
 with-parts (a ∷ rest) = ap (λ l. a ∷ l) (with-parts rest)
 
-pub parts_whole : (all : List Answer) (ps : List (List ℕ)) (ks : List Kept) → paths_of all ≡ ps
-    → ks ≡ map (λ (a : Answer). a.kept) all → results_with ps ks ≡ all
+pub parts_whole : (all : List PathResult) (ps : List (List ℕ)) (ks : List Kept) → paths_of all ≡ ps
+    → ks ≡ map (λ (a : PathResult). a.kept) all → results_with ps ks ≡ all
 parts_whole all ps ks e f = (λ i. results_with (sym e i) (f i)) ∙ with-parts all
 
-with-at : (ps : List (List ℕ)) (ks : List Kept) (i : ℕ) (d : Answer) (k : Kept) → length ps ≡ length ks
+with-at : (ps : List (List ℕ)) (ks : List Kept) (i : ℕ) (d : PathResult) (k : Kept) → length ps ≡ length ks
     → i < length ks
     → (get_or (results_with ps ks) i d).kept ≡ get_or ks i k
 with-at ps [] i d k e l = absurd (omega arith)
@@ -135,7 +135,7 @@ below_length None k n m e is h = cc
 below_length (Some j) k n m e is h = let z : k ≡ j = cc in omega arith
 
 -- the answers with one more
-abbrev pub one_answer : List Answer → List ℕ → Kept → List Answer
+abbrev pub one_answer : List PathResult → List ℕ → Kept → List PathResult
 one_answer old p kept = old ++ record { path = p; kept = kept } ∷ []
 
 counted_at : (b : Bool) (n u before after : ℕ) → before ≡ after_increments n u → after ≡ cond b (one_more before) before
@@ -164,7 +164,7 @@ new_place xs ys p at none pushed is =
 
 -- the paths and what is kept of them, with one of each more
 module _ (ps qs : List (List ℕ)) (ks ms : List Kept) (p : List ℕ) (kept : Kept) (even : length ps ≡ length ks)
-    (pathed : qs ≡ ps ++ p ∷ []) (pushed : ms ≡ ks ++ kept ∷ []) (old : List Answer)
+    (pathed : qs ≡ ps ++ p ∷ []) (pushed : ms ≡ ks ++ kept ∷ []) (old : List PathResult)
     (view : results_with ps ks ≡ old) where
   pub still_even : length qs ≡ length ms
   still_even = omega (
@@ -178,12 +178,12 @@ module _ (ps qs : List (List ℕ)) (ks ms : List Kept) (p : List ℕ) (kept : Ke
 
   grown : results_with qs ms ≡ one_answer old p kept
   grown = (λ i. results_with (pathed i) (pushed i)) ∙ with-push ps ks p kept even
-      ∙ ap (λ (l : List Answer). one_answer l p kept) view
+      ∙ ap (λ (l : List PathResult). one_answer l p kept) view
 
   pub asked_paths : index_in ps p ≡ None → paths_of (results_with qs ms) ≡ with_path (paths_of old) p
   asked_paths none =
       let same_paths : paths_of old ≡ ps = ap paths_of (sym view) ∙ paths-with ps ks even in
-      ap paths_of grown ∙ map-append (λ (x : Answer). x.path) old (record { path = p; kept = kept } ∷ [])
+      ap paths_of grown ∙ map-append (λ (x : PathResult). x.path) old (record { path = p; kept = kept } ∷ [])
       ∙ with_path-new (paths_of old) p (ap is_some (ap (λ l. index_in l p) same_paths ∙ none))
 
   pub asked_place : (at : ℕ) → index_in ps p ≡ None → at ≡ length ks
@@ -194,14 +194,14 @@ module _ (ps qs : List (List ℕ)) (ks ms : List Kept) (p : List ℕ) (kept : Ke
   pub asked_kept : (known : Option FileContents) → AgreesWithContents known p kept → AgreeWithContents known old
       → AgreeWithContents known (results_with qs ms)
   asked_kept known is before = subst (AgreeWithContents known) (sym grown)
-      (All-push (λ (x : Answer). AgreesWithContents known x.path x.kept) old (record { path = p; kept = kept }) before is)
+      (All-push (λ (x : PathResult). AgreesWithContents known x.path x.kept) old (record { path = p; kept = kept }) before is)
 
   pub asked_faults : (n before after : ℕ) → before ≡ after_increments n (unreadable_count old)
       → after ≡ faults_after_read kept before
       → after ≡ after_increments n (unreadable_count (results_with qs ms))
   asked_faults n before after b f =
       let more_one : unreadable_count (one_answer old p kept) ≡ unreadable_count old + cond (is_unreadable kept) 1 0 =
-      sum_by-append (λ (x : Answer). cond (is_unreadable x.kept) 1 0) old (record { path = p; kept = kept } ∷ [])
+      sum_by-append (λ (x : PathResult). cond (is_unreadable x.kept) 1 0) old (record { path = p; kept = kept } ∷ [])
       ∙ ap (λ k. unreadable_count old + k)
       (let z : 0 + cond (is_unreadable kept) 1 0 ≡ cond (is_unreadable kept) 1 0 = omega arith in z) in
       counted_at (is_unreadable kept) n (unreadable_count old) before after b f
@@ -233,7 +233,7 @@ reference_later xs ys still (Some q) (Some k) e = let h : index_in xs q ≡ Some
     ap (λ o. Some o) (still q k h)
 
 -- the answers of one job more leave the places of a job as they are
-pub placed_later : (xs : List (List ℕ)) (other job : Job) (at : Places) → AreResultIndices xs job at
+pub placed_later : (xs : List (List ℕ)) (other job : Job) (at : ResultIndices) → AreResultIndices xs job at
     → AreResultIndices (with_job_paths xs other) job at
 placed_later xs other job at h = record {
   image = with_job_paths-place xs other job.image at.image h.image;
@@ -272,19 +272,19 @@ place_within xs q k n e is = below_length (index_in xs q) k (length xs) n e (sym
 kept_there : (ps : List (List ℕ)) (ks : List Kept) (q : List ℕ) (k : ℕ) (x : Kept) → length ps ≡ length ks
     → index_in ps q ≡ Some k → x ≡ get_or ks k x → result_of_path (results_with ps ks) q ≡ Some x
 kept_there ps ks q k x even found is =
-    let d : Answer = record { path = q; kept = x } in
+    let d : PathResult = record { path = q; kept = x } in
     cached_or_invalidated_at (results_with ps ks) q k d (ap (λ l. index_in l q) (paths-with ps ks even) ∙ found)
     ∙ ap (λ (y : Kept). Some y) (with-at ps ks k d x even (place_within ps q k (length ks) even found) ∙ sym is)
 
 -- a path that has no place has no answer
-pub kept_none : (ans : List Answer) (p : List ℕ) → index_in (paths_of ans) p ≡ None → result_of_path ans p ≡ None
+pub kept_none : (ans : List PathResult) (p : List ℕ) → index_in (paths_of ans) p ≡ None → result_of_path ans p ≡ None
 unfolding index_in
 kept_none [] p e = refl
 kept_none (a ∷ ans) p e = absent (bytes_eq p a.path) (index_in (paths_of ans) p) a
-    (find (λ (x : Answer). bytes_eq p x.path) ans) (kept_none ans p) e
+    (find (λ (x : PathResult). bytes_eq p x.path) ans) (kept_none ans p) e
 
 -- what is kept of the path that has this place, or none
-module _ (all : List Answer) (ps : List (List ℕ)) (ks : List Kept) (even : length ps ≡ length ks)
+module _ (all : List PathResult) (ps : List (List ℕ)) (ks : List Kept) (even : length ps ≡ length ks)
     (view : results_with ps ks ≡ all) (at : Option ℕ) where
   pub kept_below : (k : ℕ) → at ≡ Some k → IfSome at (λ j. j < length all) → k < length ks
   kept_below k is within =
@@ -294,7 +294,7 @@ module _ (all : List Answer) (ps : List (List ℕ)) (ks : List Kept) (even : len
         below,
         ap length (sym view),
         ap (length {A = Kept}) (kept-with ps ks even),
-        length-map (results_with ps ks) (λ (a : Answer). a.kept),
+        length-map (results_with ps ks) (λ (a : PathResult). a.kept),
       )
 
   same_place : (p : List ℕ) → index_in (paths_of all) p ≡ at → index_in ps p ≡ at
@@ -304,7 +304,7 @@ module _ (all : List Answer) (ps : List (List ℕ)) (ks : List Kept) (even : len
       → index_in (paths_of all) p ≡ at
       → x ≡ result_or_unreadable all p
   kept_in k x p is there placed =
-      sym (ap (λ (a : List Answer). result_or_unreadable a p) (sym view)
+      sym (ap (λ (a : List PathResult). result_or_unreadable a p) (sym view)
       ∙ ap (λ o. unwrap_or o Unreadable) (kept_there ps ks p k x even (same_place p placed ∙ is) there))
 
   pub kept_not_in : (x : Kept) (p : List ℕ) → at ≡ None → x ≡ Unreadable → index_in (paths_of all) p ≡ at
@@ -313,13 +313,13 @@ module _ (all : List Answer) (ps : List (List ℕ)) (ks : List Kept) (even : len
       unread ∙ sym (ap (λ o. unwrap_or o Unreadable) (kept_none all p (placed ∙ is)))
 
 -- the place of a path that has an answer is one of theirs
-pub path_below : (all : List Answer) (ps : List (List ℕ)) (ks : List Kept) → length ps ≡ length ks
+pub path_below : (all : List PathResult) (ps : List (List ℕ)) (ks : List Kept) → length ps ≡ length ks
     → results_with ps ks ≡ all → (p : List ℕ) (at : Option ℕ) → index_in ps p ≡ at
     → IfSome at (λ k. k < length all)
 path_below all ps ks even view p at placed =
     subst (λ o. IfSome o (λ k. k < length all)) placed
     (subst (λ n. IfSome (index_in ps p) (λ k. k < n))
-    (sym (ap length (paths-with ps ks even)) ∙ length-map (results_with ps ks) (λ (a : Answer). a.path)
+    (sym (ap length (paths-with ps ks even)) ∙ length-map (results_with ps ks) (λ (a : PathResult). a.path)
     ∙ ap length view)
     (place_below ps p))
 
@@ -331,7 +331,7 @@ found_if xs None (Some k) e = cc
 found_if xs (Some q) None e = cc
 found_if xs (Some q) (Some k) e = cc
 
-pub placed_found : (xs : List (List ℕ)) (job : Job) (at : Places) → AreResultIndices xs job at
+pub placed_found : (xs : List (List ℕ)) (job : Job) (at : ResultIndices) → AreResultIndices xs job at
     → IsFound xs job (record { image = Some at.image; reference = at.reference; console = at.console })
 placed_found xs job at h = record {
   image = h.image;
@@ -341,7 +341,7 @@ placed_found xs job at h = record {
 
 -- ---- the loop over jobs
 
-module _ (ans : List Answer) (e : ans ≡ []) where
+module _ (ans : List PathResult) (e : ans ≡ []) where
   pub start_kept : (known : Option FileContents) → AgreeWithContents known ans
   start_kept known = subst (AgreeWithContents known) (sym e) (λ k d l. absurd (omega arith))
 

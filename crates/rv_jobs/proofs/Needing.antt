@@ -7,11 +7,11 @@ use Rattle.std.proofs.Math.Seq.{take-length}
 use Rattle.std.proofs.lemmas.Grind.{flat_map-append, fold-append}
 use Rattle.std.proofs.lemmas.List.{take_more, length-take, get_or-take}
 use Rattle.rv_lists.specs.declared.job.Job.{Job}
-use Rattle.rv_jobs.specs.declared.path_reading.Places.{Places}
+use Rattle.rv_jobs.specs.declared.path_reading.ResultIndices.{ResultIndices}
 use Rattle.rv_lists.specs.Jobs.{AreValidJobs, console_path, single_job}
 use Rattle.rv_lists.specs.Names.{index_in}
 use Rattle.rv_jobs.specs.Placed.{AreResultIndices}
-use Rattle.rv_jobs.specs.declared.answers.Answer.{Answer}
+use Rattle.rv_jobs.specs.declared.answers.PathResult.{PathResult}
 use Rattle.rv_jobs.specs.declared.kept.Kept.TheVariants.{Unreadable}
 use Rattle.rv_jobs.specs.Plans.{with_path, with_path_if_any, with_job_paths, paths_used, same_as_jobs, jobs_needed_at, jobs_needed_for}
 use Rattle.rv_jobs.specs.Plans.{paths_of, result_of_path, HasResults}
@@ -98,7 +98,7 @@ placed_there xs (Some q) (Some k) e p is =
     let same : q ≡ p = cc in
     ap (λ z. is_some (index_in xs z)) (sym same) ∙ ap is_some h
 
-pub placed_old : (xs : List (List ℕ)) (job : Job) (at : Places) → AreResultIndices xs job at → with_job_paths xs job ≡ xs
+pub placed_old : (xs : List (List ℕ)) (job : Job) (at : ResultIndices) → AreResultIndices xs job at → with_job_paths xs job ≡ xs
 placed_old xs job at h = has_old xs job (record {
   image = ap is_some h.image;
   reference = placed_there xs job.expect_signature at.reference h.reference;
@@ -122,18 +122,18 @@ job_used js k d inside = has_old (fold with_job_paths [] js) (get_or js k d) (ha
 
 -- ---- answers
 
-answered : (answers : List Answer) (p : List ℕ) → IsThere (paths_of answers) p → IsTrue (is_some (result_of_path answers p))
+answered : (answers : List PathResult) (p : List ℕ) → IsThere (paths_of answers) p → IsTrue (is_some (result_of_path answers p))
 answered answers p h =
     let t = place_there (index_in (paths_of answers) p) h in
     ap is_some (cached_or_invalidated_at answers p t.0 (record { path = p; kept = Unreadable }) t.1)
 
-answered_if : (answers : List Answer) (o : Option (List ℕ))
+answered_if : (answers : List PathResult) (o : Option (List ℕ))
     → ((p : List ℕ) → o ≡ Some p → IsThere (paths_of answers) p)
     → IfSome o (λ p. IsTrue (is_some (result_of_path answers p)))
 answered_if answers None there = tt
 answered_if answers (Some p) there = answered answers p (there p refl)
 
-pub used_answered : (jobs : List Job) (answers : List Answer) → paths_of answers ≡ paths_used jobs → (i : ℕ) (d : Job)
+pub used_answered : (jobs : List Job) (answers : List PathResult) → paths_of answers ≡ paths_used jobs → (i : ℕ) (d : Job)
     → i < length jobs → HasResults answers (get_or jobs i d)
 unfolding paths_used
 used_answered jobs answers used i d inside =

@@ -7,27 +7,27 @@ use Rattle.std.proofs.lemmas.List.{get_or_default, get_or_push, length-set, get_
 use Rattle.std.proofs.Math.ListN.{get_or-append}
 use Rattle.std.proofs.Common.{◌+◌, ◌++◌}
 use Rattle.rv_lists.specs.declared.job.Job.{Job}
-use Rattle.rv_jobs.specs.declared.path_reading.Places.{Places}
+use Rattle.rv_jobs.specs.declared.path_reading.ResultIndices.{ResultIndices}
 use Rattle.rv_jobs.specs.declared.path_reading.Found.{Found}
 use Rattle.rv_jobs.specs.Placed.{AreResultIndices, AreRecorded, IsFound}
 use Rattle.rv_jobs.specs.Plans.{with_job_paths}
 use Rattle.rv_jobs.proofs.Answering.{placed_later}
 use Rattle.rv_jobs.proofs.Needing.{placed_old}
 
-old_at : (xs : List (List ℕ)) (job : Job) (o : Option Places) → is_some o ≡ true
+old_at : (xs : List (List ℕ)) (job : Job) (o : Option ResultIndices) → is_some o ≡ true
     → IfSome o (λ at. AreResultIndices xs job at) → xs ≡ with_job_paths xs job
 old_at xs job None e h = cc
 old_at xs job (Some at) e h = sym (placed_old xs job at h)
 
-of_one : (xs : List (List ℕ)) (jobs : List Job) (i : ℕ) (d : Job) (o : Option Places)
+of_one : (xs : List (List ℕ)) (jobs : List Job) (i : ℕ) (d : Job) (o : Option ResultIndices)
     → IfSome o (λ at. (d : Job) → AreResultIndices xs (get_or jobs i d) at)
     → IfSome o (λ at. AreResultIndices xs (get_or jobs i d) at)
 of_one xs jobs i d None h = tt
 of_one xs jobs i d (Some at) h = h d
 
 -- a job whose places are noted adds no path
-pub noted_old : (xs : List (List ℕ)) (jobs : List Job) (noted : List (Option Places)) (i : ℕ) (d : Job)
-    (o : Option Places) → AreRecorded xs jobs noted → i < length jobs → o ≡ get_or noted i o → is_some o ≡ true
+pub noted_old : (xs : List (List ℕ)) (jobs : List Job) (noted : List (Option ResultIndices)) (i : ℕ) (d : Job)
+    (o : Option ResultIndices) → AreRecorded xs jobs noted → i < length jobs → o ≡ get_or noted i o → is_some o ≡ true
     → xs ≡ with_job_paths xs (get_or jobs i d)
 noted_old xs jobs noted i d o are inside there e =
     let same : o ≡ get_or noted i None = there ∙ get_or_default noted i o None
@@ -36,14 +36,14 @@ noted_old xs jobs noted i d o are inside there e =
     (of_one xs jobs i d o (subst (λ p. IfSome p (λ at. (d : Job) → AreResultIndices xs (get_or jobs i d) at)) (sym same)
     (are.each i)))
 
-later_one : (xs : List (List ℕ)) (jobs : List Job) (other : Job) (i : ℕ) (o : Option Places)
+later_one : (xs : List (List ℕ)) (jobs : List Job) (other : Job) (i : ℕ) (o : Option ResultIndices)
     → IfSome o (λ at. (d : Job) → AreResultIndices xs (get_or jobs i d) at)
     → IfSome o (λ at. (d : Job) → AreResultIndices (with_job_paths xs other) (get_or jobs i d) at)
 later_one xs jobs other i None h = tt
 later_one xs jobs other i (Some at) h = λ d. placed_later xs other (get_or jobs i d) at (h d)
 
 -- one job's places more
-module _ (xs ys : List (List ℕ)) (jobs : List Job) (noted : List (Option Places)) (i : ℕ) (job : Job) (at : Places)
+module _ (xs ys : List (List ℕ)) (jobs : List Job) (noted : List (Option ResultIndices)) (i : ℕ) (job : Job) (at : ResultIndices)
     (are : AreRecorded xs jobs noted) (inside : i < length jobs) (is : job ≡ get_or jobs i job)
     (grown : ys ≡ with_job_paths xs job) (placed : AreResultIndices ys job at) where
   below : i < length noted

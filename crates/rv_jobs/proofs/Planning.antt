@@ -10,20 +10,20 @@ use Rattle.rv_lists.specs.Jobs.{single_job}
 use Rattle.rv_lists.specs.Names.{index_in}
 use Rattle.rv_jobs.specs.Placed.{IsFound}
 use Rattle.rv_jobs.specs.PlanInside.{IsValidPlan, paths_read, plan_view}
-use Rattle.rv_jobs.specs.Plans.{Planned, paths_of, result_or_unreadable}
+use Rattle.rv_jobs.specs.Plans.{PlanView, paths_of, result_or_unreadable}
 use Rattle.rv_jobs.proofs.Answering.{paths-with, path_below}
 
-module _ (a : Inside) (is : IsValidPlan a) (p : Planned) (view : plan_view a ≡ p) (i : ℕ) (within : i < length p.jobs)
+module _ (a : Inside) (is : IsValidPlan a) (p : PlanView) (view : plan_view a ≡ p) (i : ℕ) (within : i < length p.jobs)
     (at : Found) (there : at ≡ get_or a.found.items i at) where
   inside : i < length a.jobs
-  inside = subst (λ (q : Planned). i < length q.jobs) (sym view) within
+  inside = subst (λ (q : PlanView). i < length q.jobs) (sym view) within
 
   pub found : (d : Job) → IsFound (paths_read a) (get_or a.jobs i d) at
   found d = subst (λ f. IsFound (paths_read a) (get_or a.jobs i d) f) (sym there) (is.found.each i d at inside)
 
   path_within : (path : List ℕ) (place : Option ℕ) → index_in (paths_read a) path ≡ place
       → IfSome place (λ k. k < length p.answers)
-  path_within = path_below p.answers (paths_read a) a.answers.items is.even (ap (λ (q : Planned). q.answers) view)
+  path_within = path_below p.answers (paths_read a) a.answers.items is.even (ap (λ (q : PlanView). q.answers) view)
 
   pub image_within : IfSome at.image (λ k. k < length p.answers)
   image_within =
@@ -31,7 +31,7 @@ module _ (a : Inside) (is : IsValidPlan a) (p : Planned) (view : plan_view a ≡
       path_within any.image at.image (found (single_job [] 0 [])).image
 
   pub image_at : (d : Job) → index_in (paths_of p.answers) (get_or p.jobs i d).image ≡ at.image
-  image_at d = subst (λ (q : Planned). index_in (paths_of q.answers) (get_or q.jobs i d).image ≡ at.image) view
+  image_at d = subst (λ (q : PlanView). index_in (paths_of q.answers) (get_or q.jobs i d).image ≡ at.image) view
       (ap (λ l. index_in l (get_or a.jobs i d).image) (paths-with (paths_read a) a.answers.items is.even)
       ∙ (found d).image)
 
@@ -53,7 +53,7 @@ module _ (a : Inside) (is : IsValidPlan a) (p : Planned) (view : plan_view a ≡
         let same : named (get_or p.jobs i d) ≡ Some path =
         ap named (sym (job_is ∙ get_or_default p.jobs i job d within)) ∙ names in
         let stands : option_and_then (index_in (paths_of p.answers)) (named (get_or p.jobs i d)) ≡ place =
-        subst (λ (q : Planned). option_and_then (index_in (paths_of q.answers)) (named (get_or q.jobs i d)) ≡ place)
+        subst (λ (q : PlanView). option_and_then (index_in (paths_of q.answers)) (named (get_or q.jobs i d)) ≡ place)
         view
         (ap (λ l. option_and_then (index_in l) (named (get_or a.jobs i d)))
         (paths-with (paths_read a) a.answers.items is.even) ∙ placed d) in

@@ -2,13 +2,13 @@
 use Rattle.std.specs.Prelude.{◌≡◌, ◌<◌, ℕ, List, length, Option, Some, None, IfSome, option_map}
 use Rattle.std.specs.Prelude.{option_and_then, slice_index_or}
 use Rattle.rv_lists.specs.declared.job.Job.{Job}
-use Rattle.rv_jobs.specs.declared.path_reading.Places.{Places}
+use Rattle.rv_jobs.specs.declared.path_reading.ResultIndices.{ResultIndices}
 use Rattle.rv_jobs.specs.declared.path_reading.Found.{Found}
 use Rattle.rv_lists.specs.Names.{index_in}
 use Rattle.rv_lists.specs.Jobs.{console_path}
 
 -- each path of the job is in `paths`, and `at` has its index there
-pub record AreResultIndices (paths : List (List ℕ)) (job : Job) (at : Places) : Type 0 where
+pub record AreResultIndices (paths : List (List ℕ)) (job : Job) (at : ResultIndices) : Type 0 where
   pub image : index_in paths job.image ≡ Some at.image
   pub reference :
       option_map (index_in paths) job.expect_signature ≡ option_map (λ k. Some k) at.reference
@@ -18,7 +18,7 @@ pub record AreResultIndices (paths : List (List ℕ)) (job : Job) (at : Places) 
 
 -- each entry of `noted` has the indices in `paths` of the paths of one job, or is empty
 pub record AreRecorded (paths : List (List ℕ)) (jobs : List Job)
-    (noted : List (Option Places)) : Type 0 where
+    (noted : List (Option ResultIndices)) : Type 0 where
   pub many : length noted ≡ length jobs
   pub each : (i : ℕ) → IfSome (slice_index_or noted i None)
       (λ at. (d : Job) → AreResultIndices paths (slice_index_or jobs i d) at)

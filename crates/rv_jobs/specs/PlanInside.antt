@@ -4,14 +4,14 @@ use Rattle.rv_jobs.specs.declared.plan.Plan.TheInside.{Inside}
 use Rattle.rv_jobs.specs.declared.kept.Kept.TheVariants.{Unreadable}
 use Rattle.rv_lists.specs.Jobs.{AreValidJobs}
 use Rattle.rv_jobs.specs.Placed.{ArePartialResultIndicesOfJobs}
-use Rattle.rv_jobs.specs.Plans.{Planned, paths_used, jobs_needed_for, results_with}
+use Rattle.rv_jobs.specs.Plans.{PlanView, paths_used, jobs_needed_for, results_with}
 
 -- the paths that were read for a plan, in order of first use
 abbrev pub paths_read : Inside → List (List ℕ)
 paths_read a = paths_used (jobs_needed_for a.jobs a.chosen.items)
 
 -- what contracts see of a plan with these fields
-abbrev pub plan_view : Inside → Planned
+abbrev pub plan_view : Inside → PlanView
 plan_view a = record { jobs = a.jobs; answers = results_with (paths_read a) a.answers.items }
 
 -- the invariant of the fields of a plan: the jobs form a valid list, there is one result for each path that was read, and each job has the

@@ -7,7 +7,7 @@ use Rattle.std.specs.Str.{bytes_eq}
 use Rattle.rv_lists.specs.declared.job.Job.{Job}
 use Rattle.rv_jobs.specs.declared.kept.Kept.{Kept}
 use Rattle.rv_jobs.specs.declared.kept.Kept.TheVariants.{Unreadable}
-use Rattle.rv_jobs.specs.declared.answers.Answer.{Answer}
+use Rattle.rv_jobs.specs.declared.answers.PathResult.{PathResult}
 use Rattle.rv_lists.specs.Names.{index_in}
 use Rattle.rv_lists.specs.Jobs.{console_path, single_job}
 use Rattle.rv_lists.specs.Files.{FileContents}
@@ -15,11 +15,11 @@ use Rattle.rv_jobs.specs.Kept.{AgreesWithContents, is_unreadable}
 use Rattle.rv_lists.specs.Counts.{one_more}
 
 -- the paths of these results, in order
-abbrev pub paths_of : List Answer → List (List ℕ)
-paths_of answers = map (λ (a : Answer). a.path) answers
+abbrev pub paths_of : List PathResult → List (List ℕ)
+paths_of answers = map (λ (a : PathResult). a.path) answers
 
 -- the results, each with its path, in order
-abbrev pub results_with : List (List ℕ) → List Kept → List Answer
+abbrev pub results_with : List (List ℕ) → List Kept → List PathResult
 results_with [] kept = []
 results_with (p ∷ ps) [] = []
 results_with (p ∷ ps) (k ∷ ks) = record { path = p; kept = k } ∷ results_with ps ks
@@ -45,12 +45,12 @@ unfoldable pub paths_used : List Job → List (List ℕ)
 paths_used jobs = fold with_job_paths [] jobs
 
 -- the result for a path, or `None` if the path was not read
-abbrev pub result_of_path : List Answer → List ℕ → Option Kept
+abbrev pub result_of_path : List PathResult → List ℕ → Option Kept
 result_of_path answers path =
-    option_map (λ (a : Answer). a.kept) (find (λ (a : Answer). bytes_eq path a.path) answers)
+    option_map (λ (a : PathResult). a.kept) (find (λ (a : PathResult). bytes_eq path a.path) answers)
 
 -- the result for a path; a path that was not read counts as unreadable
-abbrev pub result_or_unreadable : List Answer → List ℕ → Kept
+abbrev pub result_or_unreadable : List PathResult → List ℕ → Kept
 result_or_unreadable answers path = unwrap_or (result_of_path answers path) Unreadable
 
 -- the job that `same_as` of a job names, as a list, which is empty if there is no `same_as`; the argument is its index
@@ -68,19 +68,19 @@ abbrev pub jobs_needed_for : List Job → List ℕ → List Job
 jobs_needed_for jobs places = flat_map (jobs_needed_at jobs) places
 
 -- each path of the job has a result
-pub record HasResults (answers : List Answer) (job : Job) : Type 0 where
+pub record HasResults (answers : List PathResult) (job : Job) : Type 0 where
   pub image : IsTrue (is_some (result_of_path answers job.image))
   pub reference : IfSome job.expect_signature (λ path. IsTrue (is_some (result_of_path answers path)))
   pub console :
       IfSome (console_path job.expect_console) (λ path. IsTrue (is_some (result_of_path answers path)))
 
 -- each result agrees with the contents of the files, if these are known
-abbrev pub AgreeWithContents : Option FileContents → List Answer → Type 0
-AgreeWithContents known answers = All (λ (a : Answer). AgreesWithContents known a.path a.kept) answers
+abbrev pub AgreeWithContents : Option FileContents → List PathResult → Type 0
+AgreeWithContents known answers = All (λ (a : PathResult). AgreesWithContents known a.path a.kept) answers
 
 -- the number of unreadable paths among these results
-abbrev pub unreadable_count : List Answer → ℕ
-unreadable_count answers = count_by (λ (a : Answer). is_unreadable a.kept) answers
+abbrev pub unreadable_count : List PathResult → ℕ
+unreadable_count answers = count_by (λ (a : PathResult). is_unreadable a.kept) answers
 
 -- the count `n` after `k` increments by `one_more`, which stops at a maximum
 unfoldable pub after_increments : ℕ → ℕ → ℕ
@@ -88,6 +88,6 @@ after_increments n zero = n
 after_increments n (suc k) = one_more (after_increments n k)
 
 -- a plan as contracts see it: the jobs of a list, and the result for each path that was read
-pub record Planned : Type 0 where
+pub record PlanView : Type 0 where
   pub jobs : List Job
-  pub answers : List Answer
+  pub answers : List PathResult

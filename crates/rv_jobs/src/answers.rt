@@ -13,7 +13,7 @@ use std::marker::Model;
 
 /// A path and the result of reading it. Never constructed: only contracts see the results of a plan in this form.
 #[derive(Drop)]
-pub struct Answer {
+pub struct PathResult {
     pub path: Text,
     pub kept: Kept,
 }
@@ -21,17 +21,17 @@ pub struct Answer {
 /// The results so far, with the index of each path. The paths are borrowed from the jobs. They are looked up by hash, since comparing paths
 /// that differ only at their ends is slow.
 #[derive(Drop)]
-pub(crate) struct Answers<'a> {
+pub(crate) struct PathResults<'a> {
     answers: Vec<Kept>,
     paths: Vec<&'a str>,
     places: HashMap<&'a str, usize, BuildHasherDefault<FoldHasher>>,
 }
 
-impl<'a> Model for Answers<'a> {
+impl<'a> Model for PathResults<'a> {
     ghost use Rattle.std.specs.Prelude.{List};
-    ghost use Rattle.rv_jobs.specs.declared.answers.Answer.{Answer};
+    ghost use Rattle.rv_jobs.specs.declared.answers.PathResult.{PathResult};
 
-    ghost Value = { List Answer };
+    ghost Value = { List PathResult };
 
     ghost use Rattle.rv_jobs.specs.AnswersInside.{results_of, IsValidPathResults};
 
@@ -40,13 +40,13 @@ impl<'a> Model for Answers<'a> {
     ghost invariant = { IsValidPathResults };
 }
 
-impl<'a> Answers<'a> {
+impl<'a> PathResults<'a> {
     /// Returns an empty list of results, with room to look up `room` paths.
-    pub(crate) fn new(alloc: Global, room: usize) -> Result<Answers<'a>, AllocError>
+    pub(crate) fn new(alloc: Global, room: usize) -> Result<PathResults<'a>, AllocError>
         ensures { IfOk result (λ answers. answers ≡ []) }
     {
         let places = HashMap::with_capacity_and_hasher(alloc, room, BuildHasherDefault::new())?;
-        Ok(Answers {
+        Ok(PathResults {
             answers: Vec::new(alloc),
             paths: Vec::new(alloc),
             places,
@@ -61,7 +61,7 @@ impl<'a> Answers<'a> {
         alloc: Global,
         store: &mut S,
         path: &'a str,
-    ) -> Result<(Answers<'a>, usize), AllocError>
+    ) -> Result<(PathResults<'a>, usize), AllocError>
         ensures same { S.contents store.new ≡ S.contents store.old }
         ensures paths { IfOk result (λ a. paths_of a.0 ≡ with_path (paths_of self.entry) path.now) }
         ensures place { IfOk result (λ a. index_in (paths_of a.0) path.now ≡ Some a.1) }
@@ -70,7 +70,7 @@ impl<'a> Answers<'a> {
         ensures faults { (n : ℕ) → S.fault_count store.old ≡ after_increments n (unreadable_count self.entry)
             → IfOk result (λ a. S.fault_count store.new ≡ after_increments n (unreadable_count a.0)) }
     {
-        let Answers {
+        let PathResults {
             mut answers,
             mut paths,
             mut places,
@@ -78,7 +78,7 @@ impl<'a> Answers<'a> {
         let next = answers.len();
         if let Some(place) = places.insert(path, next)? {
             places.insert(path, place)?;
-            let asked = Answers {
+            let asked = PathResults {
                 answers,
                 paths,
                 places,
@@ -88,7 +88,7 @@ impl<'a> Answers<'a> {
         let kept = read_path(alloc, store, path)?;
         answers.push(kept)?;
         paths.push(path)?;
-        let asked = Answers {
+        let asked = PathResults {
             answers,
             paths,
             places,

@@ -1,13 +1,13 @@
 //! A law of plans, with no code to run.
 
 ghost use Rattle.std.specs.Prelude.{ℕ, ◌≡◌, ◌<◌, List, length, slice_index_or};
-ghost use Rattle.rv_jobs.specs.declared.answers.Answer.{Answer};
+ghost use Rattle.rv_jobs.specs.declared.answers.PathResult.{PathResult};
 ghost use Rattle.rv_lists.specs.declared.job.Job.{Job as AJob};
 ghost use Rattle.rv_jobs.specs.Plans.{HasResults, paths_of, paths_used};
 
 /// Proves that if there is a result for each path that `paths_used` returns for some jobs, then each path of each of these jobs has a
 /// result. So no path of a job for which a plan was gathered counts as unreadable without having been read.
 pub fn used_paths_have_results()
-    ensures { (jobs : List AJob) (answers : List Answer) → paths_of answers ≡ paths_used jobs
+    ensures { (jobs : List AJob) (answers : List PathResult) → paths_of answers ≡ paths_used jobs
         → (i : ℕ) (d : AJob) → i < length jobs → HasResults answers (slice_index_or jobs i d) }
 {}

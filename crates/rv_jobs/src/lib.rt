@@ -12,7 +12,7 @@ mod law;
 mod path_reading;
 mod plan;
 
-pub use answers::Answer;
+pub use answers::PathResult;
 pub use choice::selected_indices;
 pub use kept::Kept;
 pub use law::used_paths_have_results;

@@ -9,13 +9,13 @@ ghost use Rattle.rv_jobs.specs.Plans.{paths_of, with_job_paths, with_path_if_any
 ghost use Rattle.rv_jobs.specs.Plans.{AgreeWithContents, unreadable_count, after_increments};
 ghost use Rattle.rv_jobs.specs.Placed.{AreResultIndices, AreRecorded, IsFound, ArePartialResultIndicesOfJobs};
 
-use crate::answers::Answers;
+use crate::answers::PathResults;
 use rv_lists::{Job, Store};
 use std::alloc::{AllocError, Global};
 
 /// The indices of the results for a job's paths, all of which were read.
 #[derive(Clone, Copy)]
-pub(crate) struct Places {
+pub(crate) struct ResultIndices {
     pub(crate) image: usize,
     pub(crate) reference: Option<usize>,
     pub(crate) console: Option<usize>,
@@ -33,7 +33,7 @@ pub(crate) struct Found {
 pub(crate) fn empty_result_indices(
     alloc: Global,
     jobs: &[Job],
-) -> Result<Vec<Option<Places>>, AllocError>
+) -> Result<Vec<Option<ResultIndices>>, AllocError>
     ensures { IfOk result (λ noted. AreRecorded [] jobs.now noted.items) }
 {
     let mut noted = Vec::with_capacity(alloc, jobs.len())?;
@@ -43,7 +43,7 @@ pub(crate) fn empty_result_indices(
     Ok(noted)
 }
 
-impl<'a> Answers<'a> {
+impl<'a> PathResults<'a> {
     /// Reads the paths that the row of the job at an index needs: the job's own paths, and the paths of the job that its `same_as` names.
     pub(crate) fn read_paths_for_row<S: Store>(
         self,
@@ -51,8 +51,8 @@ impl<'a> Answers<'a> {
         store: &mut S,
         jobs: &'a [Job],
         place: usize,
-        noted: &mut Vec<Option<Places>>,
-    ) -> Result<Answers<'a>, AllocError>
+        noted: &mut Vec<Option<ResultIndices>>,
+    ) -> Result<PathResults<'a>, AllocError>
         requires jobs { AreValidJobs jobs.now }
         requires place { place < length jobs.now }
         requires noted { AreRecorded (paths_of self) jobs.now noted.old.items }
@@ -79,8 +79,8 @@ impl<'a> Answers<'a> {
         store: &mut S,
         jobs: &'a [Job],
         place: usize,
-        noted: &mut Vec<Option<Places>>,
-    ) -> Result<Answers<'a>, AllocError>
+        noted: &mut Vec<Option<ResultIndices>>,
+    ) -> Result<PathResults<'a>, AllocError>
         requires place { place < length jobs.now }
         requires noted { AreRecorded (paths_of self) jobs.now noted.old.items }
         ensures same { S.contents store.new ≡ S.contents store.old }
@@ -105,9 +105,9 @@ impl<'a> Answers<'a> {
 fn read_paths_of_job<'a, S: Store>(
     alloc: Global,
     store: &mut S,
-    asked: Answers<'a>,
+    asked: PathResults<'a>,
     job: &'a Job,
-) -> Result<(Answers<'a>, Places), AllocError>
+) -> Result<(PathResults<'a>, ResultIndices), AllocError>
     ensures same { S.contents store.new ≡ S.contents store.old }
     ensures paths { IfOk result (λ a. paths_of a.0 ≡ with_job_paths (paths_of asked.entry) job.now) }
     ensures places { IfOk result (λ a. AreResultIndices (paths_of a.0) job.now a.1) }
@@ -119,7 +119,7 @@ fn read_paths_of_job<'a, S: Store>(
     let (first, image) = asked.read_path_once(alloc, store, job.image.as_str())?;
     let (second, reference) = read_path_if_any(alloc, store, first, reference_path(job))?;
     let (third, console) = read_path_if_any(alloc, store, second, console_path(job))?;
-    let places = Places {
+    let places = ResultIndices {
         image,
         reference,
         console,
@@ -151,9 +151,9 @@ pub(crate) fn console_path(job: &Job) -> Option<&str>
 fn read_path_if_any<'a, S: Store>(
     alloc: Global,
     store: &mut S,
-    asked: Answers<'a>,
+    asked: PathResults<'a>,
     path: Option<&'a str>,
-) -> Result<(Answers<'a>, Option<usize>), AllocError>
+) -> Result<(PathResults<'a>, Option<usize>), AllocError>
     ensures same { S.contents store.new ≡ S.contents store.old }
     ensures paths { IfOk result (λ a. paths_of a.0
         ≡ with_path_if_any (paths_of asked.entry) (option_map (λ p. p.now) path.entry)) }
@@ -177,9 +177,9 @@ fn read_path_if_any<'a, S: Store>(
 /// jobs have an index.
 pub(crate) fn result_indices(
     alloc: Global,
-    asked: &Answers,
+    asked: &PathResults,
     jobs: &[Job],
-    noted: &[Option<Places>],
+    noted: &[Option<ResultIndices>],
 ) -> Result<Vec<Found>, AllocError>
     requires { AreRecorded (paths_of asked.now) jobs.now noted.now }
     ensures { IfOk result (λ found. ArePartialResultIndicesOfJobs (paths_of asked.now) jobs.now found.items) }
@@ -193,7 +193,7 @@ pub(crate) fn result_indices(
 
 /// Returns the indices of the results for a job's paths. If `noted` does not have them, only paths that were read for other jobs have an
 /// index.
-fn result_indices_of_job(asked: &Answers, job: &Job, noted: Option<Places>) -> Found
+fn result_indices_of_job(asked: &PathResults, job: &Job, noted: Option<ResultIndices>) -> Found
     requires { IfSome noted (λ places. AreResultIndices (paths_of asked.now) job.now places) }
     ensures { IsFound (paths_of asked.now) job.now result }
 {
@@ -212,7 +212,7 @@ fn result_indices_of_job(asked: &Answers, job: &Job, noted: Option<Places>) -> F
 }
 
 /// Returns the index of a path's result, or `None` if there is no path or it has no result.
-fn index_of_path_if_any(asked: &Answers, path: Option<&str>) -> Option<usize>
+fn index_of_path_if_any(asked: &PathResults, path: Option<&str>) -> Option<usize>
     ensures { result ≡ option_and_then (index_in (paths_of asked.now))
         (option_map (λ p. p.now) path.entry) }
 {

@@ -10,7 +10,7 @@ ghost use Rattle.rv_lists.specs.Names.{index_in};
 ghost use Rattle.rv_jobs.specs.Plans.{paths_of, paths_used, jobs_needed_for, result_or_unreadable};
 ghost use Rattle.rv_jobs.specs.Plans.{AgreeWithContents, unreadable_count, after_increments};
 
-use crate::answers::Answers;
+use crate::answers::PathResults;
 use crate::kept::Kept;
 use crate::path_reading::{
     Found, console_path, empty_result_indices, reference_path, result_indices,
@@ -34,9 +34,9 @@ pub struct Plan {
 }
 
 impl Model for Plan {
-    ghost use Rattle.rv_jobs.specs.Plans.{Planned};
+    ghost use Rattle.rv_jobs.specs.Plans.{PlanView};
 
-    ghost Value = { Planned };
+    ghost Value = { PlanView };
 
     ghost use Rattle.rv_jobs.specs.PlanInside.{plan_view, IsValidPlan};
 
@@ -75,7 +75,7 @@ pub fn gather_jobs<S: Store>(
     ensures faults { IfOk result (λ p. S.fault_count store.new
         ≡ after_increments (S.fault_count store.old) (unreadable_count p.answers)) }
 {
-    let none = Answers::new(alloc, places.len())?;
+    let none = PathResults::new(alloc, places.len())?;
     let mut asked = none;
     let mut noted = empty_result_indices(alloc, jobs.as_slice())?;
     for place in places.as_slice() {

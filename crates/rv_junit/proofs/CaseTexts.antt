@@ -5,7 +5,7 @@ use Rattle.std.specs.Result.{is_ok}
 use Rattle.std.proofs.KnownBytes.{Appends-nil}
 use Rattle.rv_stream.specs.declared_row.Row.{Row}
 use Rattle.rv_stream.specs.Sinks.{AppendsPrefix}
-use Rattle.rv_job_text.specs.Judgement.{Judging, judgement}
+use Rattle.rv_job_text.specs.Judgement.{JudgeView, judgement}
 use Rattle.rv_stream.specs.Streams.{row_text_list, joined_row_texts}
 use Rattle.rv_job_text.specs.declared_xml.XmlContext.TheVariants.{Element}
 use Rattle.rv_job_text.specs.TextWords.{count_text}
@@ -22,7 +22,7 @@ joined : (a b c d p o s m x y z : List ℕ)
 joined a b c d p o s m x y z = simp (append_assoc, append-nil)
 
 -- the case of a row: its begin, what it counts as, and the rest, piece behind piece
-pub case_whole : (class : List ℕ) (judging : Judging) (row : Row) (lines : List ℕ) →
+pub case_whole : (class : List ℕ) (judging : JudgeView) (row : Row) (lines : List ℕ) →
     ((codes "<testcase" ++ (attribute (codes "classname") class ++ (attribute (codes "name") row.name
     ++ (codes ">\n" ++ [])))) ++ judged_text (judgement judging row) row lines)
     ++ (codes "<system-out>" ++ (count_text row.steps (codes "step") ++ (codes "\n" ++ (xml_text Element row.console
@@ -40,7 +40,7 @@ begun : (a b c d e s f p : List ℕ)
 begun a b c d e s f p = simp (append_assoc, append-nil)
 
 -- the begin of a suite, and the steps of its jobs
-pub suite_whole : (class : List ℕ) (judging : Judging) (rows : List Row) →
+pub suite_whole : (class : List ℕ) (judging : JudgeView) (rows : List Row) →
     (((codes "<?xml version=\"1.0\" encoding=\"UTF-8\"?>\n<testsuites>\n<testsuite" ++ (attribute (codes "name") class
     ++ (number_attribute (codes "tests") (length rows)
     ++ (number_attribute (codes "failures") (count_by (is_failure judging) rows)
@@ -65,7 +65,7 @@ written (Err e) new whole same is = tt
 pub nothing_out : (a : Option (List ℕ)) (text : List ℕ) → AppendsPrefix a a text
 nothing_out a text = record { part = []; rest = text; whole = refl; appended = Appends-nil a }
 
-module _ (class : List ℕ) (judging : Judging) (line : ℕ → Row → List ℕ) where
+module _ (class : List ℕ) (judging : JudgeView) (line : ℕ → Row → List ℕ) where
   -- what is told of rows where each is told as its case
   abbrev pub told_cases : List ℕ → List Row → List ℕ
   told_cases places rows = joined_row_texts (case_text class judging line) places rows

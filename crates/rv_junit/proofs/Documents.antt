@@ -7,7 +7,7 @@ use Rattle.std.specs.List.{AllByRecursion, flat_map}
 use Rattle.hex.specs.Hex.{IsBytes}
 use Rattle.rv_stream.specs.declared_row.Row.{Row}
 use Rattle.rv_job_text.specs.Verdict.{did_run}
-use Rattle.rv_job_text.specs.Judgement.{Judged, Judging, failed, judgement_by_known, judged_in_file, judged_unknown, judgement, known, now_passes, passed}
+use Rattle.rv_job_text.specs.Judgement.{JudgementView, JudgeView, failed, judgement_by_known, judged_in_file, judged_unknown, judgement, known, now_passes, passed}
 use Rattle.rv_job_text.specs.Passing.{has_passed}
 use Rattle.rv_job_text.specs.KnownJobs.{known_job_of, reason_of}
 use Rattle.rv_job_text.specs.declared_known_jobs.KnownJob.{KnownJob}
@@ -81,7 +81,7 @@ xml_skipped why are =
 
 -- ---- what a row counts as, of which the reason is bytes
 
-abbrev pub IsForBytes : Judged → Type 0
+abbrev pub IsForBytes : JudgementView → Type 0
 IsForBytes (known why) = IsBytes why
 IsForBytes _ = ⊤
 
@@ -114,10 +114,10 @@ known_for_bytes None has_passed name are = unknown_for_bytes has_passed
 known_for_bytes (Some file) has_passed name are =
     in_file_for_bytes file.path has_passed (reason_of file.jobs name) (reason_found file.jobs name are)
 
-judgement_for_bytes : (judging : Judging) (row : Row) → AreReasonsBytes judging → IsForBytes (judgement judging row)
+judgement_for_bytes : (judging : JudgeView) (row : Row) → AreReasonsBytes judging → IsForBytes (judgement judging row)
 judgement_for_bytes judging row are = known_for_bytes judging.known (has_passed judging.rule row) row.name are
 
-xml_judged : (judged : Judged) (row : Row) (lines : List ℕ) → IsForBytes judged → IsBytes lines
+xml_judged : (judged : JudgementView) (row : Row) (lines : List ℕ) → IsForBytes judged → IsBytes lines
     → IsXmlCharacters (judged_text judged row lines)
 xml_judged passed row lines reason are = xml_nil
 xml_judged failed row lines reason are = xml_problem row lines are
@@ -138,7 +138,7 @@ xml_output row is =
     (xml_plain (codes "\n") refl)) (xml_escaped Element row.console is.console))
     (xml_plain (codes "</system-out>\n") refl)
 
-xml_case : (class : List ℕ) (judging : Judging) (row : Row) (lines : List ℕ) → IsBytes class → AreReasonsBytes judging →
+xml_case : (class : List ℕ) (judging : JudgeView) (row : Row) (lines : List ℕ) → IsBytes class → AreReasonsBytes judging →
     IsWrittenRow row → IsBytes lines → IsXmlCharacters (test_case_text class judging row lines)
 unfolding test_case_text
 xml_case class judging row lines classed reasons is are =
@@ -150,7 +150,7 @@ xml_case class judging row lines classed reasons is are =
     (xml_judged (judgement judging row) row lines (judgement_for_bytes judging row reasons) are))
     (xml_output row is)) (xml_plain (codes "</testcase>\n") refl)
 
-xml_cases : (class : List ℕ) (judging : Judging) (texts : List (List ℕ)) (rows : List Row) → IsBytes class →
+xml_cases : (class : List ℕ) (judging : JudgeView) (texts : List (List ℕ)) (rows : List Row) → IsBytes class →
     AreReasonsBytes judging → AllByRecursion IsBytes texts → AllByRecursion IsWrittenRow rows →
     IsXmlCharacters (test_cases_text class judging texts rows)
 unfolding test_cases_text
@@ -200,7 +200,7 @@ xml_steps rows are =
     xml_append _ _ (xml_append _ _ (xml_plain (codes "<properties>\n") refl) (xml_each_steps rows are))
     (xml_plain (codes "</properties>\n") refl)
 
-xml_begin : (class : List ℕ) (judging : Judging) (rows : List Row) → IsBytes class → AllByRecursion IsWrittenRow rows →
+xml_begin : (class : List ℕ) (judging : JudgeView) (rows : List Row) → IsBytes class → AllByRecursion IsWrittenRow rows →
     length rows < 2 ^ 64 → IsXmlCharacters (suite_begin_text class judging rows)
 unfolding suite_begin_text
 xml_begin class judging rows classed are few =
@@ -217,7 +217,7 @@ xml_begin class judging rows classed are few =
     (xml_number (codes "skipped") (known_count judging rows) (xml_plain (codes "skipped") refl) skips)))
     (xml_plain (codes ">\n") refl)) (xml_steps rows are)
 
-pub xml_junit : (class : List ℕ) (judging : Judging) (texts : List (List ℕ)) (rows : List Row) → IsBytes class →
+pub xml_junit : (class : List ℕ) (judging : JudgeView) (texts : List (List ℕ)) (rows : List Row) → IsBytes class →
     AreReasonsBytes judging → AllByRecursion IsBytes texts → AllByRecursion IsWrittenRow rows → length rows < 2 ^ 64 →
     IsXmlCharacters (junit_text class judging texts rows)
 unfolding junit_text

@@ -5,23 +5,23 @@ use Rattle.std.specs.declared.alloc.Global.{Global}
 use Rattle.std.proofs.lemmas.Bool.{cases_lt, false≢true}
 use Rattle.std.proofs.lemmas.List.{get_or-map, get_or_append_left, length-append, length-map}
 use Rattle.std.proofs.Math.Seq.{get_or-append_seam}
-use Rattle.rv_job_text.specs.Judgement.{Judging, fails}
+use Rattle.rv_job_text.specs.Judgement.{JudgeView, fails}
 use Rattle.rv_stream.specs.declared_row.Row.{Row}
 use Rattle.rv_stream.specs.Seen.{HasSeenRows, IsReportAt}
 use Rattle.rv_stream.specs.declared.reported_row.ReportedRow.{ReportedRow}
 use Rattle.rv_junit.specs.KnownLines.{AreFailureTexts, AreLinesOf, IsFailureText}
 
-abbrev IsKept : Judging → List (Option (Vec ℕ Global)) → List ReportedRow → ℕ → ReportedRow → Type 0
+abbrev IsKept : JudgeView → List (Option (Vec ℕ Global)) → List ReportedRow → ℕ → ReportedRow → Type 0
 IsKept judging texts reported k any =
     IfSome (get_or texts k None) (λ text. IsFailureText judging (get_or reported k any) text.items)
 
 -- nothing is kept
-pub none_kept : (judging : Judging) (is_closed : Bool) (reported : List ReportedRow) → (is_closed ≡ false → 0 ≡ length reported)
+pub none_kept : (judging : JudgeView) (is_closed : Bool) (reported : List ReportedRow) → (is_closed ≡ false → 0 ≡ length reported)
     → AreFailureTexts judging is_closed [] reported
 none_kept judging is_closed reported all = record { all = all; none = λ _. refl; few = omega arith; each = λ k any lt. tt }
 
 -- the text of one row more is kept, or it is not
-pub one_more : (judging : Judging) (texts : List (Option (Vec ℕ Global))) (text : Option (Vec ℕ Global)) (reported : List ReportedRow)
+pub one_more : (judging : JudgeView) (texts : List (Option (Vec ℕ Global))) (text : Option (Vec ℕ Global)) (reported : List ReportedRow)
     (made : ReportedRow) → IfSome text (λ text. IsFailureText judging made text.items) → AreFailureTexts judging false texts reported
     → AreFailureTexts judging false (texts ++ text ∷ []) (reported ++ made ∷ [])
 one_more judging texts text reported made is are =
@@ -49,7 +49,7 @@ one_more judging texts text reported made is are =
       ];
     }
 
-lines_at : (line lines : ℕ → Row → List ℕ) (judging : Judging) (index : ℕ) (row : Row) (reported : ReportedRow) (text : Option (Vec ℕ Global))
+lines_at : (line lines : ℕ → Row → List ℕ) (judging : JudgeView) (index : ℕ) (row : Row) (reported : ReportedRow) (text : Option (Vec ℕ Global))
     → ((place : ℕ) (row : Row) → fails judging row ≡ true → line place row ≡ lines place row) → IsReportAt line index reported
     → row ≡ reported.row → IfSome text (λ text. IsFailureText judging reported text.items)
     → IfSome text (λ text. text.items ≡ lines index row)
@@ -59,7 +59,7 @@ lines_at line lines judging index row reported (Some text) same report is kept =
     ∙ ap (λ (r : Row). lines index r) (sym is)
 
 -- the texts of failures that were kept are the lines of their rows
-lines_known : (has_seen : List ReportedRow → Type 0) (line lines : ℕ → Row → List ℕ) (judging : Judging) (is_closed : Bool)
+lines_known : (has_seen : List ReportedRow → Type 0) (line lines : ℕ → Row → List ℕ) (judging : JudgeView) (is_closed : Bool)
     (texts : List (Option (Vec ℕ Global))) (places : List ℕ) (rows : List Row) (seen : HasSeenRows has_seen line places rows)
     → ((place : ℕ) (row : Row) → fails judging row ≡ true → line place row ≡ lines place row)
     → AreFailureTexts judging is_closed texts seen.reported → AreLinesOf lines places rows texts
@@ -83,7 +83,7 @@ none_known : (lines : ℕ → Row → List ℕ) (places : List ℕ) (rows : List
 none_known lines places rows = λ k any lt. tt
 
 -- the kept texts are the lines of their rows, if texts are kept only while the two reporters report failures alike
-pub kept_known : (has_seen : List ReportedRow → Type 0) (line lines : ℕ → Row → List ℕ) (judging : Judging) (is_closed keeps : Bool)
+pub kept_known : (has_seen : List ReportedRow → Type 0) (line lines : ℕ → Row → List ℕ) (judging : JudgeView) (is_closed keeps : Bool)
     (texts : List (Option (Vec ℕ Global))) (places : List ℕ) (rows : List Row) (seen : HasSeenRows has_seen line places rows)
     → (is_closed ≡ false → keeps ≡ true)
     → (keeps ≡ true → (place : ℕ) (row : Row) → fails judging row ≡ true → line place row ≡ lines place row)

@@ -5,11 +5,11 @@ use Rattle.std.specs.Prelude.{◌&&◌, count_by, not}
 use Rattle.std.proofs.lemmas.List.Sums.{sum_by-cons}
 use Rattle.rv_stream.specs.declared_row.Row.{Row}
 use Rattle.rv_job_text.specs.Verdict.{did_run}
-use Rattle.rv_job_text.specs.Judgement.{Judged, Judging, failed, is_failing, is_known_failure, is_passed, judgement, known, now_passes, passed}
+use Rattle.rv_job_text.specs.Judgement.{JudgementView, JudgeView, failed, is_failing, is_known_failure, is_passed, judgement, known, now_passes, passed}
 use Rattle.rv_job_text.specs.TotalsLine.{known_count, passed_count}
 use Rattle.rv_job_text.specs.Problem.{is_error, is_failure}
 
-one_of_four : (judged : Judged) (ran : Bool) (failures errors skips passes count : ℕ)
+one_of_four : (judged : JudgementView) (ran : Bool) (failures errors skips passes count : ℕ)
     → failures + errors + skips + passes ≡ count
     → (cond (is_failing judged && ran) 1 0 + failures) + (cond (is_failing judged && not ran) 1 0 + errors)
     + (cond (is_known_failure judged) 1 0 + skips) + (cond (is_passed judged) 1 0 + passes) ≡ suc count
@@ -20,7 +20,7 @@ one_of_four (known why) ran failures errors skips passes count all = omega arith
 one_of_four (now_passes path) true failures errors skips passes count all = omega arith
 one_of_four (now_passes path) false failures errors skips passes count all = omega arith
 
-pub all_are_counted : (judging : Judging) (rows : List Row) →
+pub all_are_counted : (judging : JudgeView) (rows : List Row) →
     count_by (is_failure judging) rows + count_by (is_error judging) rows + known_count judging rows
     + passed_count judging rows ≡ length rows
 all_are_counted judging [] = refl

@@ -7,7 +7,7 @@ use Rattle.rv_job_text.specs.declared_known_jobs.KnownJob.{KnownJob}
 use Rattle.rv_stream.specs.declared_row.Row.{Row}
 use Rattle.rv_job_text.specs.Verdict.{did_run}
 use Rattle.rv_job_text.specs.ConsoleTail.{is_line_feed}
-use Rattle.rv_job_text.specs.Judgement.{Judged, Judging, failed, judgement, known, now_passes, passed}
+use Rattle.rv_job_text.specs.Judgement.{JudgementView, JudgeView, failed, judgement, known, now_passes, passed}
 use Rattle.rv_job_text.specs.TotalsLine.{known_count}
 use Rattle.rv_job_text.specs.Problem.{is_error, is_failure}
 use Rattle.rv_job_text.specs.declared_xml.XmlContext.TheVariants.{Element}
@@ -46,7 +46,7 @@ skipped_text why = codes "<skipped" ++ reason_attribute why ++ codes "/>\n"
 
 -- the XML element with the judgement of a row: for a failure, for a job that passes although it is known to fail, or for a known failure;
 -- empty if the row passed
-abbrev pub judged_text : Judged → Row → List ℕ → List ℕ
+abbrev pub judged_text : JudgementView → Row → List ℕ → List ℕ
 judged_text passed row lines = []
 judged_text failed row lines = problem_text row lines
 judged_text (known why) row lines = skipped_text why
@@ -59,13 +59,13 @@ output_text row =
     ++ codes "</system-out>\n"
 
 -- the test case of a row, with its class name `class` and its lines
-unfoldable pub test_case_text : List ℕ → Judging → Row → List ℕ → List ℕ
+unfoldable pub test_case_text : List ℕ → JudgeView → Row → List ℕ → List ℕ
 test_case_text class judging row lines =
     codes "<testcase" ++ attribute (codes "classname") class ++ attribute (codes "name") row.name
     ++ codes ">\n" ++ judged_text (judgement judging row) row lines ++ output_text row ++ codes "</testcase>\n"
 
 -- the test case of the job at this index, with its row and the lines that `line` makes of both
-abbrev pub case_text : List ℕ → Judging → (ℕ → Row → List ℕ) → ℕ → Row → List ℕ
+abbrev pub case_text : List ℕ → JudgeView → (ℕ → Row → List ℕ) → ℕ → Row → List ℕ
 case_text class judging line index row = test_case_text class judging row (line index row)
 
 -- ---- the document
@@ -85,7 +85,7 @@ abbrev pub skipped_attribute : ℕ → List ℕ
 skipped_attribute count = if count == 0 then [] else number_attribute (codes "skipped") count
 
 -- the beginning of a document: the name and the counts of the suite, and the steps of its jobs
-unfoldable pub suite_begin_text : List ℕ → Judging → List Row → List ℕ
+unfoldable pub suite_begin_text : List ℕ → JudgeView → List Row → List ℕ
 suite_begin_text class judging rows =
     codes "<?xml version=\"1.0\" encoding=\"UTF-8\"?>\n<testsuites>\n<testsuite"
     ++ attribute (codes "name") class ++ number_attribute (codes "tests") (length rows)
@@ -94,7 +94,7 @@ suite_begin_text class judging rows =
     ++ skipped_attribute (known_count judging rows) ++ codes ">\n" ++ steps_properties rows
 
 -- the test cases of the rows, each with its lines
-unfoldable pub test_cases_text : List ℕ → Judging → List (List ℕ) → List Row → List ℕ
+unfoldable pub test_cases_text : List ℕ → JudgeView → List (List ℕ) → List Row → List ℕ
 test_cases_text class judging [] rows = []
 test_cases_text class judging (lines ∷ texts) [] = []
 test_cases_text class judging (lines ∷ texts) (row ∷ rows) =
@@ -105,7 +105,7 @@ abbrev pub suite_end_text : List ℕ
 suite_end_text = codes "</testsuite>\n</testsuites>\n"
 
 -- the JUnit document of these rows, each with its lines; `class` is the name of the suite and the class name of its test cases
-unfoldable pub junit_text : List ℕ → Judging → List (List ℕ) → List Row → List ℕ
+unfoldable pub junit_text : List ℕ → JudgeView → List (List ℕ) → List Row → List ℕ
 junit_text class judging texts rows =
     suite_begin_text class judging rows ++ test_cases_text class judging texts rows ++ suite_end_text
 
@@ -122,5 +122,5 @@ abbrev pub HasBytesAsReason : KnownJob → Type 0
 HasBytesAsReason job = IsBytes job.reason
 
 -- the reasons of all known failures consist of bytes
-abbrev pub AreReasonsBytes : Judging → Type 0
+abbrev pub AreReasonsBytes : JudgeView → Type 0
 AreReasonsBytes judging = IfSome judging.known (λ file. AllByRecursion HasBytesAsReason file.jobs)

@@ -1,7 +1,7 @@
 -- Lines of rows that are known before a document is written.
 use Rattle.std.specs.Prelude.{◌≡◌, ◌<◌, ◌≤◌, ℕ, Bool, false, true, List, [], Option, None, IfSome, length, slice_index_or, Vec}
 use Rattle.std.specs.declared.alloc.Global.{Global}
-use Rattle.rv_job_text.specs.Judgement.{Judging, fails}
+use Rattle.rv_job_text.specs.Judgement.{JudgeView, fails}
 use Rattle.rv_stream.specs.declared_row.Row.{Row}
 use Rattle.rv_stream.specs.declared.reported_row.ReportedRow.{ReportedRow}
 
@@ -11,12 +11,12 @@ AreLinesOf line indices rows texts = (k : ℕ) (any : Row) → k < length rows �
     (λ text. text.items ≡ line (slice_index_or indices k 0) (slice_index_or rows k any))
 
 -- the reported row counts as a failure, and this is its text
-pub record IsFailureText (judging : Judging) (reported : ReportedRow) (text : List ℕ) : Type 0 where
+pub record IsFailureText (judging : JudgeView) (reported : ReportedRow) (text : List ℕ) : Type 0 where
   pub failed : fails judging reported.row ≡ true
   pub text_is : text ≡ reported.text.items
 
 -- the texts that an observer keeps of these reported rows: one entry for each row, in order, or no entries once it is closed
-pub record AreFailureTexts (judging : Judging) (is_closed : Bool) (texts : List (Option (Vec ℕ Global))) (reported : List ReportedRow) : Type 0 where
+pub record AreFailureTexts (judging : JudgeView) (is_closed : Bool) (texts : List (Option (Vec ℕ Global))) (reported : List ReportedRow) : Type 0 where
   pub all : is_closed ≡ false → length texts ≡ length reported
   pub none : is_closed ≡ true → texts ≡ []
   pub few : length texts ≤ length reported

@@ -4,7 +4,7 @@ ghost use Rattle.std.specs.Prelude.{◌≡◌, ◌+◌, ◌<◌, ◌^◌, ℕ, L
 ghost use Rattle.std.specs.List.{AllByRecursion};
 ghost use Rattle.hex.specs.Hex.{IsBytes};
 ghost use Rattle.rv_stream.specs.declared_row.Row.{Row};
-ghost use Rattle.rv_job_text.specs.Judgement.{Judging};
+ghost use Rattle.rv_job_text.specs.Judgement.{JudgeView};
 ghost use Rattle.rv_job_text.specs.TotalsLine.{known_count, passed_count};
 ghost use Rattle.rv_job_text.specs.Problem.{is_error, is_failure};
 ghost use Rattle.rv_junit.specs.Junit.{AreReasonsBytes, IsWrittenRow, junit_text};
@@ -12,14 +12,14 @@ ghost use Rattle.rv_job_text.specs.Xml.{IsXmlCharacters};
 
 /// Proves that a document is the UTF-8 encoding of XML 1.0 characters, whatever bytes its names, lines, reasons and consoles have.
 pub fn documents_are_xml_characters()
-    ensures { (class : List ℕ) (judging : Judging) (texts : List (List ℕ)) (rows : List Row)
+    ensures { (class : List ℕ) (judging : JudgeView) (texts : List (List ℕ)) (rows : List Row)
         → IsBytes class → AreReasonsBytes judging → AllByRecursion IsBytes texts → AllByRecursion IsWrittenRow rows
         → length rows < 2 ^ 64 → IsXmlCharacters (junit_text class judging texts rows) }
 {}
 
 /// Proves that each row is counted exactly once: as a failure, as an error, as skipped, or as passed.
 pub fn each_row_is_counted_once()
-    ensures { (judging : Judging) (rows : List Row)
+    ensures { (judging : JudgeView) (rows : List Row)
         → count_by (is_failure judging) rows + count_by (is_error judging) rows + known_count judging rows
         + passed_count judging rows
         ≡ length rows }

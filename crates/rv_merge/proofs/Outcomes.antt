@@ -26,7 +26,7 @@ use Rattle.rv_rows.specs.declared.outcome.SignatureRange.{SignatureRange}
 use Rattle.rv_rows.specs.Outcome.{content_or_refusal, reference_or_refusal, image_file_or_refusal, end_of_signature, signature_range, range_if_requested}
 use Rattle.rv_rows.specs.Outcome.{loadable_image, row_end, outcome_of_run, refused_outcome, outcome_if_loadable}
 use Rattle.rv_rows.specs.Outcome.{loaded_state, file_outcome_of, outcome_if_readable, outcome_of}
-use Rattle.rv_rows.specs.declared.outcome.Loadable.{Loadable}
+use Rattle.rv_rows.specs.declared.outcome.LoadableImage.{LoadableImage}
 use Rattle.rv_rows.specs.declared.outcome.Outcome.{Outcome}
 use Rattle.rv_rows.specs.declared_row.RowEnd.TheVariants as ending
 use Rattle.rv_rows.specs.declared_image.Image.{Image}
@@ -239,22 +239,22 @@ fine_run ran (Some range) h = record {
       (few_words ran.state.bus.memory range.begin range.end h);
 }
 
-fine_if_loadable : (job : Job) (file : List ℕ) (r : Result Loadable ImageError) → Errs Lasting r
-    → Oks (λ (l : Loadable). IsShort l.range) r → IsFine (outcome_if_loadable job file r)
+fine_if_loadable : (job : Job) (file : List ℕ) (r : Result LoadableImage ImageError) → Errs Lasting r
+    → Oks (λ (l : LoadableImage). IsShort l.range) r → IsFine (outcome_if_loadable job file r)
 fine_if_loadable job file (Ok loadable) h short =
     fine_run (run_of job.budget (loaded_state job file loadable.image)) loadable.range short
 fine_if_loadable job file (Err why) h short = fine_refused (refusal.Image why) h
 
-short_loadable : (job : Job) (file : List ℕ) → Oks (λ (l : Loadable). IsShort l.range) (loadable_image job file)
+short_loadable : (job : Job) (file : List ℕ) → Oks (λ (l : LoadableImage). IsShort l.range) (loadable_image job file)
 unfolding loadable_image
 short_loadable job file =
-    let P : Loadable → Type 0 = λ l. IsShort l.range in
+    let P : LoadableImage → Type 0 = λ l. IsShort l.range in
     oks_on P (image_of job.isa file) _ (λ found a.
     oks_on P (map_check found.segments job.regions job.load) _ (λ unit b.
     on_range found (range_if_requested file job.regions job.signature) (short_asked file job.regions job.signature)))
   where
     on_range : (found : Image) (r : Result (Option SignatureRange) ImageError) → Oks IsShort r
-        → Oks (λ (l : Loadable). IsShort l.range) (r >>= λ range. Ok (record { image = found; range = range }))
+        → Oks (λ (l : LoadableImage). IsShort l.range) (r >>= λ range. Ok (record { image = found; range = range }))
     on_range found (Ok x) h = h
     on_range found (Err e) h = tt
 

@@ -7,8 +7,8 @@ use Rattle.std.specs.List.{All, AllByRecursion, list_all}
 use Rattle.std.proofs.lemmas.Bool.{and_parts, cases_lt, false≢true}
 use Rattle.std.proofs.lemmas.List.{get_or_default, length-map}
 use Rattle.std.proofs.lemmas.List.Elements.{recursion_from_All}
-use Rattle.rv_rows.specs.declared_answers.Answer.{Answer}
-use Rattle.rv_rows.specs.Plans.{Planned, result_or_unreadable}
+use Rattle.rv_rows.specs.declared_answers.PathResult.{PathResult}
+use Rattle.rv_rows.specs.Plans.{PlanView, result_or_unreadable}
 use Rattle.rv_rows.specs.declared_job.Job.{Job}
 use Rattle.rv_rows.specs.Jobs.{console_path}
 use Rattle.rv_rows.specs.JobList.{job_list_of, names_of_jobs as job_names}
@@ -49,7 +49,7 @@ words : (ws : Option (List ℕ)) → HasWords ws → ((found : List ℕ) → ws 
 words None h few = tt
 words (Some found) h few = (few found refl, h)
 
-is_row : (plan : Planned) (job : Job) → is_name job.name ≡ true → HasNumbers (row_of plan job) → IsValidRow (row_of plan job)
+is_row : (plan : PlanView) (job : Job) → is_name job.name ≡ true → HasNumbers (row_of plan job) → IsValidRow (row_of plan job)
 unfolding row_of
 is_row plan job name has =
     let o = fine job (result_or_unreadable plan.answers job.image) (option_map (result_or_unreadable plan.answers) job.expect_signature)
@@ -62,19 +62,19 @@ is_row plan job name has =
       signature = words _ has.signature o.words;
     }
 
-are_rows : (plan : Planned) (jobs : List Job) → list_all is_name (job_names jobs) ≡ true
+are_rows : (plan : PlanView) (jobs : List Job) → list_all is_name (job_names jobs) ≡ true
     → AllByRecursion HasNumbers (map (row_of plan) jobs) → AllByRecursion IsValidRow (map (row_of plan) jobs)
 are_rows plan [] names has = tt
 are_rows plan (job ∷ jobs) names has =
     let named = and_parts (is_name job.name) (list_all is_name (job_names jobs)) names in
     (is_row plan job named.0 has.0, are_rows plan jobs named.1 has.1)
 
-same_names : (plan : Planned) (jobs : List Job) → job_names jobs ≡ row_names (map (row_of plan) jobs)
+same_names : (plan : PlanView) (jobs : List Job) → job_names jobs ≡ row_names (map (row_of plan) jobs)
 unfolding row_of
 same_names plan [] = refl
 same_names plan (job ∷ jobs) = ap (λ (ns : List (List ℕ)). job.name ∷ ns) (same_names plan jobs)
 
-pub listed : (bytes : List ℕ) (jobs : List Job) (answers : List Answer) (rows : List Row) → job_list_of bytes ≡ Ok jobs
+pub listed : (bytes : List ℕ) (jobs : List Job) (answers : List PathResult) (rows : List Row) → job_list_of bytes ≡ Ok jobs
     → rows ≡ rows_of (plan_of_jobs jobs answers) → All HasNumbers rows → AreValidRows rows
 unfolding rows_of
 listed bytes jobs answers rows e is has =

@@ -14,9 +14,9 @@ use Rattle.rv_rows.specs.declared_job.Job.{Job}
 use Rattle.rv_rows.specs.Names.{is_name}
 use Rattle.rv_rows.specs.Limits.{max_jobs}
 use Rattle.rv_rows.specs.Jobs.{single_job}
-use Rattle.rv_rows.specs.declared_answers.Answer.{Answer}
+use Rattle.rv_rows.specs.declared_answers.PathResult.{PathResult}
 use Rattle.rv_rows.specs.Choices.{selected_indices}
-use Rattle.rv_rows.specs.Plans.{Planned, jobs_needed_for}
+use Rattle.rv_rows.specs.Plans.{PlanView, jobs_needed_for}
 use Rattle.rv_rows.specs.declared_row.Row.{Row}
 use Rattle.rv_rows.specs.Rows.{row_of, rows_at, rows_of}
 use Rattle.rv_rows.specs.Wholes.{HaveSameResults, plan_of_jobs}
@@ -62,7 +62,7 @@ places_within f a (suc count) last high =
       | false ↦ later
     ]
 
-rows_there : (plan : Planned) (places : List ℕ) → AllByRecursion (λ place. place < length plan.jobs) places
+rows_there : (plan : PlanView) (places : List ℕ) → AllByRecursion (λ place. place < length plan.jobs) places
     → map (λ m. slice_get (rows_of plan) (m - 1)) (map (λ place. place + 1) places) ≡ map Some (rows_at plan places)
 unfolding rows_of rows_at
 rows_there plan [] h = refl
@@ -77,11 +77,11 @@ rows_there plan (place ∷ places) h =
     ap (λ o. o ∷ map (λ m. slice_get (rows_of plan) (m - 1)) (map (λ p. p + 1) places)) first
     ∙ ap (λ os. Some (row_of plan (get_or plan.jobs place none)) ∷ os) (rows_there plan places h.1)
 
-length_rows : (plan : Planned) → length (rows_of plan) ≡ length plan.jobs
+length_rows : (plan : PlanView) → length (rows_of plan) ≡ length plan.jobs
 unfolding rows_of
 length_rows plan = length-map plan.jobs (row_of plan)
 
-length_at : (plan : Planned) (places : List ℕ) → length (rows_at plan places) ≡ length places
+length_at : (plan : PlanView) (places : List ℕ) → length (rows_at plan places) ≡ length places
 unfolding rows_at
 length_at plan places = length-map places (λ i. row_of plan (get_or plan.jobs i (single_job [] 0 [])))
 
@@ -150,9 +150,9 @@ fits_in : (s : Shard) (ns : List ℕ) → is_valid_shard s ≡ true → are_even
 unfolding matches_job_numbers
 fits_in s ns a b = and_from (is_valid_shard s) (are_evenly_spaced s.number s.shards s.jobs ns) a b
 
-module _ (list : List Job) (answers : List Answer) (run : Run) (listed : AreValidRows (rows_of (plan_of_jobs list answers)))
+module _ (list : List Job) (answers : List PathResult) (run : Run) (listed : AreValidRows (rows_of (plan_of_jobs list answers)))
     (is : IsRunOf list run) where
-  plan : Planned
+  plan : PlanView
   plan = plan_of_jobs list answers
 
   has_rows : (n : ℕ)
@@ -193,7 +193,7 @@ module _ (list : List Job) (answers : List Answer) (run : Run) (listed : AreVali
         rows = goods;
       }
 
-  part_from : ((places : List ℕ) (some : List Answer) → All (HaveSameResults some answers) (jobs_needed_for list places)
+  part_from : ((places : List ℕ) (some : List PathResult) → All (HaveSameResults some answers) (jobs_needed_for list places)
       → rows_at (plan_of_jobs list some) places ≡ rows_at (plan_of_jobs list answers) places)
       → (n : ℕ) (bytes : List ℕ) → IsShardText list answers run n bytes
       → IsSearchedPart (rows_of (plan_of_jobs list answers)) run n bytes
@@ -221,7 +221,7 @@ module _ (list : List Job) (answers : List Answer) (run : Run) (listed : AreVali
       → Any (IsSearchedPart (rows_of (plan_of_jobs list answers)) run n) texts
   any_from f n texts (k, x, within, here, t) = (k, x, within, here, f x n t)
 
-  pub parts_from : ((places : List ℕ) (some : List Answer) → All (HaveSameResults some answers) (jobs_needed_for list places)
+  pub parts_from : ((places : List ℕ) (some : List PathResult) → All (HaveSameResults some answers) (jobs_needed_for list places)
       → rows_at (plan_of_jobs list some) places ≡ rows_at (plan_of_jobs list answers) places)
       → (texts : List (List ℕ)) → AreShardTexts list answers run texts
       → AreParts (rows_of (plan_of_jobs list answers)) texts

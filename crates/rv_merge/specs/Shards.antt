@@ -5,8 +5,8 @@ use Rattle.std.specs.List.{All, filter, range_with_len}
 use Rattle.rv_rows.specs.declared_job.Job.{Job}
 use Rattle.rv_rows.specs.Names.{is_name}
 use Rattle.rv_rows.specs.Limits.{max_jobs}
-use Rattle.rv_rows.specs.declared_answers.Answer.{Answer}
-use Rattle.rv_rows.specs.Plans.{Planned, jobs_needed_for}
+use Rattle.rv_rows.specs.declared_answers.PathResult.{PathResult}
+use Rattle.rv_rows.specs.Plans.{PlanView, jobs_needed_for}
 use Rattle.rv_rows.specs.Rows.{rows_at}
 use Rattle.rv_rows.specs.Wholes.{HaveSameResults, plan_of_jobs}
 use Rattle.rv_rows.specs.declared_saved.Extent.TheVariants as extent
@@ -27,7 +27,7 @@ abbrev pub shard_indices : ℕ → ℕ → ℕ → List ℕ
 shard_indices shards n jobs = filter (is_in_shard shards n) (range_with_len 0 jobs)
 
 -- the report of shard `n` of a run, with the rows of its jobs in this plan
-abbrev pub shard_report : Run → ℕ → Planned → SavedReport
+abbrev pub shard_report : Run → ℕ → PlanView → SavedReport
 shard_report run n plan = record {
   extent = extent.Shard (shard_in run n);
   numbers = map (λ place. place + 1) (shard_indices run.shards n run.jobs);
@@ -42,16 +42,16 @@ pub record IsRunOf (list : List Job) (run : Run) : Type 0 where
   pub stamp : is_name run.stamp ≡ true
 
 -- the bytes are the report of shard `n`, which ran from a plan that has the same result as `answers` for each path that its jobs need
-pub record IsShardText (list : List Job) (answers : List Answer) (run : Run) (n : ℕ)
+pub record IsShardText (list : List Job) (answers : List PathResult) (run : Run) (n : ℕ)
     (bytes : List ℕ) : Type 0 where
   pub low : 0 < n
   pub high : n ≤ run.shards
-  pub kept : List Answer
+  pub kept : List PathResult
   pub same : All (HaveSameResults kept answers) (jobs_needed_for list (shard_indices run.shards n run.jobs))
   pub text : bytes ≡ saved_text (shard_report run n (plan_of_jobs list kept))
 
 -- each text is the report of a shard that ran as `IsShardText` says, and each shard of the run has a text
-pub record AreShardTexts (list : List Job) (answers : List Answer) (run : Run)
+pub record AreShardTexts (list : List Job) (answers : List PathResult) (run : Run)
     (texts : List (List ℕ)) : Type 0 where
   pub each : All (λ bytes. (n : ℕ) × IsShardText list answers run n bytes) texts
   pub all : (n : ℕ) → 0 < n → n ≤ run.shards → Any (IsShardText list answers run n) texts

@@ -3,7 +3,7 @@
 ghost use Rattle.std.specs.Prelude.{◌≡◌, ◌<◌, ◌^◌, ℕ, List, Ok};
 ghost use Rattle.std.specs.List.{All, AllByRecursion};
 ghost use Rattle.hex.specs.Hex.{IsBytes};
-ghost use Rattle.rv_rows.specs.declared_answers.Answer.{Answer};
+ghost use Rattle.rv_rows.specs.declared_answers.PathResult.{PathResult};
 ghost use Rattle.rv_rows.specs.declared_job.Job.{Job};
 ghost use Rattle.rv_rows.specs.JobList.{job_list_of};
 ghost use Rattle.rv_merge.specs.Parts.{AreValidRows};
@@ -17,7 +17,7 @@ use rv_rows::{Bytes, Row, RowEnd, Words};
 /// Proves that the rows of a list that was read can be the rows of a list, whatever the results for its paths are: there are up to 4,096,
 /// with distinct valid names, numbers of 32 bits, consoles of bytes, signatures of at most 65,536 words, and no refusal for lack of memory.
 pub fn rows_form_a_list(rows: &[Row])
-    ensures { (bytes : List ℕ) (list : List Job) (answers : List Answer)
+    ensures { (bytes : List ℕ) (list : List Job) (answers : List PathResult)
         → job_list_of bytes ≡ Ok list → rows.now ≡ rows_of (plan_of_jobs list answers)
         → AreValidRows rows.now }
 {

@@ -1,7 +1,7 @@
 //! A law from a list's text to the report that its shards are merged into, with no code to run.
 
 ghost use Rattle.std.specs.Prelude.{◌≡◌, ℕ, List, Ok};
-ghost use Rattle.rv_rows.specs.declared_answers.Answer.{Answer};
+ghost use Rattle.rv_rows.specs.declared_answers.PathResult.{PathResult};
 ghost use Rattle.rv_rows.specs.declared_job.Job.{Job};
 ghost use Rattle.rv_rows.specs.JobList.{job_list_of};
 ghost use Rattle.rv_merge.specs.Parts.{AreParts, Run};
@@ -18,7 +18,7 @@ use rv_rows::Row;
 /// single machine computes with `run_fleet`, for every number of workers and every chunk size, and
 /// [`merge_parts`](crate::merge::merge_parts) returns these rows.
 pub fn shards_give_the_whole(rows: &[Row])
-    ensures { (bytes : List ℕ) (list : List Job) (answers : List Answer) (run : Run)
+    ensures { (bytes : List ℕ) (list : List Job) (answers : List PathResult) (run : Run)
         (texts : List (List ℕ))
         → job_list_of bytes ≡ Ok list → rows.now ≡ rows_of (plan_of_jobs list answers)
         → IsRunOf list run → AreShardTexts list answers run texts → AreParts rows.now texts }

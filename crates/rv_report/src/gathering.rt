@@ -22,7 +22,7 @@ use std::mem;
 
 /// The rows that were read so far with the numbers of their jobs, the extent in the last line, and the values of the unfinished row.
 #[derive(Drop)]
-pub struct Gathering {
+pub struct ReaderState {
     pub numbers: Vec<u32>,
     pub rows: Vec<Row>,
     pub extent: Extent,
@@ -59,7 +59,7 @@ const MAX_WORDS: u32 = 65_536;
 /// Reads the lines of a text up to the first that cannot come next, and returns their rows. A row that is unfinished at the end is
 /// included.
 #[tactic(auto, unfolding(crate::specs::LenientReport::gather_rows))]
-pub fn gather_rows(alloc: Global, text: &[u8]) -> Result<Gathering, AllocError>
+pub fn gather_rows(alloc: Global, text: &[u8]) -> Result<ReaderState, AllocError>
     ensures { IfOk result (λ g. reader_state_view g ≡ gather_rows text.now) }
 {
     let mut gathering = initial_state(alloc)?;
@@ -75,11 +75,11 @@ pub fn gather_rows(alloc: Global, text: &[u8]) -> Result<Gathering, AllocError>
 
 // Returns the state before the first line.
 #[tactic(auto, unfolding(crate::specs::LenientReport::state_between_rows))]
-fn initial_state(alloc: Global) -> Result<Gathering, AllocError>
+fn initial_state(alloc: Global) -> Result<ReaderState, AllocError>
     ensures { IfOk result (λ g. reader_state_view g ≡ state_between_rows [] [] Extent.Whole) }
 {
     let name = String::from_str(alloc, "-")?;
-    Ok(Gathering {
+    Ok(ReaderState {
         numbers: Vec::new(alloc),
         rows: Vec::new(alloc),
         extent: Extent::Whole,
@@ -98,7 +98,7 @@ fn initial_state(alloc: Global) -> Result<Gathering, AllocError>
 
 // Reads the next line.
 #[tactic(auto, unfolding(crate::specs::LenientReport::with_line))]
-fn add_line(alloc: Global, gathering: &mut Gathering, line: &[u8]) -> Result<(), AllocError>
+fn add_line(alloc: Global, gathering: &mut ReaderState, line: &[u8]) -> Result<(), AllocError>
     ensures { OnOk result (reader_state_view gathering.new ≡ with_line line.now (reader_state_view gathering.old)) }
 {
     match gathering.stage {
@@ -116,7 +116,7 @@ fn add_line(alloc: Global, gathering: &mut Gathering, line: &[u8]) -> Result<(),
 #[tactic(auto, unfolding(crate::specs::LenientReport::after_job_or_last_line))]
 fn add_job_or_last_line(
     alloc: Global,
-    gathering: &mut Gathering,
+    gathering: &mut ReaderState,
     line: &[u8],
 ) -> Result<(), AllocError>
     ensures { OnOk result (reader_state_view gathering.new ≡ after_job_or_last_line line.now (reader_state_view gathering.old)) }
@@ -139,7 +139,7 @@ fn add_job_or_last_line(
 
 // Reads the line that should have the ending of a row.
 #[tactic(auto, unfolding(crate::specs::LenientReport::after_end_line))]
-fn add_end_line(gathering: &mut Gathering, line: &[u8])
+fn add_end_line(gathering: &mut ReaderState, line: &[u8])
     ensures { reader_state_view gathering.new ≡ after_end_line line.now (reader_state_view gathering.old) }
 {
     if byte_at(line, 0) == b'e' {
@@ -152,7 +152,7 @@ fn add_end_line(gathering: &mut Gathering, line: &[u8])
 
 // Reads the line that should have the steps of a row.
 #[tactic(auto, unfolding(crate::specs::LenientReport::after_steps_line))]
-fn add_steps_line(gathering: &mut Gathering, line: &[u8])
+fn add_steps_line(gathering: &mut ReaderState, line: &[u8])
     ensures { reader_state_view gathering.new ≡ after_steps_line line.now (reader_state_view gathering.old) }
 {
     if byte_at(line, 0) == b's' && byte_at(line, 1) == b't' {
@@ -165,7 +165,7 @@ fn add_steps_line(gathering: &mut Gathering, line: &[u8])
 
 // Reads the line that should have the console of a row.
 #[tactic(auto, unfolding(crate::specs::LenientReport::after_console_line))]
-fn add_console_line(alloc: Global, gathering: &mut Gathering, line: &[u8]) -> Result<(), AllocError>
+fn add_console_line(alloc: Global, gathering: &mut ReaderState, line: &[u8]) -> Result<(), AllocError>
     ensures { OnOk result (reader_state_view gathering.new ≡ after_console_line line.now (reader_state_view gathering.old)) }
 {
     if byte_at(line, 0) == b'c' {
@@ -179,7 +179,7 @@ fn add_console_line(alloc: Global, gathering: &mut Gathering, line: &[u8]) -> Re
 
 // Reads the line that should have the number of words of a row's signature.
 #[tactic(auto, unfolding(crate::specs::LenientReport::after_signature_line))]
-fn add_signature_line(gathering: &mut Gathering, line: &[u8])
+fn add_signature_line(gathering: &mut ReaderState, line: &[u8])
     ensures { reader_state_view gathering.new ≡ after_signature_line line.now (reader_state_view gathering.old) }
 {
     let count = decimal_number(tail_from(line, 10));
@@ -197,7 +197,7 @@ fn add_signature_line(gathering: &mut Gathering, line: &[u8])
 #[tactic(auto, unfolding(crate::specs::LenientReport::after_word_or_verdict_line))]
 fn add_word_or_verdict_line(
     alloc: Global,
-    gathering: &mut Gathering,
+    gathering: &mut ReaderState,
     line: &[u8],
 ) -> Result<(), AllocError>
     ensures { OnOk result (reader_state_view gathering.new ≡ after_word_or_verdict_line line.now (reader_state_view gathering.old)) }
@@ -215,7 +215,7 @@ fn add_word_or_verdict_line(
 
 // If there is an unfinished row, finishes it with the verdict `none` and adds it to the rows.
 #[tactic(auto, unfolding(crate::specs::LenientReport::with_unfinished_row))]
-fn finish_unfinished_row(alloc: Global, gathering: &mut Gathering) -> Result<(), AllocError>
+fn finish_unfinished_row(alloc: Global, gathering: &mut ReaderState) -> Result<(), AllocError>
     ensures { OnOk result (reader_state_view gathering.new ≡ with_unfinished_row (reader_state_view gathering.old)) }
 {
     if !gathering.is_in_row {
@@ -238,7 +238,7 @@ fn pad_signature_words(words: &mut Vec<u32>, count: u32) -> Result<(), AllocErro
 
 // Finishes the unfinished row with this verdict, and adds it to the rows.
 #[tactic(auto, unfolding(crate::specs::LenientReport::with_finished_row, crate::specs::LenientReport::state_between_rows, crate::specs::LenientReport::unfinished_row))]
-fn finish_row(alloc: Global, gathering: &mut Gathering, verdict: Verdict) -> Result<(), AllocError>
+fn finish_row(alloc: Global, gathering: &mut ReaderState, verdict: Verdict) -> Result<(), AllocError>
     ensures { OnOk result (reader_state_view gathering.new ≡ with_finished_row verdict (reader_state_view gathering.old)) }
 {
     gathering.numbers.push(gathering.number)?;
@@ -249,7 +249,7 @@ fn finish_row(alloc: Global, gathering: &mut Gathering, verdict: Verdict) -> Res
 
 // Returns the row that has the values of the unfinished row and this verdict; afterwards there is no unfinished row.
 #[tactic(auto, unfolding(crate::specs::LenientReport::state_between_rows, crate::specs::LenientReport::unfinished_row))]
-fn take_row(alloc: Global, gathering: &mut Gathering, verdict: Verdict) -> Result<Row, AllocError>
+fn take_row(alloc: Global, gathering: &mut ReaderState, verdict: Verdict) -> Result<Row, AllocError>
     ensures row { IfOk result (λ row. row ≡ unfinished_row verdict (reader_state_view gathering.old)) }
     ensures rest { OnOk result (reader_state_view gathering.new ≡ state_between_rows (reader_state_view gathering.old).numbers
         (reader_state_view gathering.old).rows (reader_state_view gathering.old).extent) }

@@ -19,7 +19,7 @@ use Rattle.rv_machine.specs.Bus.{BusContents, new_bus}
 use Rattle.rv_machine.specs.Run.{RunResult, run_of}
 use Rattle.rv_machine.specs.State.{State, reset_state, is_misaligned}
 use Rattle.rv_machine.proofs.Public.{run_keeps}
-use Rattle.rv_rows.specs.declared.outcome.Loadable.{Loadable}
+use Rattle.rv_rows.specs.declared.outcome.LoadableImage.{LoadableImage}
 use Rattle.rv_rows.specs.declared.outcome.SignatureRange.{SignatureRange}
 use Rattle.rv_rows.specs.Outcome.{end_of_signature, loadable_image, loaded_state, range_if_requested, signature_range}
 use Rattle.rv_rows.specs.Outcome.{image_file_or_refusal, reference_or_refusal}
@@ -56,12 +56,12 @@ ranged_if_asked file regions (Some names) (Some loadable) e =
     rw (← is) (ranged file regions names found.0 found.1.0)
 
 -- what is known of an image that can be loaded
-pub record IsLoadable (job : Job) (file : List ℕ) (loadable : Loadable) : Type 0 where
+pub record IsLoadable (job : Job) (file : List ℕ) (loadable : LoadableImage) : Type 0 where
   pub image : image_of job.isa file ≡ Ok loadable.image
   pub fits : map_check loadable.image.segments job.regions job.load ≡ accepted
   pub range : IfSome loadable.range (λ range. signature_check range.begin range.end job.regions ≡ accepted)
 
-pub loadable_parts : (job : Job) (file : List ℕ) (loadable : Loadable) → loadable_image job file ≡ Ok loadable
+pub loadable_parts : (job : Job) (file : List ℕ) (loadable : LoadableImage) → loadable_image job file ≡ Ok loadable
     → IsLoadable job file loadable
 unfolding loadable_image
 loadable_parts job file loadable e =
@@ -127,7 +127,7 @@ aligned isa entry h = go (has_extension isa RV32C) refl
     go false is = rw (h is) refl
 
 -- in a loaded machine the range is checked against its own regions
-pub range_there : (job : Job) (file : List ℕ) (loadable : Loadable) (state : State) → loadable_image job file ≡ Ok loadable
+pub range_there : (job : Job) (file : List ℕ) (loadable : LoadableImage) (state : State) → loadable_image job file ≡ Ok loadable
     → state ≡ loaded_state job file loadable.image
     → IfSome loadable.range (λ range. signature_check range.begin range.end state.bus.regions ≡ accepted)
 unfolding new_bus

@@ -11,14 +11,14 @@ use Rattle.rv_elf.proofs.Public.{image_wider}
 use Rattle.rv_jobs.specs.declared_job.Job.{Job}
 use Rattle.rv_jobs.specs.declared.kept.Kept.{Kept}
 use Rattle.rv_jobs.specs.Jobs.{AreValidJobs}
-use Rattle.rv_jobs.specs.Plans.{Planned}
+use Rattle.rv_jobs.specs.Plans.{PlanView}
 use Rattle.rv_machine.specs.declared.ending.Ending.{Ending}
 use Rattle.rv_machine.specs.declared.ending.Ending.TheVariants as machine
 use Rattle.rv_machine.specs.Run.{RunResult, run_of}
 use Rattle.rv_machine.specs.State.{State}
 use Rattle.rv_machine.specs.Sets.{is_independent_of_isa as ends_in_any_set}
 use Rattle.rv_machine.proofs.Public.{run_wider}
-use Rattle.rv_rows.specs.declared.outcome.Loadable.{Loadable}
+use Rattle.rv_rows.specs.declared.outcome.LoadableImage.{LoadableImage}
 use Rattle.rv_report.specs.declared.row.Refusal.{Refusal}
 use Rattle.rv_report.specs.declared.row.Row.{Row}
 use Rattle.rv_rows.specs.Narrower.{widened_job, widened_jobs, widened_plan, is_end_independent_of_isa}
@@ -36,7 +36,7 @@ reached : {E A B : Type 0} (narrow wide : Result A E) (f : A → Result B E) (y 
 reached (Ok x) wide f y h e = ap (λ r. r >>= f) (h x refl) ∙ e
 reached (Err why) wide f y h e = cc
 
-loadable_wider : (job : Job) (file : List ℕ) (loadable : Loadable) → loadable_image job file ≡ Ok loadable
+loadable_wider : (job : Job) (file : List ℕ) (loadable : LoadableImage) → loadable_image job file ≡ Ok loadable
     → loadable_image (widened_job job) file ≡ Ok loadable
 unfolding loadable_image
 loadable_wider job file loadable e =
@@ -52,7 +52,7 @@ file_outcome_wider : (job : Job) (file : List ℕ) → is_end_independent_of_isa
 unfolding file_outcome_of
 file_outcome_wider job file h = go (loadable_image job file) refl h
   where
-    go : (r : Result Loadable ImageError) → loadable_image job file ≡ r
+    go : (r : Result LoadableImage ImageError) → loadable_image job file ≡ r
         → is_end_independent_of_isa (outcome_if_loadable job file r).ending ≡ true
         → outcome_if_loadable (widened_job job) file (loadable_image (widened_job job) file) ≡ outcome_if_loadable job file
         r
@@ -92,7 +92,7 @@ got_before (suc place) (suc k) (j ∷ jobs) l = got_before place k jobs (omega (
 
 -- ---- the row
 
-module _ (plan : Planned) (place : ℕ) where
+module _ (plan : PlanView) (place : ℕ) where
   -- so does the outcome of the job that the widened one names
   other_wider : (job : Job) → IfSome job.same_as (λ k. k < place)
       → same_as_outcome (widened_plan place plan) (widened_job job) ≡ same_as_outcome plan job

@@ -10,7 +10,7 @@ use Rattle.rv_machine.specs.declared.ending.Ending.{Ending}
 use Rattle.rv_machine.specs.Run.{RunResult, run_after_step, with_one_more_step, run_of, step_of}
 use Rattle.rv_machine.specs.State.{State}
 use Rattle.rv_machine.proofs.Public.{run_keeps}
-use Rattle.rv_rows.specs.declared.outcome.Loadable.{Loadable}
+use Rattle.rv_rows.specs.declared.outcome.LoadableImage.{LoadableImage}
 use Rattle.rv_rows.specs.IntermediateState.{IsIntermediateState}
 use Rattle.rv_rows.specs.Outcome.{image_file_or_refusal, loadable_image, loaded_state, start_if_loadable, start_if_readable, start_of}
 use Rattle.rv_rows.proofs.Loadables.{range_there}
@@ -81,7 +81,7 @@ unfolding start_of
 starts_over_file job image reference console file e = ap (start_if_readable job) e
 
 -- in a machine on the way of its run the range is checked against its own regions
-pub range_on_way : (job : Job) (file : List ℕ) (loadable : Loadable) (steps : ℕ) (state : State)
+pub range_on_way : (job : Job) (file : List ℕ) (loadable : LoadableImage) (steps : ℕ) (state : State)
     → loadable_image job file ≡ Ok loadable
     → IsIntermediateState (start_if_loadable job file (loadable_image job file)) job.budget steps state
     → IfSome loadable.range (λ range. signature_check range.begin range.end state.bus.regions ≡ accepted)

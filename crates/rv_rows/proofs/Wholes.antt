@@ -6,7 +6,7 @@ use Rattle.std.specs.List.{All}
 use Rattle.std.proofs.lemmas.Option.{get_or_from_slice_get}
 use Rattle.std.proofs.Math.ListN.{get_or-append}
 use Rattle.std.proofs.lemmas.List.{get_or-append_right}
-use Rattle.rv_jobs.specs.declared.answers.Answer.{Answer}
+use Rattle.rv_jobs.specs.declared.answers.PathResult.{PathResult}
 use Rattle.rv_jobs.specs.declared_job.Job.{Job}
 use Rattle.rv_jobs.specs.Jobs.{single_job}
 use Rattle.rv_jobs.specs.Plans.{same_as_jobs, jobs_needed_at, jobs_needed_for}
@@ -15,7 +15,7 @@ use Rattle.rv_rows.specs.Rows.{content_if_read, outcome_in, row_of, row_of_outco
 use Rattle.rv_rows.specs.Verdict.{verdict_of}
 use Rattle.rv_rows.specs.Wholes.{HaveSameResults, plan_of_jobs}
 
-module _ (jobs : List Job) (a b : List Answer) where
+module _ (jobs : List Job) (a b : List PathResult) where
   outcome_same : (job : Job) → HaveSameResults a b job → outcome_in a job ≡ outcome_in b job
   outcome_same job same = λ i. outcome_of job (same.image i) (same.reference i) (same.console i)
 

@@ -1,6 +1,6 @@
 -- Why a job is refused because of its image, whatever its other files.
 use Rattle.std.specs.Prelude.{List, Option, None}
-use Rattle.rv_jobs.specs.declared.answers.Answer.{Answer}
+use Rattle.rv_jobs.specs.declared.answers.PathResult.{PathResult}
 use Rattle.rv_jobs.specs.declared_job.Job.{Job}
 use Rattle.rv_jobs.specs.Plans.{result_or_unreadable}
 use Rattle.rv_report.specs.declared.row.Refusal.{Refusal}
@@ -8,5 +8,5 @@ use Rattle.rv_rows.specs.Outcome.{outcome_of, refusal_in}
 
 -- the reason why a job is refused because of its image, given the results for paths; `None` if its image is usable, whatever its other
 -- files are
-abbrev pub image_refusal_in : List Answer → Job → Option Refusal
+abbrev pub image_refusal_in : List PathResult → Job → Option Refusal
 image_refusal_in answers job = refusal_in (outcome_of job (result_or_unreadable answers job.image) None None).ending

@@ -2,7 +2,7 @@
 use Rattle.std.specs.Prelude.{ℕ, zero, suc, Bool, true, false, not, List, [], ◌∷◌}
 use Rattle.rv_machine.specs.declared_isa.Isa.TheVariants.{Imc}
 use Rattle.rv_jobs.specs.declared_job.Job.{Job}
-use Rattle.rv_jobs.specs.Plans.{Planned}
+use Rattle.rv_jobs.specs.Plans.{PlanView}
 use Rattle.rv_machine.specs.Sets.{depends_on_isa}
 use Rattle.rv_report.specs.declared.row.RowEnd.{RowEnd}
 use Rattle.rv_report.specs.declared.row.RowEnd.TheVariants.{Exit, Fault, Budget, Refused}
@@ -18,7 +18,7 @@ widened_jobs zero (job ∷ jobs) = widened_job job ∷ jobs
 widened_jobs (suc place) (job ∷ jobs) = job ∷ widened_jobs place jobs
 
 -- the plan in which the job at the index has RV32IMC as its instruction set instead of its own
-abbrev pub widened_plan : ℕ → Planned → Planned
+abbrev pub widened_plan : ℕ → PlanView → PlanView
 widened_plan place plan = record plan { jobs = widened_jobs place plan.jobs }
 
 -- whether a larger instruction set does not change how a job ended: it was not refused, and did not end with the fault `illegal` or

@@ -19,7 +19,7 @@ use Rattle.rv_machine.specs.declared.ending.Ending.TheVariants as machine
 use Rattle.rv_machine.specs.Run.{RunResult, run_of}
 use Rattle.rv_machine.specs.State.{State, reset_state}
 use Rattle.rv_rows.specs.declared.outcome.Outcome.{Outcome}
-use Rattle.rv_rows.specs.declared.outcome.Loadable.{Loadable}
+use Rattle.rv_rows.specs.declared.outcome.LoadableImage.{LoadableImage}
 use Rattle.rv_rows.specs.declared.outcome.SignatureRange.{SignatureRange}
 use Rattle.rv_report.specs.declared.row.Refusal.{Refusal}
 use Rattle.rv_report.specs.declared.row.Refusal.TheVariants as refusal
@@ -81,7 +81,7 @@ range_if_requested file regions (Some names) = do
 
 -- the image of a job's file and the range of its signature, if one is requested, or the first error: of the image, of the map, or of the
 -- signature
-unfoldable pub loadable_image : Job → List ℕ → Result Loadable ImageError
+unfoldable pub loadable_image : Job → List ℕ → Result LoadableImage ImageError
 loadable_image job file = do
   image ← image_of job.isa file
   unit ← map_check image.segments job.regions job.load
@@ -131,7 +131,7 @@ refusal_in (ending.Refused why) = Some why
 refusal_in _ = None
 
 -- the outcome of a job with these bytes of its image, given its image and signature range, or the error for which it is refused
-abbrev pub outcome_if_loadable : Job → List ℕ → Result Loadable ImageError → Outcome
+abbrev pub outcome_if_loadable : Job → List ℕ → Result LoadableImage ImageError → Outcome
 outcome_if_loadable job file (Ok loadable) =
     outcome_of_run (run_of job.budget (loaded_state job file loadable.image)) loadable.range
 outcome_if_loadable job file (Err why) = refused_outcome (refusal.Image why)
@@ -152,7 +152,7 @@ outcome_of job image reference console = outcome_if_readable job (image_file_or_
 -- ---- the state in which a run begins
 
 -- the state in which the run of a job begins, given its image and signature range, or the refusal
-abbrev pub start_if_loadable : Job → List ℕ → Result Loadable ImageError → Result State Refusal
+abbrev pub start_if_loadable : Job → List ℕ → Result LoadableImage ImageError → Result State Refusal
 start_if_loadable job file (Ok loadable) = Ok (loaded_state job file loadable.image)
 start_if_loadable job file (Err why) = Err (refusal.Image why)
 

@@ -1,15 +1,15 @@
 -- The outcomes of its last jobs that a worker caches.
 use Rattle.std.specs.Prelude.{◌≡◌, ℕ, List, Option, Some, All, option_map, slice_get}
-use Rattle.rv_jobs.specs.Plans.{Planned}
+use Rattle.rv_jobs.specs.Plans.{PlanView}
 use Rattle.rv_rows.specs.declared.outcome.Outcome.{Outcome}
 use Rattle.rv_rows.specs.declared.recent_outcomes.CachedOutcome.{CachedOutcome}
 use Rattle.rv_rows.specs.Rows.{outcome_in}
 
 -- the outcome of the job at an index of a plan, or `None` if there is no such job
-abbrev pub outcome_at : Planned → ℕ → Option Outcome
+abbrev pub outcome_at : PlanView → ℕ → Option Outcome
 outcome_at plan place = option_map (outcome_in plan.answers) (slice_get plan.jobs place)
 
 -- each cached outcome is the outcome of the job at its index
-abbrev pub AreOutcomesOfPlan : Planned → List CachedOutcome → Type 0
+abbrev pub AreOutcomesOfPlan : PlanView → List CachedOutcome → Type 0
 AreOutcomesOfPlan plan recent =
     All (λ (kept : CachedOutcome). outcome_at plan kept.place ≡ Some kept.outcome) recent

@@ -5,12 +5,12 @@ use Rattle.std.specs.Result.{result_ok}
 use Rattle.rv_elf.specs.declared.image.Image.{Image}
 use Rattle.rv_elf.specs.Image.{image_of}
 use Rattle.rv_machine.specs.declared_isa.Isa.{Isa}
-use Rattle.rv_jobs.specs.declared.answers.Answer.{Answer}
+use Rattle.rv_jobs.specs.declared.answers.PathResult.{PathResult}
 use Rattle.rv_jobs.specs.declared_job.Job.{Job}
 use Rattle.rv_jobs.specs.declared.kept.Kept.{Kept}
 use Rattle.rv_jobs.specs.declared.kept.Kept.TheVariants as kept
 use Rattle.rv_jobs.specs.Jobs.{console_path, single_job}
-use Rattle.rv_jobs.specs.Plans.{Planned, result_or_unreadable}
+use Rattle.rv_jobs.specs.Plans.{PlanView, result_or_unreadable}
 use Rattle.rv_rows.specs.declared.outcome.Outcome.{Outcome}
 use Rattle.rv_machine.specs.State.{State}
 use Rattle.rv_report.specs.declared.row.Refusal.{Refusal}
@@ -20,13 +20,13 @@ use Rattle.rv_rows.specs.Outcome.{outcome_of, start_of}
 use Rattle.rv_rows.specs.Verdict.{verdict_of}
 
 -- the outcome of a job, given the results for the paths of a plan
-abbrev pub outcome_in : List Answer → Job → Outcome
+abbrev pub outcome_in : List PathResult → Job → Outcome
 outcome_in answers job =
     outcome_of job (result_or_unreadable answers job.image) (option_map (result_or_unreadable answers) job.expect_signature)
     (option_map (result_or_unreadable answers) (console_path job.expect_console))
 
 -- the state in which the run of a job begins, given the results for the paths of a plan, or the refusal
-abbrev pub start_in : List Answer → Job → Result State Refusal
+abbrev pub start_in : List PathResult → Job → Result State Refusal
 start_in answers job =
     start_of job (result_or_unreadable answers job.image) (option_map (result_or_unreadable answers) job.expect_signature)
     (option_map (result_or_unreadable answers) (console_path job.expect_console))
@@ -42,20 +42,20 @@ image_if_read isa None = None
 image_if_read isa (Some file) = result_ok (image_of isa file)
 
 -- the image of a job; `None` if its file was not read, or is not an image
-abbrev pub image_in : List Answer → Job → Option Image
+abbrev pub image_in : List PathResult → Job → Option Image
 image_in answers job = image_if_read job.isa (content_if_read (Some (result_or_unreadable answers job.image)))
 
 -- the bytes of the file with a job's expected signature; `None` if the job names no file, or it was not read
-abbrev pub signature_reference_bytes : List Answer → Job → Option (List ℕ)
+abbrev pub signature_reference_bytes : List PathResult → Job → Option (List ℕ)
 signature_reference_bytes answers job = content_if_read (option_map (result_or_unreadable answers) job.expect_signature)
 
 -- the bytes of the file with a job's expected console text; `None` if the job names no file, or it was not read
-abbrev pub expected_console_bytes : List Answer → Job → Option (List ℕ)
+abbrev pub expected_console_bytes : List PathResult → Job → Option (List ℕ)
 expected_console_bytes answers job =
     content_if_read (option_map (result_or_unreadable answers) (console_path job.expect_console))
 
 -- the outcome of the job that the `same_as` of this job names; `None` without `same_as`
-abbrev pub same_as_outcome : Planned → Job → Option Outcome
+abbrev pub same_as_outcome : PlanView → Job → Option Outcome
 same_as_outcome plan job =
     option_map (outcome_in plan.answers) (option_and_then (slice_get plan.jobs) job.same_as)
 
@@ -71,7 +71,7 @@ row_of_outcome name outcome verdict = record {
 }
 
 -- the row of a job of a plan
-unfoldable pub row_of : Planned → Job → Row
+unfoldable pub row_of : PlanView → Job → Row
 row_of plan job =
     let outcome = outcome_in plan.answers job in
     row_of_outcome job.name outcome
@@ -79,10 +79,10 @@ row_of plan job =
     (same_as_outcome plan job))
 
 -- the rows of all jobs of a plan, in list order
-unfoldable pub rows_of : Planned → List Row
+unfoldable pub rows_of : PlanView → List Row
 rows_of plan = map (row_of plan) plan.jobs
 
 -- the rows of the jobs at these indices of a plan
-unfoldable pub rows_at : Planned → List ℕ → List Row
+unfoldable pub rows_at : PlanView → List ℕ → List Row
 rows_at plan places =
     map (λ i. row_of plan (slice_index_or plan.jobs i (single_job [] 0 []))) places

@@ -1,16 +1,16 @@
 -- Plans with the same jobs, one of which may have read fewer files.
 use Rattle.std.specs.Prelude.{◌≡◌, List, option_map}
-use Rattle.rv_jobs.specs.declared.answers.Answer.{Answer}
+use Rattle.rv_jobs.specs.declared.answers.PathResult.{PathResult}
 use Rattle.rv_jobs.specs.declared_job.Job.{Job}
 use Rattle.rv_jobs.specs.Jobs.{console_path}
-use Rattle.rv_jobs.specs.Plans.{Planned, result_or_unreadable}
+use Rattle.rv_jobs.specs.Plans.{PlanView, result_or_unreadable}
 
 -- the plan of these jobs with these results for paths
-abbrev pub plan_of_jobs : List Job → List Answer → Planned
+abbrev pub plan_of_jobs : List Job → List PathResult → PlanView
 plan_of_jobs jobs answers = record { jobs = jobs; answers = answers }
 
 -- both lists of results have equal results for each path that the job names
-pub record HaveSameResults (some others : List Answer) (job : Job) : Type 0 where
+pub record HaveSameResults (some others : List PathResult) (job : Job) : Type 0 where
   pub image : result_or_unreadable some job.image ≡ result_or_unreadable others job.image
   pub reference :
       option_map (result_or_unreadable some) job.expect_signature

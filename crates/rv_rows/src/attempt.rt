@@ -13,8 +13,8 @@ ghost use Rattle.rv_rows.specs.Outcome.{row_end, end_of_signature, image_file_or
 ghost use Rattle.rv_rows.specs.Outcome.{outcome_of, outcome_of_run, signature_range, reference_or_refusal, refusal_in};
 ghost use Rattle.rv_rows.specs.Outcome.{start_if_loadable};
 
-use crate::outcome::{Attempt, EndedRun, Loadable, SignatureRange};
-use crate::spare_bus::Spare;
+use crate::outcome::{Attempt, EndedRun, LoadableImage, SignatureRange};
+use crate::spare_bus::SpareBus;
 use rv_elf::{Image, ImageError, check_map, check_signature, find_symbol, load, read_image};
 use rv_jobs::{Job, Kept, Symbols};
 use rv_machine::{Ending, Machine, Map, Outcome};
@@ -86,7 +86,7 @@ pub(crate) fn machine_of_image(
     job: &Job,
     file: &[u8],
     image: &Image,
-    spare: &mut Spare,
+    spare: &mut SpareBus,
 ) -> Result<Result<Machine, Refusal>, AllocError>
     requires script { length job.now.script ≤ max_script_len }
     requires named { IfSome job.now.signature (λ names. (0 < length names.begin)
@@ -121,7 +121,7 @@ pub(crate) fn run_image(
     alloc: Global,
     job: &Job,
     file: &[u8],
-    spare: &mut Spare,
+    spare: &mut SpareBus,
 ) -> Result<Attempt, AllocError>
     requires script { length job.now.script ≤ max_script_len }
     requires named { IfSome job.now.signature (λ names. (0 < length names.begin)
@@ -143,7 +143,7 @@ pub(crate) fn run_image(
 
 /// Returns the image in the bytes of a file and the range of the job's signature, if one is requested, or the first error.
 #[tactic(auto, unfolding(crate::specs::Outcome::loadable_image))]
-pub(crate) fn loadable_image(alloc: Global, job: &Job, file: &[u8]) -> Result<Loadable, ImageError>
+pub(crate) fn loadable_image(alloc: Global, job: &Job, file: &[u8]) -> Result<LoadableImage, ImageError>
     requires { IfSome job.now.signature (λ names. (0 < length names.begin)
         × (0 < length names.end)) }
     ensures { MatchResult result (λ loadable. loadable_image job.now file.now ≡ Ok loadable)
@@ -151,7 +151,7 @@ pub(crate) fn loadable_image(alloc: Global, job: &Job, file: &[u8]) -> Result<Lo
 {
     let image = read_image(alloc, file, job.isa)?;
     let range = range_if_loadable(job, file, &image)?;
-    Ok(Loadable { image, range })
+    Ok(LoadableImage { image, range })
 }
 
 // Checks that an image fits the job's map, and returns the range of the job's signature, if one is requested, or the first error.
@@ -212,7 +212,7 @@ fn loaded_machine(
     job: &Job,
     file: &[u8],
     image: &Image,
-    spare: &mut Spare,
+    spare: &mut SpareBus,
 ) -> Result<Machine, AllocError>
     requires script { length job.now.script ≤ max_script_len }
     requires image { image_of job.now.isa file.now ≡ Ok image.now }

@@ -15,8 +15,8 @@ ghost use Rattle.rv_rows.specs.Rows.{outcome_in, row_of, start_in};
 use crate::attempt::{ended_run, image_file_or_refusal, loadable_image};
 use crate::outcome::{Attempt, EndedRun, SignatureRange};
 use crate::plan_rows::{matches_same_as, row_with_verdict};
-use crate::recent_outcomes::Recent;
-use crate::spare_bus::Spare;
+use crate::recent_outcomes::RecentOutcomes;
+use crate::spare_bus::SpareBus;
 use rv_elf::ImageError;
 use rv_jobs::{Job, Plan};
 use rv_machine::Machine;
@@ -40,7 +40,7 @@ pub fn row_from(
 {
     let attempt = complete_run_of_job(alloc, plan, i, steps, machine)?;
     let outcome = attempt.outcome(alloc)?;
-    let (mut spare, mut recent) = (Spare::new(), Recent::new(alloc));
+    let (mut spare, mut recent) = (SpareBus::new(), RecentOutcomes::new(alloc));
     spare.keep(attempt);
     let same = matches_same_as(plan, plan.job(i), &outcome, &mut spare, &mut recent)?;
     row_with_verdict(alloc, plan, i, outcome, same)

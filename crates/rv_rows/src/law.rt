@@ -2,10 +2,10 @@
 
 ghost use Rattle.std.specs.Prelude.{ℕ, ◌≡◌, List, IsTrue, Some, slice_get};
 ghost use Rattle.std.specs.List.{All};
-ghost use Rattle.rv_jobs.specs.declared.answers.Answer.{Answer};
+ghost use Rattle.rv_jobs.specs.declared.answers.PathResult.{PathResult};
 ghost use Rattle.rv_jobs.specs.declared_job.Job.{Job};
 ghost use Rattle.rv_jobs.specs.Jobs.{AreValidJobs};
-ghost use Rattle.rv_jobs.specs.Plans.{Planned, jobs_needed_for};
+ghost use Rattle.rv_jobs.specs.Plans.{PlanView, jobs_needed_for};
 ghost use Rattle.rv_report.specs.declared.row.Row.{Row};
 ghost use Rattle.rv_rows.specs.Narrower.{is_end_independent_of_isa, widened_plan};
 ghost use Rattle.rv_rows.specs.Rows.{rows_at, rows_of};
@@ -15,7 +15,7 @@ ghost use Rattle.rv_rows.specs.Wholes.{HaveSameResults, plan_of_jobs};
 /// its own instruction set. If the job's row in the first plan is not a refusal and not a fault `illegal` or `fetch-misaligned`, then the
 /// second plan has the same row.
 pub fn narrower_sets_only_refuse()
-    ensures { (plan : Planned) (place : ℕ) (row : Row) → AreValidJobs plan.jobs
+    ensures { (plan : PlanView) (place : ℕ) (row : Row) → AreValidJobs plan.jobs
         → slice_get (rows_of plan) place ≡ Some row
         → IsTrue (is_end_independent_of_isa row.ending) → slice_get (rows_of (widened_plan place plan)) place
         ≡ Some row }
@@ -24,7 +24,7 @@ pub fn narrower_sets_only_refuse()
 /// Proves that two plans with the same jobs have the same rows at some indices, if they have the same result for each path that these rows
 /// need. So a plan gathered only for these indices has the same rows there as one gathered for all jobs.
 pub fn parts_have_the_rows_of_the_whole()
-    ensures { (jobs : List Job) (some others : List Answer) (places : List ℕ)
+    ensures { (jobs : List Job) (some others : List PathResult) (places : List ℕ)
         → All (HaveSameResults some others) (jobs_needed_for jobs places)
         → rows_at (plan_of_jobs jobs some) places ≡ rows_at (plan_of_jobs jobs others) places }
 {}

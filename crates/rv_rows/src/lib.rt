@@ -21,14 +21,14 @@ mod verdict;
 pub use complete_run::row_from;
 pub use flat::flat_row;
 pub use law::{narrower_sets_only_refuse, parts_have_the_rows_of_the_whole};
-pub use outcome::{Loadable, Outcome, SignatureRange};
+pub use outcome::{LoadableImage, Outcome, SignatureRange};
 pub use plan_rows::{
     expected_console_bytes, image_refusal_at, machine_at, machine_at_reusing, refusal_at, row_at,
     row_at_with_recent, run_one, signature_reference_bytes,
 };
-pub use recent_outcomes::Recent;
+pub use recent_outcomes::RecentOutcomes;
 pub use reporter::RowReporter;
-pub use spare_bus::Spare;
+pub use spare_bus::SpareBus;
 pub use verdict::{
     are_alike_endings, are_same_outcomes, are_same_signatures, did_run, has_expectations,
     has_expected_end, has_expected_exit,

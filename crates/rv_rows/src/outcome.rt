@@ -33,7 +33,7 @@ pub struct SignatureRange {
 
 /// An image that fits the job's map, and the range of the job's signature, if one is requested.
 #[derive(Debug, Drop)]
-pub struct Loadable {
+pub struct LoadableImage {
     pub image: Image,
     pub range: Option<SignatureRange>,
 }

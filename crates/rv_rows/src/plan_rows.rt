@@ -14,8 +14,8 @@ ghost use Rattle.rv_rows.specs.Verdict.{are_same_outcomes, matches_same_as};
 
 use crate::attempt::{image_file_or_refusal, machine_of_image, refusal_of_job, run_image};
 use crate::outcome::{Attempt, Outcome};
-use crate::recent_outcomes::{MOST, Recent};
-use crate::spare_bus::Spare;
+use crate::recent_outcomes::{MOST, RecentOutcomes};
+use crate::spare_bus::SpareBus;
 use crate::verdict::{are_same_outcomes, is_same_as_attempt, verdict_of};
 use rv_elf::Image;
 use rv_jobs::{Job, Kept, Plan};
@@ -31,7 +31,7 @@ pub fn row_at(alloc: Global, plan: &Plan, i: usize) -> Result<Row, AllocError>
     ensures { IfOk result (λ row. (d : AJob) → row
         ≡ row_of plan.now (slice_index_or plan.now.jobs i d)) }
 {
-    row_at_with_recent(alloc, plan, i, &mut Spare::new(), &mut Recent::new(alloc))
+    row_at_with_recent(alloc, plan, i, &mut SpareBus::new(), &mut RecentOutcomes::new(alloc))
 }
 
 /// Returns the row of the job at an index, reusing the memory of the last run and the cached outcomes of the last jobs.
@@ -40,8 +40,8 @@ pub fn row_at_with_recent(
     alloc: Global,
     plan: &Plan,
     i: usize,
-    spare: &mut Spare,
-    recent: &mut Recent,
+    spare: &mut SpareBus,
+    recent: &mut RecentOutcomes,
 ) -> Result<Row, AllocError>
     requires place { i < length plan.now.jobs }
     requires recent { AreOutcomesOfPlan plan.now recent.old }
@@ -91,7 +91,7 @@ fn run_job_at(
     alloc: Global,
     plan: &Plan,
     i: usize,
-    spare: &mut Spare,
+    spare: &mut SpareBus,
 ) -> Result<Attempt, AllocError>
     requires { i < length plan.now.jobs }
     ensures outcome { IfOk result (λ attempt. (d : AJob) → outcome_of_attempt attempt
@@ -146,7 +146,7 @@ pub fn machine_at(
         ≡ Ok (state_of machine))
         (λ why. start_in plan.now.answers (slice_index_or plan.now.jobs i d) ≡ Err why)) }
 {
-    machine_at_reusing(alloc, plan, i, image, &mut Spare::new())
+    machine_at_reusing(alloc, plan, i, image, &mut SpareBus::new())
 }
 
 /// Like [`machine_at`], but reuses the memory of a machine that is no longer needed.
@@ -156,7 +156,7 @@ pub fn machine_at_reusing(
     plan: &Plan,
     i: usize,
     image: &Image,
-    spare: &mut Spare,
+    spare: &mut SpareBus,
 ) -> Result<Result<Machine, Refusal>, AllocError>
     requires place { i < length plan.now.jobs }
     requires image { (d : AJob) → image_in plan.now.answers (slice_index_or plan.now.jobs i d)
@@ -177,8 +177,8 @@ pub(crate) fn matches_same_as(
     plan: &Plan,
     job: &Job,
     outcome: &Outcome,
-    spare: &mut Spare,
-    recent: &mut Recent,
+    spare: &mut SpareBus,
+    recent: &mut RecentOutcomes,
 ) -> Result<bool, AllocError>
     requires place { IfSome job.now.same_as (λ place. place < length plan.now.jobs) }
     requires recent { AreOutcomesOfPlan plan.now recent.old }
@@ -197,8 +197,8 @@ fn equals_outcome_at(
     plan: &Plan,
     place: usize,
     outcome: &Outcome,
-    spare: &mut Spare,
-    recent: &mut Recent,
+    spare: &mut SpareBus,
+    recent: &mut RecentOutcomes,
 ) -> Result<bool, AllocError>
     requires place { place < length plan.now.jobs }
     requires recent { AreOutcomesOfPlan plan.now recent.old }
@@ -226,7 +226,7 @@ fn cache_outcome_if_named(
     plan: &Plan,
     i: usize,
     outcome: &Outcome,
-    recent: &mut Recent,
+    recent: &mut RecentOutcomes,
 ) -> Result<(), AllocError>
     requires place { i < length plan.now.jobs }
     requires outcome { outcome_at plan.now i ≡ Some outcome.now }
@@ -307,8 +307,8 @@ pub fn run_one(alloc: Global, plan: &Plan) -> Result<Report, AllocError>
     ensures { IfOk result (λ report. report.rows ≡ rows_of plan.now) }
 {
     let mut rows = Vec::new(alloc);
-    let mut spare = Spare::new();
-    let mut recent = Recent::new(alloc);
+    let mut spare = SpareBus::new();
+    let mut recent = RecentOutcomes::new(alloc);
     for i in 0..plan.jobs() {
         rows.push(row_at_with_recent(alloc, plan, i, &mut spare, &mut recent)?)?;
     }

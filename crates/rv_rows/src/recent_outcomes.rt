@@ -1,7 +1,7 @@
 //! The outcomes of a worker's last jobs, cached for the jobs that name these jobs in their `same_as`.
 
 ghost use Rattle.std.specs.Prelude.{◌≡◌, IfSome, OnOk, Some};
-ghost use Rattle.rv_jobs.specs.Plans.{Planned};
+ghost use Rattle.rv_jobs.specs.Plans.{PlanView};
 ghost use Rattle.rv_rows.specs.Recent.{AreOutcomesOfPlan, outcome_at};
 
 use crate::outcome::Outcome;
@@ -23,11 +23,11 @@ const ROOM: usize = 64_000;
 
 /// A cache of a few outcomes, the oldest first.
 #[derive(Drop)]
-pub struct Recent {
+pub struct RecentOutcomes {
     items: Vec<CachedOutcome>,
 }
 
-impl Model for Recent {
+impl Model for RecentOutcomes {
     ghost use Rattle.std.specs.Prelude.{List};
     ghost use Rattle.rv_rows.specs.declared.recent_outcomes.CachedOutcome.{CachedOutcome};
 
@@ -36,12 +36,12 @@ impl Model for Recent {
     ghost view = { λ recent. recent.items.items };
 }
 
-impl Recent {
+impl RecentOutcomes {
     /// Returns an empty cache. Does not allocate.
-    pub fn new(alloc: Global) -> Recent
-        ensures { (plan : Planned) → AreOutcomesOfPlan plan result }
+    pub fn new(alloc: Global) -> RecentOutcomes
+        ensures { (plan : PlanView) → AreOutcomesOfPlan plan result }
     {
-        Recent {
+        RecentOutcomes {
             items: Vec::new(alloc),
         }
     }
@@ -53,7 +53,7 @@ impl Recent {
 
     /// Returns the outcome of the job at an index if it is cached; otherwise `None`.
     pub fn find(&self, place: usize) -> Option<&Outcome>
-        ensures { (plan : Planned) → AreOutcomesOfPlan plan self.now
+        ensures { (plan : PlanView) → AreOutcomesOfPlan plan self.now
             → IfSome result (λ found. outcome_at plan place ≡ Some found.now) }
     {
         for kept in &self.items {
@@ -67,7 +67,7 @@ impl Recent {
     /// Returns whether an outcome whose console and signature have `size` bytes is small enough to be cached. If so, drops the oldest
     /// cached outcomes until there is room for it.
     pub fn make_room(&mut self, size: usize) -> bool
-        ensures { (plan : Planned) → AreOutcomesOfPlan plan self.old → AreOutcomesOfPlan plan self.new }
+        ensures { (plan : PlanView) → AreOutcomesOfPlan plan self.old → AreOutcomesOfPlan plan self.new }
     {
         if ROOM < size {
             return false;
@@ -80,7 +80,7 @@ impl Recent {
 
     /// Adds the outcome of the job at an index to the cache, which has room for it.
     pub fn keep(&mut self, place: usize, outcome: Outcome) -> Result<(), AllocError>
-        ensures { (plan : Planned) → AreOutcomesOfPlan plan self.old → outcome_at plan place
+        ensures { (plan : PlanView) → AreOutcomesOfPlan plan self.old → outcome_at plan place
             ≡ Some outcome
             → OnOk result (AreOutcomesOfPlan plan self.new) }
     {

@@ -10,14 +10,14 @@ use std::alloc::{AllocError, Global};
 /// The bus of the last run, if any. A worker creates the bus of its next run in the memory of the last one if the maps have the same size:
 /// allocating memory for each run costs more than a small run does.
 #[derive(Drop)]
-pub struct Spare {
+pub struct SpareBus {
     bus: Option<Bus>,
 }
 
-impl Spare {
+impl SpareBus {
     /// Returns an empty store, which has no bus.
-    pub fn new() -> Spare {
-        Spare { bus: None }
+    pub fn new() -> SpareBus {
+        SpareBus { bus: None }
     }
 
     /// Creates a bus, in the memory of the last run if there is one of the right size.

@@ -3,7 +3,7 @@
 ghost use Rattle.std.specs.Prelude.{◌≡◌, Option, bytes_eq, option_map};
 ghost use Rattle.rv_rows.specs.declared.outcome.Outcome.{Outcome as AnOutcome};
 ghost use Rattle.rv_rows.specs.Attempt.{HasValidRange, HasReadableSignature, outcome_in_bus, outcome_of_attempt};
-ghost use Rattle.rv_rows.specs.Verdict.{are_alike_endings, are_same_outcomes, ends_by, exits_with, has_expected_console};
+ghost use Rattle.rv_rows.specs.Verdict.{are_alike_endings, are_same_outcomes, meets_expected_end, exits_with, has_expected_console};
 ghost use Rattle.rv_rows.specs.Verdict.{has_expected_end, has_expected_exit, has_expected_signature};
 ghost use Rattle.rv_rows.specs.Verdict.{matches_same_as, has_expectations, did_run, lines_of_signature, ran_with_console, are_same_signatures, verdict_of};
 
@@ -85,14 +85,14 @@ pub fn has_expected_end(expected: Option<ExpectedEnd>, ending: RowEnd) -> bool
     ensures { result ≡ has_expected_end expected ending }
 {
     match expected {
-        Some(expected) => ends_by(expected, ending),
+        Some(expected) => meets_expected_end(expected, ending),
         None => true,
     }
 }
 
 // Whether a run ended in the expected way: by using up its budget, or with a fault of the expected kind.
-fn ends_by(expected: ExpectedEnd, ending: RowEnd) -> bool
-    ensures { result ≡ ends_by expected ending }
+fn meets_expected_end(expected: ExpectedEnd, ending: RowEnd) -> bool
+    ensures { result ≡ meets_expected_end expected ending }
 {
     match (expected, ending) {
         (ExpectedEnd::Budget, RowEnd::Budget) => true,

@@ -9,7 +9,7 @@ use Rattle.rv_count_tables.specs.Sum.{Agree, IsSumOfTables}
 use Rattle.rv_count_tables.specs.Table.{executed_at, taken_at, executed_in, taken_in, next_path, name_at, truncated_name, calls_in, steps_in, digests_increase_from, is_greater_than_last, min_text_of, IsValidImage, IsTable}
 use Rattle.rv_counting.proofs.Public.{no_names, no_owners, no_spots}
 use Rattle.rv_counting.specs.JobTables.{jobs_at, IsTableOfJobsAt}
-use Rattle.rv_counting.specs.Plans.{Planned}
+use Rattle.rv_counting.specs.Plans.{PlanView}
 use Rattle.rv_count_tables.specs.Trees.{calls_at, steps_at}
 use Rattle.rv_stacks.specs.StackTables.{image_without_stacks, without_stacks, AreStacksOfJobsAt, IsNamedBy, IsTableWithStacks}
 use Rattle.rv_stacks.proofs.Tables.{no_addresses}
@@ -88,7 +88,7 @@ module _ (digest : List ℕ) where
   no_steps path [] = refl
   no_steps path (i ∷ is) = zero_picked (bytes_eq i.digest digest) (steps_in digest path (bare is)) (no_steps path is)
 
-counts_of_jobs : (plan : Planned) (places : List ℕ) (t : CountTable) → IsOfJobs plan.answers (jobs_at plan places) t
+counts_of_jobs : (plan : PlanView) (places : List ℕ) (t : CountTable) → IsOfJobs plan.answers (jobs_at plan places) t
     → IsTableOfJobsAt plan places (without_stacks t)
 counts_of_jobs plan places t h = record {
   table = bare_is_table t h.table;
@@ -103,7 +103,7 @@ counts_of_jobs plan places t h = record {
   };
 }
 
-pub counts_alone : (plan : Planned) (places : List ℕ) (t : CountTable) → IsTableWithStacks plan places t
+pub counts_alone : (plan : PlanView) (places : List ℕ) (t : CountTable) → IsTableWithStacks plan places t
     → IsTableOfJobsAt plan places (without_stacks t)
 counts_alone plan places t is = counts_of_jobs plan places t (of_places plan places t is)
 
@@ -186,7 +186,7 @@ module _ (digest : List ℕ) where
   same_steps path (i ∷ is) =
       ap (λ (n : ℕ). cond (bytes_eq i.digest digest) (steps_at path i.spots) 0 + n) (same_steps path is)
 
-stacks_of_jobs : (plan : Planned) (places : List ℕ) (t : CountTable) → IsOfJobs plan.answers (jobs_at plan places) t
+stacks_of_jobs : (plan : PlanView) (places : List ℕ) (t : CountTable) → IsOfJobs plan.answers (jobs_at plan places) t
     → AreStacksOfJobsAt plan places (stacks_alone t)
 stacks_of_jobs plan places t h = record {
   table = stacks_are_table t h.table;
@@ -230,7 +230,7 @@ both_sum t table = record {
 }
 
 -- a table of both is the sum of what it has of each
-pub counts_and_stacks : (plan : Planned) (places : List ℕ) (t : CountTable) → IsOfJobs plan.answers (jobs_at plan places) t
+pub counts_and_stacks : (plan : PlanView) (places : List ℕ) (t : CountTable) → IsOfJobs plan.answers (jobs_at plan places) t
     → IsTableWithStacks plan places t
 counts_and_stacks plan places t h = record {
   counts = without_stacks t;

@@ -13,12 +13,12 @@ use Rattle.rv_count_tables.specs.Sum.{HaveNoSum}
 use Rattle.rv_count_tables.specs.Table.{executed_in, calls_in, steps_in}
 use Rattle.rv_counting.specs.JobTables.{executed_by, executed_from, jobs_at, runs_by, start_state_of_image}
 use Rattle.rv_counting.proofs.Public.{not_over}
-use Rattle.rv_counting.specs.declared_answers.Answer.{Answer}
+use Rattle.rv_counting.specs.declared_answers.PathResult.{PathResult}
 use Rattle.rv_counting.specs.State.{State}
 use Rattle.rv_counting.specs.declared_row.Refusal.{Refusal}
 use Rattle.rv_counting.specs.declared_job.Job.{Job}
 use Rattle.rv_counting.specs.Jobs.{single_job}
-use Rattle.rv_counting.specs.Plans.{Planned}
+use Rattle.rv_counting.specs.Plans.{PlanView}
 use Rattle.rv_calls.specs.Rows.{start_in}
 use Rattle.rv_stacks.specs.StackTables.{calls_by_job, calls_from, function_of_job, steps_by_job, steps_from, HaveNoTableWithStacks, IsNextTableNotAdded, IsOfNamesOrMemory, IsTableWithStacks, RunsWithinABudget}
 use Rattle.rv_stacks.proofs.Bounds.{arrivals_at_most, begun_at_most, once_at_most, steps_at_most}
@@ -32,7 +32,7 @@ record IsSmall (n : ℕ) (t : CountTable) : Type 0 where
   pub steps : (digest path : List ℕ) → steps_in digest path t.images ≤ n * 2 ^ 34
   pub runs : t.runs ≤ n * 2 ^ 34
 
-few_if_run : (answers : List Answer) (job : Job) (digest : List ℕ) (count : ℕ → Option State → ℕ)
+few_if_run : (answers : List PathResult) (job : Job) (digest : List ℕ) (count : ℕ → Option State → ℕ)
     → ((n : ℕ) (o : Option State) → count n o ≤ 1 + n + n) → ((n : ℕ) → count n None ≡ 0) → RunsWithinABudget answers job
     → count job.budget (start_state_of_image answers digest job) ≤ 2 ^ 34
 few_if_run answers job digest count few zero_of_none small = by (start_in answers job) refl
@@ -56,7 +56,7 @@ small_sum P f few (x ∷ xs) h =
     let rest = small_sum P f few xs h.1 in
     omega (arith, parts, here, rest)
 
-module _ (plan : Planned) (places : List ℕ) (budgets : AllByRecursion (RunsWithinABudget plan.answers) (jobs_at plan places)) where
+module _ (plan : PlanView) (places : List ℕ) (budgets : AllByRecursion (RunsWithinABudget plan.answers) (jobs_at plan places)) where
   few_jobs : (f : Job → ℕ) → ((job : Job) → RunsWithinABudget plan.answers job → f job ≤ 2 ^ 34)
       → sum_by f (jobs_at plan places) ≤ length places * 2 ^ 34
   few_jobs f few =
@@ -90,7 +90,7 @@ module _ (plan : Planned) (places : List ℕ) (budgets : AllByRecursion (RunsWit
         omega (arith, e, few));
   }
 
-small : (plan : Planned) (places : List ℕ) (t : CountTable) → IsTableWithStacks plan places t → IsSmall (length places) t
+small : (plan : PlanView) (places : List ℕ) (t : CountTable) → IsTableWithStacks plan places t → IsSmall (length places) t
 small plan places t is =
     let h = of_places plan places t is in
     small_table plan places h.budgets t h
@@ -119,7 +119,7 @@ told n m t u Runs few h k no_sum =
     let b = k.runs in
     absurd (omega (arith, few, a, b, no_sum))
 
-told_of_next : (plan : Planned) (places : List ℕ) (error : SumError) → length places ≤ max_jobs → IsNextTableNotAdded plan places error
+told_of_next : (plan : PlanView) (places : List ℕ) (error : SumError) → length places ≤ max_jobs → IsNextTableNotAdded plan places error
     → IsOfNamesOrMemory error
 told_of_next plan places error few h =
     let before = take h.count places in
@@ -128,6 +128,6 @@ told_of_next plan places error few h =
     told (length before) 1 h.first h.next error (omega (arith, few, long, lt)) (small plan before h.first h.node_of_first)
     (small plan (get_or places h.count 0 ∷ []) h.next h.of_next) h.refused
 
-pub no_other_reason : (plan : Planned) (places : List ℕ) (error : SumError) → length places ≤ max_jobs
+pub no_other_reason : (plan : PlanView) (places : List ℕ) (error : SumError) → length places ≤ max_jobs
     → HaveNoTableWithStacks plan places error → IsOfNamesOrMemory error
 no_other_reason plan places error few = ⊎_elim inl (told_of_next plan places error few)

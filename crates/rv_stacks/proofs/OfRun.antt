@@ -13,7 +13,7 @@ use Rattle.rv_counting.proofs.Public.{no_counts_is_table, none_if_no_ok, not_ok_
 use Rattle.rv_counting.specs.Coverage.{address_if, AreCountsOf}
 use Rattle.rv_counting.specs.JobTables.{executed_from, taken_from}
 use Rattle.rv_counting.specs.declared_image.Image.{Image}
-use Rattle.rv_counting.specs.declared_answers.Answer.{Answer}
+use Rattle.rv_counting.specs.declared_answers.PathResult.{PathResult}
 use Rattle.rv_counting.specs.declared_job.Job.{Job}
 use Rattle.rv_counting.specs.State.{State}
 use Rattle.rv_counting.specs.declared_row.Refusal.{Refusal}
@@ -43,7 +43,7 @@ if_some : (b : Bool) (n : ℕ) → 0 < cond b n 0 → (b ≡ true) × (0 < n)
 if_some true n h = (refl, h)
 if_some false n h = absurd (omega (arith, h))
 
-module _ (answers : List Answer) (job : Job) where
+module _ (answers : List PathResult) (job : Job) where
   -- a job that is refused
   nothing_run : ((s : State) → start_in answers job ≡ Ok s → ⊥) → IsOfJobs answers (job ∷ []) no_counts
   nothing_run no_start =

@@ -13,12 +13,12 @@ use Rattle.rv_counting.specs.TableSums.{sum_of_run, TableSumView, AreTablesAdded
 use Rattle.rv_counting.specs.declared_engine.RunError.{RunError}
 use Rattle.rv_counting.specs.declared_listener.Flow.{Flow}
 use Rattle.rv_counting.specs.Results.{IsRunDelivered}
-use Rattle.rv_counting.specs.Plans.{Planned}
+use Rattle.rv_counting.specs.Plans.{PlanView}
 use Rattle.rv_stacks.specs.StackTables.{IsNextTableNotAdded, HaveNoTableWithStacks, IsTableWithStacks}
 use Rattle.rv_stacks.proofs.Apart.{counts_and_stacks}
 use Rattle.rv_stacks.proofs.WithStacks.{of_both, of_none, of_places, IsOfJobs}
 
-module _ (plan : Planned) where
+module _ (plan : PlanView) where
   of_no_place : IsTableWithStacks plan [] no_counts
   of_no_place = counts_and_stacks plan [] no_counts (of_none plan.answers)
 

@@ -10,7 +10,7 @@ use Rattle.rv_count_tables.specs.Text.{table_text}
 use Rattle.rv_counting.proofs.Public.{all_parts, joined_parts}
 use Rattle.rv_counting.specs.JobTables.{jobs_at, SumsTo}
 use Rattle.rv_counting.specs.declared_job.Job.{Job}
-use Rattle.rv_counting.specs.Plans.{Planned}
+use Rattle.rv_counting.specs.Plans.{PlanView}
 use Rattle.rv_stacks.specs.StackTables.{indices_of_shard, AreTablesWithStacksOfParts, IsTableWithStacks}
 use Rattle.rv_stacks.proofs.Apart.{counts_and_stacks}
 use Rattle.rv_stacks.proofs.WithStacks.{in_order, of_both, of_none, of_places, one_table, IsOfJobs}
@@ -21,7 +21,7 @@ turned p q rest =
     (subst (IsPermutation ((p ++ q) ++ rest)) (append_assoc q p rest)
     (IsPermutation-append_left rest (p ++ q) (q ++ p) (IsPermutation-append_comm p q)))
 
-module _ (plan : Planned) where
+module _ (plan : PlanView) where
   of_more_parts : (js : List Job) (parts : List (List ℕ)) (ts : List CountTable) (start sum : CountTable)
       → IsOfJobs plan.answers js start → AreTablesWithStacksOfParts plan parts ts → SumsTo start ts sum
       → IsOfJobs plan.answers (js ++ jobs_at plan (flat_map (λ p. p) parts)) sum
@@ -37,7 +37,7 @@ module _ (plan : Planned) where
   of_more_parts js [] (t ∷ ts) start sum h each sums = absurd each
   of_more_parts js (p ∷ ps) [] start sum h each sums = absurd each
 
-pub sum_of_parts : (plan : Planned) (places : List ℕ) (parts : List (List ℕ)) (ts : List CountTable) (sum : CountTable)
+pub sum_of_parts : (plan : PlanView) (places : List ℕ) (parts : List (List ℕ)) (ts : List CountTable) (sum : CountTable)
     → IsPermutation (flat_map (λ p. p) parts) places → AreTablesWithStacksOfParts plan parts ts → SumsTo no_counts ts sum
     → IsTableWithStacks plan places sum
 sum_of_parts plan places parts ts sum p each sums =
@@ -46,7 +46,7 @@ sum_of_parts plan places parts ts sum p each sums =
     (in_order plan.answers (jobs_at plan all) (jobs_at plan places) sum (IsPermutation-map _ all places p)
     (of_more_parts plan [] parts ts no_counts sum (of_none plan.answers) each sums))
 
-pub text_of_parts : (plan : Planned) (places : List ℕ) (parts : List (List ℕ)) (ts : List CountTable) (sum whole : CountTable)
+pub text_of_parts : (plan : PlanView) (places : List ℕ) (parts : List (List ℕ)) (ts : List CountTable) (sum whole : CountTable)
     → IsPermutation (flat_map (λ p. p) parts) places → AreTablesWithStacksOfParts plan parts ts → SumsTo no_counts ts sum
     → IsTableWithStacks plan places whole → table_text sum ≡ table_text whole
 text_of_parts plan places parts ts sum whole p each sums h =
@@ -104,14 +104,14 @@ module _ (shards : ℕ) (places numbers : List ℕ) where
       (subst (λ ps. IsPermutation ps places) (sym (in_line 0 shards))
       (all_parts (λ (place : ℕ). place % shards) shards places (λ place. omega (arith, some))))
 
-pub sum_of_shards : (plan : Planned) (shards : ℕ) (places numbers : List ℕ) (ts : List CountTable) (sum : CountTable)
+pub sum_of_shards : (plan : PlanView) (shards : ℕ) (places numbers : List ℕ) (ts : List CountTable) (sum : CountTable)
     → 0 < shards → IsPermutation (range_with_len 0 shards) numbers
     → AreTablesWithStacksOfParts plan (map (indices_of_shard shards places) numbers) ts → SumsTo no_counts ts sum
     → IsTableWithStacks plan places sum
 sum_of_shards plan shards places numbers ts sum some p =
     sum_of_parts plan places (map (indices_of_shard shards places) numbers) ts sum (shards_are_all shards places numbers some p)
 
-pub text_of_shards : (plan : Planned) (shards : ℕ) (places numbers : List ℕ) (ts : List CountTable) (sum whole : CountTable)
+pub text_of_shards : (plan : PlanView) (shards : ℕ) (places numbers : List ℕ) (ts : List CountTable) (sum whole : CountTable)
     → 0 < shards → IsPermutation (range_with_len 0 shards) numbers
     → AreTablesWithStacksOfParts plan (map (indices_of_shard shards places) numbers) ts → SumsTo no_counts ts sum
     → IsTableWithStacks plan places whole → table_text sum ≡ table_text whole

@@ -11,7 +11,7 @@ use Rattle.rv_count_tables.specs.Lines.{lacks}
 use Rattle.rv_count_tables.specs.Sum.{Agree, IsSumOfTables}
 use Rattle.rv_count_tables.specs.Table.{truncated_name, min_text_of, increase_from, AreValidCounts, IsValidImage, IsTable}
 use Rattle.rv_counting.proofs.Public.{one_rises}
-use Rattle.rv_counting.specs.declared_answers.Answer.{Answer}
+use Rattle.rv_counting.specs.declared_answers.PathResult.{PathResult}
 use Rattle.rv_counting.specs.declared_job.Job.{Job}
 use Rattle.rv_count_tables.specs.declared_spot.Spot.{Spot}
 use Rattle.rv_count_tables.specs.Sums.{FitsFields}
@@ -92,7 +92,7 @@ all_both P Q R [] [] f g h k = tt
 all_both P Q R [] (y ∷ ys) f g h k = (g y k.0, all_both P Q R [] ys f g tt k.1)
 all_both P Q R (x ∷ xs) ys f g h k = (f x h.0, all_both P Q R xs ys f g h.1 k)
 
-pub names_of_both : (answers : List Answer) (js ks : List Job) (t u sum : CountTable) → IsSumOfTables t u sum → (digest : List ℕ) (f : ℕ)
+pub names_of_both : (answers : List PathResult) (js ks : List Job) (t u sum : CountTable) → IsSumOfTables t u sum → (digest : List ℕ) (f : ℕ)
     → AllByRecursion (IsNamedBy answers t digest f) js → AllByRecursion (IsNamedBy answers u digest f) ks
     → AllByRecursion (IsNamedBy answers sum digest f) (js ++ ks)
 names_of_both answers js ks t u sum is digest f =
@@ -104,7 +104,7 @@ names_of_both answers js ks t u sum is digest f =
     ∙ named_second (truncated_name digest f t.images) (truncated_name digest f u.images) (name_of_job answers job f) (is.agree digest f)
     (named path ends some))
 
-pub budgets_of_both : (answers : List Answer) (js ks : List Job) → AllByRecursion (RunsWithinABudget answers) js
+pub budgets_of_both : (answers : List PathResult) (js ks : List Job) → AllByRecursion (RunsWithinABudget answers) js
     → AllByRecursion (RunsWithinABudget answers) ks → AllByRecursion (RunsWithinABudget answers) (js ++ ks)
 budgets_of_both answers js ks =
     all_both (RunsWithinABudget answers) (RunsWithinABudget answers) (RunsWithinABudget answers) js ks (λ job h. h) (λ job h. h)

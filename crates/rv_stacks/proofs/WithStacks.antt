@@ -11,16 +11,16 @@ use Rattle.rv_count_tables.specs.Sum.{IsSumOfTables, no_counts}
 use Rattle.rv_count_tables.specs.Table.{executed_in, taken_in, next_path, truncated_name, calls_in, steps_in, has_name, is_before, min_text_of, IsTable}
 use Rattle.rv_counting.proofs.Public.{first_moved, first_path-append, no_counts_is_table}
 use Rattle.rv_counting.specs.JobTables.{executed_by, first_path, jobs_at, runs_by, taken_by}
-use Rattle.rv_counting.specs.declared_answers.Answer.{Answer}
+use Rattle.rv_counting.specs.declared_answers.PathResult.{PathResult}
 use Rattle.rv_counting.specs.declared_job.Job.{Job}
-use Rattle.rv_counting.specs.Plans.{Planned}
+use Rattle.rv_counting.specs.Plans.{PlanView}
 use Rattle.rv_count_tables.specs.Trees.{ends_with}
 use Rattle.rv_stacks.specs.StackTables.{calls_by_job, steps_by_job, IsNamedBy, IsTableWithStacks, RunsWithinABudget}
 use Rattle.rv_stacks.proofs.Named.{come_to}
 use Rattle.rv_stacks.proofs.Tables.{budgets_of_both, names_of_both, same_either}
 
 -- each number is the sum over the jobs
-pub record IsOfJobs (answers : List Answer) (jobs : List Job) (t : CountTable) : Type 0 where
+pub record IsOfJobs (answers : List PathResult) (jobs : List Job) (t : CountTable) : Type 0 where
   pub table : IsTable t
   pub begun : (digest : List ℕ) (address : ℕ)
       → executed_in digest address t.images ≡ sum_by (executed_by answers digest address) jobs
@@ -44,7 +44,7 @@ pub each_so : {X : Type 0} (P Q : X → Type 0) (xs : List X) → ((x : X) → P
 each_so P Q [] f h = tt
 each_so P Q (x ∷ xs) f h = (f x h.0, each_so P Q xs f h.1)
 
-pub of_places : (plan : Planned) (places : List ℕ) (t : CountTable) → IsTableWithStacks plan places t
+pub of_places : (plan : PlanView) (places : List ℕ) (t : CountTable) → IsTableWithStacks plan places t
     → IsOfJobs plan.answers (jobs_at plan places) t
 of_places plan places t h = record {
   table = h.sum.table;
@@ -86,7 +86,7 @@ of_places plan places t h = record {
 
 -- ---- jobs of both
 
-pub of_none : (answers : List Answer) → IsOfJobs answers [] no_counts
+pub of_none : (answers : List PathResult) → IsOfJobs answers [] no_counts
 of_none answers = record {
   table = no_counts_is_table;
   begun = λ digest address. refl;
@@ -99,7 +99,7 @@ of_none answers = record {
   budgets = tt;
 }
 
-module _ (answers : List Answer) where
+module _ (answers : List PathResult) where
   pub of_both : (js ks : List Job) (t u sum : CountTable) → IsOfJobs answers js t → IsOfJobs answers ks u → IsSumOfTables t u sum
       → IsOfJobs answers (js ++ ks) sum
   of_both js ks t u sum h k is = record {
@@ -205,7 +205,7 @@ module _ (answers : List Answer) where
       (λ digest path. h.arrivals digest path ∙ sym (k.arrivals digest path))
       (λ digest path. h.steps digest path ∙ sym (k.steps digest path)) (h.runs ∙ sym k.runs)
 
-pub one_table : (plan : Planned) (places others : List ℕ) (t u : CountTable) → IsPermutation places others
+pub one_table : (plan : PlanView) (places others : List ℕ) (t u : CountTable) → IsPermutation places others
     → IsTableWithStacks plan places t → IsTableWithStacks plan others u → t ≡ u
 one_table plan places others t u p h k =
     one_of_jobs plan.answers (jobs_at plan others) t u

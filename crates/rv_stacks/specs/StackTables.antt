@@ -17,9 +17,9 @@ use Rattle.rv_counting.specs.Coverage.{address_if}
 use Rattle.rv_counting.specs.JobTables.{first_path, jobs_at, start_state_of_image, IsTableOfJobsAt}
 use Rattle.rv_counting.specs.declared_image.Image.{Image}
 use Rattle.rv_counting.specs.SymbolSearch.{symbol_at}
-use Rattle.rv_counting.specs.declared_answers.Answer.{Answer}
+use Rattle.rv_counting.specs.declared_answers.PathResult.{PathResult}
 use Rattle.rv_counting.specs.declared_job.Job.{Job}
-use Rattle.rv_counting.specs.Plans.{Planned}
+use Rattle.rv_counting.specs.Plans.{PlanView}
 use Rattle.rv_counting.specs.State.{State}
 use Rattle.rv_calls.specs.Rows.{image_in, start_in}
 use Rattle.rv_count_tables.specs.declared_spot.Spot.{Spot}
@@ -93,11 +93,11 @@ name_in_image (Some image) (Some file) f = name_of_function image file f
 name_in_image _ _ f = []
 
 -- the function that an address in a job's image belongs to
-abbrev pub function_of_job : List Answer → Job → ℕ → ℕ
+abbrev pub function_of_job : List PathResult → Job → ℕ → ℕ
 function_of_job answers job = function_in (image_in answers job) (image_bytes answers job)
 
 -- the printable name of a function in a job's image
-abbrev pub name_of_job : List Answer → Job → ℕ → List ℕ
+abbrev pub name_of_job : List PathResult → Job → ℕ → List ℕ
 name_of_job answers job = name_in_image (image_in answers job) (image_bytes answers job)
 
 -- how often a run of at most `n` steps from this state enters a path, including the entry into its first function; 0 without a state
@@ -112,29 +112,29 @@ steps_from function path n None = 0
 steps_from function path n (Some s) = run.steps_in function path n [] s
 
 -- how often a job's run enters a path; 0 if its image does not have this digest
-abbrev pub calls_by_job : List Answer → List ℕ → List ℕ → Job → ℕ
+abbrev pub calls_by_job : List PathResult → List ℕ → List ℕ → Job → ℕ
 calls_by_job answers digest path job =
     calls_from (function_of_job answers job) path job.budget (start_state_of_image answers digest job)
 
 -- how many instructions a job's run executes on a path; 0 if its image does not have this digest
-abbrev pub steps_by_job : List Answer → List ℕ → List ℕ → Job → ℕ
+abbrev pub steps_by_job : List PathResult → List ℕ → List ℕ → Job → ℕ
 steps_by_job answers digest path job =
     steps_from (function_of_job answers job) path job.budget (start_state_of_image answers digest job)
 
 -- if the job's run enters a path that ends with `f`, the table gives `f` in the image with this digest the name that it has in the job's
 -- image
-abbrev pub IsNamedBy : List Answer → CountTable → List ℕ → ℕ → Job → Type 0
+abbrev pub IsNamedBy : List PathResult → CountTable → List ℕ → ℕ → Job → Type 0
 IsNamedBy answers t digest f job = (path : List ℕ) → ends_with f path ≡ true
     → 0 < calls_by_job answers digest path job → truncated_name digest f t.images ≡ Some (name_of_job answers job f)
 
 -- the job is refused, or its budget is below 2^32
-abbrev pub RunsWithinABudget : List Answer → Job → Type 0
+abbrev pub RunsWithinABudget : List PathResult → Job → Type 0
 RunsWithinABudget answers job = (s : State) → start_in answers job ≡ Ok s → job.budget < 2 ^ 32
 
 -- ---- some jobs
 
 -- `t` is the table of only the call trees of the jobs, without counts and runs: each of its numbers is the sum over the jobs
-pub record AreStacksOfJobs (answers : List Answer) (jobs : List Job) (t : CountTable) : Type 0 where
+pub record AreStacksOfJobs (answers : List PathResult) (jobs : List Job) (t : CountTable) : Type 0 where
   pub table : IsTable t
   pub begun : (digest : List ℕ) (address : ℕ) → executed_in digest address t.images ≡ 0
   pub taken : (digest : List ℕ) (address : ℕ) → taken_in digest address t.images ≡ 0
@@ -148,13 +148,13 @@ pub record AreStacksOfJobs (answers : List Answer) (jobs : List Job) (t : CountT
   pub budgets : AllByRecursion (RunsWithinABudget answers) jobs
 
 -- `t` is the table of only the call trees of a plan's jobs at these indices
-abbrev pub AreStacksOfJobsAt : Planned → List ℕ → CountTable → Type 0
+abbrev pub AreStacksOfJobsAt : PlanView → List ℕ → CountTable → Type 0
 AreStacksOfJobsAt plan places t = AreStacksOfJobs plan.answers (jobs_at plan places) t
 
 -- ---- counts and call trees
 
 -- `t` is the table of the counts and the call trees of a plan's jobs at these indices
-pub record IsTableWithStacks (plan : Planned) (places : List ℕ) (t : CountTable) : Type 0 where
+pub record IsTableWithStacks (plan : PlanView) (places : List ℕ) (t : CountTable) : Type 0 where
   pub counts : CountTable
   pub stacks : CountTable
   pub counted : IsTableOfJobsAt plan places counts
@@ -162,7 +162,7 @@ pub record IsTableWithStacks (plan : Planned) (places : List ℕ) (t : CountTabl
   pub sum : IsSumOfTables counts stacks t
 
 -- the table of the jobs at the first `count` indices and the table of the job at the next index cannot be added, because of this error
-pub record IsNextTableNotAdded (plan : Planned) (places : List ℕ) (error : SumError) : Type 0 where
+pub record IsNextTableNotAdded (plan : PlanView) (places : List ℕ) (error : SumError) : Type 0 where
   pub count : ℕ
   pub within : count < length places
   pub first : CountTable
@@ -172,7 +172,7 @@ pub record IsNextTableNotAdded (plan : Planned) (places : List ℕ) (error : Sum
   pub refused : HaveNoSum error first next
 
 -- why there is no table for the jobs at these indices: memory ran out, or the tables of some of them cannot be added
-abbrev pub HaveNoTableWithStacks : Planned → List ℕ → SumError → Type 0
+abbrev pub HaveNoTableWithStacks : PlanView → List ℕ → SumError → Type 0
 HaveNoTableWithStacks plan places error = (error ≡ OutOfMemory) ⊎ IsNextTableNotAdded plan places error
 
 -- the error says that memory ran out or that a function has two names
@@ -182,7 +182,7 @@ IsOfNamesOrMemory error = (error ≡ OutOfMemory) ⊎ ((function : ℕ) × (erro
 -- ---- parts and shards
 
 -- `tables` has the table of each part of the indices, in order, with the counts and the call trees of the jobs in the part
-abbrev pub AreTablesWithStacksOfParts : Planned → List (List ℕ) → List CountTable → Type 0
+abbrev pub AreTablesWithStacksOfParts : PlanView → List (List ℕ) → List CountTable → Type 0
 AreTablesWithStacksOfParts plan [] [] = Unit {0}
 AreTablesWithStacksOfParts plan (p ∷ ps) (t ∷ ts) = IsTableWithStacks plan p t × AreTablesWithStacksOfParts plan ps ts
 AreTablesWithStacksOfParts plan _ _ = ⊥

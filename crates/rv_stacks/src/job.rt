@@ -10,7 +10,7 @@ ghost use Rattle.rv_counting.specs.Trace.{job_at};
 
 use crate::run::count_with_stacks;
 use rv_calls::machine_at;
-use rv_count_tables::{Addresses, Spots};
+use rv_count_tables::{Addresses, CallNodes};
 use rv_counting::{CodeSymbols, JobImage};
 use std::alloc::{AllocError, Global};
 
@@ -20,7 +20,7 @@ pub fn count_job_with_stacks(
     alloc: Global,
     job: &JobImage<'_>,
     symbols: &CodeSymbols<'_>,
-) -> Result<Option<(Addresses, Spots)>, AllocError>
+) -> Result<Option<(Addresses, CallNodes)>, AllocError>
     ensures both { IfOk result (λ both. (d : AJob) → AreCountsAndStacksOfJob
         (function_at symbols.now.image.now symbols.now.bytes.now)
         (job_at job.now.plan.now job.now.place d).budget

@@ -8,7 +8,7 @@ ghost use Rattle.rv_stacks.specs.Walks.{ArePreorderOf, ReturnsToParent, IsPreord
 
 use crate::children::Children;
 use crate::node::WalkNode;
-use rv_count_tables::{Spot, Spots};
+use rv_count_tables::{Spot, CallNodes};
 use std::alloc::{AllocError, Global};
 
 /// The preorder nodes built so far, and the node up to which counts have been moved.
@@ -28,7 +28,7 @@ pub(crate) fn preorder_of_nodes(
     alloc: Global,
     nodes: Vec<WalkNode>,
     children: &Children,
-) -> Result<Spots, AllocError>
+) -> Result<CallNodes, AllocError>
     ensures { IfOk result (ArePreorderOf nodes.items) }
 {
     let mut left = nodes;
@@ -38,7 +38,7 @@ pub(crate) fn preorder_of_nodes(
         flat.visit_next(&mut left, children)?;
     }
     if are_empty(left.as_slice()) {
-        return Ok(Spots::new(flat.spots));
+        return Ok(CallNodes::new(flat.spots));
     }
     // Out of memory: not reached. Each node is found from its parent, so all counts have been moved; no contract says so.
     Err(AllocError)

@@ -8,7 +8,7 @@ ghost use Rattle.rv_stacks.specs.StackSteps.{AreNodesOf};
 ghost use Rattle.rv_stacks.specs.Stacks.{function_at, AreStacksOf};
 
 use crate::stacks::Stacks;
-use rv_count_tables::{Addresses, Spots};
+use rv_count_tables::{Addresses, CallNodes};
 use rv_counting::{CodeSymbols, Counter, Machine};
 use std::alloc::{AllocError, Global};
 
@@ -19,7 +19,7 @@ pub fn count_with_stacks(
     machine: Machine,
     budget: u32,
     symbols: &CodeSymbols<'_>,
-) -> Result<(Addresses, Spots), AllocError>
+) -> Result<(Addresses, CallNodes), AllocError>
     ensures counts { IfOk result (λ both. AreCountsOf budget (state_of machine) both.0) }
     ensures stacks { IfOk result (λ both. AreStacksOf (function_at symbols.now.image.now symbols.now.bytes.now) budget
         (state_of machine) both.1) }

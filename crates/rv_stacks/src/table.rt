@@ -7,7 +7,7 @@ ghost use Rattle.rv_stacks.specs.StackTables.{name_of_function, IsTableOfRun, Is
 
 use crate::job::count_job_with_stacks;
 use crate::names::names_of_functions;
-use rv_count_tables::{Addresses, CountTable, ImageCounts, Spots};
+use rv_count_tables::{Addresses, CountTable, ImageCounts, CallNodes};
 use rv_counting::{
     CodeSymbols, JobImage, Plan, digest_of, empty_table, image_bytes, image_of_bytes,
     images_of_one, shown_text,
@@ -51,7 +51,7 @@ fn table_of_run(
     path: &str,
     symbols: &CodeSymbols<'_>,
     addresses: Addresses,
-    spots: Spots,
+    spots: CallNodes,
 ) -> Result<CountTable, AllocError>
     requires counts { AreValidCounts addresses }
     requires tree { IsTree spots }

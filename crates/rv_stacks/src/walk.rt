@@ -7,7 +7,7 @@ ghost use Rattle.rv_stacks.specs.Walks.{Enters, ArePreorderOf, IsWalk, ReturnsTo
 use crate::children::Children;
 use crate::preorder::preorder_of_nodes;
 use crate::node::{WalkNode, count_call, count_steps, number_of_child};
-use rv_count_tables::Spots;
+use rv_count_tables::CallNodes;
 use std::alloc::{AllocError, Global};
 
 /// The call-tree nodes so far, and the current one.
@@ -78,7 +78,7 @@ impl Walk {
     }
 
     /// Returns the nodes of the walk in preorder.
-    pub fn into_preorder(self, alloc: Global) -> Result<Spots, AllocError>
+    pub fn into_preorder(self, alloc: Global) -> Result<CallNodes, AllocError>
         ensures { IfOk result (ArePreorderOf self.nodes.items) }
     {
         preorder_of_nodes(alloc, self.nodes, &self.children)

@@ -1,7 +1,7 @@
 -- The rows up to a failure.
 use Rattle.std.proofs.Common.{◌≡◌, ◌∙◌, ◌-◌, ℕ, zero, suc, Bool, true, false, List, [], ◌∷◌, ◌++◌, Option, Some, None, append-nil, ap, sym, refl, arith}
 use Rattle.std.specs.Prelude.{if◌then◌else◌, option_map}
-use Rattle.rv_expect.specs.Judgement.{Judging, fails}
+use Rattle.rv_expect.specs.Judgement.{JudgeView, fails}
 use Rattle.rv_fleet.specs.declared_row.Row.{Row}
 use Rattle.rv_stream.specs.Limits.{failures_left_after, rows_until, rows_up_to}
 use Rattle.rv_stream.specs.ReportedRows.{AreRowsUpToFailure}
@@ -127,7 +127,7 @@ module _ (fails : Row → Bool) where
       ∙ append-nil rows
 
 -- nothing is heard yet
-pub no_rows_yet : (most : Option ℕ) (judging : Judging) → AreRowsUpToFailure most judging most false [] []
+pub no_rows_yet : (most : Option ℕ) (judging : JudgeView) → AreRowsUpToFailure most judging most false [] []
 no_rows_yet most judging = record {
   kept_all = λ kept. refl;
   left_is = first_left (fails judging) most;
@@ -135,7 +135,7 @@ no_rows_yet most judging = record {
 }
 
 -- one row more
-pub one_row_more : (most : Option ℕ) (judging : Judging) (left now : Option ℕ) (refused gone : Bool) (kept after rows : List Row) (row : Row)
+pub one_row_more : (most : Option ℕ) (judging : JudgeView) (left now : Option ℕ) (refused gone : Bool) (kept after rows : List Row) (row : Row)
     → AreRowsUpToFailure most judging left refused kept rows → (left ≡ Some 0 → ⊥) → refused ≡ false
     → now ≡ (if fails judging row then option_map (λ (m : ℕ). m - 1) left else left)
     → (gone ≡ false → after ≡ kept ++ row ∷ [])

@@ -9,7 +9,7 @@ use Rattle.rv_fleet.specs.declared_engine.RunError.{RunError}
 use Rattle.rv_fleet.specs.declared_listener.Flow.{Flow}
 use Rattle.rv_fleet.specs.declared_listener.Flow.TheVariants.{Continue, Stop}
 use Rattle.rv_fleet.specs.Results.{IsRunDelivered, HasReceived}
-use Rattle.rv_expect.specs.Judgement.{Judging, fails}
+use Rattle.rv_expect.specs.Judgement.{JudgeView, fails}
 use Rattle.rv_fleet.proofs.Public.{rows_count}
 use Rattle.rv_fleet.specs.declared.batch.Batch.{Batch}
 use Rattle.rv_fleet.specs.Batches.{batch_rows}
@@ -130,7 +130,7 @@ pub record HasEnded (received : List ReportedRow → Type 0) (line : ℕ → Row
   pub seen : HasSeenRows received line places every
   pub kept_all : kept ≡ every
 
-module _ (line : ℕ → Row → List ℕ) (batch : Batch) (most : Option ℕ) (judging : Judging) (left : Option ℕ) (refused : Bool) (kept : List Row)
+module _ (line : ℕ → Row → List ℕ) (batch : Batch) (most : Option ℕ) (judging : JudgeView) (left : Option ℕ) (refused : Bool) (kept : List Row)
     (received : List ReportedRow → Type 0) (stops : Type 0)
     (first : (told : List ReportedRow) → received told → AreRowsUpToFailure most judging left refused kept (rows_of_reported told)) where
   begins : (n : ℕ) → HasReceived (IsReportedRow line batch) (length batch.places.now) received n

@@ -5,7 +5,7 @@ use Rattle.rv_fleet.specs.Batches.{index_of_number, row_of_number}
 use Rattle.rv_fleet.specs.declared_row.Row.{Row}
 use Rattle.rv_stream.specs.declared.reported_row.ReportedRow.{ReportedRow}
 use Rattle.rv_stream.specs.Limits.{failures_left_after, rows_up_to}
-use Rattle.rv_expect.specs.Judgement.{Judging, fails}
+use Rattle.rv_expect.specs.Judgement.{JudgeView, fails}
 
 -- `told` is the row of the batch's job `number`, with the job's index in the list and the text that `line` returns for the index and the
 -- row
@@ -23,12 +23,12 @@ abbrev pub texts_of_reported : List ReportedRow → List (List ℕ)
 texts_of_reported told = map (λ (t : ReportedRow). t.text.items) told
 
 -- the number of further failures that stop the run after these rows; `None` without a limit
-abbrev pub failures_left_after_row : Option ℕ → Judging → List Row → Option ℕ
+abbrev pub failures_left_after_row : Option ℕ → JudgeView → List Row → Option ℕ
 failures_left_after_row most judging rows = option_map (λ number. failures_left_after (fails judging) number rows) most
 
 -- `kept` are the rows up to the failure that stops the run, unless an allocation failed, as `refused` says; `left` is the number of further
 -- failures that stop the run
-pub record AreRowsUpToFailure (most : Option ℕ) (judging : Judging) (left : Option ℕ) (refused : Bool) (kept rows : List Row) : Type 0 where
+pub record AreRowsUpToFailure (most : Option ℕ) (judging : JudgeView) (left : Option ℕ) (refused : Bool) (kept rows : List Row) : Type 0 where
   pub kept_all : refused ≡ false → kept ≡ rows
   pub left_is : left ≡ failures_left_after_row most judging rows
   pub within : rows_up_to most (fails judging) rows ≡ rows

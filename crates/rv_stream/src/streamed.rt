@@ -5,7 +5,7 @@ use std::marker::Brand;
 /// Specifies a stream before it begins. All members are ghosts, and each stream chooses its own.
 pub trait StreamSpec {
     ghost use Rattle.std.specs.Prelude.{ℕ, Bool, List, Option};
-    ghost use Rattle.rv_expect.specs.Judgement.{Judging};
+    ghost use Rattle.rv_expect.specs.Judgement.{JudgeView};
     ghost use Rattle.rv_fleet.specs.declared_row.Row.{Row};
 
     // What the sink received before, and how many writes failed: the sink of the stream, or that of a [`crate::RowSender`].
@@ -16,7 +16,7 @@ pub trait StreamSpec {
     // The number of the failure that ends the run, and what counts as a failure.
     ghost most: { Option ℕ };
 
-    ghost judging: { Judging };
+    ghost judging: { JudgeView };
 
     // Whether a [`crate::RowSender`] has a sink, and what it sends for the job at an index and its row.
     ghost sends: { Bool };

@@ -2,7 +2,7 @@
 
 ghost use Rattle.std.specs.Prelude.{◌++◌, ◌+◌, ◌∷◌, ◌^◌, ◌<◌, [], List, length};
 ghost use Rattle.rv_terminal.specs.Tallies.{IsTallyOf};
-ghost use Rattle.rv_expect.specs.Judgement.{Judging, judge_view};
+ghost use Rattle.rv_expect.specs.Judgement.{JudgeView, judge_view};
 ghost use Rattle.rv_rows.specs.declared_row.Row.{Row as ARow};
 
 use crate::tally_value::Tally;
@@ -12,7 +12,7 @@ use rv_rows::Row;
 impl Tally {
     /// Creates an empty tally.
     pub(crate) fn new() -> Tally
-        ensures { (judging : Judging) → IsTallyOf judging [] result }
+        ensures { (judging : JudgeView) → IsTallyOf judging [] result }
     {
         Tally { done: 0, failed: 0 }
     }

@@ -4,10 +4,10 @@ use Rattle.std.specs.Result.{result_ok}
 use Rattle.rv_rows.specs.declared_elf_error.ImageError.{ImageError}
 use Rattle.rv_rows.specs.declared_job.Job.{Job}
 use Rattle.rv_rows.specs.Jobs.{console_path}
-use Rattle.rv_rows.specs.Plans.{Planned, result_or_unreadable}
+use Rattle.rv_rows.specs.Plans.{PlanView, result_or_unreadable}
 use Rattle.rv_machine.specs.Run.{RunResult, run_of}
 use Rattle.rv_machine.specs.State.{State}
-use Rattle.rv_rows.specs.declared.outcome.Loadable.{Loadable}
+use Rattle.rv_rows.specs.declared.outcome.LoadableImage.{LoadableImage}
 use Rattle.rv_rows.specs.declared.outcome.Outcome.{Outcome}
 use Rattle.rv_rows.specs.declared_row.Refusal.{Refusal}
 use Rattle.rv_rows.specs.Outcome.{row_end, image_file_or_refusal, file_outcome_of, loadable_image, loaded_state, outcome_if_loadable}
@@ -22,7 +22,7 @@ record Tells (outcome : Outcome) (ran : RunResult) : Type 0 where
   steps : outcome.steps ≡ ran.steps
 
 module _ (job : Job) (s : State) where
-  loaded_tells : (file : List ℕ) (r : Result Loadable ImageError) → start_if_loadable job file r ≡ Ok s
+  loaded_tells : (file : List ℕ) (r : Result LoadableImage ImageError) → start_if_loadable job file r ≡ Ok s
       → Tells (outcome_if_loadable job file r) (run_of job.budget s)
   loaded_tells file (Ok loadable) e =
       let same : loaded_state job file loadable.image ≡ s = cc in
@@ -38,7 +38,7 @@ module _ (job : Job) (s : State) where
   there_tells (Ok file) e = loaded_tells file (loadable_image job file) e
   there_tells (Err why) e = cc
 
-  module _ (plan : Planned) (e : start_in plan.answers job ≡ Ok s) where
+  module _ (plan : PlanView) (e : start_in plan.answers job ≡ Ok s) where
     tells : Tells (outcome_in plan.answers job) (run_of job.budget s)
     unfolding outcome_of start_of
     tells = there_tells (image_file_or_refusal (result_or_unreadable plan.answers job.image)
@@ -53,23 +53,23 @@ module _ (job : Job) (s : State) where
     unfolding row_of
     steps_told = tells.steps
 
-pub ending_is : (plan : Planned) (job : Job) (s : State) → start_in plan.answers job ≡ Ok s
+pub ending_is : (plan : PlanView) (job : Job) (s : State) → start_in plan.answers job ≡ Ok s
     → (row_of plan job).ending ≡ row_end (run_of job.budget s).ending
 ending_is plan job s e = ending_told job s plan e
 
-pub steps_are : (plan : Planned) (job : Job) (s : State) → start_in plan.answers job ≡ Ok s
+pub steps_are : (plan : PlanView) (job : Job) (s : State) → start_in plan.answers job ≡ Ok s
     → (row_of plan job).steps ≡ (run_of job.budget s).steps
 steps_are plan job s e = steps_told job s plan e
 
 -- ---- the trace of a job
 
-pub trace_found : (plan : Planned) (job : Job) (steps last : ℕ) (s : State) (trace : Trace)
+pub trace_found : (plan : PlanView) (job : Job) (steps last : ℕ) (s : State) (trace : Trace)
     → start_in plan.answers job ≡ Ok s → trace ≡ trace_of steps last s → Some trace ≡ trace_in plan job steps last
 unfolding trace_in
 trace_found plan job steps last s trace start is =
     ap (λ t. Some t) is ∙ sym (ap (λ r. option_map (trace_of steps last) (result_ok r)) start)
 
-pub no_trace : (plan : Planned) (job : Job) (steps last : ℕ) (why : Refusal)
+pub no_trace : (plan : PlanView) (job : Job) (steps last : ℕ) (why : Refusal)
     → start_in plan.answers job ≡ Err why → None ≡ trace_in plan job steps last
 unfolding trace_in
 no_trace plan job steps last why start = sym (ap (λ r. option_map (trace_of steps last) (result_ok r)) start)

@@ -2,8 +2,8 @@
 use Rattle.std.specs.Prelude.{ℕ, ◌-◌, List, Option, Some, option_map, map, min, slice_index_or}
 use Rattle.std.specs.List.{range_with_len}
 use Rattle.std.specs.Result.{result_ok}
-use Rattle.rv_rows.specs.declared_answers.Answer.{Answer}
-use Rattle.rv_rows.specs.Plans.{Planned, result_or_unreadable}
+use Rattle.rv_rows.specs.declared_answers.PathResult.{PathResult}
+use Rattle.rv_rows.specs.Plans.{PlanView, result_or_unreadable}
 use Rattle.rv_rows.specs.declared_job.Job.{Job}
 use Rattle.rv_machine.specs.Run.{run_of}
 use Rattle.rv_machine.specs.State.{State, register}
@@ -14,11 +14,11 @@ use Rattle.rv_trace.specs.Code.{code_at}
 use Rattle.rv_trace.specs.Steps.{steps_from}
 
 -- the job at an index of a plan, or `other` if there is no such index
-abbrev pub job_at : Planned → ℕ → Job → Job
+abbrev pub job_at : PlanView → ℕ → Job → Job
 job_at plan place other = slice_index_or plan.jobs place other
 
 -- the bytes of a job's image, or `None` if they were not read
-abbrev pub image_bytes : List Answer → Job → Option (List ℕ)
+abbrev pub image_bytes : List PathResult → Job → Option (List ℕ)
 image_bytes answers job = content_if_read (Some (result_or_unreadable answers job.image))
 
 -- the state after at most `n` steps of a run from the state `s`
@@ -47,6 +47,6 @@ trace_of steps last s =
     trace_up_to (steps_from shown t) (state_after shown t)
 
 -- the trace of the run of a plan's job that completes this many steps, or `None` if the job is refused
-unfoldable pub trace_in : Planned → Job → ℕ → ℕ → Option Trace
+unfoldable pub trace_in : PlanView → Job → ℕ → ℕ → Option Trace
 trace_in plan job steps last =
     option_map (trace_of steps last) (result_ok (start_in plan.answers job))

@@ -8,7 +8,7 @@ use Rattle.rv_fleet.specs.Flat.{flat_row_of}
 use Rattle.rv_fleet.specs.Report.{report_text}
 use Rattle.rv_fleet.specs.Rows.{rows_of}
 use Rattle.rv_fleet.specs.declared_job.Job.{Job}
-use Rattle.rv_fleet.specs.Plans.{Planned}
+use Rattle.rv_fleet.specs.Plans.{PlanView}
 use Rattle.rvfleet_app.specs.Answers.{Answers, IsReportPrefixWritten, IsReportSent, verdicts_status}
 use Rattle.rv_cli.specs.RvfleetCommand.{Request, raw}
 use Rattle.rvfleet_app.specs.declared.error.Failure.{Failure}
@@ -67,7 +67,7 @@ raw_answers input store before after status budget reported part range = record 
 -- ---- jobs
 
 -- the report of a plan is one of rows that its jobs may have
-pub jobs_reported : (answer : Result ℕ Failure) (store : Stored) (jobs : List Job) (plan : Planned) (rows : List Row)
+pub jobs_reported : (answer : Result ℕ Failure) (store : Stored) (jobs : List Job) (plan : PlanView) (rows : List Row)
     (before after : Option (List ℕ)) → IsPossiblePlan store jobs plan → rows ≡ rows_of plan
     → IfOk answer (λ status. IsReportSent before after status rows)
     → IfOk answer (λ status. (rows : List Row) × (AreJobRows store jobs rows × IsReportSent before after status rows))

@@ -6,7 +6,7 @@ use Rattle.rv_fleet.specs.declared_lists_error.JobError.{JobError}
 use Rattle.rv_fleet.specs.declared_job.Job.{Job}
 use Rattle.rv_fleet.specs.declared_kept.Kept.TheVariants.{Content}
 use Rattle.rv_fleet.specs.JobList.{job_list_of}
-use Rattle.rv_fleet.specs.Plans.{AgreeWithContents, Planned, after_increments, paths_of, paths_used, unreadable_count}
+use Rattle.rv_fleet.specs.Plans.{AgreeWithContents, PlanView, after_increments, paths_of, paths_used, unreadable_count}
 use Rattle.rv_files.specs.Files.{FileContents}
 use Rattle.rv_fleet.specs.Kept.{AgreesWithContents}
 use Rattle.rvfleet_app.specs.declared.error.ListError.{ListError}
@@ -23,7 +23,7 @@ abbrev pub stored_contents : Option FileContents → ℕ → ℕ → Stored
 stored_contents known before after = record { known = known; before = before; after = after }
 
 -- the plan has the jobs of `list` and, for each of their paths, a result that the store may return; each unreadable file is counted
-pub record IsPossiblePlan (store : Stored) (list : List Job) (plan : Planned) : Type 0 where
+pub record IsPossiblePlan (store : Stored) (list : List Job) (plan : PlanView) : Type 0 where
   pub jobs : plan.jobs ≡ list
   pub paths : paths_of plan.answers ≡ paths_used list
   pub kept : AgreeWithContents store.known plan.answers
@@ -31,7 +31,7 @@ pub record IsPossiblePlan (store : Stored) (list : List Job) (plan : Planned) : 
 
 -- `rows` are the rows of a plan of these jobs, with results that the store may return for their paths
 abbrev pub AreJobRows : Stored → List Job → List Row → Type 0
-AreJobRows store jobs rows = (plan : Planned) × (IsPossiblePlan store jobs plan × (rows ≡ rows_of plan))
+AreJobRows store jobs rows = (plan : PlanView) × (IsPossiblePlan store jobs plan × (rows ≡ rows_of plan))
 
 -- `jobs` are the jobs of a list that the store may have at the path
 abbrev pub IsPossibleList : Option FileContents → List ℕ → List Job → Type 0

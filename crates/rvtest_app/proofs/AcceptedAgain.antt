@@ -32,8 +32,8 @@ use Rattle.rv_command.specs.Texts.{IsTextAt, optional_text}
 use Rattle.rv_files.specs.UnreadPaths.{contents_below, resolved_path}
 use Rattle.rv_rows.specs.Jobs.{console_path, single_job, without_expectations}
 use Rattle.rv_rows.specs.Kept.{AgreesWithContents}
-use Rattle.rv_rows.specs.Plans.{AgreeWithContents, Planned, result_or_unreadable}
-use Rattle.rv_rows.specs.declared_answers.Answer.{Answer}
+use Rattle.rv_rows.specs.Plans.{AgreeWithContents, PlanView, result_or_unreadable}
+use Rattle.rv_rows.specs.declared_answers.PathResult.{PathResult}
 use Rattle.rv_rows.specs.declared_kept.Kept.{Kept}
 use Rattle.rv_rows.specs.declared_kept.Kept.TheVariants as kept
 use Rattle.rv_rows.specs.JobList.{job_list_of}
@@ -51,17 +51,17 @@ use Rattle.rvtest_app.specs.CommandOutputs.{CommandOutputs}
 -- ---- what was read
 
 -- a path that was read holds what is kept of it
-record IsRead (store : FileContents) (root : Option (List ℕ)) (answers : List Answer) (path : List ℕ) : Type 0 where
+record IsRead (store : FileContents) (root : Option (List ℕ)) (answers : List PathResult) (path : List ℕ) : Type 0 where
   bytes : List ℕ
   content : result_or_unreadable answers path ≡ kept.Content bytes
   holds : store (resolved_path root path) ≡ Some bytes
 
-read_here : (store : FileContents) (root : Option (List ℕ)) (answers : List Answer) (path : List ℕ)
+read_here : (store : FileContents) (root : Option (List ℕ)) (answers : List PathResult) (path : List ℕ)
     → AgreeWithContents (contents_below root (Some store)) answers → is_read (result_or_unreadable answers path) ≡ true
     → IsRead store root answers path
 read_here store root [] path are read = cc
 read_here store root (answer ∷ answers) path are read = go (bytes_eq path answer.path) refl
-    (read_here store root answers path (All-tail (λ (a : Answer). AgreesWithContents (contents_below root (Some store)) a.path a.kept)
+    (read_here store root answers path (All-tail (λ (a : PathResult). AgreesWithContents (contents_below root (Some store)) a.path a.kept)
     answer answers are))
   where
     at_start : (k : Kept) → answer.kept ≡ k → AgreesWithContents (contents_below root (Some store)) answer.path k → bytes_eq path answer.path ≡ true
@@ -78,7 +78,7 @@ read_here store root (answer ∷ answers) path are read = go (bytes_eq path answ
         → (is_read (result_or_unreadable answers path) ≡ true → IsRead store root answers path)
         → IsRead store root (answer ∷ answers) path
     go true same behind = at_start answer.kept refl
-        (All-head (λ (a : Answer). AgreesWithContents (contents_below root (Some store)) a.path a.kept) answer answers are) same
+        (All-head (λ (a : PathResult). AgreesWithContents (contents_below root (Some store)) a.path a.kept) answer answers are) same
         (rw same at read)
     go false same behind =
         let there = behind (rw same at read) in
@@ -94,7 +94,7 @@ content_same : (bytes others : List ℕ) → kept.Content bytes ≡ kept.Content
 content_same bytes others is = cc
 
 -- a path that was read, and holds these bytes, is kept with them
-content_of : (store : FileContents) (root : Option (List ℕ)) (answers : List Answer) (path bytes : List ℕ)
+content_of : (store : FileContents) (root : Option (List ℕ)) (answers : List PathResult) (path bytes : List ℕ)
     → AgreeWithContents (contents_below root (Some store)) answers → is_read (result_or_unreadable answers path) ≡ true
     → store (resolved_path root path) ≡ Some bytes → result_or_unreadable answers path ≡ kept.Content bytes
 content_of store root answers path bytes are read holds =
@@ -288,7 +288,7 @@ module _ (words : AcceptArgs) (before after : FileContents) (bytes : List ℕ) (
         left
 
     -- an image that ran is as it was
-    image_again : (earlier later : List Answer) → AgreeWithContents (contents_below root (Some before)) earlier
+    image_again : (earlier later : List PathResult) → AgreeWithContents (contents_below root (Some before)) earlier
         → AgreeWithContents (contents_below root (Some after)) later → is_read (result_or_unreadable later job.image) ≡ true
         → did_run (outcome_in earlier (without_expectations job)).ending ≡ true
         → result_or_unreadable later job.image ≡ result_or_unreadable earlier job.image
@@ -303,7 +303,7 @@ module _ (words : AcceptArgs) (before after : FileContents) (bytes : List ℕ) (
         no_image holds magic in
         content_of after root later job.image over.file later_kept is_there stays ∙ sym over.was
 
-    finds : (earlier : Planned) (later : List Answer) → AgreeWithContents (contents_below root (Some before)) earlier.answers
+    finds : (earlier : PlanView) (later : List PathResult) → AgreeWithContents (contents_below root (Some before)) earlier.answers
         → AgreeWithContents (contents_below root (Some after)) later → AreFilesRead later job
         → run.row ≡ row_of earlier (without_expectations job) → AreFilesUpdated earlier.answers later job run.row
     finds earlier later earlier_kept later_kept read_now row_is = record {
@@ -330,7 +330,7 @@ new_job jobs others runs place job other run are at ran accepted stands =
     ∙ ap (λ row. Some (intended_job job row)) (accepted_row_of run accepted))
 
 -- what was read of the accepted job's files was read of the job's
-read_of_job : (answers : List Answer) (job : Job) (row : Row)
+read_of_job : (answers : List PathResult) (job : Job) (row : Row)
     → AreFilesRead answers (accepted_job job row.ending row.console) → AreFilesRead answers job
 read_of_job answers job row files = record {
   image = files.image;

@@ -7,7 +7,7 @@ use Rattle.rv_command.specs.Texts.{optional_text}
 use Rattle.rv_command.specs.declared.stop.Stop.{Stop}
 use Rattle.rv_files.specs.CommittedFiles.{CommittedFile}
 use Rattle.rv_job_text.specs.RowReporter.{RowReporter}
-use Rattle.rv_rows.specs.Plans.{Planned}
+use Rattle.rv_rows.specs.Plans.{PlanView}
 use Rattle.rv_rows.specs.declared_row.Row.{Row}
 use Rattle.rv_rows.specs.declared_saved.Shard.{Shard}
 use Rattle.rvtest_app.proofs.WriteStops.{unopened}
@@ -42,14 +42,14 @@ module _ {P W : Type 0} (pending_path : P → List ℕ) (taken : W → Option (L
 -- ---- counts
 
 -- a table went to the path that was given
-pub counts_put : (stacks : Bool) (path : Option (List ℕ)) (plan : Planned) (places text : List ℕ) (before after : CommandOutputs)
+pub counts_put : (stacks : Bool) (path : Option (List ℕ)) (plan : PlanView) (places text : List ℕ) (before after : CommandOutputs)
     → is_some path ≡ true → IsCountsText stacks plan places text → IsWrittenAt path text before after
     → AreCountsWritten stacks path plan places before after
 counts_put stacks None plan places text before after given is written = absurd cc
 counts_put stacks (Some path) plan places text before after given is written = (text, (is, written))
 
 -- none went anywhere where no path was given
-pub no_counts_put : (stacks : Bool) (path : Option (List ℕ)) (plan : Planned) (places : List ℕ) (before after : CommandOutputs)
+pub no_counts_put : (stacks : Bool) (path : Option (List ℕ)) (plan : PlanView) (places : List ℕ) (before after : CommandOutputs)
     → path ≡ None → IsWrittenAt None [] before after → AreCountsWritten stacks path plan places before after
 no_counts_put stacks path plan places before after none written = rw none written
 

@@ -7,12 +7,12 @@ use Rattle.rv_accept.specs.Passing.{HasExpectedEnd}
 use Rattle.rv_accept.specs.declared.current_verdict.Candidate.{Candidate}
 use Rattle.rv_accept.specs.declared.current_verdict.CurrentVerdict.TheVariants as standing
 use Rattle.rv_files.specs.Files.{FileContents}
-use Rattle.rv_expect.specs.Comparisons.{Sides}
+use Rattle.rv_expect.specs.Comparisons.{ComparisonView}
 use Rattle.rv_expect.specs.Reference.{signature_difference}
 use Rattle.rv_expect.specs.UnmetExpectations.{is_same}
 use Rattle.rv_expect.specs.Unmet.{unmet_console, unmet_default_exit, unmet_end, unmet_exit, unmet_expectations_of, unmet_of_expecting_job, unmet_same_as, unmet_signature}
-use Rattle.rv_expect.specs.declared.unmet.Unmet.{Unmet}
-use Rattle.rv_expect.specs.declared.unmet.Unmet.TheVariants as unmet
+use Rattle.rv_expect.specs.declared.unmet.UnmetExpectation.{UnmetExpectation}
+use Rattle.rv_expect.specs.declared.unmet.UnmetExpectation.TheVariants as unmet
 use Rattle.rv_rows.specs.declared_job.ExpectedEnd.{ExpectedEnd}
 use Rattle.rv_rows.specs.declared_job.Job.{Job}
 use Rattle.rv_rows.specs.declared_row.Row.{Row}
@@ -26,16 +26,16 @@ differing : {A : Type 0} (same : Bool) → (if same then standing.Differs else s
 differing true is = cc
 differing false is = cc
 
-passes_by : (ran : Bool) (found : List Unmet) → verdict_by ran found ≡ standing.Passes → (ran ≡ true) × (found ≡ [])
+passes_by : (ran : Bool) (found : List UnmetExpectation) → verdict_by ran found ≡ standing.Passes → (ran ≡ true) × (found ≡ [])
 passes_by true [] is = (refl, refl)
 passes_by true (one ∷ more) is = differing (list_any is_same (one ∷ more)) is
 passes_by false found is = differing (list_any is_same found) is
 
-none_of : (xs ys : List Unmet) → xs ++ ys ≡ [] → (xs ≡ []) × (ys ≡ [])
+none_of : (xs ys : List UnmetExpectation) → xs ++ ys ≡ [] → (xs ≡ []) × (ys ≡ [])
 none_of [] ys is = (refl, is)
 none_of (x ∷ xs) ys is = cc
 
-is_met : (met : Bool) (one : Unmet) → option_to_list (if met then None else Some one) ≡ [] → met ≡ true
+is_met : (met : Bool) (one : UnmetExpectation) → option_to_list (if met then None else Some one) ≡ [] → met ≡ true
 is_met true one is = refl
 is_met false one is = cc
 
@@ -51,7 +51,7 @@ any_end : (how : Option ExpectedEnd) (end : RowEnd) → is_some how ≡ false �
 any_end None end is = refl
 any_end (Some how) end is = cc
 
-pub ended_well : (sides : Sides) → verdict_of_comparison sides ≡ standing.Passes → HasExpectedEnd sides.job sides.row
+pub ended_well : (sides : ComparisonView) → verdict_of_comparison sides ≡ standing.Passes → HasExpectedEnd sides.job sides.row
 unfolding unmet_expectations_of
 ended_well sides passes =
     let none = passes_by (did_run sides.row.ending) (unmet_expectations_of sides) passes in

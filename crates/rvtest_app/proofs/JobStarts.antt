@@ -5,7 +5,7 @@ use Rattle.std.specs.Prelude.{is_ok, option_and_then}
 use Rattle.std.specs.Result.{result_ok}
 use Rattle.rv_gdb.specs.JobSessions.{IsSessionOf}
 use Rattle.rv_gdb.specs.Starts.{start_of}
-use Rattle.rv_rows.specs.Plans.{Planned}
+use Rattle.rv_rows.specs.Plans.{PlanView}
 use Rattle.rv_rows.specs.declared_job.Job.{Job}
 use Rattle.rv_rows.specs.State.{State}
 use Rattle.rv_rows.specs.declared_row.Refusal.{Refusal}
@@ -14,7 +14,7 @@ use Rattle.rv_rows.specs.Rows.{start_in}
 use Rattle.rv_gdb.specs.declared_session.Session.{Session}
 use Rattle.rvtest_app.specs.Debugging.{job_start_state}
 
-pub start_is : (plan : Planned) (place : ℕ) (d : Job) (first : State) → place < length plan.jobs
+pub start_is : (plan : PlanView) (place : ℕ) (d : Job) (first : State) → place < length plan.jobs
     → start_in plan.answers (slice_index_or plan.jobs place d) ≡ Ok first → job_start_state plan place ≡ first
 unfolding job_start_state
 start_is plan place d first within starts =
@@ -27,7 +27,7 @@ ok_there (Ok x) e = (x, refl)
 ok_there (Err why) e = cc
 
 -- a job that is not refused starts there
-pub starts_there : (plan : Planned) (place : ℕ) (d : Job) → place < length plan.jobs
+pub starts_there : (plan : PlanView) (place : ℕ) (d : Job) → place < length plan.jobs
     → is_ok (start_in plan.answers (slice_index_or plan.jobs place d)) ≡ true
     → start_in plan.answers (slice_index_or plan.jobs place d) ≡ Ok (job_start_state plan place)
 starts_there plan place d within runs =
@@ -35,7 +35,7 @@ starts_there plan place d within runs =
     found.1 ∙ ap (λ (s : State). Ok s) (sym (start_is plan place d found.0 within found.1))
 
 -- and so does the session over its run
-pub session_starts_there : (plan : Planned) (place : ℕ) (d : Job) (path : List ℕ) (session : Session) → place < length plan.jobs
+pub session_starts_there : (plan : PlanView) (place : ℕ) (d : Job) (path : List ℕ) (session : Session) → place < length plan.jobs
     → IsSessionOf plan.answers (slice_index_or plan.jobs place d) path session
     → job_start_state plan place ≡ session.history.start
 session_starts_there plan place d path session within over =

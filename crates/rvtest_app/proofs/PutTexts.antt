@@ -8,7 +8,7 @@ use Rattle.rv_files.specs.CommittedFiles.{CommittedFile}
 use Rattle.rvtest_app.specs.Outlets.{AreFilesCommitted, AreFilesPartlyCommitted, HasReceived, IsWrittenToOutlet, joined_files, file_at, files_of, has_no_failure, is_stdout_outlet, is_stdout_at}
 use Rattle.rvtest_app.specs.Outlets.{file_path_at, outlet_path, stdout_at, text_if_stdout}
 use Rattle.rv_rows.specs.declared_row.Row.{Row}
-use Rattle.rv_expect.specs.Judgement.{Judging}
+use Rattle.rv_expect.specs.Judgement.{JudgeView}
 use Rattle.rv_junit.specs.Junit.{junit_text}
 use Rattle.rv_stream.specs.Streams.{row_text_list}
 use Rattle.rvtest_app.specs.declared.outlets.Outlet.{Outlet}
@@ -157,7 +157,7 @@ pub part_same : (before after : Option (List CommittedFile)) (path : Option (Lis
 part_same before after path text other are e = rw e at are
 
 -- JUnit's documents of one suite, with lines that are equal
-pub same_junit : (name other : List ℕ) (judging : Judging) (line told : ℕ → Row → List ℕ) (places : List ℕ) (rows : List Row)
+pub same_junit : (name other : List ℕ) (judging : JudgeView) (line told : ℕ → Row → List ℕ) (places : List ℕ) (rows : List Row)
     → name ≡ other → line ≡ told
     → junit_text name judging (row_text_list line places rows) rows ≡ junit_text other judging (row_text_list told places rows) rows
 same_junit name other judging line told places rows e f = rw (e, f) refl

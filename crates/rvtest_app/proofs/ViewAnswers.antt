@@ -12,12 +12,12 @@ use Rattle.rv_count_tables.specs.Table.{IsTable}
 use Rattle.rv_count_tables.specs.declared.table.CountTable.{CountTable}
 use Rattle.rv_profile.specs.JobImages.{AreSmall}
 use Rattle.rv_stacks.specs.JobTables.{jobs_at}
-use Rattle.rv_expect.specs.Judgement.{Judging}
+use Rattle.rv_expect.specs.Judgement.{JudgeView}
 use Rattle.rv_files.specs.declared.recording_store.UnreadablePath.{UnreadablePath}
 use Rattle.rv_rows.specs.Jobs.{single_job}
 use Rattle.rv_rows.specs.Kept.{AgreesWithContents}
-use Rattle.rv_rows.specs.Plans.{AgreeWithContents, Planned, result_or_unreadable}
-use Rattle.rv_rows.specs.declared_answers.Answer.{Answer}
+use Rattle.rv_rows.specs.Plans.{AgreeWithContents, PlanView, result_or_unreadable}
+use Rattle.rv_rows.specs.declared_answers.PathResult.{PathResult}
 use Rattle.rv_rows.specs.declared_kept.Kept.{Kept}
 use Rattle.rv_rows.specs.declared_kept.Kept.TheVariants as kept
 use Rattle.rv_rows.specs.Rows.{content_if_read}
@@ -28,14 +28,14 @@ use Rattle.rvtest_app.specs.declared.view.View.TheVariants as view
 
 -- ---- lines
 
-jobs_more : (plan : Planned) (places : List ℕ) (i place : ℕ) → i < length places → place ≡ get_or places i place
+jobs_more : (plan : PlanView) (places : List ℕ) (i place : ℕ) → i < length places → place ≡ get_or places i place
     → jobs_at plan (take (i + 1) places) ≡ jobs_at plan (take i places) ++ slice_index_or plan.jobs place (single_job [] 0 []) ∷ []
 jobs_more plan places i place lt is =
     ap (jobs_at plan) (take_more places i place lt)
     ∙ map-append _ (take i places) (get_or places i place ∷ [])
     ∙ ap (λ (k : ℕ). jobs_at plan (take i places) ++ jobs_at plan (k ∷ [])) (sym is)
 
-pub refused_more : (judging : Judging) (plan : Planned) (unread : List UnreadablePath) (places : List ℕ) (i place : ℕ) → i < length places
+pub refused_more : (judging : JudgeView) (plan : PlanView) (unread : List UnreadablePath) (places : List ℕ) (i place : ℕ) → i < length places
     → place ≡ get_or places i place
     → refused_lines judging plan unread (take (i + 1) places)
     ≡ refused_lines judging plan unread (take i places) ++ invalid_line judging plan unread (slice_index_or plan.jobs place (single_job [] 0 []))
@@ -52,32 +52,32 @@ content_small known path (kept.Content bytes) of = of.0
 content_small known path kept.Unreadable of = tt
 content_small known path kept.TooLong of = tt
 
-kept_small_by : (known : Option FileContents) (path : List ℕ) (answer : Answer) (answers : List Answer) (same : Bool)
+kept_small_by : (known : Option FileContents) (path : List ℕ) (answer : PathResult) (answers : List PathResult) (same : Bool)
     → bytes_eq path answer.path ≡ same → AgreesWithContents known answer.path answer.kept
     → IfSome (content_if_read (Some (result_or_unreadable answers path))) (λ bytes. length bytes ≤ max_file_size)
     → IfSome (content_if_read (Some (result_or_unreadable (answer ∷ answers) path))) (λ bytes. length bytes ≤ max_file_size)
 kept_small_by known path answer answers true same of rest = rw same (content_small known answer.path answer.kept of)
 kept_small_by known path answer answers false same of rest = rw same rest
 
-kept_small : (known : Option FileContents) (path : List ℕ) (answers : List Answer) → AgreeWithContents known answers
+kept_small : (known : Option FileContents) (path : List ℕ) (answers : List PathResult) → AgreeWithContents known answers
     → IfSome (content_if_read (Some (result_or_unreadable answers path))) (λ bytes. length bytes ≤ max_file_size)
 kept_small known path [] are = tt
 kept_small known path (answer ∷ answers) are =
     kept_small_by known path answer answers (bytes_eq path answer.path) refl
-    (All-head (λ (a : Answer). AgreesWithContents known a.path a.kept) answer answers are)
-    (kept_small known path answers (All-tail (λ (a : Answer). AgreesWithContents known a.path a.kept) answer answers are))
+    (All-head (λ (a : PathResult). AgreesWithContents known a.path a.kept) answer answers are)
+    (kept_small known path answers (All-tail (λ (a : PathResult). AgreesWithContents known a.path a.kept) answer answers are))
 
 -- what is kept of paths is not larger than a store reads
-pub all_small : (known : Option FileContents) (answers : List Answer) → AgreeWithContents known answers → AreSmall answers
+pub all_small : (known : Option FileContents) (answers : List PathResult) → AgreeWithContents known answers → AreSmall answers
 all_small known answers are job = kept_small known job.image answers are
 
 -- ---- tables
 
-counted_table : (shown : View) (plan : Planned) (places : List ℕ) (table : CountTable) → IsRunTableForView shown plan places table → IsTable table
+counted_table : (shown : View) (plan : PlanView) (places : List ℕ) (table : CountTable) → IsRunTableForView shown plan places table → IsTable table
 counted_table (view.Cover csv) plan places table are = are.table
 counted_table (view.Profile format) plan places table are = are.sum.table
 
-pub table_of_view : (known : Option FileContents) (shown : View) (path : Option (List ℕ)) (plan : Planned) (places : List ℕ)
+pub table_of_view : (known : Option FileContents) (shown : View) (path : Option (List ℕ)) (plan : PlanView) (places : List ℕ)
     (table : CountTable) → IsTableForView known shown path plan places table → IsTable table
 table_of_view known shown None plan places table are = counted_table shown plan places table are
 table_of_view known shown (Some path) plan places table are = are.at.0

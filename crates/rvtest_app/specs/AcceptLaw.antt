@@ -13,8 +13,8 @@ use Rattle.rv_files.specs.CommittedFiles.{CommittedFile}
 use Rattle.rv_files.specs.UnreadPaths.{contents_below}
 use Rattle.rv_files.specs.declared.recording_store.UnreadablePath.{UnreadablePath}
 use Rattle.rv_rows.specs.Jobs.{console_path}
-use Rattle.rv_rows.specs.Plans.{Planned, result_or_unreadable}
-use Rattle.rv_rows.specs.declared_answers.Answer.{Answer}
+use Rattle.rv_rows.specs.Plans.{PlanView, result_or_unreadable}
+use Rattle.rv_rows.specs.declared_answers.PathResult.{PathResult}
 use Rattle.rv_rows.specs.declared_kept.Kept.{Kept}
 use Rattle.rv_rows.specs.declared_kept.Kept.TheVariants as kept
 use Rattle.rv_rows.specs.JobList.{job_list_of}
@@ -63,7 +63,7 @@ is_read (kept.Content bytes) = true
 is_read _ = false
 
 -- `answers` has the contents of the job's image and of each of its expectation files
-pub record AreFilesRead (answers : List Answer) (job : Job) : Type 0 where
+pub record AreFilesRead (answers : List PathResult) (job : Job) : Type 0 where
   pub image : IsTrue (is_read (result_or_unreadable answers job.image))
   pub signature : IfSome job.expect_signature (λ path. IsTrue (is_read (result_or_unreadable answers path)))
   pub console : IfSome (console_path job.expect_console) (λ path. IsTrue (is_read (result_or_unreadable answers path)))
@@ -79,7 +79,7 @@ pub record IsRowOfRun (store : FileContents) (words : RunArgs) (place : ℕ) (ro
   -- the job is at index `place`
   pub at_index : slice_get jobs place ≡ Some job
   pub places : List ℕ
-  pub plan : Planned
+  pub plan : PlanView
   pub unread : List UnreadablePath
   pub planned : IsPlanFor (contents_below (optional_text words.root) (Some store)) jobs places plan unread
   pub files : AreFilesRead plan.answers job

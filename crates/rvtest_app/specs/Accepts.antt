@@ -30,7 +30,7 @@ use Rattle.rv_command.specs.Texts.{IsTextAt, optional_text}
 use Rattle.rv_files.specs.CommittedFiles.{CommittedFile, committed_file}
 use Rattle.rv_files.specs.UnreadPaths.{contents_below, resolved_path}
 use Rattle.rv_files.specs.declared.recording_store.UnreadablePath.{UnreadablePath}
-use Rattle.rv_rows.specs.Plans.{Planned}
+use Rattle.rv_rows.specs.Plans.{PlanView}
 use Rattle.rv_rows.specs.JobList.{job_list_of}
 use Rattle.rv_rows.specs.Jobs.{without_expectations}
 use Rattle.rv_rows.specs.declared_job.Job.{Job}
@@ -54,7 +54,7 @@ acceptance_of false = acceptance.Expected
 -- the note about missing images
 pub record AreRowsOfSelected (known : Option FileContents) (root : Option (List ℕ)) (bare : List Job) (marks : List Bool)
     (rows : List (Option Row)) (note : List ℕ) : Type 0 where
-  pub plan : Planned
+  pub plan : PlanView
   pub unread : List UnreadablePath
   pub planned : IsPlanFor (contents_below root known) bare (selected_job_indices marks) plan unread
   pub are : rows ≡ indexed_rows marks (rows_at plan (selected_job_indices marks))

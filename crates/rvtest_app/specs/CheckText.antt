@@ -12,7 +12,7 @@ use Rattle.rv_job_text.specs.ResultLine.{optional_reason_text}
 use Rattle.rv_job_text.specs.TotalsLine.{job_word}
 use Rattle.rv_job_text.specs.UnreadFiles.{too_long_file_text, unread_file_text}
 use Rattle.rv_rows.specs.Jobs.{console_path}
-use Rattle.rv_rows.specs.Plans.{Planned, result_or_unreadable}
+use Rattle.rv_rows.specs.Plans.{PlanView, result_or_unreadable}
 use Rattle.rv_rows.specs.declared_kept.Kept.{Kept}
 use Rattle.rv_rows.specs.declared_kept.Kept.TheVariants as kept
 use Rattle.rv_accept_text.specs.JobLocations.{job_lines}
@@ -56,12 +56,12 @@ unfoldable pub refused_file_line : List ℕ → List ℕ → ℕ → Job → Ref
 refused_file_line path lines place job why reason = line (job_prefix (codes ": error:") path lines place job ++ refusal_text why reason)
 
 -- the error line for the job at index `place`, whose image makes it refused
-abbrev pub refused_image_line : List ℕ → List ℕ → Planned → List UnreadablePath → ℕ → Job → Refusal → List ℕ
+abbrev pub refused_image_line : List ℕ → List ℕ → PlanView → List UnreadablePath → ℕ → Job → Refusal → List ℕ
 refused_image_line path lines plan unread place job why =
     refused_file_line path lines place job why (refusal_reason plan.answers unread job why)
 
 -- the error line for the job at index `place` if its image makes it refused; otherwise empty
-abbrev pub refused_image_text : List ℕ → List ℕ → Planned → List UnreadablePath → ℕ → Job → List ℕ
+abbrev pub refused_image_text : List ℕ → List ℕ → PlanView → List UnreadablePath → ℕ → Job → List ℕ
 refused_image_text path lines plan unread place job =
     unwrap_or (option_map (refused_image_line path lines plan unread place job) (image_refusal_in plan.answers job)) []
 
@@ -75,18 +75,18 @@ unread_reference_text path lines unread place job (Some kept.TooLong) (Some file
 unread_reference_text path lines unread place job _ _ = []
 
 -- the error line for a job's expectation file; empty if it was read or none is named
-abbrev pub reference_text : List ℕ → List ℕ → Planned → List UnreadablePath → ℕ → Job → Option (List ℕ) → List ℕ
+abbrev pub reference_text : List ℕ → List ℕ → PlanView → List UnreadablePath → ℕ → Job → Option (List ℕ) → List ℕ
 reference_text path lines plan unread place job file =
     unread_reference_text path lines unread place job (option_map (result_or_unreadable plan.answers) file) file
 
 -- the error lines for a job's image and for the files with its expected signature and console
-unfoldable pub refused_files_text : List ℕ → List ℕ → Planned → List UnreadablePath → ℕ → Job → List ℕ
+unfoldable pub refused_files_text : List ℕ → List ℕ → PlanView → List UnreadablePath → ℕ → Job → List ℕ
 refused_files_text path lines plan unread place job = refused_image_text path lines plan unread place job
     ++ (reference_text path lines plan unread place job job.expect_signature
     ++ reference_text path lines plan unread place job (console_path job.expect_console))
 
 -- the error lines for a job; empty if the job is not refused
-unfoldable pub refused_job_text : List ℕ → List ℕ → Planned → List UnreadablePath → ℕ → Job → List ℕ
+unfoldable pub refused_job_text : List ℕ → List ℕ → PlanView → List UnreadablePath → ℕ → Job → List ℕ
 refused_job_text path lines plan unread place job =
     if is_job_refused plan job then refused_files_text path lines plan unread place job else []
 
@@ -136,7 +136,7 @@ texts_of_jobs text jobs = flat_map (λ entry. text entry.0 entry.1) (enumerate_f
 
 -- the output of `check` for the list with the path `path` and the text `text`, which has no errors; `root` is the directory of `--root`,
 -- and `unread` are the files that could not be read
-unfoldable pub check_text : List ℕ → List ℕ → Option (List ℕ) → Planned → List UnreadablePath → List ℕ
+unfoldable pub check_text : List ℕ → List ℕ → Option (List ℕ) → PlanView → List UnreadablePath → List ℕ
 check_text path text root plan unread = let lines = job_begin_lines text in
     texts_of_jobs (refused_job_text path lines plan unread) plan.jobs
     ++ texts_of_jobs (warned_job_text path lines) plan.jobs

@@ -10,10 +10,10 @@ use Rattle.rv_accept.specs.declared.current_verdict.CurrentVerdict.{CurrentVerdi
 use Rattle.rv_accept.specs.declared.current_verdict.CurrentVerdict.TheVariants as standing
 use Rattle.rv_files.specs.Files.{FileContents}
 use Rattle.rv_files.specs.Limits.{max_file_size}
-use Rattle.rv_expect.specs.Comparisons.{Sides}
+use Rattle.rv_expect.specs.Comparisons.{ComparisonView}
 use Rattle.rv_expect.specs.UnmetExpectations.{is_same}
 use Rattle.rv_expect.specs.Unmet.{unmet_expectations_of}
-use Rattle.rv_expect.specs.declared.unmet.Unmet.{Unmet}
+use Rattle.rv_expect.specs.declared.unmet.UnmetExpectation.{UnmetExpectation}
 use Rattle.rv_files.specs.UnreadPaths.{resolved_path}
 use Rattle.rv_rows.specs.Jobs.{console_path}
 use Rattle.rv_rows.specs.declared_job.Job.{Job}
@@ -53,21 +53,21 @@ compared_row rows None = None
 compared_row rows (Some place) = row_or_none (slice_get rows place)
 
 -- whether the list of unmet expectations is empty
-abbrev pub are_all_met : List Unmet → Bool
+abbrev pub are_all_met : List UnmetExpectation → Bool
 are_all_met [] = true
 are_all_met (one ∷ more) = false
 
 -- the verdict on a job: it passes if it ran and met all expectations; otherwise it differs if `same_as` is unmet, and fails if not
-abbrev pub verdict_by : Bool → List Unmet → CurrentVerdict
+abbrev pub verdict_by : Bool → List UnmetExpectation → CurrentVerdict
 verdict_by ran unmet = if ran && are_all_met unmet then standing.Passes
     else if list_any is_same unmet then standing.Differs else standing.Fails
 
 -- the verdict on the job in `sides`, from its row and the golden texts and the row that its row is compared with
-abbrev pub verdict_of_comparison : Sides → CurrentVerdict
+abbrev pub verdict_of_comparison : ComparisonView → CurrentVerdict
 verdict_of_comparison sides = verdict_by (did_run sides.row.ending) (unmet_expectations_of sides)
 
 -- a row and its job, with the contents of the golden files and the row of the compared job
-abbrev pub comparison_with : List (Option Row) → Job → Row → Option (List ℕ) → Option (List ℕ) → Sides
+abbrev pub comparison_with : List (Option Row) → Job → Row → Option (List ℕ) → Option (List ℕ) → ComparisonView
 comparison_with rows job row console signature = record {
   job = job;
   row = row;

@@ -19,7 +19,7 @@ use Rattle.rv_gdb.specs.declared.conversation.SessionError.{SessionError}
 use Rattle.rv_gdb.specs.declared.conversation.SessionError.TheVariants as broken
 use Rattle.rv_gdb.specs.JobSessions.{IsSessionOf}
 use Rattle.rv_job_text.specs.RowReporter.{outcome_text, row_line}
-use Rattle.rv_rows.specs.Plans.{AgreeWithContents, Planned, jobs_needed_for, paths_of, paths_used}
+use Rattle.rv_rows.specs.Plans.{AgreeWithContents, PlanView, jobs_needed_for, paths_of, paths_used}
 use Rattle.rv_rows.specs.JobList.{job_list_of}
 use Rattle.rv_rows.specs.declared_job.Job.{Job}
 use Rattle.rv_rows.specs.State.{State}
@@ -31,16 +31,16 @@ use Rattle.rvtest_app.specs.Reports.{HasEntryPerUnreadable, IsFirstJobNamed}
 use Rattle.rvtest_app.specs.CommandOutputs.{IsOnlyStandardOutput, CommandOutputs}
 
 -- the text that `run` prints about the job: its result line and its unmet expectations; empty if there is no job
-abbrev pub end_text_of_job : Planned → List UnreadablePath → Option Job → List ℕ
+abbrev pub end_text_of_job : PlanView → List UnreadablePath → Option Job → List ℕ
 end_text_of_job plan unread None = []
 end_text_of_job plan unread (Some job) = outcome_text plan unread (judge_by_rule Strict) job (row_of plan job)
 
 -- the text that `run` prints about the job at index `place` of the plan: its result line and its unmet expectations
-unfoldable pub job_end_text : Planned → List UnreadablePath → ℕ → List ℕ
+unfoldable pub job_end_text : PlanView → List UnreadablePath → ℕ → List ℕ
 job_end_text plan unread place = end_text_of_job plan unread (slice_get plan.jobs place)
 
 -- the state in which the run of the job at index `place` starts; for a refused job, the start state of an empty image
-unfoldable pub job_start_state : Planned → ℕ → State
+unfoldable pub job_start_state : PlanView → ℕ → State
 job_start_state plan place =
     unwrap_or (option_and_then (λ (job : Job). result_ok (start_in plan.answers job)) (slice_get plan.jobs place)) (flat_state [])
 
@@ -48,7 +48,7 @@ job_start_state plan place =
 -- against `root`; `end_text` is the text that `run` prints about the job
 pub record IsJobOpened (known : Option FileContents) (root : Option (List ℕ)) (jobs : List Job) (place : ℕ) (end_text : List ℕ)
     (session : Session) : Type 0 where
-  pub plan : Planned
+  pub plan : PlanView
   pub listed : plan.jobs ≡ jobs
   pub paths : paths_of plan.answers ≡ paths_used (jobs_needed_for jobs (place ∷ []))
   pub kept : AgreeWithContents known plan.answers
@@ -107,7 +107,7 @@ IsNoGdbStop why = IsStop 2 (path_message (codes "standard output")
 
 -- the stop reports that the job at index `place` is refused; its message is the job's result line
 pub record IsRefusedJobStop (known : Option FileContents) (jobs : List Job) (place : ℕ) (why : Stop) : Type 0 where
-  pub plan : Planned
+  pub plan : PlanView
   pub listed : plan.jobs ≡ jobs
   pub paths : paths_of plan.answers ≡ paths_used (jobs_needed_for jobs (place ∷ []))
   pub kept : AgreeWithContents known plan.answers

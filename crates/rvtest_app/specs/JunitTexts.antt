@@ -1,7 +1,7 @@
 -- What a JUnit document contains for the rows of a report.
 use Rattle.std.specs.Prelude.{ℕ, List, Option, Some, None, map, unwrap_or}
 use Rattle.std.specs.Path.{path_file_stem}
-use Rattle.rv_expect.specs.Judgement.{Judging}
+use Rattle.rv_expect.specs.Judgement.{JudgeView}
 use Rattle.rv_junit.specs.Junit.{junit_text}
 use Rattle.rv_rows.specs.declared_row.Row.{Row}
 use Rattle.rvtest_app.specs.ReportSummary.{failed_line}
@@ -16,6 +16,6 @@ suite_name (Some name) path = name
 suite_name None path = junit_class path
 
 -- the JUnit document of these rows of a report, in which each failed row has its result line
-abbrev pub failures_junit : List ℕ → Judging → List Row → List ℕ
+abbrev pub failures_junit : List ℕ → JudgeView → List Row → List ℕ
 failures_junit class judging rows = junit_text class judging
     (map (failed_line judging) rows) rows

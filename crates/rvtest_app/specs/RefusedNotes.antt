@@ -4,25 +4,25 @@ use Rattle.std.specs.List.{flat_map}
 use Rattle.rvtest_cli.specs.declared.run.RunArgs.{RunArgs}
 use Rattle.rv_command.specs.Texts.{optional_text}
 use Rattle.rv_stacks.specs.JobTables.{jobs_at}
-use Rattle.rv_expect.specs.Judgement.{Judging}
+use Rattle.rv_expect.specs.Judgement.{JudgeView}
 use Rattle.rv_files.specs.declared.recording_store.UnreadablePath.{UnreadablePath}
 use Rattle.rv_job_text.specs.RowReporter.{row_line}
-use Rattle.rv_rows.specs.Plans.{Planned}
+use Rattle.rv_rows.specs.Plans.{PlanView}
 use Rattle.rv_rows.specs.declared_job.Job.{Job}
 use Rattle.rv_rows.specs.Rows.{row_of}
 use Rattle.rvtest_app.specs.Commands.{is_job_refused, report_judging}
 use Rattle.rvtest_app.specs.MissingImages.{missing_images_note}
 
 -- the result line of a refused job; empty if the job is not refused
-unfoldable pub invalid_line : Judging → Planned → List UnreadablePath → Job → List ℕ
+unfoldable pub invalid_line : JudgeView → PlanView → List UnreadablePath → Job → List ℕ
 invalid_line judging plan unread job =
     if is_job_refused plan job then row_line plan unread judging job (row_of plan job) else []
 
 -- the result lines of the refused jobs among the jobs at these indices
-abbrev pub refused_lines : Judging → Planned → List UnreadablePath → List ℕ → List ℕ
+abbrev pub refused_lines : JudgeView → PlanView → List UnreadablePath → List ℕ → List ℕ
 refused_lines judging plan unread places = flat_map (invalid_line judging plan unread) (jobs_at plan places)
 
 -- the note about missing images, which may be empty, and then the result lines of the refused jobs among the jobs at these indices
-abbrev pub refused_note : RunArgs → Planned → List UnreadablePath → List ℕ → List ℕ
+abbrev pub refused_note : RunArgs → PlanView → List UnreadablePath → List ℕ → List ℕ
 refused_note words plan unread places = missing_images_note plan.jobs unread (length places) (optional_text words.root)
     ++ refused_lines (report_judging words.lenient) plan unread places

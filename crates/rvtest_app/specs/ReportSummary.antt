@@ -6,11 +6,11 @@ use Rattle.std.specs.List.Sorted.{IsPermutation}
 use Rattle.rv_rows.specs.declared_row.Row.{Row}
 use Rattle.rv_rows.specs.Report.{line}
 use Rattle.rv_job_text.specs.TotalsLine.{totals_line}
-use Rattle.rv_expect.specs.Judgement.{Judging, fails, judgement}
+use Rattle.rv_expect.specs.Judgement.{JudgeView, fails, judgement}
 use Rattle.rv_job_text.specs.ResultLine.{result_line}
 
 -- the result line of a row that is a failure, with only the details that a report has; empty if the row is not a failure
-abbrev pub failed_line : Judging → Row → List ℕ
+abbrev pub failed_line : JudgeView → Row → List ℕ
 failed_line judging row = if fails judging row then result_line (judgement judging row) row None None else []
 
 -- ---- the most steps
@@ -51,6 +51,6 @@ abbrev pub most_steps_text : List Row → List ℕ
 most_steps_text rows = line (codes "most steps:") ++ flat_map steps_line (rows_with_most_steps rows)
 
 -- what `show` prints about the rows of a report: the failures, the totals, and the rows with the most steps
-unfoldable pub summary_text : Judging → List Row → List ℕ
+unfoldable pub summary_text : JudgeView → List Row → List ℕ
 summary_text judging rows =
     flat_map (failed_line judging) rows ++ totals_line judging rows ++ most_steps_text rows

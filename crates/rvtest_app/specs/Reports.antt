@@ -19,9 +19,9 @@ use Rattle.rv_files.specs.declared.recording_store.UnreadablePath.{UnreadablePat
 use Rattle.rv_job_text.specs.declared_budget_use.BudgetUse.{BudgetUse}
 use Rattle.rv_job_text.specs.BudgetUseLine.{IsBudgetUseOfRow}
 use Rattle.rv_job_text.specs.RowReporter.{explanation_text}
-use Rattle.rv_rows.specs.Plans.{AgreeWithContents, Planned, jobs_needed_for, after_increments, paths_of, paths_used}
+use Rattle.rv_rows.specs.Plans.{AgreeWithContents, PlanView, jobs_needed_for, after_increments, paths_of, paths_used}
 use Rattle.rv_rows.specs.Plans.{unreadable_count}
-use Rattle.rv_rows.specs.declared_answers.Answer.{Answer}
+use Rattle.rv_rows.specs.declared_answers.PathResult.{PathResult}
 use Rattle.rv_command.specs.PlacedFaults.{IsFaultMessage, AppendsLinesOfEach}
 use Rattle.rv_rows.specs.JobList.{job_list_of}
 use Rattle.rv_rows.specs.Jobs.{with_budget}
@@ -41,7 +41,7 @@ use Rattle.rvtest_app.specs.Commands.{check_status, diff_status, passing_status,
 -- ---- unreadable paths
 
 -- `unread` has as many entries as `answers` has unreadable files
-abbrev pub HasEntryPerUnreadable : List Answer → List UnreadablePath → Type 0
+abbrev pub HasEntryPerUnreadable : List PathResult → List UnreadablePath → Type 0
 HasEntryPerUnreadable answers unread = length unread ≡ after_increments 0 (unreadable_count answers)
 
 -- ---- diff
@@ -107,7 +107,7 @@ pub record IsDiffWritten (known : Option FileContents) (words : DiffArgs) (statu
 -- store
 pub record IsPlanCheckOf (known : Option FileContents) (root : Option (List ℕ)) (path bytes output : List ℕ) (status : ℕ)
     : Type 0 where
-  pub plan : Planned
+  pub plan : PlanView
   pub listed : job_list_of bytes ≡ Ok plan.jobs
   pub paths : paths_of plan.answers ≡ paths_used plan.jobs
   pub kept : AgreeWithContents known plan.answers
@@ -135,7 +135,7 @@ pub record IsCheckOutputAt (known : Option FileContents) (words : CheckArgs) (ou
 
 -- `text` explains the row of the job at index `place` of the plan, with its last `last` instructions and, if its budget was exhausted, how
 -- it used the budget
-pub record IsTextExplaining (plan : Planned) (unread : List UnreadablePath) (place last : ℕ) (text : List ℕ) : Type 0 where
+pub record IsTextExplaining (plan : PlanView) (unread : List UnreadablePath) (place last : ℕ) (text : List ℕ) : Type 0 where
   pub budget_use : Option BudgetUse
   pub found : (d : Job) → IsBudgetUseOfRow plan (slice_index_or plan.jobs place d)
       (row_of plan (slice_index_or plan.jobs place d)) budget_use
@@ -146,7 +146,7 @@ pub record IsTextExplaining (plan : Planned) (unread : List UnreadablePath) (pla
 -- read from the store
 pub record IsJobExplained (known : Option FileContents) (jobs : List Job) (place last : ℕ) (output : List ℕ)
     (status : ℕ) : Type 0 where
-  pub plan : Planned
+  pub plan : PlanView
   pub listed : plan.jobs ≡ jobs
   pub paths : paths_of plan.answers ≡ paths_used (jobs_needed_for jobs (place ∷ []))
   pub kept : AgreeWithContents known plan.answers

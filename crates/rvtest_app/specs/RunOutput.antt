@@ -2,9 +2,9 @@
 use Rattle.std.specs.Prelude.{ℕ, List, ◌++◌, ◌+◌, ◌-◌, ◌==◌, if◌then◌else◌, length, map}
 use Rattle.std.specs.Prelude.{Option, Some, None}
 use Rattle.std.specs.List.{list_any}
-use Rattle.rv_rows.specs.Plans.{Planned}
+use Rattle.rv_rows.specs.Plans.{PlanView}
 use Rattle.rv_job_text.specs.TotalsLine.{run_totals_line}
-use Rattle.rv_expect.specs.Judgement.{Judging, fails}
+use Rattle.rv_expect.specs.Judgement.{JudgeView, fails}
 use Rattle.rv_rows.specs.declared_saved.Extent.{Extent}
 use Rattle.rv_rows.specs.declared_saved.Extent.TheVariants as extent
 use Rattle.rv_rows.specs.declared_saved.Shard.{Shard}
@@ -14,12 +14,12 @@ use Rattle.rv_rows.specs.Report.{report_text}
 use Rattle.rv_stream.specs.Streams.{joined_row_texts}
 
 -- the text that a run prints: the lines about each row, then the summary line, which also counts the jobs that have no row
-abbrev pub run_output_text : (ℕ → Row → List ℕ) → Judging → Planned → List ℕ → List Row → List ℕ
+abbrev pub run_output_text : (ℕ → Row → List ℕ) → JudgeView → PlanView → List ℕ → List Row → List ℕ
 run_output_text line judging plan places rows =
     joined_row_texts line places rows ++ run_totals_line judging plan places rows (length places - length rows)
 
 -- the exit status for these rows: 1 if one of them is a failure, and otherwise 0
-abbrev pub rows_status : Judging → List Row → ℕ
+abbrev pub rows_status : JudgeView → List Row → ℕ
 rows_status judging rows = if list_any (fails judging) rows then 1 else 0
 
 -- the numbers of the jobs at these indices, counted from 1

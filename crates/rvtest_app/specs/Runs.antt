@@ -12,7 +12,7 @@ use Rattle.rv_job_text.specs.RowReporter.{RowReporter, row_lines_at}
 use Rattle.rv_job_text.specs.declared.verbosity.Verbosity.TheVariants.{Failures}
 use Rattle.rv_junit.specs.Junit.{junit_text}
 use Rattle.rv_rows.specs.Choices.{selected_indices}
-use Rattle.rv_rows.specs.Plans.{AgreeWithContents, Planned, jobs_needed_for, after_increments, paths_of, paths_used, unreadable_count}
+use Rattle.rv_rows.specs.Plans.{AgreeWithContents, PlanView, jobs_needed_for, after_increments, paths_of, paths_used, unreadable_count}
 use Rattle.rv_rows.specs.JobList.{job_list_of}
 use Rattle.rv_rows.specs.Jobs.{with_budget}
 use Rattle.rv_rows.specs.declared_job.Job.{Job}
@@ -25,7 +25,7 @@ use Rattle.rv_count_tables.specs.Text.{table_text}
 use Rattle.rv_count_tables.specs.declared.table.CountTable.{CountTable}
 use Rattle.rv_stacks.specs.JobTables.{IsTableOfJobsAt}
 use Rattle.rv_stacks.specs.StackTables.{IsTableWithStacks}
-use Rattle.rv_expect.specs.Judgement.{Judging, fails}
+use Rattle.rv_expect.specs.Judgement.{JudgeView, fails}
 use Rattle.rv_stream.specs.Limits.{rows_up_to}
 use Rattle.rv_expect.specs.declared.known_jobs.KnownJobs.{KnownJobs}
 use Rattle.rvtest_app.specs.Commands.{failure_rule, requested_verbosity}
@@ -77,7 +77,7 @@ pub record AreJobsToRun (known : Option FileContents) (words : RunArgs) : Type 0
 
 -- `plan` is a plan of the jobs with the files that the rows at these indices need, read from the store; `unread` has one entry for each
 -- path that could not be read
-pub record IsPlanFor (known : Option FileContents) (jobs : List Job) (places : List ℕ) (plan : Planned)
+pub record IsPlanFor (known : Option FileContents) (jobs : List Job) (places : List ℕ) (plan : PlanView)
     (unread : List UnreadablePath) : Type 0 where
   pub listed : plan.jobs ≡ jobs
   pub paths : paths_of plan.answers ≡ paths_used (jobs_needed_for jobs places)
@@ -90,11 +90,11 @@ run_junit words reporter places rows = junit_text (suite_name (optional_text wor
     (row_text_list (row_lines_at (record reporter { verbosity = Failures })) places rows) rows
 
 -- how the rows of a run are judged: by the rule in the arguments, and with the known failures
-abbrev pub run_judging : RunArgs → Option KnownJobs → Judging
+abbrev pub run_judging : RunArgs → Option KnownJobs → JudgeView
 run_judging words failures = record { rule = failure_rule words.lenient; known = failures }
 
 -- the reporter of a run's rows: which rows it shows and how it judges them, as the arguments and the known failures say
-abbrev pub run_reporter : RunArgs → Option KnownJobs → Planned → List UnreadablePath → RowReporter
+abbrev pub run_reporter : RunArgs → Option KnownJobs → PlanView → List UnreadablePath → RowReporter
 run_reporter words failures plan unread = record {
   plan = plan;
   unread = unread;
@@ -104,7 +104,7 @@ run_reporter words failures plan unread = record {
 }
 
 -- the rows of the jobs at these indices, in order; if `stop_after` is given, only up to the failure with this number
-abbrev pub run_rows : Option ℕ → Judging → Planned → List ℕ → List Row
+abbrev pub run_rows : Option ℕ → JudgeView → PlanView → List ℕ → List Row
 run_rows stop_after judging plan places = rows_up_to stop_after (fails judging) (rows_at plan places)
 
 -- the indices of the jobs that have a row: the first of `places`, as many as there are rows
@@ -130,18 +130,18 @@ IsRunWritten words reporter places shard old rows before after =
     (run_junit words reporter (shown_indices places rows) rows) before after
 
 -- `table` has the counts of the runs of the jobs at these indices; it has call stacks if the Bool is true
-abbrev pub IsCountsTable : Bool → Planned → List ℕ → CountTable → Type 0
+abbrev pub IsCountsTable : Bool → PlanView → List ℕ → CountTable → Type 0
 IsCountsTable false plan places table = IsTableOfJobsAt plan places table
 IsCountsTable true plan places table = IsTableWithStacks plan places table
 
 -- the text is the table of counts of the jobs at these indices, with call stacks if `stacks` is true
-abbrev pub IsCountsText : Bool → Planned → List ℕ → List ℕ → Type 0
+abbrev pub IsCountsText : Bool → PlanView → List ℕ → List ℕ → Type 0
 IsCountsText stacks plan places text =
     (table : CountTable) × (IsCountsTable stacks plan places table × (text ≡ table_text table))
 
 -- the table of counts of the jobs at these indices, with call stacks if `stacks` is true, was written to the path; without a path nothing
 -- was written
-abbrev pub AreCountsWritten : Bool → Option (List ℕ) → Planned → List ℕ → CommandOutputs → CommandOutputs → Type 0
+abbrev pub AreCountsWritten : Bool → Option (List ℕ) → PlanView → List ℕ → CommandOutputs → CommandOutputs → Type 0
 AreCountsWritten stacks None plan places before after = IsWrittenAt None [] before after
 AreCountsWritten stacks (Some path) plan places before after =
     (text : List ℕ) × (IsCountsText stacks plan places text × IsWrittenAt (Some path) text before after)
@@ -157,7 +157,7 @@ pub record IsCountedRunWritten (words : RunArgs) (reporter : RowReporter) (place
 -- counts were written; the status follows from the rows
 pub record IsRunOfJobs (known : Option FileContents) (words : RunArgs) (failures : Option KnownJobs) (jobs : List Job) (places : List ℕ)
     (shard : Option Shard) (old : Option (List Row)) (status : ℕ) (before after : CommandOutputs) : Type 0 where
-  pub plan : Planned
+  pub plan : PlanView
   pub unread : List UnreadablePath
   pub planned : IsPlanFor (contents_below (optional_text words.root) known) (with_budget words.budget jobs) places plan
       unread
@@ -202,7 +202,7 @@ AreRunFilesPartlyCommitted words reporter places shard old rows before after =
 -- the jobs at these indices ran, but only some of the requested output files were committed
 pub record IsRunPartlyCommitted (known : Option FileContents) (words : RunArgs) (failures : Option KnownJobs) (jobs : List Job) (places : List ℕ)
     (shard : Option Shard) (old : Option (List Row)) (before after : Option (List CommittedFile)) : Type 0 where
-  pub plan : Planned
+  pub plan : PlanView
   pub unread : List UnreadablePath
   pub planned : IsPlanFor (contents_below (optional_text words.root) known) (with_budget words.budget jobs) places plan
       unread

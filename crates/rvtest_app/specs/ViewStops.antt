@@ -14,7 +14,7 @@ use Rattle.rv_profile.specs.JobImages.{ImageFileView, images_of}
 use Rattle.rv_stacks.specs.JobTables.{jobs_at}
 use Rattle.rv_files.specs.UnreadPaths.{contents_below}
 use Rattle.rv_files.specs.declared.recording_store.UnreadablePath.{UnreadablePath}
-use Rattle.rv_rows.specs.Plans.{Planned}
+use Rattle.rv_rows.specs.Plans.{PlanView}
 use Rattle.rv_rows.specs.declared_job.Job.{Job}
 use Rattle.rv_profile.specs.ImageStacks.{image_past_64_bits}
 use Rattle.rv_rows.specs.declared_row.Row.{Row}
@@ -63,19 +63,19 @@ IsMismatchedTableStop known shown path images why = IsNoTableStop known path ima
 -- ---- runs that cannot be counted
 
 -- why a command stopped: the call stacks of the jobs at these indices cannot be summed up; the message names `path`
-abbrev pub IsStackSumOfJobsStop : Planned → List ℕ → List ℕ → Stop → Type 0
+abbrev pub IsStackSumOfJobsStop : PlanView → List ℕ → List ℕ → Stop → Type 0
 IsStackSumOfJobsStop plan places path why =
     (error : SumError) × (HaveNoTableWithStacks plan places error × IsSumErrorStop path error why)
 
 -- why a command stopped: the runs of the jobs at these indices could not be counted: memory ran out, or the call stacks of a profile cannot
 -- be summed up
-abbrev pub IsUncountedStop : View → Planned → List ℕ → List ℕ → Stop → Type 0
+abbrev pub IsUncountedStop : View → PlanView → List ℕ → List ℕ → Stop → Type 0
 IsUncountedStop (view.Cover csv) plan places path why = why ≡ stop.OutOfMemory
 IsUncountedStop (view.Profile format) plan places path why = IsStackSumOfJobsStop plan places path why
 
 -- why a command stopped: no table for the view was found: the table at the given path cannot be used, or no path is given and the runs
 -- could not be counted
-abbrev pub IsNoViewTableStop : Option FileContents → RunArgs → View → Option (List ℕ) → Planned → List ℕ → Stop → Type 0
+abbrev pub IsNoViewTableStop : Option FileContents → RunArgs → View → Option (List ℕ) → PlanView → List ℕ → Stop → Type 0
 IsNoViewTableStop known words shown None plan places why = IsUncountedStop shown plan places words.list.now why
 IsNoViewTableStop known words shown (Some path) plan places why =
     IsMismatchedTableStop known shown path (images_of plan.answers (jobs_at plan places)) why
@@ -104,7 +104,7 @@ IsTableTextStop (view.Profile format) table images source why = (why ≡ stop.Ou
 
 -- why a command stopped: a table for the jobs at these indices was found, but its view could not be written because memory ran out or, for
 -- a profile, a sum does not fit in 64 bits
-abbrev pub IsViewTextStop : Option FileContents → RunArgs → View → Planned → List ℕ → Stop → Type 0
+abbrev pub IsViewTextStop : Option FileContents → RunArgs → View → PlanView → List ℕ → Stop → Type 0
 IsViewTextStop known words shown plan places why = (table : CountTable)
     × (IsTableForView known shown (optional_text words.counts) plan places table
     × IsTableTextStop shown table (images_of plan.answers (jobs_at plan places)) (counts_source words) why)
@@ -112,7 +112,7 @@ IsViewTextStop known words shown plan places why = (table : CountTable)
 -- ---- the command
 
 -- why a command stopped: memory ran out, no table for the view was found, or its view could not be written
-abbrev pub IsUnshownStop : Option FileContents → RunArgs → View → Planned → List ℕ → Stop → Type 0
+abbrev pub IsUnshownStop : Option FileContents → RunArgs → View → PlanView → List ℕ → Stop → Type 0
 IsUnshownStop known words shown plan places why = (why ≡ stop.OutOfMemory)
     ⊎ (IsNoViewTableStop known words shown (optional_text words.counts) plan places why
     ⊎ IsViewTextStop known words shown plan places why)
@@ -120,7 +120,7 @@ IsUnshownStop known words shown plan places why = (why ≡ stop.OutOfMemory)
 -- why a command stopped: the files of the jobs at these indices were read, but the view could not be made
 pub record IsNoViewOfJobsStop (known : Option FileContents) (words : RunArgs) (shown : View) (jobs : List Job) (places : List ℕ)
     (why : Stop) : Type 0 where
-  pub plan : Planned
+  pub plan : PlanView
   pub unread : List UnreadablePath
   pub planned : IsPlanFor (contents_below (optional_text words.root) known) jobs places plan unread
   pub unshown : IsUnshownStop known words shown plan places why

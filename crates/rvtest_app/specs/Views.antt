@@ -10,7 +10,7 @@ use Rattle.rv_profile.specs.JobImages.{ImageFileView, images_of}
 use Rattle.rv_stacks.specs.JobTables.{IsTableOfJobsAt, jobs_at}
 use Rattle.rv_files.specs.UnreadPaths.{contents_below}
 use Rattle.rv_files.specs.declared.recording_store.UnreadablePath.{UnreadablePath}
-use Rattle.rv_rows.specs.Plans.{Planned}
+use Rattle.rv_rows.specs.Plans.{PlanView}
 use Rattle.rv_rows.specs.declared_job.Job.{Job}
 use Rattle.rv_profile.specs.ImageStacks.{has_stacks}
 use Rattle.rv_profile.specs.ProfileText.{IsProfileText}
@@ -27,7 +27,7 @@ use Rattle.rvtest_app.specs.declared.view.View.TheVariants as view
 -- ---- the counts and the text of a view
 
 -- the table has the counts of a run of the jobs at these indices: without call stacks for coverage, and with them for a profile
-abbrev pub IsRunTableForView : View → Planned → List ℕ → CountTable → Type 0
+abbrev pub IsRunTableForView : View → PlanView → List ℕ → CountTable → Type 0
 IsRunTableForView (view.Cover csv) plan places table = IsTableOfJobsAt plan places table
 IsRunTableForView (view.Profile format) plan places table = IsTableWithStacks plan places table
 
@@ -51,12 +51,12 @@ pub record IsMatchingTableAt (known : Option FileContents) (shown : View) (path 
   pub fit : has_counts_for shown table ≡ true
 
 -- `table` is the table for the view: the table at the path, or without a path the counts of a run of the jobs at these indices
-abbrev pub IsTableForView : Option FileContents → View → Option (List ℕ) → Planned → List ℕ → CountTable → Type 0
+abbrev pub IsTableForView : Option FileContents → View → Option (List ℕ) → PlanView → List ℕ → CountTable → Type 0
 IsTableForView known shown None plan places table = IsRunTableForView shown plan places table
 IsTableForView known shown (Some path) plan places table = IsMatchingTableAt known shown path (images_of plan.answers (jobs_at plan places)) table
 
 -- the text is the view of the images of the jobs at these indices of the plan
-abbrev pub IsViewOfPlan : Option FileContents → RunArgs → View → Planned → List ℕ → List ℕ → Type 0
+abbrev pub IsViewOfPlan : Option FileContents → RunArgs → View → PlanView → List ℕ → List ℕ → Type 0
 IsViewOfPlan known words shown plan places text = (table : CountTable)
     × (IsTableForView known shown (optional_text words.counts) plan places table
     × IsViewText shown table (images_of plan.answers (jobs_at plan places)) text)
@@ -66,7 +66,7 @@ IsViewOfPlan known words shown plan places text = (table : CountTable)
 -- the notes about missing images and refused jobs went to standard error, and then the view of the jobs at these indices was written
 pub record IsViewOfJobs (known : Option FileContents) (words : RunArgs) (shown : View) (jobs : List Job) (places : List ℕ)
     (before after : CommandOutputs) : Type 0 where
-  pub plan : Planned
+  pub plan : PlanView
   pub unread : List UnreadablePath
   pub planned : IsPlanFor (contents_below (optional_text words.root) known) jobs places plan unread
   pub middle : CommandOutputs

@@ -13,7 +13,7 @@ ghost use Rattle.rvtest_app.specs.CurrentVerdicts.{comparison_with, verdict_by, 
 
 use crate::accepted_files::golden_file_path;
 use rv_accept::{Acceptance, Candidate, CurrentVerdict, console_path, is_accepted_end};
-use rv_expect::{Comparison, Unmet, unmet_expectations};
+use rv_expect::{Comparison, UnmetExpectation, unmet_expectations};
 use rv_files::limits::MAX_FILE_SIZE;
 use rv_files::{InputError, Inputs, read_whole_up_to};
 use rv_rows::{Job, Row, did_run};
@@ -222,7 +222,7 @@ fn row_if_run(row: Option<&Option<Row>>) -> Option<&Row>
 }
 
 // Returns the verdict on a job: it passes if it ran and met all expectations; otherwise it differs if `same_as` is unmet, and fails if not.
-fn verdict_by(ran: bool, unmet: &[Unmet]) -> CurrentVerdict
+fn verdict_by(ran: bool, unmet: &[UnmetExpectation]) -> CurrentVerdict
     ensures { result ≡ verdict_by ran unmet.now }
 {
     if ran && are_all_met(unmet) {
@@ -235,7 +235,7 @@ fn verdict_by(ran: bool, unmet: &[Unmet]) -> CurrentVerdict
 }
 
 // Whether the list of unmet expectations is empty.
-fn are_all_met(unmet: &[Unmet]) -> bool
+fn are_all_met(unmet: &[UnmetExpectation]) -> bool
     ensures { result ≡ are_all_met unmet.now }
 {
     match unmet {
@@ -245,19 +245,19 @@ fn are_all_met(unmet: &[Unmet]) -> bool
 }
 
 // Whether `same_as` is among the unmet expectations.
-fn has_difference(unmet: &[Unmet]) -> bool
+fn has_difference(unmet: &[UnmetExpectation]) -> bool
     ensures { result ≡ list_any is_same unmet.now }
 {
     unmet.iter().any(|one| is_same_as(*one))
 }
 
 // Whether the unmet expectation is `same_as`.
-fn is_same_as(unmet: Unmet) -> bool
+fn is_same_as(unmet: UnmetExpectation) -> bool
     ensures { result ≡ is_same unmet }
 {
     match unmet {
-        Unmet::Same(_) => true,
-        Unmet::Exit | Unmet::End | Unmet::Console(_) | Unmet::Signature(_) | Unmet::Nothing =>
+        UnmetExpectation::Same(_) => true,
+        UnmetExpectation::Exit | UnmetExpectation::End | UnmetExpectation::Console(_) | UnmetExpectation::Signature(_) | UnmetExpectation::Nothing =>
             false,
     }
 }

@@ -17,7 +17,7 @@ use rv_command::{
     DONE, RequestedReport, SOME_FAIL, Stop, parse_requested_report, read_result_file,
     truncation_note, write_message, write_results,
 };
-use rv_diff::{Compare, Compared, Differing, push_diff, rows_in_both};
+use rv_diff::{Compare, ComparedReports, DifferenceCounts, push_diff, rows_in_both};
 use rv_files::{Inputs, Outputs, Sink};
 use rv_rows::{Extent, PartialReport, Row, SavedReport};
 use rvtest_cli::DiffArgs;
@@ -137,7 +137,7 @@ fn diff_saved_reports(
 {
     let all = old.rows.as_slice().len() + new.rows.as_slice().len();
     let (old, new) = compared_rows(alloc, old, new)?;
-    let compared = Compared {
+    let compared = ComparedReports {
         old: old.as_slice(),
         new: new.as_slice(),
         left_out: all - old.len() - new.len(),
@@ -193,7 +193,7 @@ fn requested_comparison(steps: bool, slower: Option<u32>) -> Compare
 }
 
 // Returns the differences between the rows, with the exit status.
-fn diff_rows(alloc: Global, compare: Compare, compared: Compared<'_>) -> Result<Found, Stop>
+fn diff_rows(alloc: Global, compare: Compare, compared: ComparedReports<'_>) -> Result<Found, Stop>
     requires old { length compared.old.now < 2 ^ 32 }
     requires new { length compared.new.now < 2 ^ 32 }
     ensures low { IfOk result (λ found. found.status ≤ 1) }
@@ -212,7 +212,7 @@ fn diff_rows(alloc: Global, compare: Compare, compared: Compared<'_>) -> Result<
 }
 
 // Returns the exit status of `diff`: 0 if no job differs, and otherwise 1.
-fn diff_status(counts: Differing) -> u8
+fn diff_status(counts: DifferenceCounts) -> u8
     ensures value { result ≡ diff_status counts }
     ensures low { result ≤ 1 }
 {

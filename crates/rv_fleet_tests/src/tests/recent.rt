@@ -2,7 +2,7 @@
 ghost use Rattle.std.specs.Prelude.{◌<◌, length};
 
 use super::{number_in, plan_in};
-use rv_fleet::{Outcome, Plan, Recent, RowEnd, Spare, Words, row_at_with_recent};
+use rv_fleet::{Outcome, Plan, RecentOutcomes, RowEnd, SpareBus, Words, row_at_with_recent};
 use rv_stream::Bytes;
 use samples::cell_of;
 use std::alloc::{AllocError, Global};
@@ -28,7 +28,7 @@ fn outcome_of(alloc: Global, size: &str) -> Result<Outcome, Fail> {
 }
 
 // Caches an outcome of this size for the job at an index, if it is small enough.
-fn keep(alloc: Global, recent: &mut Recent, place: usize, size: &str) -> Result<(), Fail> {
+fn keep(alloc: Global, recent: &mut RecentOutcomes, place: usize, size: &str) -> Result<(), Fail> {
     let outcome = outcome_of(alloc, size)?;
     if recent.make_room(outcome.size()) {
         recent.keep(place, outcome)?;
@@ -37,7 +37,7 @@ fn keep(alloc: Global, recent: &mut Recent, place: usize, size: &str) -> Result<
 }
 
 // Returns the indices below `places` whose outcomes are cached.
-fn kept(alloc: Global, recent: &Recent, places: usize) -> Result<String, Fail> {
+fn kept(alloc: Global, recent: &RecentOutcomes, places: usize) -> Result<String, Fail> {
     let mut found = String::new(alloc);
     for place in 0..places {
         if recent.find(place).is_some() {
@@ -50,7 +50,7 @@ fn kept(alloc: Global, recent: &Recent, places: usize) -> Result<String, Fail> {
 // Returns the indices whose outcomes are cached after outcomes of the sizes in a line were added for the indices 0, 1 and so on.
 pub(super) fn told(alloc: Global, line: &str) -> Result<String, Fail> {
     let sizes = cell_of(line, 1);
-    let mut recent = Recent::new(alloc);
+    let mut recent = RecentOutcomes::new(alloc);
     for (place, size) in sizes.split(' ').enumerate() {
         keep(alloc, &mut recent, place, size)?;
     }
@@ -98,8 +98,8 @@ same_as = 'j2'
 fn keeps_named(alloc: Global, plan: &Plan, place: usize) -> Result<bool, Fail>
     requires { place < length plan.now.jobs }
 {
-    let mut recent = Recent::new(alloc);
-    row_at_with_recent(alloc, plan, place, &mut Spare::new(), &mut recent)?;
+    let mut recent = RecentOutcomes::new(alloc);
+    row_at_with_recent(alloc, plan, place, &mut SpareBus::new(), &mut recent)?;
     Ok(recent.find(place.saturating_sub(1)).is_some())
 }
 

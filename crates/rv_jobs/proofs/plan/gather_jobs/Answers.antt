@@ -1,7 +1,7 @@
 use Rattle.std.proofs.Common.{◌∙◌, refl, ap, arith, length, sym, subst, get_or, List}
 use Rattle.std.specs.List.{fold}
 use Rattle.std.proofs.lemmas.List.{length-map}
-use Rattle.rv_jobs.specs.declared.answers.Answer.{Answer}
+use Rattle.rv_jobs.specs.declared.answers.PathResult.{PathResult}
 use Rattle.rv_jobs.specs.declared.kept.Kept.{Kept}
 use Rattle.rv_jobs.specs.Placed.{AreRecorded, ArePartialResultIndicesOfJobs}
 use Rattle.rv_jobs.specs.Plans.{paths_of, paths_used, jobs_needed_for, jobs_needed_at, with_job_paths, AgreeWithContents, unreadable_count, after_increments}
@@ -48,9 +48,9 @@ invariant_of-result g c =
     ∙ needed_whole c.args.jobs c.args.places.items c.loop-place.place-index (omega arith) in
     record {
       jobs = c.as_slice.ensures.jobs;
-      even = sym (ap length used) ∙ length-map c.loop-place.asked (λ (a : Answer). a.path)
+      even = sym (ap length used) ∙ length-map c.loop-place.asked (λ (a : PathResult). a.path)
           ∙ sym (ap (length {A = Kept}) c.into_results-answers.ensures
-          ∙ length-map c.loop-place.asked (λ (a : Answer). a.kept));
+          ∙ length-map c.loop-place.asked (λ (a : PathResult). a.kept));
       found = subst (λ js. ArePartialResultIndicesOfJobs (paths_used (jobs_needed_for c.args.jobs c.args.places.items)) js
           c.in_ok-found.found.items)
           c.as_slice-2.ensures.value
@@ -81,4 +81,4 @@ returns-clause-faults g c =
     let same = parts_whole c.loop-place.asked (paths_used (jobs_needed_for c.args.jobs c.args.places.items))
     c.into_results-answers.result.items used c.into_results-answers.ensures in
     c.loop-place.invariant.faults
-    ∙ ap (λ (a : List Answer). after_increments (g.S.Store.fault_count c.args.store.now) (unreadable_count a)) (sym same)
+    ∙ ap (λ (a : List PathResult). after_increments (g.S.Store.fault_count c.args.store.now) (unreadable_count a)) (sym same)

@@ -1,6 +1,6 @@
 use Rattle.std.proofs.Common.{rules}
 use borrow.Author.Tests.{tests}
-use Rattle.rv_rows.proofs.verdict.ends_by.Goals as goal
+use Rattle.rv_rows.proofs.verdict.meets_expected_end.Goals as goal
 
 pub returns-in-Fault-Fault : goal.returns-in-Fault-Fault
 returns-in-Fault-Fault c = search (tests, rules)

@@ -16,7 +16,7 @@ returns-in-Some c =
     let tail = console_tail row.console in
     let tail_told = rw c.as_slice.ensures at c.in_ok-push_console_tail.ensures in
     rw c.in-Some.is
-    (ended _ _ _ _ (λ d. expectation_lines detail.Unmet plan (job_at plan place d) row)
+    (ended _ _ _ _ (λ d. expectation_lines detail.UnmetExpectation plan (job_at plan place d) row)
     (λ d. tail ++ end_trace_lines plan (job_at plan place d) row c.in-Some.last)
     c.in_ok-push_expectation_lines.ensures
     (ended _ _ _ _ (λ d. tail) (λ d. end_trace_lines plan (job_at plan place d) row c.in-Some.last)
@@ -30,5 +30,5 @@ returns-in-None c =
     let row = c.args.self.now.row.now in
     let tail_told = rw c.as_slice.ensures at c.in_ok-push_console_tail.ensures in
     rw (c.in-None.is, append-nil (console_tail row.console))
-    (λ d. more _ _ _ (expectation_lines detail.Unmet plan (job_at plan place d) row) (console_tail row.console)
+    (λ d. more _ _ _ (expectation_lines detail.UnmetExpectation plan (job_at plan place d) row) (console_tail row.console)
     (c.in_ok-push_expectation_lines.ensures d) tail_told)

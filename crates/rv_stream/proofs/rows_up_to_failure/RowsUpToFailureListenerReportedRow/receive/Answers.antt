@@ -3,7 +3,7 @@ use Rattle.std.proofs.Common.{◌∙◌, ◌-◌, ◌∷◌, [], ℕ, Bool, List
 use Rattle.std.specs.Prelude.{if◌then◌else◌, option_map}
 use Rattle.std.proofs.lemmas.Bool.{false_from_ne_true}
 use Rattle.std.proofs.lemmas.List.{map-append}
-use Rattle.rv_expect.specs.Judgement.{Judging, fails}
+use Rattle.rv_expect.specs.Judgement.{JudgeView, fails}
 use Rattle.rv_fleet.specs.declared_row.Row.{Row}
 use Rattle.rv_stream.specs.declared.reported_row.ReportedRow.{ReportedRow}
 use Rattle.rv_stream.specs.ReportedRows.{rows_of_reported, AreRowsUpToFailure}
@@ -23,7 +23,7 @@ returns-then-eq-clause-received g c = λ results received.
           (rows_of_reported results) row received.1 (λ none. c.requires.goes (inl none)) (false_from_ne_true _ (λ yes. c.requires.goes (inr yes)))
           (c.failures_left_after_row-self.ensures
           ∙ ap (λ (b : Bool). if b then option_map (λ (n : ℕ). n - 1) s.left else s.left)
-          (c.fails-failed.ensures ∙ ap (λ (j : Judging). fails j row) received.0))
+          (c.fails-failed.ensures ∙ ap (λ (j : JudgeView). fails j row) received.0))
           c.keep_row-self.ensures),
     )
 
@@ -40,6 +40,6 @@ returns-clause-received g c = λ results received.
           (rows_of_reported results) row received.1 (λ none. c.requires.goes (inl none)) (false_from_ne_true _ (λ yes. c.requires.goes (inr yes)))
           (c.failures_left_after_row-self.ensures
           ∙ ap (λ (b : Bool). if b then option_map (λ (n : ℕ). n - 1) s.left else s.left)
-          (c.fails-failed.ensures ∙ ap (λ (j : Judging). fails j row) received.0))
+          (c.fails-failed.ensures ∙ ap (λ (j : JudgeView). fails j row) received.0))
           c.keep_row-self.ensures),
     )

@@ -3,7 +3,7 @@ use Rattle.rv_lists.specs.Jobs.{single_job}
 use Rattle.std.proofs.Common.{[]}
 use Rattle.rv_jobs.specs.Plans.{paths_of}
 use Rattle.rv_jobs.proofs.Noting.{noted_old, noted_more}
-use Rattle.rv_jobs.proofs.answers.Answers.read_paths_at_index.Goals as goal
+use Rattle.rv_jobs.proofs.answers.PathResults.read_paths_at_index.Goals as goal
 
 pub returns-then-is_some-clause-paths : goal.returns-then-is_some-clause-paths
 returns-then-is_some-clause-paths g c =

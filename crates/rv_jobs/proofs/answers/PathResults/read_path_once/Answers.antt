@@ -4,14 +4,14 @@ use Rattle.std.proofs.lemmas.Map.Text.{hash_map_updates_str}
 use Rattle.std.specs.HashMap.{get_by}
 use Rattle.std.specs.Str.{bytes_eq}
 use denote.Ref.{Bor}
-use Rattle.rv_jobs.specs.declared.answers.Answer.{Answer}
+use Rattle.rv_jobs.specs.declared.answers.PathResult.{PathResult}
 use Rattle.rv_lists.specs.Names.{index_in}
 use Rattle.rv_jobs.specs.Plans.{paths_of, with_path, results_with}
 use Rattle.rv_jobs.specs.AnswersInside.{paths_in}
 use Rattle.rv_lists.proofs.Public.{places_more, places_back}
 use Rattle.rv_jobs.proofs.Answering.{with_path-old, not_placed, paths-with, still_even, asked_paths, asked_place}
 use Rattle.rv_jobs.proofs.Answering.{asked_kept, asked_faults}
-use Rattle.rv_jobs.proofs.answers.Answers.read_path_once.Goals as goal
+use Rattle.rv_jobs.proofs.answers.PathResults.read_path_once.Goals as goal
 
 pub invariant_of-asked : goal.invariant_of-asked
 invariant_of-asked g c =
@@ -38,7 +38,7 @@ pub returns-in-Some-clause-paths : goal.returns-in-Some-clause-paths
 returns-in-Some-clause-paths g c =
     let xs = paths_of (results_with (paths_in c.self.inside) c.self.inside.answers.items) in
     with_path-old xs c.args.path.now (ap is_some (returns-in-Some-clause-place g c))
-    ∙ ap (λ (a : List Answer). with_path (paths_of a) c.args.path.now) c.self.view_is
+    ∙ ap (λ (a : List PathResult). with_path (paths_of a) c.args.path.now) c.self.view_is
 
 pub invariant_of-asked-2 : goal.invariant_of-asked-2
 invariant_of-asked-2 g c =

@@ -3,7 +3,7 @@ use Rattle.rv_jobs.specs.AnswersInside.{paths_in}
 use Rattle.rv_lists.specs.Names.{index_in}
 use Rattle.rv_jobs.specs.Plans.{paths_of}
 use Rattle.rv_jobs.proofs.Answering.{paths-with}
-use Rattle.rv_jobs.proofs.answers.Answers.index_of_path.Goals as goal
+use Rattle.rv_jobs.proofs.answers.PathResults.index_of_path.Goals as goal
 
 pub returns : goal.returns
 returns c =
