@@ -2,7 +2,7 @@
 use Rattle.std.proofs.Common.{◌≡◌, ◌∙◌, ◌+◌, ◌-◌, ◌<◌, ◌≤◌, ℕ, zero, suc, Bool, true, false, cond, List, [], ◌∷◌, ◌++◌, length, take, drop, get_or, refl, sym, ap, subst, arith, length-append, drop-drop}
 use Rattle.std.specs.Prelude.{nat_lt, reverse}
 use Rattle.std.proofs.lemmas.List.{drop_more, get_or-drop, get_or-reverse, length-drop, length-reverse, take-append-drop}
-use Rattle.rv_call_tree.specs.declared.spot.Spot.{Spot}
+use Rattle.rv_call_tree.specs.declared.spot.CallNode.{CallNode}
 use Rattle.rv_call_tree.specs.declared.subtree.Subtree.{Subtree}
 use Rattle.rv_call_tree.specs.Subtrees.{below, subtree, subtrees_from}
 use Rattle.rv_call_tree.specs.Trees.{all_steps, steps_of}
@@ -11,46 +11,46 @@ use Rattle.rv_call_tree.proofs.Tests.{less_by, less_test}
 
 -- ---- what is below
 
-deeper : (depth : ℕ) (s : Spot) (ss : List Spot) → depth < s.depth → below depth (s ∷ ss) ≡ s ∷ below depth ss
+deeper : (depth : ℕ) (s : CallNode) (ss : List CallNode) → depth < s.depth → below depth (s ∷ ss) ≡ s ∷ below depth ss
 deeper depth s ss deep = ap (λ (b : Bool). cond b (s ∷ below depth ss) []) (less_test depth s.depth deep)
 
 -- all below a deeper spot is below, and then what is behind it
-parts_with : (d e : ℕ) (s : Spot) (ss : List Spot) → d ≤ e → below d ss ≡ below e ss ++ below d (drop (length (below e ss)) ss)
+parts_with : (d e : ℕ) (s : CallNode) (ss : List CallNode) → d ≤ e → below d ss ≡ below e ss ++ below d (drop (length (below e ss)) ss)
     → (b : Bool) → nat_lt e s.depth ≡ b
     → below d (s ∷ ss) ≡ cond b (s ∷ below e ss) [] ++ below d (drop (length (cond b (s ∷ below e ss) [])) (s ∷ ss))
 parts_with d e s ss le rest false is = refl
 parts_with d e s ss le rest true is =
-    deeper d s ss (let deep = less_by e s.depth is in omega (arith, le, deep)) ∙ ap (λ (zs : List Spot). s ∷ zs) rest
+    deeper d s ss (let deep = less_by e s.depth is in omega (arith, le, deep)) ∙ ap (λ (zs : List CallNode). s ∷ zs) rest
 
-below_parts : (d e : ℕ) (ss : List Spot) → d ≤ e → below d ss ≡ below e ss ++ below d (drop (length (below e ss)) ss)
+below_parts : (d e : ℕ) (ss : List CallNode) → d ≤ e → below d ss ≡ below e ss ++ below d (drop (length (below e ss)) ss)
 below_parts d e [] le = refl
 below_parts d e (s ∷ ss) le = parts_with d e s ss le (below_parts d e ss le) (nat_lt e s.depth) refl
 
-fewer_with : (d : ℕ) (s : Spot) (ss : List Spot) → length (below d ss) ≤ length ss → (b : Bool)
+fewer_with : (d : ℕ) (s : CallNode) (ss : List CallNode) → length (below d ss) ≤ length ss → (b : Bool)
     → length (cond b (s ∷ below d ss) []) ≤ length (s ∷ ss)
 fewer_with d s ss rest false = omega arith
 fewer_with d s ss rest true = omega (arith, rest)
 
-below_few : (d : ℕ) (ss : List Spot) → length (below d ss) ≤ length ss
+below_few : (d : ℕ) (ss : List CallNode) → length (below d ss) ≤ length ss
 below_few d [] = omega arith
 below_few d (s ∷ ss) = fewer_with d s ss (below_few d ss) (nat_lt d s.depth)
 
-steps_with : (d : ℕ) (s : Spot) (ss : List Spot) → all_steps (below d ss) ≤ all_steps ss → (b : Bool)
+steps_with : (d : ℕ) (s : CallNode) (ss : List CallNode) → all_steps (below d ss) ≤ all_steps ss → (b : Bool)
     → all_steps (cond b (s ∷ below d ss) []) ≤ all_steps (s ∷ ss)
 steps_with d s ss rest false = omega arith
 steps_with d s ss rest true = omega (arith, rest)
 
-below_fits : (d : ℕ) (ss : List Spot) → all_steps (below d ss) ≤ all_steps ss
+below_fits : (d : ℕ) (ss : List CallNode) → all_steps (below d ss) ≤ all_steps ss
 below_fits d [] = omega arith
 below_fits d (s ∷ ss) = steps_with d s ss (below_fits d ss) (nat_lt d s.depth)
 
 -- ---- subtrees by their places
 
-subtrees_long : (place : ℕ) (ss : List Spot) → length (subtrees_from place ss) ≡ length ss
+subtrees_long : (place : ℕ) (ss : List CallNode) → length (subtrees_from place ss) ≡ length ss
 subtrees_long place [] = refl
 subtrees_long place (s ∷ ss) = let rest = subtrees_long (place + 1) ss in omega (arith, rest)
 
-at_place : (from k : ℕ) (ss : List Spot) (d : Subtree) (e : Spot) → k < length ss
+at_place : (from k : ℕ) (ss : List CallNode) (d : Subtree) (e : CallNode) → k < length ss
     → get_or (subtrees_from from ss) k d ≡ subtree (from + k) (get_or ss k e) (drop (k + 1) ss)
 at_place from k [] d e within = absurd (omega arith)
 at_place from zero (s ∷ ss) d e within =
@@ -63,7 +63,7 @@ at_place from (suc k) (s ∷ ss) d e within =
     ∙ ap (λ (n : ℕ). subtree (from + suc k) (get_or ss k e) (drop n (s ∷ ss))) next
 
 -- the subtree of a spot behind a place, where those behind it stand the last first
-pub child_is : (spots : List Spot) (place end : ℕ) (behind : List Subtree) (d : Subtree) (e : Spot) → place < end → end < length spots
+pub child_is : (spots : List CallNode) (place end : ℕ) (behind : List Subtree) (d : Subtree) (e : CallNode) → place < end → end < length spots
     → reverse behind ≡ subtrees_from (place + 1) (drop (place + 1) spots)
     → get_or behind (length spots - 1 - end) d ≡ subtree end (get_or spots end e) (drop (end + 1) spots)
 child_is spots place end behind d e far within is =
@@ -84,7 +84,7 @@ child_is spots place end behind d e far within is =
     ∙ (λ i. subtree (there i) (get_or-drop (place + 1) spots k e i) (drop-drop (k + 1) (place + 1) spots i))
     ∙ (λ i. subtree end (get_or spots (there i) e) (drop (next i) spots))
 
-pub child_within : (spots : List Spot) (place end : ℕ) (behind : List Subtree) → place < end → end < length spots
+pub child_within : (spots : List CallNode) (place end : ℕ) (behind : List Subtree) → place < end → end < length spots
     → reverse behind ≡ subtrees_from (place + 1) (drop (place + 1) spots) → length spots - 1 - end < length behind
 child_within spots place end behind far within is =
     let some = length-drop (place + 1) spots in
@@ -93,20 +93,20 @@ child_within spots place end behind far within is =
     let as_many = subtrees_long (place + 1) (drop (place + 1) spots) in
     omega (arith, far, within, some, all, same, as_many)
 
-pub child_further : (end : ℕ) (s : Spot) (ss : List Spot) (child : Subtree) → child ≡ subtree end s ss → end < child.end
+pub child_further : (end : ℕ) (s : CallNode) (ss : List CallNode) (child : Subtree) → child ≡ subtree end s ss → end < child.end
 child_further end s ss child is = let ends = ap (λ (t : Subtree). t.end) is in omega (arith, ends)
 
 -- ---- from child to child
 
 -- all below the spot of a place that stands in front of another place is counted
-pub record Descended (spots : List Spot) (place : ℕ) (s : Spot) (end inclusive : ℕ) : Type 0 where
+pub record Descended (spots : List CallNode) (place : ℕ) (s : CallNode) (end inclusive : ℕ) : Type 0 where
   pub behind : place < end
   pub within : end ≤ length spots
   pub ends : end + length (below s.depth (drop end spots)) ≡ place + 1 + length (below s.depth (drop (place + 1) spots))
   pub steps : inclusive + all_steps (below s.depth (drop end spots)) ≡ s.steps + all_steps (below s.depth (drop (place + 1) spots))
 
 -- a child, and all behind it
-split : (depth end : ℕ) (spots : List Spot) (e : Spot) → end < length spots → depth < (get_or spots end e).depth
+split : (depth end : ℕ) (spots : List CallNode) (e : CallNode) → end < length spots → depth < (get_or spots end e).depth
     → below depth (drop end spots) ≡ get_or spots end e ∷ (below (get_or spots end e).depth (drop (end + 1) spots)
     ++ below depth (drop (end + 1 + length (below (get_or spots end e).depth (drop (end + 1) spots))) spots))
 split depth end spots e within deep =
@@ -114,10 +114,10 @@ split depth end spots e within deep =
     let rest = drop (end + 1) spots in
     ap (below depth) (drop_more spots end e within)
     ∙ deeper depth t rest deep
-    ∙ ap (λ (zs : List Spot). t ∷ zs) (below_parts depth t.depth rest (omega (arith, deep)))
-    ∙ ap (λ (zs : List Spot). t ∷ (below t.depth rest ++ below depth zs)) (drop-drop (length (below t.depth rest)) (end + 1) spots)
+    ∙ ap (λ (zs : List CallNode). t ∷ zs) (below_parts depth t.depth rest (omega (arith, deep)))
+    ∙ ap (λ (zs : List CallNode). t ∷ (below t.depth rest ++ below depth zs)) (drop-drop (length (below t.depth rest)) (end + 1) spots)
 
-pub one_child : (spots : List Spot) (place : ℕ) (s : Spot) (end inclusive : ℕ) (e : Spot) (child : Subtree)
+pub one_child : (spots : List CallNode) (place : ℕ) (s : CallNode) (end inclusive : ℕ) (e : CallNode) (child : Subtree)
     → Descended spots place s end inclusive → end < length spots → s.depth < (get_or spots end e).depth
     → child ≡ subtree end (get_or spots end e) (drop (end + 1) spots) → Descended spots place s child.end (inclusive + child.inclusive)
 one_child spots place s end inclusive e child h within deep is =
@@ -143,7 +143,7 @@ one_child spots place s end inclusive e child h within deep is =
     subst (λ (c : Subtree). Descended spots place s c.end (inclusive + c.inclusive)) (sym is) next
 
 -- the steps of all below the spot are some of all steps
-pub child_fits : (spots : List Spot) (place : ℕ) (s : Spot) (end inclusive : ℕ) (e : Spot) (child : Subtree)
+pub child_fits : (spots : List CallNode) (place : ℕ) (s : CallNode) (end inclusive : ℕ) (e : CallNode) (child : Subtree)
     → Descended spots place s end inclusive → end < length spots → s.depth < (get_or spots end e).depth
     → child ≡ subtree end (get_or spots end e) (drop (end + 1) spots)
     → inclusive + child.inclusive ≤ s.steps + all_steps (drop (place + 1) spots)
@@ -154,7 +154,7 @@ child_fits spots place s end inclusive e child h within deep is =
 
 -- ---- steps that fit
 
-pub one_of_all : (spots : List Spot) (place : ℕ) (e : Spot) → place < length spots
+pub one_of_all : (spots : List CallNode) (place : ℕ) (e : CallNode) → place < length spots
     → (get_or spots place e).steps + all_steps (drop (place + 1) spots) ≤ all_steps spots
 one_of_all spots place e within =
     let parts = sum_parts steps_of (take place spots) (drop place spots) in

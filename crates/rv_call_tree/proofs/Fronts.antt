@@ -2,16 +2,16 @@
 use Rattle.std.proofs.Common.{◌≡◌, ◌∙◌, ◌+◌, ◌<◌, ◌≤◌, ◌⊎◌, ℕ, List, [], ◌∷◌, ◌++◌, length, take, get_or, sym, ap, arith, inl, inr, length-append}
 use Rattle.std.proofs.lemmas.List.{take-take, take-append-le, length-take-le, get_or_append_left, get_or-take}
 use Rattle.std.proofs.Math.Seq.{get_or-append_seam}
-use Rattle.rv_call_tree.specs.declared.spot.Spot.{Spot}
+use Rattle.rv_call_tree.specs.declared.spot.CallNode.{CallNode}
 use Rattle.rv_call_tree.specs.Trees.{FollowsInPreorder}
 
 -- the first of the rest stands behind the one path as behind the other
-abbrev pub StandsAlike : List ℕ → List ℕ → List Spot → Type 0
+abbrev pub StandsAlike : List ℕ → List ℕ → List CallNode → Type 0
 StandsAlike front other [] = Unit {0}
 StandsAlike front other (s ∷ ss) = (take s.depth front ≡ take s.depth other) × FollowsInPreorder other s
 
 -- behind a spot that is deeper, or as deep and of a lower function, another stands as behind what is in front of that spot
-pub behind_other : (depth function : ℕ) (front : List ℕ) (s : Spot) → depth ≤ length front → FollowsInPreorder front s
+pub behind_other : (depth function : ℕ) (front : List ℕ) (s : CallNode) → depth ≤ length front → FollowsInPreorder front s
     → (s.depth < depth) ⊎ ((s.depth ≡ depth) × (function < s.function))
     → (take s.depth front ≡ take s.depth (take depth front ++ function ∷ [])) × FollowsInPreorder (take depth front ++ function ∷ []) s
 behind_other depth function front s long stands order =

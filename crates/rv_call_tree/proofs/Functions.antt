@@ -3,7 +3,7 @@ use Rattle.std.proofs.Common.{◌≡◌, ◌∙◌, ◌==◌, ◌+◌, ◌<◌, 
 use Rattle.std.proofs.lemmas.Bool.{false≢true, or_cases, or_parts}
 use Rattle.std.proofs.lemmas.List.{take_more}
 use Rattle.std.specs.List.{AllByRecursion}
-use Rattle.rv_call_tree.specs.declared.spot.Spot.{Spot}
+use Rattle.rv_call_tree.specs.declared.spot.CallNode.{CallNode}
 use Rattle.rv_call_tree.specs.Profiles.{has_function, ends_some_path, own_steps_of_all, times, with_function, AreFunctionsOf}
 use Rattle.rv_call_tree.specs.Trees.{all_steps, address_if, steps_if}
 use Rattle.rv_call_tree.proofs.Tests.{equal_by, equal_test, turned}
@@ -22,7 +22,7 @@ more_times false m n =
     let same = ap (λ (k : ℕ). scaled k n) none in
     omega (arith, same)
 
-one_spot_more : (fs : List ℕ) (s : Spot) (ss : List Spot)
+one_spot_more : (fs : List ℕ) (s : CallNode) (ss : List CallNode)
     → own_steps_of_all fs (s ∷ ss) ≡ scaled (times s.function fs) s.steps + own_steps_of_all fs ss
 one_spot_more [] s ss = refl
 one_spot_more (f ∷ fs) s ss =
@@ -35,7 +35,7 @@ none_of_all : (fs : List ℕ) → own_steps_of_all fs [] ≡ 0
 none_of_all [] = refl
 none_of_all (f ∷ fs) = let h = none_of_all fs in omega (arith, h)
 
-summed : (fs : List ℕ) (spots : List Spot) → AllByRecursion (λ (s : Spot). times s.function fs ≡ 1) spots
+summed : (fs : List ℕ) (spots : List CallNode) → AllByRecursion (λ (s : CallNode). times s.function fs ≡ 1) spots
     → own_steps_of_all fs spots ≡ all_steps spots
 summed fs [] h = none_of_all fs
 summed fs (s ∷ ss) h =
@@ -55,17 +55,17 @@ or_first a b h = ap (λ (t : Bool). t || b) h
 same_test : (x : ℕ) → (x == x) ≡ true
 same_test x = equal_test x x refl
 
-each_once : (fs : List ℕ) (all some : List Spot)
+each_once : (fs : List ℕ) (all some : List CallNode)
     → ((f : ℕ) → times f fs ≡ address_if (ends_some_path f all))
     → ((f : ℕ) → ends_some_path f some ≡ true → ends_some_path f all ≡ true)
-    → AllByRecursion (λ (s : Spot). times s.function fs ≡ 1) some
+    → AllByRecursion (λ (s : CallNode). times s.function fs ≡ 1) some
 each_once fs all [] h within = tt
 each_once fs all (s ∷ ss) h within = (
   h s.function ∙ ap address_if (within s.function (or_first (s.function == s.function) (ends_some_path s.function ss) (same_test s.function))),
   each_once fs all ss h (λ f there. within f (or_second (s.function == f) (ends_some_path f ss) there)),
 )
 
-pub own_sums : (spots : List Spot) (functions : List ℕ) → AreFunctionsOf spots functions
+pub own_sums : (spots : List CallNode) (functions : List ℕ) → AreFunctionsOf spots functions
     → own_steps_of_all functions spots ≡ all_steps spots
 own_sums spots functions h = summed functions spots (each_once functions spots spots h.once (λ f there. there))
 
@@ -87,7 +87,7 @@ times_more : (f : ℕ) (xs ys : List ℕ) → times f (xs ++ ys) ≡ times f xs 
 times_more f [] ys = omega arith
 times_more f (x ∷ xs) ys = let h = times_more f xs ys in omega (arith, h)
 
-any_more : (f : ℕ) (xs : List Spot) (s : Spot) → ends_some_path f (xs ++ s ∷ []) ≡ (ends_some_path f xs || (s.function == f))
+any_more : (f : ℕ) (xs : List CallNode) (s : CallNode) → ends_some_path f (xs ++ s ∷ []) ≡ (ends_some_path f xs || (s.function == f))
 any_more f [] s = or_none (s.function == f)
 any_more f (x ∷ xs) s = or_moved (x.function == f) (ends_some_path f xs) (s.function == f) (ends_some_path f (xs ++ s ∷ [])) (any_more f xs s)
 
@@ -139,7 +139,7 @@ new_there f g before false is unseen =
     omega (arith, left, none)
 
 -- one spot more
-with_node : (fs : List ℕ) (xs : List Spot) (s : Spot) (there : Bool) → has_function s.function fs ≡ there
+with_node : (fs : List ℕ) (xs : List CallNode) (s : CallNode) (there : Bool) → has_function s.function fs ≡ there
     → AreFunctionsOf xs fs → AreFunctionsOf (xs ++ s ∷ []) (cond there fs (fs ++ s.function ∷ []))
 with_node fs xs s true is h = record {
   once = λ f.
@@ -160,10 +160,10 @@ with_node fs xs s false is h = record {
       omega (arith, more, so, new);
 }
 
-pub next_functions : (spots : List Spot) (fs : List ℕ) (k : ℕ) (d : Spot) → k < length spots → AreFunctionsOf (take k spots) fs
+pub next_functions : (spots : List CallNode) (fs : List ℕ) (k : ℕ) (d : CallNode) → k < length spots → AreFunctionsOf (take k spots) fs
     → AreFunctionsOf (take (k + 1) spots) (with_function (get_or spots k d).function fs)
 next_functions spots fs k d within h =
-    subst (λ (zs : List Spot). AreFunctionsOf zs (with_function (get_or spots k d).function fs)) (sym (take_more spots k d within))
+    subst (λ (zs : List CallNode). AreFunctionsOf zs (with_function (get_or spots k d).function fs)) (sym (take_more spots k d within))
     (with_node fs (take k spots) (get_or spots k d) (has_function (get_or spots k d).function fs) refl h)
 
 pub no_functions : AreFunctionsOf [] []

@@ -6,7 +6,7 @@ use Rattle.std.proofs.lemmas.Slice.Eq.{bytes_eq-Decides}
 use Rattle.std.specs.Prelude.{nat_lt}
 use Rattle.std.specs.List.{AllByRecursion}
 use Rattle.std.specs.Str.{bytes_eq}
-use Rattle.rv_call_tree.specs.declared.spot.Spot.{Spot}
+use Rattle.rv_call_tree.specs.declared.spot.CallNode.{CallNode}
 use Rattle.rv_call_tree.specs.declared.sum.NextNode.{NextNode}
 use Rattle.rv_call_tree.specs.declared.sum.CallTreeSumError.{CallTreeSumError}
 use Rattle.rv_call_tree.specs.declared.sum.CallTreeSumError.TheVariants.{OutOfMemory, Count}
@@ -17,13 +17,13 @@ use Rattle.rv_call_tree.proofs.Tests.{equal_by, equal_test, less_by, not_less_by
 use Rattle.rv_call_tree.proofs.Parts.{last_parts, counted_parts, some_of_parts, some_parts, stand_of_parts}
 
 -- so much of both is added: the spots in front of a rest are xs and ys
-pub record SoFar (xs ms ys bs sums : List Spot) : Type 0 where
+pub record SoFar (xs ms ys bs sums : List CallNode) : Type 0 where
   pub rest_of_a : FollowInPreorder (last_path [] xs) ms
   pub rest_of_b : FollowInPreorder (last_path [] ys) bs
   pub tree : IsTree sums
   pub some : HasCalls xs → HasCalls ys → HasCalls sums
-  pub counted : (count : Spot → ℕ) (path : List ℕ)
-      → ((s t : Spot) → count (sum_of_nodes s t).spot ≡ count s + count t)
+  pub counted : (count : CallNode → ℕ) (path : List ℕ)
+      → ((s t : CallNode) → count (sum_of_nodes s t).spot ≡ count s + count t)
       → sum_over_path count path [] sums ≡ sum_over_path count path [] xs + sum_over_path count path [] ys
   pub first : StandsAlike (last_path [] xs) (last_path [] sums) ms
   pub second : StandsAlike (last_path [] ys) (last_path [] sums) bs
@@ -35,14 +35,14 @@ last_of f (y ∷ z ∷ zs) x = last_of f (z ∷ zs) x
 
 -- ---- one more
 
-more_counted : (count : Spot → ℕ) (path : List ℕ) (xs : List Spot) (s : Spot) → sum_over_path count path [] (xs ++ s ∷ [])
+more_counted : (count : CallNode → ℕ) (path : List ℕ) (xs : List CallNode) (s : CallNode) → sum_over_path count path [] (xs ++ s ∷ [])
     ≡ sum_over_path count path [] xs + cond (bytes_eq (path_after (last_path [] xs) s) path) (count s) 0
 more_counted count path xs s = let h = counted_parts count path [] xs (s ∷ []) in omega (arith, h)
 
-more_tree : (xs : List Spot) (s : Spot) → IsTree xs → FollowsInPreorder (last_path [] xs) s → IsTree (xs ++ s ∷ [])
+more_tree : (xs : List CallNode) (s : CallNode) → IsTree xs → FollowsInPreorder (last_path [] xs) s → IsTree (xs ++ s ∷ [])
 more_tree xs s h k = stand_of_parts [] xs (s ∷ []) h (k, tt)
 
-order_of : (s t : Spot) → comes_first t s ≡ true → (s.depth < t.depth) ⊎ ((s.depth ≡ t.depth) × (t.function < s.function))
+order_of : (s t : CallNode) → comes_first t s ≡ true → (s.depth < t.depth) ⊎ ((s.depth ≡ t.depth) × (t.function < s.function))
 order_of s t h = elim (or_cases (nat_lt s.depth t.depth) ((t.depth == s.depth) && nat_lt t.function s.function) h) [
   | inl deep ↦ inl (less_by s.depth t.depth deep)
   | inr low ↦ let both = and_parts (t.depth == s.depth) (nat_lt t.function s.function) low in
@@ -50,7 +50,7 @@ order_of s t h = elim (or_cases (nat_lt s.depth t.depth) ((t.depth == s.depth) &
 ]
 
 -- the rest of the tree whose spot it was
-own_rest : (own front : List ℕ) (s : Spot) (ss : List Spot) → take s.depth own ≡ take s.depth front
+own_rest : (own front : List ℕ) (s : CallNode) (ss : List CallNode) → take s.depth own ≡ take s.depth front
     → FollowInPreorder (path_after own s) ss → StandsAlike (path_after own s) (path_after front s) ss
 own_rest own front s [] same h = tt
 own_rest own front s (x ∷ xs) same h = (
@@ -59,24 +59,24 @@ own_rest own front s (x ∷ xs) same h = (
 )
 
 -- a spot goes before the first of a list
-abbrev AheadOf : Spot → List Spot → Type 0
+abbrev AheadOf : CallNode → List CallNode → Type 0
 AheadOf t [] = Unit {0}
 AheadOf t (s ∷ ss) = comes_first t s ≡ true
 
 -- the rest of the other tree
-other_rest : (own front : List ℕ) (t : Spot) (ss : List Spot) → FollowsInPreorder front t → StandsAlike own front ss
+other_rest : (own front : List ℕ) (t : CallNode) (ss : List CallNode) → FollowsInPreorder front t → StandsAlike own front ss
     → AheadOf t ss → StandsAlike own (path_after front t) ss
 other_rest own front t [] stands h ahead = tt
 other_rest own front t (s ∷ ss) stands h ahead =
     let k = behind_other t.depth t.function front s stands.within h.1 (order_of s t ahead) in (h.0 ∙ k.0, k.1)
 
 -- what is counted of a spot behind its own front and behind that of the sum
-same_here : (count : Spot → ℕ) (path own front : List ℕ) (s : Spot) → take s.depth own ≡ take s.depth front
+same_here : (count : CallNode → ℕ) (path own front : List ℕ) (s : CallNode) → take s.depth own ≡ take s.depth front
     → cond (bytes_eq (path_after own s) path) (count s) 0 ≡ cond (bytes_eq (path_after front s) path) (count s) 0
 same_here count path own front s same = ap (λ (p : List ℕ). cond (bytes_eq (p ++ s.function ∷ []) path) (count s) 0) same
 
 -- the first spot of the first tree
-take_first : (xs ss ys bs sums : List Spot) (s : Spot) → SoFar xs (s ∷ ss) ys bs sums → AheadOf s bs
+take_first : (xs ss ys bs sums : List CallNode) (s : CallNode) → SoFar xs (s ∷ ss) ys bs sums → AheadOf s bs
     → SoFar (xs ++ s ∷ []) ss ys bs (sums ++ s ∷ [])
 take_first xs ss ys bs sums s h ahead =
     let own = last_path [] xs in
@@ -102,7 +102,7 @@ take_first xs ss ys bs sums s h ahead =
     }
 
 -- that of the second
-take_second : (xs ms ys ts sums : List Spot) (t : Spot) → SoFar xs ms ys (t ∷ ts) sums → AheadOf t ms
+take_second : (xs ms ys ts sums : List CallNode) (t : CallNode) → SoFar xs ms ys (t ∷ ts) sums → AheadOf t ms
     → SoFar xs ms (ys ++ t ∷ []) ts (sums ++ t ∷ [])
 take_second xs ms ys ts sums t h ahead =
     let own = last_path [] ys in
@@ -132,7 +132,7 @@ and_rest : (a b : Bool) → a ≡ true → (a && b) ≡ false → b ≡ false
 and_rest true b h k = k
 and_rest false b h k = absurd (false≢true h)
 
-same_order : (s t : Spot) → comes_first s t ≡ false → comes_first t s ≡ false → (t.depth ≡ s.depth) × (t.function ≡ s.function)
+same_order : (s t : CallNode) → comes_first s t ≡ false → comes_first t s ≡ false → (t.depth ≡ s.depth) × (t.function ≡ s.function)
 same_order s t one other =
     let p = or_parts (nat_lt t.depth s.depth) ((s.depth == t.depth) && nat_lt s.function t.function) one in
     let q = or_parts (nat_lt s.depth t.depth) ((t.depth == s.depth) && nat_lt t.function s.function) other in
@@ -145,7 +145,7 @@ same_order s t one other =
     let high = not_less_by t.function s.function not_above in
     (deep, omega (arith, low, high))
 
-same_spot : (front : List ℕ) (s t : Spot) → t.depth ≡ s.depth → t.function ≡ s.function
+same_spot : (front : List ℕ) (s t : CallNode) → t.depth ≡ s.depth → t.function ≡ s.function
     → path_after front t ≡ path_after front s
 same_spot front s t deep own =
     ap (λ (n : ℕ). take n front ++ t.function ∷ []) deep ∙ ap (λ (f : ℕ). take s.depth front ++ f ∷ []) own
@@ -155,7 +155,7 @@ sum_if true n m = refl
 sum_if false n m = omega arith
 
 -- both
-take_both : (xs ss ys ts sums : List Spot) (s t : Spot) → SoFar xs (s ∷ ss) ys (t ∷ ts) sums → t.depth ≡ s.depth
+take_both : (xs ss ys ts sums : List CallNode) (s t : CallNode) → SoFar xs (s ∷ ss) ys (t ∷ ts) sums → t.depth ≡ s.depth
     → t.function ≡ s.function → SoFar (xs ++ s ∷ []) ss (ys ++ t ∷ []) ts (sums ++ (sum_of_nodes s t).spot ∷ [])
 take_both xs ss ys ts sums s t h deep function =
     let new = (sum_of_nodes s t).spot in
@@ -195,21 +195,21 @@ take_both xs ss ys ts sums s t h deep function =
 
 -- ---- the next of both
 
-abbrev Goes : List Spot → List Spot → List Spot → List Spot → List Spot → NextNode → Type 0
+abbrev Goes : List CallNode → List CallNode → List CallNode → List CallNode → List CallNode → NextNode → Type 0
 Goes xs ms ys bs sums next = SoFar (xs ++ take next.of_a ms) (drop next.of_a ms) (ys ++ take next.of_b bs) (drop next.of_b bs)
     (sums ++ next.spot ∷ [])
 
-goes_first_alone : (xs ss ys bs sums : List Spot) (s : Spot) → SoFar (xs ++ s ∷ []) ss ys bs (sums ++ s ∷ [])
+goes_first_alone : (xs ss ys bs sums : List CallNode) (s : CallNode) → SoFar (xs ++ s ∷ []) ss ys bs (sums ++ s ∷ [])
     → Goes xs (s ∷ ss) ys bs sums (node_of_first s)
 goes_first_alone xs ss ys bs sums s h =
-    subst (λ (zs : List Spot). SoFar (xs ++ s ∷ []) ss zs bs (sums ++ s ∷ [])) (sym (append-nil ys)) h
+    subst (λ (zs : List CallNode). SoFar (xs ++ s ∷ []) ss zs bs (sums ++ s ∷ [])) (sym (append-nil ys)) h
 
-goes_second_alone : (xs ms ys ts sums : List Spot) (t : Spot) → SoFar xs ms (ys ++ t ∷ []) ts (sums ++ t ∷ [])
+goes_second_alone : (xs ms ys ts sums : List CallNode) (t : CallNode) → SoFar xs ms (ys ++ t ∷ []) ts (sums ++ t ∷ [])
     → Goes xs ms ys (t ∷ ts) sums (node_of_second t)
 goes_second_alone xs ms ys ts sums t h =
-    subst (λ (zs : List Spot). SoFar zs ms (ys ++ t ∷ []) ts (sums ++ t ∷ [])) (sym (append-nil xs)) h
+    subst (λ (zs : List CallNode). SoFar zs ms (ys ++ t ∷ []) ts (sums ++ t ∷ [])) (sym (append-nil xs)) h
 
-goes_both : (xs ss ys ts sums : List Spot) (s t : Spot) → SoFar xs (s ∷ ss) ys (t ∷ ts) sums
+goes_both : (xs ss ys ts sums : List CallNode) (s t : CallNode) → SoFar xs (s ∷ ss) ys (t ∷ ts) sums
     → Goes xs (s ∷ ss) ys (t ∷ ts) sums (next_of_nodes s t)
 goes_both xs ss ys ts sums s t h =
     let P : NextNode → Type 0 = λ next. Goes xs (s ∷ ss) ys (t ∷ ts) sums next in
@@ -227,28 +227,28 @@ goes_both xs ss ys ts sums s t h =
           ]
     ]
 
-goes : (xs ms ys bs sums : List Spot) → 0 < length ms + length bs → SoFar xs ms ys bs sums
+goes : (xs ms ys bs sums : List CallNode) → 0 < length ms + length bs → SoFar xs ms ys bs sums
     → Goes xs ms ys bs sums (next_of ms bs)
 goes xs [] ys [] sums some h = absurd (omega arith)
 goes xs (s ∷ ss) ys [] sums some h = goes_first_alone xs ss ys [] sums s (take_first xs ss ys [] sums s h tt)
 goes xs [] ys (t ∷ ts) sums some h = goes_second_alone xs [] ys ts sums t (take_second xs [] ys ts sums t h tt)
 goes xs (s ∷ ss) ys (t ∷ ts) sums some h = goes_both xs ss ys ts sums s t h
 
-pub each_push : (P : Spot → Type 0) (xs : List Spot) (s : Spot) → AllByRecursion P xs → P s → AllByRecursion P (xs ++ s ∷ [])
+pub each_push : (P : CallNode → Type 0) (xs : List CallNode) (s : CallNode) → AllByRecursion P xs → P s → AllByRecursion P (xs ++ s ∷ [])
 each_push P [] s h p = (p, tt)
 each_push P (x ∷ xs) s h p = (h.0, each_push P xs s h.1 p)
 
 -- ---- by places
 
 -- so much of both is added
-abbrev pub Added : List Spot → List Spot → ℕ → ℕ → List Spot → Type 0
+abbrev pub Added : List CallNode → List CallNode → ℕ → ℕ → List CallNode → Type 0
 Added a b i j sums = SoFar (take i a) (drop i a) (take j b) (drop j b) sums
 
-alike_at_first : (ss : List Spot) → IsTree ss → StandsAlike [] [] ss
+alike_at_first : (ss : List CallNode) → IsTree ss → StandsAlike [] [] ss
 alike_at_first [] h = tt
 alike_at_first (s ∷ ss) h = (refl, h.0)
 
-pub none_added : (a b : List Spot) → IsTree a → IsTree b → Added a b 0 0 []
+pub none_added : (a b : List CallNode) → IsTree a → IsTree b → Added a b 0 0 []
 none_added a b tree_a tree_b = record {
   rest_of_a = tree_a;
   rest_of_b = tree_b;
@@ -259,25 +259,25 @@ none_added a b tree_a tree_b = record {
   second = alike_at_first b tree_b;
 }
 
-pub more_added : (a b sums : List Spot) (i j : ℕ) (next : NextNode) → Added a b i j sums
+pub more_added : (a b sums : List CallNode) (i j : ℕ) (next : NextNode) → Added a b i j sums
     → 0 < length (drop i a) + length (drop j b) → next ≡ next_of (drop i a) (drop j b)
     → Added a b (i + next.of_a) (j + next.of_b) (sums ++ next.spot ∷ [])
 more_added a b sums i j next h some is =
     let g = goes (take i a) (drop i a) (take j b) (drop j b) sums some h in
     let there : Goes (take i a) (drop i a) (take j b) (drop j b) sums next =
     subst (λ (n : NextNode). Goes (take i a) (drop i a) (take j b) (drop j b) sums n) (sym is) g in
-    subst (λ (zs : List Spot). SoFar (take (i + next.of_a) a) (drop (i + next.of_a) a) zs (drop (j + next.of_b) b) (sums ++ next.spot ∷ []))
+    subst (λ (zs : List CallNode). SoFar (take (i + next.of_a) a) (drop (i + next.of_a) a) zs (drop (j + next.of_b) b) (sums ++ next.spot ∷ []))
     (sym (take-add j next.of_b b))
-    (subst (λ (zs : List Spot). SoFar zs (drop (i + next.of_a) a) (take j b ++ take next.of_b (drop j b)) (drop (j + next.of_b) b) (sums ++ next.spot ∷ []))
+    (subst (λ (zs : List CallNode). SoFar zs (drop (i + next.of_a) a) (take j b ++ take next.of_b (drop j b)) (drop (j + next.of_b) b) (sums ++ next.spot ∷ []))
     (sym (take-add i next.of_a a))
-    (subst (λ (zs : List Spot). SoFar (take i a ++ take next.of_a (drop i a)) (drop (i + next.of_a) a) (take j b ++ take next.of_b (drop j b)) zs (sums ++ next.spot ∷ []))
+    (subst (λ (zs : List CallNode). SoFar (take i a ++ take next.of_a (drop i a)) (drop (i + next.of_a) a) (take j b ++ take next.of_b (drop j b)) zs (sums ++ next.spot ∷ []))
     (drop-drop next.of_b j b)
-    (subst (λ (zs : List Spot). SoFar (take i a ++ take next.of_a (drop i a)) zs (take j b ++ take next.of_b (drop j b)) (drop next.of_b (drop j b)) (sums ++ next.spot ∷ []))
+    (subst (λ (zs : List CallNode). SoFar (take i a ++ take next.of_a (drop i a)) zs (take j b ++ take next.of_b (drop j b)) (drop next.of_b (drop j b)) (sums ++ next.spot ∷ []))
     (drop-drop next.of_a i a) there)))
 
-pub all_added : (a b sums : List Spot) (i j : ℕ) → Added a b i j sums → length a ≤ i → length b ≤ j → IsSumOfCallTrees a b sums
+pub all_added : (a b sums : List CallNode) (i j : ℕ) → Added a b i j sums → length a ≤ i → length b ≤ j → IsSumOfCallTrees a b sums
 all_added a b sums i j h over_a over_b =
-    let whole = λ (count : Spot → ℕ) (path : List ℕ) (adds : (s t : Spot) → count (sum_of_nodes s t).spot ≡ count s + count t).
+    let whole = λ (count : CallNode → ℕ) (path : List ℕ) (adds : (s t : CallNode) → count (sum_of_nodes s t).spot ≡ count s + count t).
     h.counted count path adds
     ∙ (λ k. sum_over_path count path [] (take_all i a over_a k) + sum_over_path count path [] (take_all j b over_b k)) in record {
       tree = h.tree;
@@ -292,14 +292,14 @@ all_added a b sums i j h over_a over_b =
 same_bytes : (p : List ℕ) → bytes_eq p p ≡ true
 same_bytes p = (bytes_eq-Decides p p).1 refl
 
-counted_here : (count : Spot → ℕ) (path : List ℕ) (xs ss : List Spot) (s : Spot) → path_after (last_path [] xs) s ≡ path
+counted_here : (count : CallNode → ℕ) (path : List ℕ) (xs ss : List CallNode) (s : CallNode) → path_after (last_path [] xs) s ≡ path
     → count s ≤ sum_over_path count path [] (xs ++ s ∷ ss)
 counted_here count path xs ss s is =
     let parts = counted_parts count path [] xs (s ∷ ss) in
     let here = ap (λ (b : Bool). cond b (count s) 0) (ap (λ (p : List ℕ). bytes_eq p path) is ∙ same_bytes path) in
     omega (arith, parts, here)
 
-too_great_of : (xs ss ys ts sums : List Spot) (s t : Spot) → SoFar xs (s ∷ ss) ys (t ∷ ts) sums → comes_first s t ≡ false
+too_great_of : (xs ss ys ts sums : List CallNode) (s t : CallNode) → SoFar xs (s ∷ ss) ys (t ∷ ts) sums → comes_first s t ≡ false
     → comes_first t s ≡ false → (function : ℕ) → function ≡ s.function → CountsOverflow s t
     → Overflows (Count function) (xs ++ s ∷ ss) (ys ++ t ∷ ts)
 too_great_of xs ss ys ts sums s t h one other function is great =
@@ -308,8 +308,8 @@ too_great_of xs ss ys ts sums s t h one other function is great =
     let at_a : path_after (last_path [] xs) s ≡ path = ap (λ (p : List ℕ). p ++ s.function ∷ []) h.first.0 in
     let at_b : path_after (last_path [] ys) t ≡ path =
     ap (λ (p : List ℕ). p ++ t.function ∷ []) h.second.0 ∙ same_spot (last_path [] sums) s t same.0 same.1 in
-    let a = λ (count : Spot → ℕ). counted_here count path xs ss s at_a in
-    let b = λ (count : Spot → ℕ). counted_here count path ys ts t at_b in (
+    let a = λ (count : CallNode → ℕ). counted_here count path xs ss s at_a in
+    let b = λ (count : CallNode → ℕ). counted_here count path ys ts t at_b in (
       path,
       last_of function (take s.depth (last_path [] sums)) s.function ∙ equal_test s.function function (sym is),
       elim great [
@@ -318,7 +318,7 @@ too_great_of xs ss ys ts sums s t h one other function is great =
       ],
     )
 
-too_great_there : (xs ms ys bs sums : List Spot) (error : CallTreeSumError) → SoFar xs ms ys bs sums
+too_great_there : (xs ms ys bs sums : List CallNode) (error : CallTreeSumError) → SoFar xs ms ys bs sums
     → IsOverflowOfFirstNodes error ms bs → Overflows error (xs ++ ms) (ys ++ bs)
 too_great_there xs ms ys bs sums OutOfMemory h great = tt
 too_great_there xs [] ys bs sums (Count function) h great = absurd great
@@ -326,28 +326,28 @@ too_great_there xs (s ∷ ss) ys [] sums (Count function) h great = absurd great
 too_great_there xs (s ∷ ss) ys (t ∷ ts) sums (Count function) h great =
     too_great_of xs ss ys ts sums s t h great.0 great.1 function great.2 great.3
 
-pub too_great : (a b sums : List Spot) (i j : ℕ) (error : CallTreeSumError) → Added a b i j sums
+pub too_great : (a b sums : List CallNode) (i j : ℕ) (error : CallTreeSumError) → Added a b i j sums
     → IsOverflowOfFirstNodes error (drop i a) (drop j b) → Overflows error a b
 too_great a b sums i j error h great =
-    subst (λ (zs : List Spot). Overflows error a zs) (take-append-drop j b)
-    (subst (λ (zs : List Spot). Overflows error zs (take j b ++ drop j b)) (take-append-drop i a)
+    subst (λ (zs : List CallNode). Overflows error a zs) (take-append-drop j b)
+    (subst (λ (zs : List CallNode). Overflows error zs (take j b ++ drop j b)) (take-append-drop i a)
     (too_great_there (take i a) (drop i a) (take j b) (drop j b) sums error h great))
 
 -- ---- how many of each
 
-one_of_both : (b d : Bool) (s t : Spot) → let next = cond b (node_of_first s) (cond d (node_of_second t) (sum_of_nodes s t)) in
+one_of_both : (b d : Bool) (s t : CallNode) → let next = cond b (node_of_first s) (cond d (node_of_second t) (sum_of_nodes s t)) in
     (next.of_a ≤ 1) × (next.of_b ≤ 1) × (0 < next.of_a + next.of_b)
 one_of_both true d s t = (omega arith, omega arith, omega arith)
 one_of_both false true s t = (omega arith, omega arith, omega arith)
 one_of_both false false s t = (omega arith, omega arith, omega arith)
 
 -- of each list at most what it has, and of one of them one
-pub record FewOf (ms bs : List Spot) (next : NextNode) : Type 0 where
+pub record FewOf (ms bs : List CallNode) (next : NextNode) : Type 0 where
   pub of_a : next.of_a ≤ length ms
   pub of_b : next.of_b ≤ length bs
   pub some : 0 < next.of_a + next.of_b
 
-pub few_of : (ms bs : List Spot) → 0 < length ms + length bs → FewOf ms bs (next_of ms bs)
+pub few_of : (ms bs : List CallNode) → 0 < length ms + length bs → FewOf ms bs (next_of ms bs)
 few_of [] [] some = absurd (omega arith)
 few_of (s ∷ ss) [] some = record { of_a = omega arith; of_b = omega arith; some = omega arith }
 few_of [] (t ∷ ts) some = record { of_a = omega arith; of_b = omega arith; some = omega arith }

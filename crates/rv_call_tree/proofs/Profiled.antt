@@ -5,7 +5,7 @@ use Rattle.std.proofs.lemmas.List.Sums.{sum_by-cons}
 use Rattle.std.proofs.lemmas.Bool.{cases_lt, le-leb, lt-leb, or_parts}
 use Rattle.std.proofs.lemmas.List.{drop_more, take-take, take-append-le, take_at, length-take-le, get_or_append_left, get_or-take}
 use Rattle.std.proofs.Math.Seq.{get_or-append_seam}
-use Rattle.rv_call_tree.specs.declared.spot.Spot.{Spot}
+use Rattle.rv_call_tree.specs.declared.spot.CallNode.{CallNode}
 use Rattle.rv_call_tree.specs.declared.subtree.Subtree.{Subtree}
 use Rattle.rv_call_tree.specs.Profiles.{has_function, inclusive_steps_after}
 use Rattle.rv_call_tree.specs.Subtrees.{below, with_root_function, subtree, subtrees_from, subtrees_of_function}
@@ -56,7 +56,7 @@ tells f path None h = h
 tells f path (Some depth) h = has_there f depth path h.within h.there
 
 -- none among the functions in front, so the last one decides
-last_decides : (f : ℕ) (front : List ℕ) (s : Spot) → FollowsInPreorder front s → has_function f (take s.depth front) ≡ false
+last_decides : (f : ℕ) (front : List ℕ) (s : CallNode) → FollowsInPreorder front s → has_function f (take s.depth front) ≡ false
     → (b : Bool) → (s.function == f) ≡ b → IsOutermost f (path_after front s) (cond b (Some s.depth) None)
 last_decides f front s stands none false is =
     any_parts f (take s.depth front) (s.function ∷ [])
@@ -70,7 +70,7 @@ last_decides f front s stands none true is =
       first = ap (has_function f) (take_at (take s.depth front) (s.function ∷ []) s.depth kept) ∙ none;
     }
 
-kept_there : (f : ℕ) (front : List ℕ) (s : Spot) (depth : ℕ) → FollowsInPreorder front s → FirstAt f front depth
+kept_there : (f : ℕ) (front : List ℕ) (s : CallNode) (depth : ℕ) → FollowsInPreorder front s → FirstAt f front depth
     → depth < s.depth → FirstAt f (path_after front s) depth
 kept_there f front s depth stands h deep =
     let own = s.function ∷ [] in
@@ -84,7 +84,7 @@ kept_there f front s depth stands h deep =
     }
 
 -- given up, it is none of the functions in front
-gone : (f : ℕ) (front : List ℕ) (s : Spot) (depth : ℕ) → FirstAt f front depth → s.depth ≤ depth
+gone : (f : ℕ) (front : List ℕ) (s : CallNode) (depth : ℕ) → FirstAt f front depth → s.depth ≤ depth
     → has_function f (take s.depth front) ≡ false
 gone f front s depth h low =
     ap (has_function f) (sym (take-take s.depth depth front low)) ∙ none_first f s.depth (take depth front) h.first
@@ -97,26 +97,26 @@ inclusive_from end [] = 0
 inclusive_from end (t ∷ ts) = cond (leb end t.place) (t.inclusive + inclusive_from t.end ts) (inclusive_from end ts)
 
 -- what is left of the subtree of a spot that is so deep, where it ends, and the steps there
-abbrev EndsAt : Option ℕ → ℕ → List Spot → ℕ → Type 0
+abbrev EndsAt : Option ℕ → ℕ → List CallNode → ℕ → Type 0
 EndsAt None place ss end = end ≤ place
 EndsAt (Some depth) place ss end = end ≡ place + length (below depth ss)
 
-abbrev steps_left : Option ℕ → List Spot → ℕ
+abbrev steps_left : Option ℕ → List CallNode → ℕ
 steps_left None ss = 0
 steps_left (Some depth) ss = all_steps (below depth ss)
 
 -- the subtrees tell all steps but those that are left
-abbrev Tells : ℕ → ℕ → List ℕ → List Spot → Type 0
+abbrev Tells : ℕ → ℕ → List ℕ → List CallNode → Type 0
 Tells f place front ss = (o : Option ℕ) (end : ℕ) → IsOutermost f front o → EndsAt o place ss end
     → inclusive_steps_after f front ss ≡ steps_left o ss + inclusive_from end (with_root_function f (subtrees_from place ss))
 
-node_of_first : (f place : ℕ) (s : Spot) (ss : List Spot) (b : Bool) → (s.function == f) ≡ b → with_root_function f (subtrees_from place (s ∷ ss))
+node_of_first : (f place : ℕ) (s : CallNode) (ss : List CallNode) (b : Bool) → (s.function == f) ≡ b → with_root_function f (subtrees_from place (s ∷ ss))
     ≡ cond b (subtree place s ss ∷ with_root_function f (subtrees_from (place + 1) ss)) (with_root_function f (subtrees_from (place + 1) ss))
 node_of_first f place s ss b is =
     ap (λ (t : Bool). cond t (subtree place s ss ∷ with_root_function f (subtrees_from (place + 1) ss)) (with_root_function f (subtrees_from (place + 1) ss))) is
 
 -- none of the functions in front counts the spot
-first_outside : (f place end : ℕ) (front : List ℕ) (s : Spot) (ss : List Spot) → FollowsInPreorder front s
+first_outside : (f place end : ℕ) (front : List ℕ) (s : CallNode) (ss : List CallNode) → FollowsInPreorder front s
     → has_function f (take s.depth front) ≡ false → end ≤ place → Tells f (place + 1) (path_after front s) ss
     → (b : Bool) → (s.function == f) ≡ b
     → inclusive_steps_after f front (s ∷ ss) ≡ inclusive_from end (with_root_function f (subtrees_from place (s ∷ ss)))
@@ -137,7 +137,7 @@ first_outside f place end front s ss stands none past rest true is =
     omega (arith, here, more, of, counts)
 
 -- the spot is below one that was counted with it
-first_inside : (f place end depth : ℕ) (front : List ℕ) (s : Spot) (ss : List Spot) → FollowsInPreorder front s → FirstAt f front depth
+first_inside : (f place end depth : ℕ) (front : List ℕ) (s : CallNode) (ss : List CallNode) → FollowsInPreorder front s → FirstAt f front depth
     → depth < s.depth → end ≡ place + length (s ∷ below depth ss) → Tells f (place + 1) (path_after front s) ss
     → (b : Bool) → (s.function == f) ≡ b → inclusive_steps_after f front (s ∷ ss)
     ≡ all_steps (s ∷ below depth ss) + inclusive_from end (with_root_function f (subtrees_from place (s ∷ ss)))
@@ -161,7 +161,7 @@ first_inside f place end depth front s ss stands h deep ends rest b is =
     skipped true = ap (λ (c : Bool). cond c (t.inclusive + inclusive_from t.end ts) (inclusive_from end ts)) begun
     skipped false = refl
 
-told_from : (f place : ℕ) (front : List ℕ) (ss : List Spot) → FollowInPreorder front ss → Tells f place front ss
+told_from : (f place : ℕ) (front : List ℕ) (ss : List CallNode) → FollowInPreorder front ss → Tells f place front ss
 told_from f place front [] stand None end h ends = refl
 told_from f place front [] stand (Some depth) end h ends = refl
 told_from f place front (s ∷ ss) stand None end h ends =
@@ -181,15 +181,15 @@ told_from f place front (s ∷ ss) stand (Some depth) end h ends =
           omega (arith, all)) ends
     ]
 
-pub inclusive_told : (f : ℕ) (spots : List Spot) → IsTree spots
+pub inclusive_told : (f : ℕ) (spots : List CallNode) → IsTree spots
     → inclusive_steps_after f [] spots ≡ inclusive_from 0 (subtrees_of_function f spots)
 inclusive_told f spots tree = let all = told_from f 0 [] spots tree None 0 refl (omega arith) in omega (arith, all)
 
 -- ---- what is counted in the spots of a function themselves
 
-one_more : (f place : ℕ) (count : Spot → ℕ) (field : Subtree → ℕ) (s : Spot) (ss : List Spot) → field (subtree place s ss) ≡ count s
-    → sum_over_nodes (λ (s : Spot). steps_if (s.function == f) (count s)) ss ≡ sum_by field (with_root_function f (subtrees_from (place + 1) ss))
-    → (b : Bool) → (s.function == f) ≡ b → sum_over_nodes (λ (s : Spot). steps_if (s.function == f) (count s)) (s ∷ ss)
+one_more : (f place : ℕ) (count : CallNode → ℕ) (field : Subtree → ℕ) (s : CallNode) (ss : List CallNode) → field (subtree place s ss) ≡ count s
+    → sum_over_nodes (λ (s : CallNode). steps_if (s.function == f) (count s)) ss ≡ sum_by field (with_root_function f (subtrees_from (place + 1) ss))
+    → (b : Bool) → (s.function == f) ≡ b → sum_over_nodes (λ (s : CallNode). steps_if (s.function == f) (count s)) (s ∷ ss)
     ≡ sum_by field (with_root_function f (subtrees_from place (s ∷ ss)))
 one_more f place count field s ss own rest true is =
     let counts = ap (λ (b : Bool). steps_if b (count s)) is in
@@ -201,9 +201,9 @@ one_more f place count field s ss own rest false is =
     let of = ap (sum_by field) (node_of_first f place s ss false is) in
     omega (arith, rest, counts, of)
 
-pub told_of_each : (f place : ℕ) (count : Spot → ℕ) (field : Subtree → ℕ)
-    → ((k : ℕ) (s : Spot) (ss : List Spot) → field (subtree k s ss) ≡ count s) → (ss : List Spot)
-    → sum_over_nodes (λ (s : Spot). steps_if (s.function == f) (count s)) ss ≡ sum_by field (with_root_function f (subtrees_from place ss))
+pub told_of_each : (f place : ℕ) (count : CallNode → ℕ) (field : Subtree → ℕ)
+    → ((k : ℕ) (s : CallNode) (ss : List CallNode) → field (subtree k s ss) ≡ count s) → (ss : List CallNode)
+    → sum_over_nodes (λ (s : CallNode). steps_if (s.function == f) (count s)) ss ≡ sum_by field (with_root_function f (subtrees_from place ss))
 told_of_each f place count field same [] = refl
 told_of_each f place count field same (s ∷ ss) =
     one_more f place count field s ss (same place s ss) (told_of_each f (place + 1) count field same ss) (s.function == f) refl
@@ -235,13 +235,13 @@ if_at_most true n = omega arith
 if_at_most false n = omega arith
 
 -- of the spots of a function
-pub own_fits : (f : ℕ) (count : Spot → ℕ) (spots : List Spot)
-    → sum_over_nodes (λ (s : Spot). steps_if (s.function == f) (count s)) spots ≤ sum_over_nodes count spots
+pub own_fits : (f : ℕ) (count : CallNode → ℕ) (spots : List CallNode)
+    → sum_over_nodes (λ (s : CallNode). steps_if (s.function == f) (count s)) spots ≤ sum_over_nodes count spots
 own_fits f count [] = omega arith
 own_fits f count (s ∷ ss) =
     let here = if_at_most (s.function == f) (count s) in let rest = own_fits f count ss in omega (arith, here, rest)
 
-pub inclusive_fits : (f : ℕ) (front : List ℕ) (spots : List Spot) → inclusive_steps_after f front spots ≤ all_steps spots
+pub inclusive_fits : (f : ℕ) (front : List ℕ) (spots : List CallNode) → inclusive_steps_after f front spots ≤ all_steps spots
 inclusive_fits f front [] = omega arith
 inclusive_fits f front (s ∷ ss) =
     let here = if_at_most (has_function f (path_after front s)) s.steps in

@@ -2,7 +2,7 @@
 use Rattle.std.specs.Prelude.{◌≡◌, ◌==◌, ◌+◌, ℕ, Bool, if◌then◌else◌, List, [], ◌∷◌, ◌++◌}
 use Rattle.std.specs.List.{list_any}
 use Rattle.rv_call_tree.specs.declared.profile.FunctionSteps.{FunctionSteps}
-use Rattle.rv_call_tree.specs.declared.spot.Spot.{Spot}
+use Rattle.rv_call_tree.specs.declared.spot.CallNode.{CallNode}
 use Rattle.rv_call_tree.specs.Trees.{sum_over_nodes, address_if, own_steps_of, path_after, steps_if}
 
 -- whether a path has the function
@@ -10,18 +10,18 @@ abbrev pub has_function : ℕ → List ℕ → Bool
 has_function function path = list_any (λ f. f == function) path
 
 -- the number of calls of a function: the sum of the calls of the nodes whose paths end in it
-abbrev pub arrivals_in : ℕ → List Spot → ℕ
+abbrev pub arrivals_in : ℕ → List CallNode → ℕ
 arrivals_in function spots = sum_over_nodes (λ s. steps_if (s.function == function) s.arrivals) spots
 
 -- the inclusive steps of a function: the sum of the steps of the nodes whose paths have it, each node counted once; `front` is the path of
 -- the node before these nodes
-abbrev pub inclusive_steps_after : ℕ → List ℕ → List Spot → ℕ
+abbrev pub inclusive_steps_after : ℕ → List ℕ → List CallNode → ℕ
 inclusive_steps_after function front [] = 0
 inclusive_steps_after function front (s ∷ ss) = steps_if (has_function function (path_after front s)) s.steps
     + inclusive_steps_after function (path_after front s) ss
 
 -- `found` has the own steps, the inclusive steps and the calls of the function in the call tree
-pub record AreStepsOf (function : ℕ) (spots : List Spot) (found : FunctionSteps) : Type 0 where
+pub record AreStepsOf (function : ℕ) (spots : List CallNode) (found : FunctionSteps) : Type 0 where
   pub own : found.own ≡ own_steps_of function spots
   pub inclusive : found.inclusive ≡ inclusive_steps_after function [] spots
   pub arrivals : found.arrivals ≡ arrivals_in function spots
@@ -34,11 +34,11 @@ times function [] = 0
 times function (f ∷ fs) = address_if (f == function) + times function fs
 
 -- whether the path of at least one node ends in the function
-abbrev pub ends_some_path : ℕ → List Spot → Bool
+abbrev pub ends_some_path : ℕ → List CallNode → Bool
 ends_some_path function spots = list_any (λ s. s.function == function) spots
 
 -- the list has exactly the functions in which the nodes' paths end, each once
-pub record AreFunctionsOf (spots : List Spot) (functions : List ℕ) : Type 0 where
+pub record AreFunctionsOf (spots : List CallNode) (functions : List ℕ) : Type 0 where
   pub once : (function : ℕ) → times function functions ≡ address_if (ends_some_path function spots)
 
 -- the list with the function appended, or unchanged if it already has the function
@@ -46,6 +46,6 @@ abbrev pub with_function : ℕ → List ℕ → List ℕ
 with_function function functions = if has_function function functions then functions else functions ++ function ∷ []
 
 -- the sum of the own steps of these functions
-abbrev pub own_steps_of_all : List ℕ → List Spot → ℕ
+abbrev pub own_steps_of_all : List ℕ → List CallNode → ℕ
 own_steps_of_all [] spots = 0
 own_steps_of_all (f ∷ fs) spots = own_steps_of f spots + own_steps_of_all fs spots

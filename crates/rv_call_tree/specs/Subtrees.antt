@@ -1,17 +1,17 @@
 -- The nodes of a call tree with all their descendants.
 use Rattle.std.specs.Prelude.{◌≡◌, ◌==◌, ◌+◌, ℕ, nat_lt, if◌then◌else◌, List, [], ◌∷◌, length}
 use Rattle.std.specs.List.{filter}
-use Rattle.rv_call_tree.specs.declared.spot.Spot.{Spot}
+use Rattle.rv_call_tree.specs.declared.spot.CallNode.{CallNode}
 use Rattle.rv_call_tree.specs.declared.subtree.Subtree.{Subtree}
 use Rattle.rv_call_tree.specs.Trees.{all_steps}
 
 -- the descendants of a node at this depth, given the nodes after it: all nodes before the first that is not deeper
-abbrev pub below : ℕ → List Spot → List Spot
+abbrev pub below : ℕ → List CallNode → List CallNode
 below depth [] = []
 below depth (s ∷ ss) = if nat_lt depth s.depth then s ∷ below depth ss else []
 
 -- the subtree of the node `s` at the index `place`, given the nodes `behind` after it
-abbrev pub subtree : ℕ → Spot → List Spot → Subtree
+abbrev pub subtree : ℕ → CallNode → List CallNode → Subtree
 subtree place s behind = record {
   function = s.function;
   place = place;
@@ -22,7 +22,7 @@ subtree place s behind = record {
 }
 
 -- the subtrees of these nodes, in order; `place` is the index of the first node
-abbrev pub subtrees_from : ℕ → List Spot → List Subtree
+abbrev pub subtrees_from : ℕ → List CallNode → List Subtree
 subtrees_from place [] = []
 subtrees_from place (s ∷ ss) = subtree place s ss ∷ subtrees_from (place + 1) ss
 
@@ -33,9 +33,9 @@ abbrev pub with_root_function : ℕ → List Subtree → List Subtree
 with_root_function function subtrees = filter (λ s. s.function == function) subtrees
 
 -- the subtrees of a call tree whose root node ends in the function, in node order
-abbrev pub subtrees_of_function : ℕ → List Spot → List Subtree
+abbrev pub subtrees_of_function : ℕ → List CallNode → List Subtree
 subtrees_of_function function spots = with_root_function function (subtrees_from 0 spots)
 
 -- for each function, the list has the subtrees of the call tree whose root node ends in it, in node order
-abbrev pub AreSubtreesByFunction : List Spot → List Subtree → Type 0
+abbrev pub AreSubtreesByFunction : List CallNode → List Subtree → Type 0
 AreSubtreesByFunction spots subtrees = (function : ℕ) → with_root_function function subtrees ≡ subtrees_of_function function spots

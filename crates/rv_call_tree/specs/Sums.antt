@@ -1,20 +1,20 @@
 -- The sum of two call trees: each count of each path is the sum of both counts.
 use Rattle.std.specs.Prelude.{◌≡◌, ◌==◌, ◌+◌, ◌^◌, ◌<◌, ◌≤◌, ◌⊎◌, ℕ, Bool, true, false, ◌&&◌, ◌||◌, nat_lt, if◌then◌else◌, List, [], ◌∷◌}
-use Rattle.rv_call_tree.specs.declared.spot.Spot.{Spot}
+use Rattle.rv_call_tree.specs.declared.spot.CallNode.{CallNode}
 use Rattle.rv_call_tree.specs.declared.sum.NextNode.{NextNode}
 use Rattle.rv_call_tree.specs.declared.sum.CallTreeSumError.{CallTreeSumError}
 use Rattle.rv_call_tree.specs.declared.sum.CallTreeSumError.TheVariants.{OutOfMemory, Count}
 use Rattle.rv_call_tree.specs.Trees.{calls_at, ends_with, steps_at, HasCalls, IsTree}
 
 -- `sum` is a call tree in which the calls and the steps of each path are the sums of its calls and steps in `a` and `b`
-pub record IsSumOfCallTrees (a b sum : List Spot) : Type 0 where
+pub record IsSumOfCallTrees (a b sum : List CallNode) : Type 0 where
   pub tree : IsTree sum
   pub some : HasCalls a → HasCalls b → HasCalls sum
   pub arrivals : (path : List ℕ) → calls_at path sum ≡ calls_at path a + calls_at path b
   pub steps : (path : List ℕ) → steps_at path sum ≡ steps_at path a + steps_at path b
 
 -- each number of the node fits in its field
-pub record FitsFields (s : Spot) : Type 0 where
+pub record FitsFields (s : CallNode) : Type 0 where
   pub depth : s.depth < 2 ^ 64
   pub function : s.function < 2 ^ 32
   pub arrivals : s.arrivals < 2 ^ 64
@@ -22,7 +22,7 @@ pub record FitsFields (s : Spot) : Type 0 where
 
 -- the error of adding `a` and `b` is true: the calls or the steps of some path that ends in the reported function add up to 2^64 or more;
 -- `OutOfMemory` is always true
-abbrev pub Overflows : CallTreeSumError → List Spot → List Spot → Type 0
+abbrev pub Overflows : CallTreeSumError → List CallNode → List CallNode → Type 0
 Overflows OutOfMemory a b = Unit {0}
 Overflows (Count function) a b = (path : List ℕ) × (ends_with function path ≡ true)
     × ((2 ^ 64 ≤ calls_at path a + calls_at path b) ⊎ (2 ^ 64 ≤ steps_at path a + steps_at path b))
@@ -30,19 +30,19 @@ Overflows (Count function) a b = (path : List ℕ) × (ends_with function path �
 -- ---- the sum from the front
 
 -- whether the node `s` comes before `t` in a sum: it is deeper, or equally deep and its function address is lower
-abbrev pub comes_first : Spot → Spot → Bool
+abbrev pub comes_first : CallNode → CallNode → Bool
 comes_first s t = nat_lt t.depth s.depth || ((s.depth == t.depth) && nat_lt s.function t.function)
 
 -- the node `s` as the first node of a sum, which only the first list has
-abbrev pub node_of_first : Spot → NextNode
+abbrev pub node_of_first : CallNode → NextNode
 node_of_first s = record { spot = s; of_a = 1; of_b = 0 }
 
 -- the node `t` as the first node of a sum, which only the second list has
-abbrev pub node_of_second : Spot → NextNode
+abbrev pub node_of_second : CallNode → NextNode
 node_of_second t = record { spot = t; of_a = 0; of_b = 1 }
 
 -- the sum of the counts of two nodes, as the first node of a sum, which both lists have
-abbrev pub sum_of_nodes : Spot → Spot → NextNode
+abbrev pub sum_of_nodes : CallNode → CallNode → NextNode
 sum_of_nodes s t = record {
   spot = record {
     depth = s.depth;
@@ -55,28 +55,28 @@ sum_of_nodes s t = record {
 }
 
 -- the first node of the sum of two lists that begin with the nodes `s` and `t`
-abbrev pub next_of_nodes : Spot → Spot → NextNode
+abbrev pub next_of_nodes : CallNode → CallNode → NextNode
 next_of_nodes s t = if comes_first s t then node_of_first s else if comes_first t s then node_of_second t else sum_of_nodes s t
 
 -- the first node of the sum of two lists, and how many nodes of each list it adds up; a dummy node if both lists are empty
-abbrev pub next_of : List Spot → List Spot → NextNode
+abbrev pub next_of : List CallNode → List CallNode → NextNode
 next_of (s ∷ ss) [] = node_of_first s
 next_of (s ∷ ss) (t ∷ ts) = next_of_nodes s t
 next_of [] (t ∷ ts) = node_of_second t
 next_of [] [] = record { spot = record { depth = 0; function = 0; arrivals = 0; steps = 0 }; of_a = 0; of_b = 0 }
 
 -- the calls or the steps of two nodes add up to 2^64 or more
-abbrev pub CountsOverflow : Spot → Spot → Type 0
+abbrev pub CountsOverflow : CallNode → CallNode → Type 0
 CountsOverflow s t = (2 ^ 64 ≤ s.arrivals + t.arrivals) ⊎ (2 ^ 64 ≤ s.steps + t.steps)
 
 -- the error of adding two nodes is true: it reports the function of `s`, and the calls or the steps add up to 2^64 or more
-abbrev pub IsOverflowOfNodes : CallTreeSumError → Spot → Spot → Type 0
+abbrev pub IsOverflowOfNodes : CallTreeSumError → CallNode → CallNode → Type 0
 IsOverflowOfNodes OutOfMemory s t = ⊥
 IsOverflowOfNodes (Count function) s t = (function ≡ s.function) × CountsOverflow s t
 
 -- the error is true of the first nodes of both lists, which have equal depths and functions: it reports their function, and the calls or
 -- the steps add up to 2^64 or more
-abbrev pub IsOverflowOfFirstNodes : CallTreeSumError → List Spot → List Spot → Type 0
+abbrev pub IsOverflowOfFirstNodes : CallTreeSumError → List CallNode → List CallNode → Type 0
 IsOverflowOfFirstNodes OutOfMemory a b = ⊥
 IsOverflowOfFirstNodes (Count function) (s ∷ ss) (t ∷ ts) = (comes_first s t ≡ false) × (comes_first t s ≡ false)
     × (function ≡ s.function) × CountsOverflow s t

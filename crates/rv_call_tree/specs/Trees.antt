@@ -2,22 +2,22 @@
 use Rattle.std.specs.Prelude.{◌==◌, ◌+◌, ◌<◌, ◌≤◌, ℕ, Bool, false, if◌then◌else◌, List, [], ◌∷◌, ◌++◌, length, take, slice_index_or}
 use Rattle.std.specs.Coded.{×_prop, Unit-prop, le_prop}
 use Rattle.std.specs.Str.{bytes_eq}
-use Rattle.rv_call_tree.specs.declared.spot.Spot.{Spot}
+use Rattle.rv_call_tree.specs.declared.spot.CallNode.{CallNode}
 
 -- ---- the path of a node
 
 -- the path of the node `s`, which follows a node with the path `front`: as many of the first functions of `front` as the depth of `s` says,
 -- and then its own function
-abbrev pub path_after : List ℕ → Spot → List ℕ
+abbrev pub path_after : List ℕ → CallNode → List ℕ
 path_after front s = take s.depth front ++ s.function ∷ []
 
 -- the path of the last of these nodes, or `front`, the path of the node before them, if there are none
-abbrev pub last_path : List ℕ → List Spot → List ℕ
+abbrev pub last_path : List ℕ → List CallNode → List ℕ
 last_path front [] = front
 last_path front (s ∷ ss) = last_path (path_after front s) ss
 
 -- the path of the last of the first `count` nodes, or an empty path if `count` is 0
-abbrev pub path_after_first : ℕ → List Spot → List ℕ
+abbrev pub path_after_first : ℕ → List CallNode → List ℕ
 path_after_first count spots = last_path [] (take count spots)
 
 -- ---- the counts
@@ -27,38 +27,38 @@ abbrev pub address_if : Bool → ℕ
 address_if test = if test then 1 else 0
 
 -- the sum of `count` over the nodes with the path `path`; `front` is the path of the node before these nodes
-abbrev pub sum_over_path : (Spot → ℕ) → List ℕ → List ℕ → List Spot → ℕ
+abbrev pub sum_over_path : (CallNode → ℕ) → List ℕ → List ℕ → List CallNode → ℕ
 sum_over_path count path front [] = 0
 sum_over_path count path front (s ∷ ss) =
     (if bytes_eq (path_after front s) path then count s else 0) + sum_over_path count path (path_after front s) ss
 
 -- the number of calls that led to the node
-abbrev pub calls_of_node : Spot → ℕ
+abbrev pub calls_of_node : CallNode → ℕ
 calls_of_node s = s.arrivals
 
 -- the number of instructions executed in the node
-abbrev pub steps_of : Spot → ℕ
+abbrev pub steps_of : CallNode → ℕ
 steps_of s = s.steps
 
 -- how often a run entered this path
-abbrev pub calls_at : List ℕ → List Spot → ℕ
+abbrev pub calls_at : List ℕ → List CallNode → ℕ
 calls_at path spots = sum_over_path calls_of_node path [] spots
 
 -- how many instructions a run executed in this path
-abbrev pub steps_at : List ℕ → List Spot → ℕ
+abbrev pub steps_at : List ℕ → List CallNode → ℕ
 steps_at path spots = sum_over_path steps_of path [] spots
 
 -- the sum of `count` over all nodes
-abbrev pub sum_over_nodes : (Spot → ℕ) → List Spot → ℕ
+abbrev pub sum_over_nodes : (CallNode → ℕ) → List CallNode → ℕ
 sum_over_nodes count [] = 0
 sum_over_nodes count (s ∷ ss) = count s + sum_over_nodes count ss
 
 -- the sum of the calls of all nodes
-abbrev pub all_calls : List Spot → ℕ
+abbrev pub all_calls : List CallNode → ℕ
 all_calls spots = sum_over_nodes calls_of_node spots
 
 -- the sum of the instructions executed in all nodes
-abbrev pub all_steps : List Spot → ℕ
+abbrev pub all_steps : List CallNode → ℕ
 all_steps spots = sum_over_nodes steps_of spots
 
 -- the steps if the condition is true, else 0
@@ -66,7 +66,7 @@ abbrev pub steps_if : Bool → ℕ → ℕ
 steps_if test steps = if test then steps else 0
 
 -- the own steps of a function: the sum of the steps of the nodes whose paths end in it
-abbrev pub own_steps_of : ℕ → List Spot → ℕ
+abbrev pub own_steps_of : ℕ → List CallNode → ℕ
 own_steps_of function spots = sum_over_nodes (λ s. steps_if (s.function == function) s.steps) spots
 
 -- whether the path ends in the function
@@ -79,33 +79,33 @@ ends_with function (f ∷ g ∷ gs) = ends_with function (g ∷ gs)
 
 -- the node may follow a node with the path `front`: it is at most one deeper; if it is not deeper, its function address is greater than the
 -- address of its preceding sibling, which is the function in `front` at its depth
-pub record FollowsInPreorder (front : List ℕ) (s : Spot) : Type 0 where
+pub record FollowsInPreorder (front : List ℕ) (s : CallNode) : Type 0 where
   pub within : s.depth ≤ length front
   pub rising : s.depth < length front → slice_index_or front s.depth 0 < s.function
 
 -- each node may follow the node before it; `front` is the path of the node before the first
-abbrev pub FollowInPreorder : List ℕ → List Spot → Type 0
+abbrev pub FollowInPreorder : List ℕ → List CallNode → Type 0
 FollowInPreorder front [] = Unit {0}
 FollowInPreorder front (s ∷ ss) = FollowsInPreorder front s × FollowInPreorder (path_after front s) ss
 
 -- the nodes are a call tree in preorder: each path occurs once, siblings are sorted by function address, and each node comes after its
 -- parent
-abbrev pub IsTree : List Spot → Type 0
+abbrev pub IsTree : List CallNode → Type 0
 IsTree spots = FollowInPreorder [] spots
 
 -- any two proofs of `FollowsInPreorder` are equal
-FollowsInPreorder-prop : (front : List ℕ) (s : Spot) → IsProp (FollowsInPreorder front s)
+FollowsInPreorder-prop : (front : List ℕ) (s : CallNode) → IsProp (FollowsInPreorder front s)
 FollowsInPreorder-prop front s h k = λ i. record {
   within = le_prop h.within k.within i;
   rising = λ low. le_prop (h.rising low) (k.rising low) i;
 }
 
 -- any two proofs of `FollowInPreorder` are equal
-pub FollowInPreorder-prop : (front : List ℕ) (spots : List Spot) → IsProp (FollowInPreorder front spots)
+pub FollowInPreorder-prop : (front : List ℕ) (spots : List CallNode) → IsProp (FollowInPreorder front spots)
 FollowInPreorder-prop front [] = Unit-prop
 FollowInPreorder-prop front (s ∷ ss) = ×_prop (FollowsInPreorder-prop front s) (FollowInPreorder-prop (path_after front s) ss)
 
 -- a run entered each of the nodes
-abbrev pub HasCalls : List Spot → Type 0
+abbrev pub HasCalls : List CallNode → Type 0
 HasCalls [] = Unit {0}
 HasCalls (s ∷ ss) = (0 < s.arrivals) × HasCalls ss

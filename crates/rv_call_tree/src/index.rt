@@ -7,14 +7,14 @@ ghost use Rattle.rv_call_tree.specs.Subtrees.{subtrees_of_function, AreSubtreesB
 ghost use Rattle.rv_call_tree.specs.Trees.{all_calls, all_steps, IsTree, FollowInPreorder-prop};
 
 use crate::profile::FunctionSteps;
-use crate::spot::Spot;
+use crate::spot::CallNode;
 use crate::subtree::{Subtree, subtrees_of};
 use std::alloc::{AllocError, Global};
 
 /// The nodes of a call tree with an index by function, so that the counts of a function are found without a pass over all nodes.
 #[derive(Drop)]
 pub struct CallTreeIndex<'s> {
-    pub spots: &'s [Spot],
+    pub spots: &'s [CallNode],
     // The subtrees of each function, in node order.
     subtrees: Vec<Subtree>,
     ghost tree: { IsTree spots.now } by { FollowInPreorder-prop [] spots.now },
@@ -26,7 +26,7 @@ pub struct CallTreeIndex<'s> {
 
 impl<'s> CallTreeIndex<'s> {
     /// Returns an index of a call tree's nodes by function. Takes the time of a sort of the nodes, and 48 bytes of memory for each.
-    pub fn new(alloc: Global, spots: &'s [Spot]) -> Result<CallTreeIndex<'s>, AllocError>
+    pub fn new(alloc: Global, spots: &'s [CallNode]) -> Result<CallTreeIndex<'s>, AllocError>
         requires tree { IsTree spots.now }
         requires steps { all_steps spots.now < 2 ^ 64 }
         requires arrivals { all_calls spots.now < 2 ^ 64 }

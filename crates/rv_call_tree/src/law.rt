@@ -1,19 +1,19 @@
 //! Laws on call trees, with no code to run.
 
 ghost use Rattle.std.specs.Prelude.{◌≡◌, ℕ, List};
-ghost use Rattle.rv_call_tree.specs.declared.spot.Spot.{Spot};
+ghost use Rattle.rv_call_tree.specs.declared.spot.CallNode.{CallNode};
 ghost use Rattle.rv_call_tree.specs.Profiles.{own_steps_of_all, AreFunctionsOf};
 ghost use Rattle.rv_call_tree.specs.Trees.{all_steps, calls_at, steps_at, HasCalls, IsTree};
 
 /// Proves that two call trees are equal if each path has equal counts in both, and a run entered each of their nodes.
 pub fn trees_with_equal_counts_are_equal()
-    ensures { (a b : List Spot) → IsTree a → IsTree b → HasCalls a → HasCalls b
+    ensures { (a b : List CallNode) → IsTree a → IsTree b → HasCalls a → HasCalls b
         → ((path : List ℕ) → calls_at path a ≡ calls_at path b)
         → ((path : List ℕ) → steps_at path a ≡ steps_at path b) → a ≡ b }
 {}
 
 /// Proves that the own steps of the functions of a call tree add up to the steps of all nodes.
 pub fn own_steps_sum_to_all()
-    ensures { (spots : List Spot) (functions : List ℕ) → AreFunctionsOf spots functions
+    ensures { (spots : List CallNode) (functions : List ℕ) → AreFunctionsOf spots functions
         → own_steps_of_all functions spots ≡ all_steps spots }
 {}

@@ -1,6 +1,6 @@
 //! Call trees: paths of functions, each of which called the next, and how much of a run was spent in each.
 //!
-//! The nodes, [`Spot`]s, are in preorder, so that each one stores only how its path differs from the preceding node's. A `Walk` of
+//! The nodes, [`CallNode`]s, are in preorder, so that each one stores only how its path differs from the preceding node's. A `Walk` of
 //! `rv_stacks` builds them as a run enters functions, returns from them, and counts instructions. [`sum_of_call_trees`] adds two trees.
 #![tactic(auto)]
 
@@ -14,7 +14,7 @@ mod sum;
 pub use index::CallTreeIndex;
 pub use law::{own_steps_sum_to_all, trees_with_equal_counts_are_equal};
 pub use profile::{FunctionSteps, functions_of};
-pub use spot::{Spot, CallNodes};
+pub use spot::{CallNode, CallNodes};
 pub use sum::{CallTreeSumError, sum_of_call_trees};
 
 // From the crates below: what this interface names, and what its callers need with it.

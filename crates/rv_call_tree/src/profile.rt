@@ -3,7 +3,7 @@
 ghost use Rattle.std.specs.Prelude.{◌≡◌, IfOk, OnOk};
 ghost use Rattle.rv_call_tree.specs.Profiles.{with_function, AreFunctionsOf};
 
-use crate::spot::Spot;
+use crate::spot::CallNode;
 use std::alloc::{AllocError, Global};
 
 /// How often a run called a function, and how many instructions it executed there.
@@ -19,7 +19,7 @@ pub struct FunctionSteps {
 }
 
 /// Returns the functions in which the nodes' paths end, each once, in order of first occurrence.
-pub fn functions_of(alloc: Global, spots: &[Spot]) -> Result<Vec<u32>, AllocError>
+pub fn functions_of(alloc: Global, spots: &[CallNode]) -> Result<Vec<u32>, AllocError>
     ensures { IfOk result (λ functions. AreFunctionsOf spots.now functions.items) }
 {
     let mut functions = Vec::new(alloc);

@@ -3,12 +3,12 @@
 use rv_base::Sequence;
 
 /// The nodes of a call tree in preorder; contracts see them as a list.
-pub type CallNodes = Sequence<Spot>;
+pub type CallNodes = Sequence<CallNode>;
 
 /// A node of a call tree, which represents a path of functions, each of which called the next one: the first functions of the preceding
 /// node's path, as many as the node is deep, then its own function.
 #[derive(Clone, Copy, Debug, PartialEq, Eq)]
-pub struct Spot {
+pub struct CallNode {
     /// The number of functions before the node's own function in its path.
     pub depth: usize,
     /// The address of the node's own function.

@@ -4,7 +4,7 @@ ghost use Rattle.std.specs.Prelude.{◌≡◌, ◌+◌, ◌^◌, ◌<◌, ◌∷
 ghost use Rattle.rv_call_tree.specs.Subtrees.{subtrees_from};
 ghost use Rattle.rv_call_tree.specs.Trees.{all_steps};
 
-use crate::spot::Spot;
+use crate::spot::CallNode;
 use std::alloc::{AllocError, Global};
 
 /// A node and its descendants, which follow it.
@@ -25,7 +25,7 @@ pub(crate) struct Subtree {
 }
 
 /// Returns the subtree of each node, in node order. Takes time linear in the number of nodes.
-pub(crate) fn subtrees_of(alloc: Global, spots: &[Spot]) -> Result<Vec<Subtree>, AllocError>
+pub(crate) fn subtrees_of(alloc: Global, spots: &[CallNode]) -> Result<Vec<Subtree>, AllocError>
     requires { all_steps spots.now < 2 ^ 64 }
     ensures { IfOk result (λ subtrees. subtrees.items ≡ subtrees_from 0 spots.now) }
 {
@@ -40,7 +40,7 @@ pub(crate) fn subtrees_of(alloc: Global, spots: &[Spot]) -> Result<Vec<Subtree>,
 
 // Returns the subtree of the node at an index. `behind` has the subtrees of the nodes after it, last first. The search goes from child to
 // child, so that each subtree is read for one node only.
-fn subtree_at(spots: &[Spot], place: usize, behind: &[Subtree]) -> Subtree
+fn subtree_at(spots: &[CallNode], place: usize, behind: &[Subtree]) -> Subtree
     requires within { place < length spots.now }
     requires steps { all_steps spots.now < 2 ^ 64 }
     requires behind { reverse behind.now ≡ subtrees_from (place + 1) (drop (place + 1) spots.now) }

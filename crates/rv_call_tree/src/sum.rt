@@ -6,7 +6,7 @@ ghost use Rattle.rv_call_tree.specs.Sums.{sum_of_nodes, comes_first, next_of, no
 ghost use Rattle.rv_call_tree.specs.Trees.{IsTree};
 ghost use Rattle.rv_call_tree.specs.declared.sum.CallTreeSumError.TheVariants.{OutOfMemory};
 
-use crate::spot::{Spot, CallNodes};
+use crate::spot::{CallNode, CallNodes};
 use std::alloc::{AllocError, Global};
 
 /// Why two call trees could not be added.
@@ -29,7 +29,7 @@ impl From<AllocError> for CallTreeSumError {
 
 /// Returns the sum of two call trees, in which the counts of each path are added, or an error if a count would not fit in 64 bits.
 /// Allocates only the sum.
-pub fn sum_of_call_trees(alloc: Global, a: &[Spot], b: &[Spot]) -> Result<CallNodes, CallTreeSumError>
+pub fn sum_of_call_trees(alloc: Global, a: &[CallNode], b: &[CallNode]) -> Result<CallNodes, CallTreeSumError>
     requires a { IsTree a.now }
     requires b { IsTree b.now }
     ensures value { IfOk result (λ sum. IsSumOfCallTrees a.now b.now sum) }
@@ -51,13 +51,13 @@ pub fn sum_of_call_trees(alloc: Global, a: &[Spot], b: &[Spot]) -> Result<CallNo
 /// The first node of a sum, and how many nodes of each tree it adds up.
 #[derive(Clone, Copy)]
 pub(crate) struct NextNode {
-    pub(crate) spot: Spot,
+    pub(crate) spot: CallNode,
     pub(crate) of_a: usize,
     pub(crate) of_b: usize,
 }
 
 // Appends a node.
-fn push_node(spots: &mut Vec<Spot>, spot: Spot) -> Result<(), AllocError>
+fn push_node(spots: &mut Vec<CallNode>, spot: CallNode) -> Result<(), AllocError>
     ensures { OnOk result (spots.new.items ≡ spots.old.items ++ spot ∷ []) }
 {
     spots.push(spot)?;
@@ -66,7 +66,7 @@ fn push_node(spots: &mut Vec<Spot>, spot: Spot) -> Result<(), AllocError>
 
 // Returns the first node of the sum of two lists of nodes: the deeper of their first nodes, or, if they are equally deep, the one with the
 // lower function address. If these are equal, too, it is the sum of both.
-fn next_node(a: &[Spot], b: &[Spot]) -> Result<NextNode, CallTreeSumError>
+fn next_node(a: &[CallNode], b: &[CallNode]) -> Result<NextNode, CallTreeSumError>
     requires { 0 < length a.now + length b.now }
     ensures value { IfOk result (λ next. next ≡ next_of a.now b.now) }
     ensures fits { IfOk result (λ next. FitsFields next.spot) }
@@ -89,14 +89,14 @@ fn next_node(a: &[Spot], b: &[Spot]) -> Result<NextNode, CallTreeSumError>
 }
 
 // Whether `spot` comes before `other` in a sum: it is deeper, or equally deep and its function address is lower.
-fn comes_first(spot: Spot, other: Spot) -> bool
+fn comes_first(spot: CallNode, other: CallNode) -> bool
     ensures { result ≡ comes_first spot other }
 {
     other.depth < spot.depth || (spot.depth == other.depth && spot.function < other.function)
 }
 
 // Returns a node as the first node of a sum, which only the first list has.
-fn node_of_first(spot: Spot) -> NextNode
+fn node_of_first(spot: CallNode) -> NextNode
     ensures value { result ≡ node_of_first spot }
     ensures fits { FitsFields result.spot }
 {
@@ -108,7 +108,7 @@ fn node_of_first(spot: Spot) -> NextNode
 }
 
 // Returns a node as the first node of a sum, which only the second list has.
-fn node_of_second(spot: Spot) -> NextNode
+fn node_of_second(spot: CallNode) -> NextNode
     ensures value { result ≡ node_of_second spot }
     ensures fits { FitsFields result.spot }
 {
@@ -120,7 +120,7 @@ fn node_of_second(spot: Spot) -> NextNode
 }
 
 // Returns the sum of two nodes with equal depths and functions as the first node of a sum, or an error if a count would not fit in 64 bits.
-fn sum_of_nodes(spot: Spot, other: Spot) -> Result<NextNode, CallTreeSumError>
+fn sum_of_nodes(spot: CallNode, other: CallNode) -> Result<NextNode, CallTreeSumError>
     ensures value { IfOk result (λ next. next ≡ sum_of_nodes spot other) }
     ensures fits { IfOk result (λ next. FitsFields next.spot) }
     ensures refused { IfErr result (λ error. IsOverflowOfNodes error spot other) }
@@ -130,7 +130,7 @@ fn sum_of_nodes(spot: Spot, other: Spot) -> Result<NextNode, CallTreeSumError>
         spot.steps.checked_add(other.steps),
     ) {
         (Some(arrivals), Some(steps)) => Ok(NextNode {
-            spot: Spot {
+            spot: CallNode {
                 depth: spot.depth,
                 function: spot.function,
                 arrivals,

@@ -2,12 +2,12 @@
 use Rattle.std.proofs.Common.{◌≡◌, ◌⊎◌, ℕ, List, ap, inl, inr, subst, sym}
 use Rattle.rv_rows.specs.LeastLine.{IsFirstInvalidLine}
 use Rattle.rv_rows.specs.declared_read.ReadError.{ReadError}
-use Rattle.rv_rows.specs.declared_read.ReadError.TheVariants.{CutOff, Line, OutOfMemory}
+use Rattle.rv_rows.specs.declared_read.ReadError.TheVariants.{Truncated, Line, OutOfMemory}
 
 line_of : ReadError → ℕ
 line_of (Line line) = line
 line_of OutOfMemory = 0
-line_of CutOff = 0
+line_of Truncated = 0
 
 pub told_line : (line : ℕ) (bytes : List ℕ)
     → (Line line ≡ OutOfMemory) ⊎ ((told : ℕ) × (Line line ≡ Line told) × IsFirstInvalidLine told bytes)

@@ -67,7 +67,7 @@ fn parse_partial_report(alloc: Global, path: &str, text: &[u8]) -> Result<Partia
         Ok(read) => Ok(read),
         Err(ReadError::Line(line)) => Err(report_line_stop(alloc, path, text, line)),
         // A truncated report is accepted.
-        Err(ReadError::OutOfMemory | ReadError::CutOff) => Err(Stop::OutOfMemory),
+        Err(ReadError::OutOfMemory | ReadError::Truncated) => Err(Stop::OutOfMemory),
     }
 }
 

@@ -36,7 +36,7 @@ pub fn parse_report(alloc: Global, path: &str, text: &[u8]) -> Result<SavedRepor
     match read_report(alloc, text) {
         Ok(report) => Ok(report),
         Err(ReadError::OutOfMemory) => Err(Stop::OutOfMemory),
-        Err(ReadError::CutOff) => {
+        Err(ReadError::Truncated) => {
             let told = path_message(alloc, path, "the report is truncated");
             Err(Stop::rejection(told))
         }

@@ -18,7 +18,7 @@ use Rattle.rv_count_tables.specs.Sum.{sum_error_of, Agree, HasName, HasNameIn, I
 use Rattle.rv_count_tables.specs.SumSteps.{ImagesAddUp, IsNextImage, ImagesHaveNoSum, ImageHasNoSum}
 use Rattle.rv_call_tree.specs.declared.sum.CallTreeSumError.{CallTreeSumError}
 use Rattle.rv_call_tree.specs.declared.sum.CallTreeSumError.TheVariants as spots
-use Rattle.rv_call_tree.specs.declared.spot.Spot.{Spot as ASpot}
+use Rattle.rv_call_tree.specs.declared.spot.CallNode.{CallNode as ACallNode}
 use Rattle.rv_call_tree.specs.Sums.{FitsFields, IsSumOfCallTrees, Overflows}
 use Rattle.rv_call_tree.specs.Trees.{calls_at, steps_at, HasCalls}
 use Rattle.rv_count_tables.proofs.Adding.{parts}
@@ -408,11 +408,11 @@ no_sum_of_spots (spots.Count f) a b h = h
 
 -- ---- spots of a sum
 
-pub all_come_to : (ss : List ASpot) → AllByRecursion IsValidNode ss → HasCalls ss
+pub all_come_to : (ss : List ACallNode) → AllByRecursion IsValidNode ss → HasCalls ss
 all_come_to [] h = tt
 all_come_to (s ∷ ss) h = (h.0.some, all_come_to ss h.1)
 
-come_and_fit : (ss : List ASpot) → HasCalls ss → AllByRecursion FitsFields ss → AllByRecursion IsValidNode ss
+come_and_fit : (ss : List ACallNode) → HasCalls ss → AllByRecursion FitsFields ss → AllByRecursion IsValidNode ss
 come_and_fit [] h k = tt
 come_and_fit (s ∷ ss) h k = (
   record {
@@ -425,11 +425,11 @@ come_and_fit (s ∷ ss) h k = (
   come_and_fit ss h.1 k.1,
 )
 
-pub are_spots : (a b xs ys sum : List ASpot) → AreValidNodes a → AreValidNodes b → xs ≡ a → ys ≡ b → IsSumOfCallTrees xs ys sum
+pub are_spots : (a b xs ys sum : List ACallNode) → AreValidNodes a → AreValidNodes b → xs ≡ a → ys ≡ b → IsSumOfCallTrees xs ys sum
     → AllByRecursion FitsFields sum → AreValidNodes sum
 are_spots a b xs ys sum h k is at sums fits =
-    let some = sums.some (subst (λ (ss : List ASpot). HasCalls ss) (sym is) (all_come_to a h.each))
-    (subst (λ (ss : List ASpot). HasCalls ss) (sym at) (all_come_to b k.each)) in
+    let some = sums.some (subst (λ (ss : List ACallNode). HasCalls ss) (sym is) (all_come_to a h.each))
+    (subst (λ (ss : List ACallNode). HasCalls ss) (sym at) (all_come_to b k.each)) in
     record { each = come_and_fit sum some fits; tree = sums.tree }
 
 -- ---- the loop: what both lists have ahead

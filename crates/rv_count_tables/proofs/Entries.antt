@@ -12,20 +12,20 @@ use Rattle.rv_count_tables.specs.Text.{address_line, image_line, image_text, lin
 use Rattle.rv_count_tables.specs.ReadSteps.{Entry, Address, Node, IsValidEntry, entry_line, entry_of_node, entries_of, NextLines, after_image_line, before_first_image, after_entry, after_entries, can_be_next_address, AgreesWithName, CanComeNext, IsNotAnEntry, IsNotAnAddress, IsNotANode, function_name, lowest_after, with_name, with_names}
 use Rattle.rv_count_tables.proofs.NamesOfSpots.{agree_more, first_is_last, further, named_fits, one_list_of_first_names, AgreeWithAll}
 use Rattle.rv_call_tree.specs.Profiles.{ends_some_path}
-use Rattle.rv_call_tree.specs.declared.spot.Spot.{Spot}
+use Rattle.rv_call_tree.specs.declared.spot.CallNode.{CallNode}
 use Rattle.rv_call_tree.specs.Trees.{last_path, path_after, FollowInPreorder}
 
-abbrev pub all_entries : List AddressCounts → List FunctionName → List Spot → List Entry
+abbrev pub all_entries : List AddressCounts → List FunctionName → List CallNode → List Entry
 all_entries cs ns ss = map Address cs ++ map (entry_of_node ns) ss
 
 -- ---- their text
 
-spots_text : (ns : List FunctionName) (ss : List Spot)
+spots_text : (ns : List FunctionName) (ss : List CallNode)
     → flat_map entry_line (map (entry_of_node ns) ss) ≡ flat_map (line_of_node ns) ss
 spots_text ns [] = refl
 spots_text ns (s ∷ ss) = ap (λ (t : List ℕ). line_of_node ns s ++ t) (spots_text ns ss)
 
-entries_text : (cs : List AddressCounts) (ns : List FunctionName) (ss : List Spot)
+entries_text : (cs : List AddressCounts) (ns : List FunctionName) (ss : List CallNode)
     → flat_map entry_line (all_entries cs ns ss) ≡ flat_map address_line cs ++ flat_map (line_of_node ns) ss
 entries_text [] ns ss = spots_text ns ss
 entries_text (c ∷ cs) ns ss = ap (λ (t : List ℕ). address_line c ++ t) (entries_text cs ns ss)
@@ -49,29 +49,29 @@ named_in [] = []
 named_in (Address c ∷ es) = named_in es
 named_in (Node s ∷ es) = s ∷ named_in es
 
-abbrev spots_in : List NamedCallNode → List Spot
+abbrev spots_in : List NamedCallNode → List CallNode
 spots_in [] = []
 spots_in (n ∷ ns) = n.spot ∷ spots_in ns
 
-addresses_of_spots : (ns : List FunctionName) (ss : List Spot) → addresses_in (map (entry_of_node ns) ss) ≡ []
+addresses_of_spots : (ns : List FunctionName) (ss : List CallNode) → addresses_in (map (entry_of_node ns) ss) ≡ []
 addresses_of_spots ns [] = refl
 addresses_of_spots ns (s ∷ ss) = addresses_of_spots ns ss
 
-addresses_are : (cs : List AddressCounts) (ns : List FunctionName) (ss : List Spot) → addresses_in (all_entries cs ns ss) ≡ cs
+addresses_are : (cs : List AddressCounts) (ns : List FunctionName) (ss : List CallNode) → addresses_in (all_entries cs ns ss) ≡ cs
 addresses_are [] ns ss = addresses_of_spots ns ss
 addresses_are (c ∷ cs) ns ss = ap (λ (t : List AddressCounts). c ∷ t) (addresses_are cs ns ss)
 
-named_of_spots : (ns : List FunctionName) (ss : List Spot) → named_in (map (entry_of_node ns) ss) ≡ map (named ns) ss
+named_of_spots : (ns : List FunctionName) (ss : List CallNode) → named_in (map (entry_of_node ns) ss) ≡ map (named ns) ss
 named_of_spots ns [] = refl
 named_of_spots ns (s ∷ ss) = ap (λ (t : List NamedCallNode). named ns s ∷ t) (named_of_spots ns ss)
 
-named_are : (cs : List AddressCounts) (ns : List FunctionName) (ss : List Spot) → named_in (all_entries cs ns ss) ≡ map (named ns) ss
+named_are : (cs : List AddressCounts) (ns : List FunctionName) (ss : List CallNode) → named_in (all_entries cs ns ss) ≡ map (named ns) ss
 named_are [] ns ss = named_of_spots ns ss
 named_are (c ∷ cs) ns ss = named_are cs ns ss
 
-spots_are : (ns : List FunctionName) (ss : List Spot) → spots_in (map (named ns) ss) ≡ ss
+spots_are : (ns : List FunctionName) (ss : List CallNode) → spots_in (map (named ns) ss) ≡ ss
 spots_are ns [] = refl
-spots_are ns (s ∷ ss) = ap (λ (t : List Spot). s ∷ t) (spots_are ns ss)
+spots_are ns (s ∷ ss) = ap (λ (t : List CallNode). s ∷ t) (spots_are ns ss)
 
 pub record AreSame (i j : ImageCounts) : Type 0 where
   pub addresses : i.addresses ≡ j.addresses
@@ -84,10 +84,10 @@ same_parts i j h k e =
     sym (named_are i.addresses i.functions i.spots) ∙ ap named_in e ∙ named_are j.addresses j.functions j.spots in
     let spots : i.spots ≡ j.spots = sym (spots_are i.functions i.spots) ∙ ap spots_in lines ∙ spots_are j.functions j.spots in
     let again : map (named i.functions) i.spots ≡ map (named j.functions) i.spots =
-    lines ∙ ap (λ (ss : List Spot). map (named j.functions) ss) (sym spots) in record {
+    lines ∙ ap (λ (ss : List CallNode). map (named j.functions) ss) (sym spots) in record {
       addresses = sym (addresses_are i.addresses i.functions i.spots) ∙ ap addresses_in e ∙ addresses_are j.addresses j.functions j.spots;
       functions = one_list_of_first_names i.functions j.functions i.spots h.names k.names h.of_spots
-          (subst (λ (ss : List Spot). AreNamesOf ss j.functions) (sym spots) k.of_spots) again;
+          (subst (λ (ss : List CallNode). AreNamesOf ss j.functions) (sym spots) k.of_spots) again;
       spots = spots;
     }
 
@@ -97,7 +97,7 @@ abbrev pub StandIn : NextLines → List Entry → Type 0
 StandIn p [] = Unit {0}
 StandIn p (e ∷ es) = CanComeNext p e × StandIn (after_entry p e) es
 
-stand_spots : (a : Option ℕ) (ms ns : List FunctionName) (front : List ℕ) (ss : List Spot) → FollowInPreorder front ss
+stand_spots : (a : Option ℕ) (ms ns : List FunctionName) (front : List ℕ) (ss : List CallNode) → FollowInPreorder front ss
     → AgreeWithAll ns ms → StandIn (record { address = a; names = ms; front = Some front }) (map (entry_of_node ns) ss)
 stand_spots a ms ns front [] h k = tt
 stand_spots a ms ns front (s ∷ ss) h k = (
@@ -105,7 +105,7 @@ stand_spots a ms ns front (s ∷ ss) h k = (
   stand_spots None (with_name (function_name (named ns s)) ms) ns (path_after front s) ss h.1 (agree_more ns ms s k),
 )
 
-stand_addresses : (lowest : ℕ) (cs : List AddressCounts) (ns : List FunctionName) (ss : List Spot) → increase_from lowest cs ≡ true
+stand_addresses : (lowest : ℕ) (cs : List AddressCounts) (ns : List FunctionName) (ss : List CallNode) → increase_from lowest cs ≡ true
     → FollowInPreorder [] ss → StandIn (record { address = Some lowest; names = []; front = Some [] }) (all_entries cs ns ss)
 unfolding increase_from
 stand_addresses lowest [] ns ss h m = stand_spots (Some lowest) [] ns [] ss m (λ f. tt)
@@ -116,7 +116,7 @@ stand_addresses lowest (c ∷ cs) ns ss h m =
 pub entries_stand : (i : ImageCounts) → IsValidImage i → StandIn after_image_line (entries_of i)
 entries_stand i h = stand_addresses 0 i.addresses i.functions i.spots h.counts.rising h.spots.tree
 
-fit_spots : (ns : List FunctionName) (ss : List Spot) → AllByRecursion IsValidName ns → AllByRecursion IsValidNode ss
+fit_spots : (ns : List FunctionName) (ss : List CallNode) → AllByRecursion IsValidName ns → AllByRecursion IsValidNode ss
     → ((f : ℕ) → ends_some_path f ss ≡ true → has_name (name_of f ns) ≡ true)
     → AllByRecursion IsValidEntry (map (entry_of_node ns) ss)
 fit_spots ns [] h k have = tt
@@ -125,7 +125,7 @@ fit_spots ns (s ∷ ss) h k have = (
   fit_spots ns ss h k.1 (λ f some. have f (further f s ss some)),
 )
 
-fit_all : (cs : List AddressCounts) (ns : List FunctionName) (ss : List Spot) → AllByRecursion IsCounted cs
+fit_all : (cs : List AddressCounts) (ns : List FunctionName) (ss : List CallNode) → AllByRecursion IsCounted cs
     → AllByRecursion IsValidEntry (map (entry_of_node ns) ss) → AllByRecursion IsValidEntry (all_entries cs ns ss)
 fit_all [] ns ss h k = k
 fit_all (c ∷ cs) ns ss h k = (h.0, fit_all cs ns ss h.1 k)
@@ -144,7 +144,7 @@ none_stays : {X : Type 0} (xs : List X) → if_none xs None ≡ None
 none_stays [] = refl
 none_stays (x ∷ xs) = refl
 
-spots_place : (a : Option ℕ) (ms ns : List FunctionName) (front : List ℕ) (ss : List Spot)
+spots_place : (a : Option ℕ) (ms ns : List FunctionName) (front : List ℕ) (ss : List CallNode)
     → after_entries (record { address = a; names = ms; front = Some front }) (map (entry_of_node ns) ss)
     ≡ record { address = if_none ss a; names = with_names ms (map (named ns) ss); front = Some (last_path front ss) }
 spots_place a ms ns front [] = refl
@@ -157,7 +157,7 @@ spots_place a ms ns front (s ∷ ss) =
       front = Some (last_path (path_after front s) ss);
     })
 
-entries_place : (lowest : ℕ) (cs : List AddressCounts) (ns : List FunctionName) (ss : List Spot)
+entries_place : (lowest : ℕ) (cs : List AddressCounts) (ns : List FunctionName) (ss : List CallNode)
     → after_entries (record { address = Some lowest; names = []; front = Some [] }) (all_entries cs ns ss)
     ≡ record {
       address = if_none ss (Some (lowest_after lowest cs));
@@ -173,14 +173,14 @@ pub nothing_nowhere : (line : List ℕ) → IsNotAnEntry before_first_image line
 nothing_nowhere line (Address c) h may e = false≢true may
 nothing_nowhere line (Node n) h may e = may.0
 
-no_address_here : (cs : List AddressCounts) (first second : List ℕ) → IsNotAnAddress (lowest_after 0 cs) first → (ss : List Spot)
+no_address_here : (cs : List AddressCounts) (first second : List ℕ) → IsNotAnAddress (lowest_after 0 cs) first → (ss : List CallNode)
     → (ss ≡ [] → first ≡ second) → (c : AddressCounts) → IsCounted c
     → can_be_next_address (if_none ss (Some (lowest_after 0 cs))) c.address ≡ true → second ≡ address_line c → ⊥
 no_address_here cs first second no_address [] one c h may e = no_address c h may (one refl ∙ e)
 no_address_here cs first second no_address (s ∷ ss) one c h may e = false≢true may
 
 -- behind both no other of any kind stands, where none of each stood behind its own
-pub empty_entry : (cs : List AddressCounts) (ns : List FunctionName) (ss : List Spot) (first second : List ℕ)
+pub empty_entry : (cs : List AddressCounts) (ns : List FunctionName) (ss : List CallNode) (first second : List ℕ)
     → IsNotAnAddress (lowest_after 0 cs) first → IsNotANode ns (last_path [] ss) second
     → ns ≡ with_names [] (map (named ns) ss) → (ss ≡ [] → first ≡ second)
     → IsNotAnEntry (after_entries after_image_line (all_entries cs ns ss)) second

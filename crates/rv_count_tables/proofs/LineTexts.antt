@@ -14,7 +14,7 @@ use Rattle.rv_count_tables.specs.Lines.{lacks, text_before_byte, text_after_byte
 use Rattle.rv_count_tables.specs.ReadSteps.{Entry, Address, Node, IsValidEntry, entry_line}
 use Rattle.rv_count_tables.specs.Table.{IsCounted, IsValidImage, IsValidNamedNode, IsValidNode}
 use Rattle.rv_count_tables.specs.Text.{line, address_line, image_line, last_line, node_line, fields_of_node}
-use Rattle.rv_call_tree.specs.declared.spot.Spot.{Spot}
+use Rattle.rv_call_tree.specs.declared.spot.CallNode.{CallNode}
 use Rattle.rv_count_tables.proofs.Pieces.{lacks-append, before_at, after_at}
 use Rattle.rv_count_tables.proofs.Words.{lacks-decimal, lacks-digits, lacks-encode, decimal_number_from, number_of-decimal, hex_number, word_of-digits, bytes_of-encode, eight_digits, digit_is_other, is_no_digit}
 use Rattle.rv_count_tables.proofs.Told.{same_entry}
@@ -186,7 +186,7 @@ pub spot_is_line : (n : NamedCallNode) → node_line n ≡ line (spot_words n)
 unfolding node_line
 spot_is_line n = refl
 
-lacks-words : (s : Spot) → IsValidNode s → lacks 10 (fields_of_node s) ≡ true
+lacks-words : (s : CallNode) → IsValidNode s → lacks 10 (fields_of_node s) ≡ true
 unfolding fields_of_node
 lacks-words s h =
     let depth = codes "spot " ++ decimal s.depth in
@@ -269,7 +269,7 @@ name_text n h =
     (lacks-decimal 32 n.spot.steps (omega arith) h.spot.steps))
     ∙ before_at 10 n.name [] h.name
 
-pub same_spot_of : (s t : Spot) → s.depth ≡ t.depth → s.function ≡ t.function → s.arrivals ≡ t.arrivals
+pub same_spot_of : (s t : CallNode) → s.depth ≡ t.depth → s.function ≡ t.function → s.arrivals ≡ t.arrivals
     → s.steps ≡ t.steps → s ≡ t
 same_spot_of s t d f a n = λ i. record { depth = d i; function = f i; arrivals = a i; steps = n i }
 

@@ -13,7 +13,7 @@ use Rattle.rv_count_tables.specs.Text.{line_of_node, name_or_empty, named, node_
 use Rattle.rv_count_tables.specs.ReadSteps.{function_name, inserted, with_name, with_names, AgreesWithName}
 use Rattle.rv_count_tables.proofs.AddingNames.{behind, low, none_below, one_list_of_names, rises}
 use Rattle.rv_call_tree.specs.Profiles.{ends_some_path}
-use Rattle.rv_call_tree.specs.declared.spot.Spot.{Spot}
+use Rattle.rv_call_tree.specs.declared.spot.CallNode.{CallNode}
 
 -- ---- names that a list has
 
@@ -65,7 +65,7 @@ named_is_name [] f h some = absurd (false≢true some)
 named_is_name (n ∷ ns) f h some = picked_fits (n.function == f) n.name (name_of f ns) (h.0.name, h.0.text)
     (λ t. named_is_name ns f h.1 (sym (ap (λ (b : Bool). has_name (cond b (Some n.name) (name_of f ns))) t) ∙ some))
 
-pub named_fits : (ns : List FunctionName) (s : Spot) → AllByRecursion IsValidName ns → IsValidNode s
+pub named_fits : (ns : List FunctionName) (s : CallNode) → AllByRecursion IsValidName ns → IsValidNode s
     → has_name (name_of s.function ns) ≡ true → IsValidNamedNode (named ns s)
 named_fits ns s h k some =
     let p = named_is_name ns s.function h some in
@@ -76,14 +76,14 @@ named_fits ns s h k some =
 same : (k : ℕ) → (k == k) ≡ true
 same k = grind arith
 
-pub first_is_last : (s : Spot) (ss : List Spot) → ends_some_path s.function (s ∷ ss) ≡ true
+pub first_is_last : (s : CallNode) (ss : List CallNode) → ends_some_path s.function (s ∷ ss) ≡ true
 first_is_last s ss = ap (λ (b : Bool). b || ends_some_path s.function ss) (same s.function)
 
 or_true : (b c : Bool) → c ≡ true → (b || c) ≡ true
 or_true true c h = refl
 or_true false c h = h
 
-pub further : (f : ℕ) (s : Spot) (ss : List Spot) → ends_some_path f ss ≡ true → ends_some_path f (s ∷ ss) ≡ true
+pub further : (f : ℕ) (s : CallNode) (ss : List CallNode) → ends_some_path f ss ≡ true → ends_some_path f (s ∷ ss) ≡ true
 further f s ss h = or_true (s.function == f) (ends_some_path f ss) h
 
 either_more : (a b c : Bool) → (a || (b || c)) ≡ ((a || b) || c)
@@ -94,7 +94,7 @@ or_false : (b : Bool) → (b || false) ≡ b
 or_false true = refl
 or_false false = refl
 
-pub last_of_more : (f : ℕ) (ss : List Spot) (s : Spot) → ends_some_path f (ss ++ s ∷ []) ≡ (ends_some_path f ss || (s.function == f))
+pub last_of_more : (f : ℕ) (ss : List CallNode) (s : CallNode) → ends_some_path f (ss ++ s ∷ []) ≡ (ends_some_path f ss || (s.function == f))
 last_of_more f [] s = or_false (s.function == f)
 last_of_more f (t ∷ ts) s = ap (λ (b : Bool). (t.function == f) || b) (last_of_more f ts s)
     ∙ either_more (t.function == f) (ends_some_path f ts) (s.function == f)
@@ -230,7 +230,7 @@ agree_if : (b : Bool) (text name : List ℕ) (o : Option (List ℕ)) → (b ≡ 
 agree_if true text name o h k = h refl
 agree_if false text name o h k = k
 
-pub agree_more : (ns ms : List FunctionName) (s : Spot) → AgreeWithAll ns ms
+pub agree_more : (ns ms : List FunctionName) (s : CallNode) → AgreeWithAll ns ms
     → AgreeWithAll ns (with_name (function_name (named ns s)) ms)
 agree_more ns ms s h f =
     subst (AgreesWithName (name_or_empty (name_of f ns))) (sym (name_with (function_name (named ns s)) ms f (h s.function)))
@@ -247,7 +247,7 @@ abbrev tail_of : List NamedCallNode → List NamedCallNode
 tail_of [] = []
 tail_of (n ∷ ns) = ns
 
-same_said : (ns ms : List FunctionName) (ss : List Spot) (f : ℕ) → map (named ns) ss ≡ map (named ms) ss
+same_said : (ns ms : List FunctionName) (ss : List CallNode) (f : ℕ) → map (named ns) ss ≡ map (named ms) ss
     → ends_some_path f ss ≡ true → name_or_empty (name_of f ns) ≡ name_or_empty (name_of f ms)
 same_said ns ms [] f e some = absurd (false≢true some)
 same_said ns ms (s ∷ ss) f e some = elim (cases_Bool (s.function == f)) [
@@ -257,7 +257,7 @@ same_said ns ms (s ∷ ss) f e some = elim (cases_Bool (s.function == f)) [
   | inr t ↦ same_said ns ms ss f (ap tail_of e) (sym (ap (λ (b : Bool). b || ends_some_path f ss) t) ∙ some)
 ]
 
-same_of_both : (ns ms : List FunctionName) (ss : List Spot) (f : ℕ) → AreNamesOf ss ns → AreNamesOf ss ms
+same_of_both : (ns ms : List FunctionName) (ss : List CallNode) (f : ℕ) → AreNamesOf ss ns → AreNamesOf ss ms
     → map (named ns) ss ≡ map (named ms) ss → name_of f ns ≡ name_of f ms
 same_of_both ns ms ss f h k e = elim (cases_Bool (ends_some_path f ss)) [
   | inl t ↦
@@ -265,18 +265,18 @@ same_of_both ns ms ss f h k e = elim (cases_Bool (ends_some_path f ss)) [
   | inr t ↦ not_named (name_of f ns) (h f ∙ t) ∙ sym (not_named (name_of f ms) (k f ∙ t))
 ]
 
-pub one_list_of_first_names : (ns ms : List FunctionName) (ss : List Spot) → AreValidNames ns → AreValidNames ms → AreNamesOf ss ns
+pub one_list_of_first_names : (ns ms : List FunctionName) (ss : List CallNode) → AreValidNames ns → AreValidNames ms → AreNamesOf ss ns
     → AreNamesOf ss ms → map (named ns) ss ≡ map (named ms) ss → ns ≡ ms
 one_list_of_first_names ns ms ss h k p q e = one_list_of_names ns ms h k
     (λ f. sym (first_is ns 0 f h.rising) ∙ same_of_both ns ms ss f p q e ∙ first_is ms 0 f k.rising)
 
 -- ---- a spot more, by its name
 
-pub text_of_named : (ns : List FunctionName) (ss : List Spot) → flat_map (line_of_node ns) ss ≡ flat_map node_line (map (named ns) ss)
+pub text_of_named : (ns : List FunctionName) (ss : List CallNode) → flat_map (line_of_node ns) ss ≡ flat_map node_line (map (named ns) ss)
 text_of_named ns [] = refl
 text_of_named ns (s ∷ ss) = ap (λ (t : List ℕ). line_of_node ns s ++ t) (text_of_named ns ss)
 
-same_named : (ns ms : List FunctionName) (ss : List Spot) → ((f : ℕ) → ends_some_path f ss ≡ true → name_of f ns ≡ name_of f ms)
+same_named : (ns ms : List FunctionName) (ss : List CallNode) → ((f : ℕ) → ends_some_path f ss ≡ true → name_of f ns ≡ name_of f ms)
     → map (named ns) ss ≡ map (named ms) ss
 same_named ns ms [] h = refl
 same_named ns ms (s ∷ ss) h =
@@ -284,7 +284,7 @@ same_named ns ms (s ∷ ss) h =
     let others = same_named ns ms ss (λ f some. h f (further f s ss some)) in
     λ i. record { spot = s; name = name_or_empty (e i) } ∷ others i
 
-more_named : (ns : List FunctionName) (ss : List Spot) (s : Spot) → map (named ns) (ss ++ s ∷ []) ≡ map (named ns) ss ++ named ns s ∷ []
+more_named : (ns : List FunctionName) (ss : List CallNode) (s : CallNode) → map (named ns) (ss ++ s ∷ []) ≡ map (named ns) ss ++ named ns s ∷ []
 more_named ns [] s = refl
 more_named ns (t ∷ ts) s = ap (λ (x : List NamedCallNode). named ns t ∷ x) (more_named ns ts s)
 
@@ -294,7 +294,7 @@ more_names ns [] x = refl
 more_names ns (y ∷ ys) x = more_names (with_name (function_name y) ns) ys x
 
 -- the names of some spots, which are those that these bring
-pub record AreNamesSoFar (ss : List Spot) (ns : List FunctionName) : Type 0 where
+pub record AreNamesSoFar (ss : List CallNode) (ns : List FunctionName) : Type 0 where
   pub names : AreValidNames ns
   pub of_spots : AreNamesOf ss ns
   pub known : ns ≡ with_names [] (map (named ns) ss)
@@ -306,7 +306,7 @@ no_names_so_far = record {
   known = refl;
 }
 
-module _ (ss : List Spot) (names : List FunctionName) (x : NamedCallNode) (fits : IsValidNamedNode x)
+module _ (ss : List CallNode) (names : List FunctionName) (x : NamedCallNode) (fits : IsValidNamedNode x)
     (agrees : AgreesWithName x.name (name_of x.spot.function names)) where
   says : (f : ℕ) → name_of f (with_name (function_name x) names) ≡ cond (x.spot.function == f) (Some x.name) (name_of f names)
   says f = name_with (function_name x) names f agrees

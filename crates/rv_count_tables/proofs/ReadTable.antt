@@ -9,7 +9,7 @@ use Rattle.rv_count_tables.specs.declared.table.ImageCounts.{ImageCounts}
 use Rattle.rv_count_tables.specs.declared.table.CountTable.{CountTable}
 use Rattle.rv_count_tables.specs.declared.read_lines.ParsedImages.{ParsedImages}
 use Rattle.rv_count_tables.specs.declared.read.ReadError.{ReadError}
-use Rattle.rv_count_tables.specs.declared.read.ReadError.TheVariants.{Line, CutOff}
+use Rattle.rv_count_tables.specs.declared.read.ReadError.TheVariants.{Line, Truncated}
 use Rattle.rv_count_tables.specs.Lines.{lacks, line_feed_count, whole_line}
 use Rattle.rv_count_tables.specs.Table.{IsTable}
 use Rattle.rv_count_tables.specs.Text.{line, first_line, image_text, last_line, table_text}
@@ -93,9 +93,9 @@ other_first a b bytes t is differs w f e =
 
 -- ---- what is told at a place
 
-told_cut : (place : ℕ) (bytes : List ℕ) → lacks 10 (drop place bytes) ≡ true → read_error_at place bytes ≡ CutOff
+told_cut : (place : ℕ) (bytes : List ℕ) → lacks 10 (drop place bytes) ≡ true → read_error_at place bytes ≡ Truncated
 told_cut place bytes h =
-    ap (λ (s : List ℕ). cond (length s == 0) CutOff (Line (line_feed_count (take place bytes) + 1)))
+    ap (λ (s : List ℕ). cond (length s == 0) Truncated (Line (line_feed_count (take place bytes) + 1)))
     (no_line (drop place bytes) h)
 
 not_none : (n : ℕ) → 0 < n → (n == 0) ≡ false
@@ -106,8 +106,8 @@ told_line : (place : ℕ) (bytes front rest : List ℕ) → lacks 10 front ≡ t
 told_line place bytes front rest h e =
     let w : whole_line (drop place bytes) ≡ front ++ 10 ∷ [] = ap whole_line e ∙ line_at front rest h in
     let l = length-append front (10 ∷ []) in
-    ap (λ (s : List ℕ). cond (length s == 0) CutOff (Line (line_feed_count (take place bytes) + 1))) w
-    ∙ ap (λ (t : Bool). cond t CutOff (Line (line_feed_count (take place bytes) + 1)))
+    ap (λ (s : List ℕ). cond (length s == 0) Truncated (Line (line_feed_count (take place bytes) + 1))) w
+    ∙ ap (λ (t : Bool). cond t Truncated (Line (line_feed_count (take place bytes) + 1)))
     (not_none (length (front ++ 10 ∷ [])) (omega (arith, l)))
 
 told_refused : (bytes : List ℕ) (images : List ImageCounts) (place : ℕ) (front rest : List ℕ) → IsBehind bytes images place

@@ -19,7 +19,7 @@ use Rattle.rv_count_tables.specs.Lines.{lacks, whole_line}
 use Rattle.rv_count_tables.specs.Table.{is_before, is_greater_than_last, digests_increase_from, increase_from, IsCounted, IsValidImage}
 use Rattle.rv_count_tables.specs.Text.{line, address_line, image_line, image_text, line_of_node}
 use Rattle.rv_count_tables.specs.ReadSteps.{lowest_after, last_digest, before_first_image, after_image_line, place_in, after_entries, entries_of, NextLines, IsNotAnAddress, IsNotAnEntry, IsNotAnImage, AreParsedAddresses, AreParsedImages, AreParsedNodes, IsParsedImage}
-use Rattle.rv_call_tree.specs.declared.spot.Spot.{Spot}
+use Rattle.rv_call_tree.specs.declared.spot.CallNode.{CallNode}
 use Rattle.rv_count_tables.proofs.Pieces.{cases_line, line_at, no_line}
 use Rattle.rv_count_tables.proofs.AddingImages.{image_low, images_behind, images_rise, no_images_rise}
 use Rattle.rv_count_tables.proofs.Entries.{all_entries, empty_entry, nothing_nowhere}
@@ -168,7 +168,7 @@ all_so_far text lowest read h no_more = record {
 
 -- ---- one image
 
-image_line_is_kept : (i : ImageCounts) (cs : List AddressCounts) (ns : List FunctionName) (ss : List Spot)
+image_line_is_kept : (i : ImageCounts) (cs : List AddressCounts) (ns : List FunctionName) (ss : List CallNode)
     → image_text (record i { addresses = cs; functions = ns; spots = ss })
     ≡ image_line i ++ flat_map address_line cs ++ flat_map (line_of_node ns) ss
 unfolding image_text image_line
@@ -233,7 +233,7 @@ no_part text start lines spots n h =
     (whole_line (drop spots.length (drop (start + lines.length) text)))
     h.addresses.behind h.stacks.behind h.stacks.known
     (λ e. ap whole_line (drop-drop lines.length start text ∙ h.stacks.lines
-    ∙ ap (λ (ss : List Spot). flat_map (line_of_node spots.functions) ss ++ drop spots.length (drop (start + lines.length) text)) e)))
+    ∙ ap (λ (ss : List CallNode). flat_map (line_of_node spots.functions) ss ++ drop spots.length (drop (start + lines.length) text)) e)))
 
 pub one_image : (last : Option (List ℕ)) (text : List ℕ) (image : ImageCounts) (lines : ParsedAddresses)
     (spots : ParsedNodes) (n : ℕ) → whole_line text ≡ image_line image → length image.digest ≡ 32

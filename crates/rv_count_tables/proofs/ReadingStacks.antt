@@ -16,7 +16,7 @@ use Rattle.rv_count_tables.specs.ReadSteps.{function_name, with_name, AgreesWith
 use Rattle.rv_count_tables.proofs.LineTexts.{spot_is_line, spot_words}
 use Rattle.rv_count_tables.proofs.NamesOfSpots.{it_has_its_name, names_so_far, no_names_so_far, others_are_named, text_of_named, AreNamesSoFar}
 use Rattle.rv_count_tables.proofs.ReadingLines.{each_push, further_within, lacks_path, line_is_long, lines_push, plain_line, same_words, whole_split}
-use Rattle.rv_call_tree.specs.declared.spot.Spot.{Spot}
+use Rattle.rv_call_tree.specs.declared.spot.CallNode.{CallNode}
 use Rattle.rv_call_tree.specs.Trees.{last_path, path_after, IsTree, FollowsInPreorder}
 use Rattle.rv_call_tree.proofs.Public.{last_parts, stand_of_parts}
 
@@ -42,7 +42,7 @@ one_line f text xs x n m h is e =
 pub spot_is_long : (n : NamedCallNode) → 0 < length (node_line n)
 spot_is_long n = subst (λ (t : List ℕ). 0 < length t) (sym (spot_is_line n)) (line_is_long (spot_words n))
 
-pub record SpotsSoFar (text : List ℕ) (ss : List Spot) (names : List FunctionName) (front : List ℕ) (n : ℕ) : Type 0 where
+pub record SpotsSoFar (text : List ℕ) (ss : List CallNode) (names : List FunctionName) (front : List ℕ) (n : ℕ) : Type 0 where
   pub lines : AreLines (line_of_node names) text ss n
   pub each : AllByRecursion IsValidNode ss
   pub tree : IsTree ss
@@ -59,7 +59,7 @@ no_spots_so_far text = record {
 }
 
 -- the lines so far are those by the names with one more
-lines_by_more : (text : List ℕ) (ss : List Spot) (names more : List FunctionName) (n : ℕ)
+lines_by_more : (text : List ℕ) (ss : List CallNode) (names more : List FunctionName) (n : ℕ)
     → map (named more) ss ≡ map (named names) ss → AreLines (line_of_node names) text ss n
     → AreLines (line_of_node more) text ss n
 lines_by_more text ss names more n e h = record {
@@ -68,7 +68,7 @@ lines_by_more text ss names more n e h = record {
       (text_of_named names ss ∙ ap (flat_map node_line) (sym e) ∙ sym (text_of_named more ss));
 }
 
-pub one_spot : (text : List ℕ) (ss : List Spot) (names : List FunctionName) (front : List ℕ) (n m : ℕ) (x : NamedCallNode)
+pub one_spot : (text : List ℕ) (ss : List CallNode) (names : List FunctionName) (front : List ℕ) (n m : ℕ) (x : NamedCallNode)
     → SpotsSoFar text ss names front n → IsValidNamedNode x → FollowsInPreorder front x.spot
     → AgreesWithName x.name (name_of x.spot.function names) → whole_line (drop n text) ≡ node_line x
     → m ≡ n + length (whole_line (drop n text))
@@ -117,7 +117,7 @@ pub no_spot_by_name : (names : List FunctionName) (front text : List ℕ) (read 
 no_spot_by_name names front text read same name not n h stands agrees e =
     let s = same n h e in
     not (subst (λ (t : List ℕ). AgreesWithName t (name_of read.spot.function names)) (sym (name n h e))
-    (subst (λ (t : Spot). AgreesWithName n.name (name_of t.function names)) (sym s) agrees))
+    (subst (λ (t : CallNode). AgreesWithName n.name (name_of t.function names)) (sym s) agrees))
 
 pub no_spot_line : (names : List FunctionName) (front text : List ℕ) (read : NamedCallNode)
     → ((n : NamedCallNode) → IsValidNamedNode n → text ≡ node_line n → read.spot ≡ n.spot)
@@ -130,11 +130,11 @@ no_spot_line names front text read same name other n h stands agrees e =
     both_ways _ other ((bytes_decides text (node_line read)).1 (e ∙ ap node_line (sym one)))
 
 -- no other spot stands behind those that were read
-pub all_spots : (text behind front line : List ℕ) (ss : List Spot) (names : List FunctionName) (read : ParsedNodes)
+pub all_spots : (text behind front line : List ℕ) (ss : List CallNode) (names : List FunctionName) (read : ParsedNodes)
     → SpotsSoFar text ss names front read.length → read.spots ≡ ss → read.functions ≡ names → behind ≡ front
     → line ≡ whole_line (drop read.length text) → IsNotANode names behind line → AreParsedNodes text read
 all_spots text behind front line ss names read h same named e w none = spots_read text front read
-    (subst (λ (xs : List Spot). SpotsSoFar text xs read.functions front read.length) (sym same)
+    (subst (λ (xs : List CallNode). SpotsSoFar text xs read.functions front read.length) (sym same)
     (subst (λ (ns : List FunctionName). SpotsSoFar text ss ns front read.length) (sym named) h))
     (subst (λ (ns : List FunctionName). IsNotANode ns front (whole_line (drop read.length text))) (sym named)
     (subst (λ (path : List ℕ). IsNotANode names path (whole_line (drop read.length text))) e

@@ -11,7 +11,7 @@ use Rattle.rv_count_tables.specs.declared.text.FunctionFields.{FunctionFields}
 use Rattle.rv_count_tables.specs.ParsedNodes.{line_by_index, line_by_fields, line_with_digits, fields_of_function, fields_with_digits, IsIndexOf}
 use Rattle.rv_count_tables.specs.Table.{name_of}
 use Rattle.rv_count_tables.specs.Text.{line_of_node, name_or_empty, node_line, fields_of_node}
-use Rattle.rv_call_tree.specs.declared.spot.Spot.{Spot}
+use Rattle.rv_call_tree.specs.declared.spot.CallNode.{CallNode}
 
 -- a name behind others is that of a function without another
 abbrev or_else : Option (List ℕ) → Option (List ℕ) → Option (List ℕ)
@@ -103,19 +103,19 @@ index_more index more ns n x is none put words f =
 -- ---- the line of a spot
 
 -- by the words of a function it is that of its name
-line_by_name : (o : Option (List ℕ)) (s : Spot)
+line_by_name : (o : Option (List ℕ)) (s : CallNode)
     → line_by_fields (option_map (fields_of_function s.function) o) s ≡ node_line (record { spot = s; name = name_or_empty o })
 unfolding line_with_digits fields_with_digits node_line fields_of_node
 line_by_name None s = refl
 line_by_name (Some name) s = refl
 
-line_is : (index : BTreeMap ℕ FunctionFields) (ns : List FunctionName) (s : Spot) → IsIndexOf ns index
+line_is : (index : BTreeMap ℕ FunctionFields) (ns : List FunctionName) (s : CallNode) → IsIndexOf ns index
     → line_by_index index s ≡ line_of_node ns s
 unfolding line_by_index
 line_is index ns s is =
     ap (λ (o : Option FunctionFields). line_by_fields o s) (is s.function) ∙ line_by_name (name_of s.function ns) s
 
-pub lines_are : (index : BTreeMap ℕ FunctionFields) (ns : List FunctionName) (ss : List Spot) → IsIndexOf ns index
+pub lines_are : (index : BTreeMap ℕ FunctionFields) (ns : List FunctionName) (ss : List CallNode) → IsIndexOf ns index
     → flat_map (line_by_index index) ss ≡ flat_map (line_of_node ns) ss
 lines_are index ns [] is = refl
 lines_are index ns (s ∷ ss) is = (λ i. line_is index ns s is i ++ lines_are index ns ss is i)
@@ -128,7 +128,7 @@ next_word text more whole words word e f =
     f ∙ ap (λ (t : List ℕ). t ++ codes " " ++ word) e ∙ ap (λ (t : List ℕ). t ++ word) (append_assoc text words (codes " "))
     ∙ append_assoc text (words ++ codes " ") word
 
-pub words_pushed : (text first second third fourth fifth digits : List ℕ) (s : Spot) → first ≡ text ++ codes "spot"
+pub words_pushed : (text first second third fourth fifth digits : List ℕ) (s : CallNode) → first ≡ text ++ codes "spot"
     → second ≡ first ++ codes " " ++ decimal s.depth → third ≡ second ++ codes " " ++ digits
     → fourth ≡ third ++ codes " " ++ decimal s.arrivals → fifth ≡ fourth ++ codes " " ++ decimal s.steps
     → fifth ≡ text ++ fields_with_digits digits s

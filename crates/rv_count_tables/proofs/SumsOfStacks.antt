@@ -11,7 +11,7 @@ use Rattle.rv_count_tables.specs.Table.{has_name, min_text_of, name_at, AreNames
 use Rattle.rv_count_tables.proofs.AddingImages.{all_come_to}
 use Rattle.rv_count_tables.proofs.NamesOfSpots.{first_is, further}
 use Rattle.rv_call_tree.specs.Profiles.{ends_some_path}
-use Rattle.rv_call_tree.specs.declared.spot.Spot.{Spot}
+use Rattle.rv_call_tree.specs.declared.spot.CallNode.{CallNode}
 use Rattle.rv_call_tree.specs.Sums.{IsSumOfCallTrees}
 use Rattle.rv_call_tree.specs.Trees.{calls_at, calls_of_node, sum_over_path, ends_with, path_after, HasCalls}
 
@@ -36,12 +36,12 @@ further_counts : (b : Bool) (n m : ℕ) → b ≡ false → 0 < cond b n 0 + m �
 further_counts true n m h k = absurd (false≢true (sym h))
 further_counts false n m h k = omega (arith, k)
 
-pub record IsComeTo (f : ℕ) (front : List ℕ) (ss : List Spot) : Type 0 where
+pub record IsComeTo (f : ℕ) (front : List ℕ) (ss : List CallNode) : Type 0 where
   pub path : List ℕ
   pub ends : ends_with f path ≡ true
   pub some : 0 < sum_over_path calls_of_node path front ss
 
-come_to : (f : ℕ) (front : List ℕ) (ss : List Spot) → HasCalls ss → ends_some_path f ss ≡ true → IsComeTo f front ss
+come_to : (f : ℕ) (front : List ℕ) (ss : List CallNode) → HasCalls ss → ends_some_path f ss ≡ true → IsComeTo f front ss
 come_to f front [] h some = absurd (false≢true some)
 come_to f front (s ∷ ss) h some = elim (cases_Bool (s.function == f)) [
   | inl t ↦ record {
@@ -60,7 +60,7 @@ come_to f front (s ∷ ss) h some = elim (cases_Bool (s.function == f)) [
       }
 ]
 
-is_last : (f : ℕ) (path front : List ℕ) (ss : List Spot) → ends_with f path ≡ true
+is_last : (f : ℕ) (path front : List ℕ) (ss : List CallNode) → ends_with f path ≡ true
     → 0 < sum_over_path calls_of_node path front ss → ends_some_path f ss ≡ true
 is_last f path front [] ends some = absurd (omega (arith, some))
 is_last f path front (s ∷ ss) ends some = elim (cases_Bool (bytes_eq (path_after front s) path)) [
@@ -85,7 +85,7 @@ either_of_both s false true h k m = k refl
 either_of_both true false false h k m = sym (m refl refl)
 either_of_both false false false h k m = refl
 
-module _ (a b sum : List Spot) (h : HasCalls a) (k : HasCalls b) (is : IsSumOfCallTrees a b sum) where
+module _ (a b sum : List CallNode) (h : HasCalls a) (k : HasCalls b) (is : IsSumOfCallTrees a b sum) where
   pub functions_of_sum : (f : ℕ) → ends_some_path f sum ≡ (ends_some_path f a || ends_some_path f b)
   functions_of_sum f = either_of_both (ends_some_path f sum) (ends_some_path f a) (ends_some_path f b) node_of_first node_of_second of_sum
     where
@@ -122,7 +122,7 @@ has_either None p = refl
 has_either (Some name) None = refl
 has_either (Some name) (Some other) = refl
 
-pub names_of_sum : (x y : ImageCounts) (functions : List FunctionName) (spots : List Spot) → IsValidImage x → IsValidImage y
+pub names_of_sum : (x y : ImageCounts) (functions : List FunctionName) (spots : List CallNode) → IsValidImage x → IsValidImage y
     → IsSumOfNames x.functions y.functions functions → IsSumOfCallTrees x.spots y.spots spots → AreNamesOf spots functions
 names_of_sum x y functions spots h k names is f =
     ap has_name (first_is functions 0 f names.names.rising ∙ names.each f) ∙ has_either (name_at f x.functions) (name_at f y.functions)

@@ -8,7 +8,7 @@ use Rattle.rv_count_tables.specs.declared.table.FunctionName.{FunctionName}
 use Rattle.rv_count_tables.specs.declared.text.FunctionFields.{FunctionFields}
 use Rattle.rv_count_tables.specs.Table.{name_of}
 use Rattle.rv_count_tables.specs.Text.{line, node_line}
-use Rattle.rv_call_tree.specs.declared.spot.Spot.{Spot}
+use Rattle.rv_call_tree.specs.declared.spot.CallNode.{CallNode}
 
 -- the words that all lines of a function have: the digits of its address, and its name
 abbrev pub fields_of_function : ℕ → List ℕ → FunctionFields
@@ -20,19 +20,19 @@ IsIndexOf names index = (function : ℕ)
     → get nat_cmp index function ≡ option_map (fields_of_function function) (name_of function names)
 
 -- the words of a node's line, where the address of the function is written with these digits
-unfoldable pub fields_with_digits : List ℕ → Spot → List ℕ
+unfoldable pub fields_with_digits : List ℕ → CallNode → List ℕ
 fields_with_digits digits s = codes "spot " ++ decimal s.depth ++ codes " " ++ digits ++ codes " "
     ++ decimal s.arrivals ++ codes " " ++ decimal s.steps
 
 -- the line of a node with this name, where the address of the function is written with these digits
-unfoldable pub line_with_digits : List ℕ → Spot → List ℕ → List ℕ
+unfoldable pub line_with_digits : List ℕ → CallNode → List ℕ → List ℕ
 line_with_digits digits s name = line (fields_with_digits digits s ++ codes " " ++ name)
 
 -- the line of a node with these words of its function, or with an empty name if there are no words
-abbrev pub line_by_fields : Option FunctionFields → Spot → List ℕ
+abbrev pub line_by_fields : Option FunctionFields → CallNode → List ℕ
 line_by_fields None s = node_line (record { spot = s; name = [] })
 line_by_fields (Some words) s = line_with_digits words.digits s words.name
 
 -- the line of a node with the words of its function in the index, or with an empty name if it has none
-unfoldable pub line_by_index : BTreeMap ℕ FunctionFields → Spot → List ℕ
+unfoldable pub line_by_index : BTreeMap ℕ FunctionFields → CallNode → List ℕ
 line_by_index index s = line_by_fields (get nat_cmp index s.function) s

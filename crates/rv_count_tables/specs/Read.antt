@@ -2,7 +2,7 @@
 use Rattle.std.specs.Prelude.{◌≡◌, ◌==◌, ◌+◌, ◌-◌, if◌then◌else◌, ℕ, List, ◌++◌, length, take, drop, Result, Ok, Err}
 use Rattle.rv_count_tables.specs.declared.table.CountTable.{CountTable}
 use Rattle.rv_count_tables.specs.declared.read.ReadError.{ReadError}
-use Rattle.rv_count_tables.specs.declared.read.ReadError.TheVariants.{OutOfMemory, Line, CutOff}
+use Rattle.rv_count_tables.specs.declared.read.ReadError.TheVariants.{OutOfMemory, Line, Truncated}
 use Rattle.rv_count_tables.specs.Lines.{line_feed_count, first_lines, whole_line}
 use Rattle.rv_count_tables.specs.Table.{IsTable}
 use Rattle.rv_count_tables.specs.Text.{table_text}
@@ -16,19 +16,19 @@ pub record IsFirstInvalidLine (line : ℕ) (bytes : List ℕ) : Type 0 where
   pub before : IsTablePrefix (first_lines (line - 1) bytes)
   pub refused : IsTablePrefix (first_lines line bytes) → ⊥
 
--- `Line` has the number of the first line for which no table begins with the bytes up to its end; if the error is `CutOff`, some table
+-- `Line` has the number of the first line for which no table begins with the bytes up to its end; if the error is `Truncated`, some table
 -- begins with all lines that end with a line feed; `OutOfMemory` is always true
 abbrev pub IsFirstError : ReadError → List ℕ → Type 0
 IsFirstError OutOfMemory bytes = Unit {0}
 IsFirstError (Line line) bytes = IsFirstInvalidLine line bytes
-IsFirstError CutOff bytes = IsTablePrefix (first_lines (line_feed_count bytes) bytes)
+IsFirstError Truncated bytes = IsTablePrefix (first_lines (line_feed_count bytes) bytes)
 
 -- the result is `x`, or memory ran out
 abbrev pub IsOkOrOutOfMemory : {X : Type 0} → X → Result X ReadError → Type 0
 IsOkOrOutOfMemory x (Ok y) = y ≡ x
 IsOkOrOutOfMemory x (Err e) = e ≡ OutOfMemory
 
--- the error for the line that begins at the index `place`: `CutOff` if it has no line feed, or else its number, counted from 1
+-- the error for the line that begins at the index `place`: `Truncated` if it has no line feed, or else its number, counted from 1
 abbrev pub read_error_at : ℕ → List ℕ → ReadError
 read_error_at place bytes =
-    if length (whole_line (drop place bytes)) == 0 then CutOff else Line (line_feed_count (take place bytes) + 1)
+    if length (whole_line (drop place bytes)) == 0 then Truncated else Line (line_feed_count (take place bytes) + 1)

@@ -12,7 +12,7 @@ use Rattle.rv_count_tables.specs.declared.read_stacks.ParsedNodes.{ParsedNodes}
 use Rattle.rv_count_tables.specs.Lines.{whole_line}
 use Rattle.rv_count_tables.specs.Table.{has_name, is_greater_than_last, name_of, digests_increase_from, IsCounted, IsValidImage, IsValidNamedNode, AreValidCounts, AreValidNames, AreNamesOf, AreValidNodes}
 use Rattle.rv_count_tables.specs.Text.{address_line, image_line, image_text, line_of_node, named, node_line}
-use Rattle.rv_call_tree.specs.declared.spot.Spot.{Spot}
+use Rattle.rv_call_tree.specs.declared.spot.CallNode.{CallNode}
 use Rattle.rv_call_tree.specs.Trees.{last_path, path_after, FollowsInPreorder}
 
 -- ---- names
@@ -57,7 +57,7 @@ entry_line (Address c) = address_line c
 entry_line (Node n) = node_line n
 
 -- the entry of a node, with the name of its function in a list
-abbrev pub entry_of_node : List FunctionName → Spot → Entry
+abbrev pub entry_of_node : List FunctionName → CallNode → Entry
 entry_of_node names s = Node (named names s)
 
 -- the entries of all lines of an image after its first line, in order
@@ -84,7 +84,7 @@ abbrev pub after_image_line : NextLines
 after_image_line = record { address = Some 0; names = []; front = Some [] }
 
 -- the path of a node that follows a node with the path `front`, or `None` if no node can come next
-abbrev pub next_path : Option (List ℕ) → Spot → Option (List ℕ)
+abbrev pub next_path : Option (List ℕ) → CallNode → Option (List ℕ)
 next_path None s = None
 next_path (Some front) s = Some (path_after front s)
 
@@ -109,7 +109,7 @@ can_be_next_address None address = false
 can_be_next_address (Some lowest) address = nat_le lowest address
 
 -- a node can come next, and this node may follow the path of the preceding one
-abbrev pub NodeCanComeNext : Option (List ℕ) → Spot → Type 0
+abbrev pub NodeCanComeNext : Option (List ℕ) → CallNode → Type 0
 NodeCanComeNext None s = ⊥
 NodeCanComeNext (Some front) s = FollowsInPreorder front s
 

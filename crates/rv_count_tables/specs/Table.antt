@@ -9,7 +9,7 @@ use Rattle.rv_count_tables.specs.declared.table.FunctionName.{FunctionName}
 use Rattle.rv_count_tables.specs.declared.table.ImageCounts.{ImageCounts}
 use Rattle.rv_count_tables.specs.declared.table.NamedCallNode.{NamedCallNode}
 use Rattle.rv_count_tables.specs.declared.table.CountTable.{CountTable}
-use Rattle.rv_call_tree.specs.declared.spot.Spot.{Spot}
+use Rattle.rv_call_tree.specs.declared.spot.CallNode.{CallNode}
 use Rattle.rv_call_tree.specs.Profiles.{ends_some_path}
 use Rattle.rv_call_tree.specs.Trees.{calls_at, steps_at, IsTree}
 
@@ -120,7 +120,7 @@ pub record AreValidNames (ns : List FunctionName) : Type 0 where
   pub rising : functions_increase_from 0 ns ≡ true
 
 -- the node is valid: its numbers fit their fields, and a run entered it
-pub record IsValidNode (s : Spot) : Type 0 where
+pub record IsValidNode (s : CallNode) : Type 0 where
   pub depth : s.depth < 2 ^ 64
   pub function : s.function < 2 ^ 32
   pub some : 0 < s.arrivals
@@ -144,11 +144,11 @@ name_of function [] = None
 name_of function (n ∷ ns) = if n.function == function then Some n.name else name_of function ns
 
 -- the functions that have names are exactly those in which a node's path ends
-abbrev pub AreNamesOf : List Spot → List FunctionName → Type 0
+abbrev pub AreNamesOf : List CallNode → List FunctionName → Type 0
 AreNamesOf spots names = (function : ℕ) → has_name (name_of function names) ≡ ends_some_path function spots
 
 -- the nodes are valid and form a call tree in preorder
-pub record AreValidNodes (ss : List Spot) : Type 0 where
+pub record AreValidNodes (ss : List CallNode) : Type 0 where
   pub each : AllByRecursion IsValidNode ss
   pub tree : IsTree ss
 

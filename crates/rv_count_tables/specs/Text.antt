@@ -10,7 +10,7 @@ use Rattle.rv_count_tables.specs.declared.table.ImageCounts.{ImageCounts}
 use Rattle.rv_count_tables.specs.declared.table.NamedCallNode.{NamedCallNode}
 use Rattle.rv_count_tables.specs.declared.table.CountTable.{CountTable}
 use Rattle.rv_count_tables.specs.Table.{name_of}
-use Rattle.rv_call_tree.specs.declared.spot.Spot.{Spot}
+use Rattle.rv_call_tree.specs.declared.spot.CallNode.{CallNode}
 
 -- the text as a line, which ends with a line feed
 abbrev pub line : List ℕ → List ℕ
@@ -25,7 +25,7 @@ unfoldable pub address_line : AddressCounts → List ℕ
 address_line c = line (word_digits c.address ++ codes " " ++ decimal c.begun ++ codes " " ++ decimal c.taken)
 
 -- the words `spot DEPTH FUNCTION ARRIVALS STEPS` of a node
-unfoldable pub fields_of_node : Spot → List ℕ
+unfoldable pub fields_of_node : CallNode → List ℕ
 fields_of_node s = codes "spot " ++ decimal s.depth ++ codes " " ++ word_digits s.function ++ codes " "
     ++ decimal s.arrivals ++ codes " " ++ decimal s.steps
 
@@ -39,11 +39,11 @@ name_or_empty None = []
 name_or_empty (Some name) = name
 
 -- a node with the name of its function in the list, or with an empty name if it has none there
-abbrev pub named : List FunctionName → Spot → NamedCallNode
+abbrev pub named : List FunctionName → CallNode → NamedCallNode
 named names s = record { spot = s; name = name_or_empty (name_of s.function names) }
 
 -- the line of a node, with the name of its function in the list
-abbrev pub line_of_node : List FunctionName → Spot → List ℕ
+abbrev pub line_of_node : List FunctionName → CallNode → List ℕ
 line_of_node names s = node_line (named names s)
 
 -- the line `image DIGEST PATH` of an image

@@ -6,7 +6,7 @@ ghost use Rattle.rv_count_tables.specs.Lines.{line_feed_count, whole_line};
 ghost use Rattle.rv_count_tables.specs.Table.{IsTable};
 ghost use Rattle.rv_count_tables.specs.Text.{table_text};
 ghost use Rattle.rv_count_tables.specs.Read.{IsOkOrOutOfMemory, IsFirstError, read_error_at};
-ghost use Rattle.rv_count_tables.specs.declared.read.ReadError.TheVariants.{OutOfMemory, CutOff};
+ghost use Rattle.rv_count_tables.specs.declared.read.ReadError.TheVariants.{OutOfMemory, Truncated};
 
 use crate::line_parts::{leading_bytes, whole_line};
 use crate::read_lines::{read_images, runs_of_last_line};
@@ -26,7 +26,7 @@ pub enum ReadError {
     Line(usize),
     /// The text is truncated: its complete lines begin some table.
     #[error("the table is truncated")]
-    CutOff,
+    Truncated,
 }
 
 impl From<AllocError> for ReadError {
@@ -71,12 +71,12 @@ pub fn read_table(alloc: Global, bytes: &[u8]) -> Result<CountTable, ReadError>
     }
 }
 
-// Returns the error for the invalid line that begins at an index: `CutOff` if it has no line feed, or else its number, counted from 1.
+// Returns the error for the invalid line that begins at an index: `Truncated` if it has no line feed, or else its number, counted from 1.
 fn refused_at(bytes: &[u8], place: usize) -> ReadError
     ensures { result ≡ read_error_at place bytes.now }
 {
     if whole_line(tail_from(bytes, place)).is_empty() {
-        ReadError::CutOff
+        ReadError::Truncated
     } else {
         ReadError::Line(line_number_at(bytes, place))
     }

@@ -16,7 +16,7 @@ use crate::line_parts::{
 use crate::names_by_function::NamesByFunction;
 use crate::table::{FunctionName, FunctionNames, NamedCallNode};
 use crate::text::push_node_line;
-use rv_call_tree::{Spot, CallNodes, Text};
+use rv_call_tree::{CallNode, CallNodes, Text};
 use rv_text::tail_from;
 use std::alloc::{AllocError, Global};
 
@@ -93,7 +93,7 @@ fn next_node(
 }
 
 // Whether a table can have this node directly after a node with the path `front`.
-fn can_come_next(spot: Spot, front: &[u32]) -> bool
+fn can_come_next(spot: CallNode, front: &[u32]) -> bool
     ensures { IsTrue result ↔ (IsValidNode spot × FollowsInPreorder front.now spot) }
 {
     0 < spot.arrivals
@@ -126,7 +126,7 @@ fn node_of_line(alloc: Global, line: &[u8]) -> Result<NamedCallNode, AllocError>
         text_before_byte(b'\n', text_after_byte(b' ', behind)),
     )?;
     Ok(NamedCallNode {
-        spot: Spot {
+        spot: CallNode {
             depth: decimal_number(text_before_byte(b' ', words)) as usize,
             function: hex_word(leading_bytes(function, 8)),
             arrivals: decimal_number(text_before_byte(b' ', numbers)),

@@ -1,6 +1,6 @@
 //! The table of counts.
 
-use rv_call_tree::{Bytes, Sequence, Spot, CallNodes, Text};
+use rv_call_tree::{Bytes, Sequence, CallNode, CallNodes, Text};
 
 /// The counts of one image's addresses; contracts see them as a list.
 pub type Addresses = Sequence<AddressCounts>;
@@ -36,7 +36,7 @@ pub struct FunctionName {
 /// A call-tree node with the name of its function, as in a line of the text.
 #[derive(Debug, Drop)]
 pub struct NamedCallNode {
-    pub spot: Spot,
+    pub spot: CallNode,
     pub name: Text,
 }
 

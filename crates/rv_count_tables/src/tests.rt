@@ -113,7 +113,7 @@ fn refuses_texts(rt: HostRuntime) -> Result<(), Fail> {
     for (text, expected) in REFUSED {
         let line = match read_table(rt.alloc(), text.as_bytes()) {
             Err(ReadError::Line(line)) => line,
-            Err(ReadError::CutOff) => 0,
+            Err(ReadError::Truncated) => 0,
             _ => return Err(text.into()),
         };
         if line != expected {

@@ -8,7 +8,7 @@ ghost use Rattle.rv_count_tables.specs.Text.{address_line, image_line, image_tex
 
 use crate::table::{AddressCounts, CountTable, FunctionName, ImageCounts};
 use itoa::Buffer;
-use rv_call_tree::{Spot, Text};
+use rv_call_tree::{CallNode, Text};
 use std::alloc::{AllocError, Global};
 use std::collections::BTreeMap;
 
@@ -68,7 +68,7 @@ fn push_nodes(
     alloc: Global,
     text: &mut String,
     names: &[FunctionName],
-    spots: &[Spot],
+    spots: &[CallNode],
 ) -> Result<(), AllocError>
     ensures { OnOk result (string_bytes text.new ≡ string_bytes text.old ++ flat_map (line_of_node names.now) spots.now) }
 {
@@ -121,7 +121,7 @@ fn fields_of_function(alloc: Global, name: &FunctionName) -> Result<FunctionFiel
 fn push_indexed_line(
     alloc: Global,
     text: &mut String,
-    spot: Spot,
+    spot: CallNode,
     index: &BTreeMap<u32, FunctionFields>,
 ) -> Result<(), AllocError>
     ensures { OnOk result (string_bytes text.new ≡ string_bytes text.old ++ line_by_index index.now spot) }
@@ -170,7 +170,7 @@ pub(crate) fn push_address_line(
 pub(crate) fn push_node_line(
     alloc: Global,
     text: &mut String,
-    spot: Spot,
+    spot: CallNode,
     name: &str,
 ) -> Result<(), AllocError>
     ensures { OnOk result (string_bytes text.new ≡ string_bytes text.old ++ node_line (record { spot = spot; name = name.now })) }
@@ -183,7 +183,7 @@ pub(crate) fn push_node_line(
 #[tactic(auto, unfolding(crate::specs::ParsedNodes::line_with_digits))]
 fn push_line_with_digits(
     text: &mut String,
-    spot: Spot,
+    spot: CallNode,
     digits: &str,
     name: &str,
 ) -> Result<(), AllocError>
@@ -196,7 +196,7 @@ fn push_line_with_digits(
 
 // Appends the words of a node's line before the name, with these digits for the address of its function.
 #[tactic(auto, unfolding(crate::specs::ParsedNodes::fields_with_digits))]
-fn push_fields_with_digits(text: &mut String, spot: Spot, digits: &str) -> Result<(), AllocError>
+fn push_fields_with_digits(text: &mut String, spot: CallNode, digits: &str) -> Result<(), AllocError>
     ensures { OnOk result (string_bytes text.new ≡ string_bytes text.old ++ fields_with_digits digits.now spot) }
 {
     text.push_str("spot")?;

@@ -10,7 +10,7 @@ use Rattle.rv_session.specs.Sessions.{IsOpenIfRequested}
 use Rattle.rv_session.specs.declared.session.Session.{Session}
 use Rattle.rv_session.proofs.Public.{fed_both, fed_byte, fed_move, worked_more, worked_unasked}
 use Rattle.rv_gdb.specs.Chunks.{IsByteHandled, IsByteReplyWritten, IsChunkHandled, IsMoveReplyWritten}
-use Rattle.rv_gdb.specs.Conversing.{IsChunkRead, IsServed, IsReadWhileOpen}
+use Rattle.rv_gdb.specs.Serving.{IsChunkRead, IsServed, IsReadWhileOpen}
 
 -- ---- within a chunk
 

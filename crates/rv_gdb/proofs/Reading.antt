@@ -3,7 +3,7 @@ use Rattle.std.proofs.Common.{◌≡◌, ◌∙◌, ◌≤◌, ◌<◌, ℕ, Lis
 use Rattle.std.specs.Prelude.{Option}
 use Rattle.std.proofs.lemmas.List.{length-take-le}
 use Rattle.std.specs.Io.KnownBytes.{Consumes, IsAtEnd}
-use Rattle.rv_gdb.specs.Conversing.{IsChunkRead, max_read}
+use Rattle.rv_gdb.specs.Serving.{IsChunkRead, max_read}
 
 -- the bytes that a read gave of a buffer, where there is room for as many as it asks for
 pub chunk_of : (before after : Option (List ℕ)) (buffer chunk : List ℕ) (count : ℕ) → count ≤ length buffer → length buffer ≡ max_read

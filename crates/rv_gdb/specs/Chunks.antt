@@ -1,7 +1,7 @@
 -- The replies to the bytes of one read.
 use Rattle.std.specs.Prelude.{◌≡◌, ◌⊎◌, ◌+◌, ◌<◌, ◌==◌, ℕ, Bool, List, None, Some, Option, false, is_some, length, slice_index_or, true}
 use Rattle.std.specs.Io.KnownBytes.{Appends}
-use Rattle.rv_gdb.specs.Conversing.{IsChunkRead}
+use Rattle.rv_gdb.specs.Serving.{IsChunkRead}
 use Rattle.rv_session.specs.Incoming.{IsByteReceived, IsReceived, IsRequestedMoveMade, is_interrupted}
 use Rattle.rv_session.specs.declared.session.Session.{Session}
 

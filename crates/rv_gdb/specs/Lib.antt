@@ -1,5 +1,5 @@
 pub mod JobSessions
-pub mod Conversing
+pub mod Serving
 pub mod Chunks
 pub use Rattle.rv_session.specs.Incoming
 pub use Rattle.rv_session.specs.Places

@@ -3,12 +3,12 @@
 ghost use Rattle.std.specs.Prelude.{◌≡◌, ◌≢◌, ◌<◌, ◌==◌, IfErr, IfOk, None, OnOk, is_some, length, option_map, true};
 ghost use Rattle.std.specs.Io.KnownBytes.{Appends};
 ghost use Rattle.rv_trace.specs.Counts.{one_more};
-ghost use Rattle.rv_gdb.specs.Conversing.{IsChunkRead, IsServed, IsEnded};
+ghost use Rattle.rv_gdb.specs.Serving.{IsChunkRead, IsServed, IsEnded};
 ghost use Rattle.rv_gdb.specs.Chunks.{IsByteHandled, IsByteReplyWritten, IsChunkHandled, IsMoveReplyWritten};
 ghost use Rattle.rv_session.specs.Incoming.{is_interrupted};
 ghost use Rattle.rv_session.specs.Sessions.{IsSameRun, IsOpenIfRequested};
 
-use crate::ctrl_c::{CTRL_C, Raised, SharedInterrupt, Unraised};
+use crate::ctrl_c::{CTRL_C, AlwaysRaised, SharedInterrupt, NeverRaised};
 use crate::reads::{check_interrupt, read_ahead, read_chunk};
 use rv_session::{EndText, Interrupt, Session};
 use rv_trace::{Sink, put_all};
@@ -105,7 +105,7 @@ fn respond_to_chunk<R: Threads, E: EndText, I: Read + Send, O: Sink>(
     ensures counted { OnOk result (O.failure_count out.new ≡ O.failure_count out.old) }
 {
     for index in 0..chunk.len() {
-        if answer_byte(context, session, chunk, index, out)? {
+        if respond_to_byte(context, session, chunk, index, out)? {
             return Ok(Some(move_while_reading(context, session, input, out)?));
         }
     }
@@ -117,7 +117,7 @@ fn respond_to_chunk<R: Threads, E: EndText, I: Read + Send, O: Sink>(
 
 // Feeds the byte at an index of a chunk to the session, and writes the reply. If the byte requests a move and another byte follows in the
 // chunk, also makes the move. Returns whether a move is pending.
-fn answer_byte<R, E: EndText, O: Sink>(
+fn respond_to_byte<R, E: EndText, O: Sink>(
     context: &SessionContext<'_, R, E>,
     session: &mut Session,
     chunk: &[u8],
@@ -163,9 +163,9 @@ fn write_move_reply_before<R, E: EndText, O: Sink>(
     ensures counted { OnOk result (O.failure_count out.new ≡ O.failure_count out.old) }
 {
     if behind == CTRL_C {
-        write_move_reply(context, session, &mut Raised, out)
+        write_move_reply(context, session, &mut AlwaysRaised, out)
     } else {
-        write_move_reply(context, session, &mut Unraised, out)
+        write_move_reply(context, session, &mut NeverRaised, out)
     }
 }
 

@@ -9,9 +9,9 @@ pub(crate) const CTRL_C: u8 = 0x03;
 
 /// An interrupt that is always raised.
 #[derive(Drop)]
-pub(crate) struct Raised;
+pub(crate) struct AlwaysRaised;
 
-impl Interrupt for Raised {
+impl Interrupt for AlwaysRaised {
     ghost use Rattle.std.specs.Prelude.{true};
 
     ghost was_raised = { λ _. true };
@@ -24,9 +24,9 @@ impl Interrupt for Raised {
 
 /// An interrupt that is never raised.
 #[derive(Drop)]
-pub(crate) struct Unraised;
+pub(crate) struct NeverRaised;
 
-impl Interrupt for Unraised {
+impl Interrupt for NeverRaised {
     ghost use Rattle.std.specs.Prelude.{false};
 
     ghost was_raised = { λ _. false };

@@ -1,7 +1,7 @@
 //! Reads from gdb, some of which happen during a move.
 
 ghost use Rattle.std.specs.Prelude.{◌≡◌, ◌≢◌, IfErr, IfOk, OnOk, true};
-ghost use Rattle.rv_gdb.specs.Conversing.{IsChunkRead};
+ghost use Rattle.rv_gdb.specs.Serving.{IsChunkRead};
 ghost use Rattle.rv_session.specs.Incoming.{is_interrupted};
 
 use crate::conversation::SessionError;
@@ -12,14 +12,14 @@ use std::sync::atomic::AtomicBool;
 use std::sync::atomic::Ordering::SeqCst;
 
 // The maximum number of bytes in a read. gdb's packets have up to 16,384.
-const CHUNK: usize = 16_384;
+const MAX_READ: usize = 16_384;
 
 /// Reads once, and returns the bytes that were read; there are none only at the end of the input.
 pub(crate) fn read_chunk<I: Read>(alloc: Global, input: &mut I) -> Result<Vec<u8>, SessionError>
     ensures read { IfOk result (λ chunk. IsChunkRead (I.remaining input.old) (I.remaining input.new) chunk.items) }
     ensures failed { IfErr result (λ broken. broken ≢ SessionError.ReplyWriteFailed) }
 {
-    let mut buffer = [0u8; CHUNK];
+    let mut buffer = [0u8; MAX_READ];
     match input.read(&mut buffer) {
         Ok(count) => Ok(Vec::from_slice(alloc, &buffer[..count])?),
         Err(error) => Err(SessionError::ReadFailed(error.kind())),

@@ -2,9 +2,9 @@
 use Rattle.std.proofs.Common.{◌≡◌, ℕ, Result, Ok, Err, ap, subst, sym}
 use Rattle.std.specs.Result.{IfOk}
 use Rattle.rv_history.specs.Positions.{Position}
-use Rattle.rv_history.specs.declared.found.Found.{Found}
+use Rattle.rv_history.specs.declared.found.MoveResult.{MoveResult}
 
-pub arrived : {E : Type 0} (P : ℕ → Found → Type 0) (result : Result Found E) (place : ℕ) (found : Found) (before behind : Position)
+pub arrived : {E : Type 0} (P : ℕ → MoveResult → Type 0) (result : Result MoveResult E) (place : ℕ) (found : MoveResult) (before behind : Position)
     → IfOk result (λ told. told ≡ found) → IfOk result (λ told. behind ≡ record before { place = place }) → P place found
     → IfOk result (P behind.place)
 arrived P (Ok told) place found before behind same moved holds =

@@ -6,10 +6,10 @@ use Rattle.rv_trace.specs.State.{State}
 use Rattle.rv_trace.specs.Trace.{state_after}
 use Rattle.rv_trace.proofs.Public.{each_completes}
 use Rattle.rv_history.specs.declared.found.SearchEnd.{SearchEnd}
-use Rattle.rv_history.specs.declared.found.Found.{Found}
-use Rattle.rv_history.specs.declared.found.Found.TheVariants as found
-use Rattle.rv_history.specs.declared.stepping.Stepped.{Stepped}
-use Rattle.rv_history.specs.declared.stepping.Stepped.TheVariants as stepped
+use Rattle.rv_history.specs.declared.found.MoveResult.{MoveResult}
+use Rattle.rv_history.specs.declared.found.MoveResult.TheVariants as found
+use Rattle.rv_history.specs.declared.stepping.StepResult.{StepResult}
+use Rattle.rv_history.specs.declared.stepping.StepResult.TheVariants as stepped
 use Rattle.rv_history.specs.declared.stops.Stops.{Stops}
 use Rattle.rv_history.specs.LastStop.{HaveNoStops, IsLastStopIn, HasNoStopAt, last_at, last_stop_after}
 use Rattle.rv_history.specs.Moves.{HasNoBackwardStop, IsChangeBefore, IsStepBefore, IsStopBefore, IsUninterrupted, IsBackwardStop}
@@ -31,7 +31,7 @@ change_before stops budget place start change =
     subst (λ (k : ℕ). IsChangeAt stops budget start k) same change.change
 
 -- at the start there is nothing before
-begins : (stops : Stops) (budget : ℕ) (start : State) → IsStopBefore stops budget start 0 0 found.Begin
+begins : (stops : Stops) (budget : ℕ) (start : State) → IsStopBefore stops budget start 0 0 found.RunStart
 begins stops budget start = record {
   order = omega arith;
   meets = (refl, λ below. absurd (omega arith));
@@ -48,13 +48,13 @@ no_break_later stops from place start order absent before is =
     ]
 
 -- what a move meets, it meets from a place later, if there is no break where it began
-meets_later : (stops : Stops) (budget from place : ℕ) (start : State) (found : Found) → place ≤ from
+meets_later : (stops : Stops) (budget from place : ℕ) (start : State) (found : MoveResult) → place ≤ from
     → (IsBreakAt stops start from → ⊥) → IsUninterrupted found → IsBackwardStop stops budget start from place found
     → IsBackwardStop stops budget start (from + 1) place found
-meets_later stops budget from place start found.Break order absent unbroken meets = (omega arith, meets.1)
-meets_later stops budget from place start found.Change order absent unbroken meets =
+meets_later stops budget from place start found.Breakpoint order absent unbroken meets = (omega arith, meets.1)
+meets_later stops budget from place start found.WatchTriggered order absent unbroken meets =
     (meets.0, λ below is. no_break_later stops from place start order absent meets.1 is)
-meets_later stops budget from place start found.Begin order absent unbroken meets =
+meets_later stops budget from place start found.RunStart order absent unbroken meets =
     (meets.0, λ below is. no_break_later stops from place start order absent meets.1 is)
 meets_later stops budget from place start (found.End ending) order absent unbroken meets = meets
 meets_later stops budget from place start found.Done order absent unbroken meets = meets
@@ -90,7 +90,7 @@ last_stays stops budget from start last absent none unbroken stop = record {
 
 -- the same where there is one
 last_breaks : (stops : Stops) (budget from : ℕ) (start : State) → IsBreakAt stops start from
-    → (IsChangeAt stops budget start from → ⊥) → IsStopBefore stops budget start (from + 1) from found.Break
+    → (IsChangeAt stops budget start from → ⊥) → IsStopBefore stops budget start (from + 1) from found.Breakpoint
 last_breaks stops budget from start is none = record {
   order = omega arith;
   meets = (omega arith, is);
@@ -101,7 +101,7 @@ last_breaks stops budget from start is none = record {
 
 -- behind a step that changes something
 last_changes : (stops : Stops) (budget from : ℕ) (start : State) → IsChangeAt stops budget start from
-    → IsStopBefore stops budget start (from + 1) (from + 1) found.Change
+    → IsStopBefore stops budget start (from + 1) (from + 1) found.WatchTriggered
 last_changes stops budget from start change = record {
   order = omega arith;
   meets = (record { before = from; place_is = refl; change = change }, λ below. absurd (omega arith));
@@ -131,12 +131,12 @@ last_quiet stops budget begin from start s last false reached told none stop =
     }) stop
 
 -- behind a step of any kind
-pub last_more : (stops : Stops) (budget begin from : ℕ) (start s t : State) (last : Option SearchEnd) (is : Bool) (kind : Stepped)
+pub last_more : (stops : Stops) (budget begin from : ℕ) (start s t : State) (last : Option SearchEnd) (is : Bool) (kind : StepResult)
     → IsReached start from s → from < last_step budget start → is ≡ is_break stops s.pc → IsStepped stops s t kind → from < budget
     → IsLastStopIn stops budget start begin from last → IsLastStopIn stops budget start begin (from + 1) (last_stop_after last from is kind)
-last_more stops budget begin from start s t last is stepped.Changed reached goes told did within stop =
+last_more stops budget begin from start s t last is stepped.WatchTriggered reached goes told did within stop =
     (last_changes stops budget from start (change_at stops budget from start s t reached within did.0 did.1), λ same. cc same)
-last_more stops budget begin from start s t last is stepped.Quiet reached goes told did within stop =
+last_more stops budget begin from start s t last is stepped.NotTriggered reached goes told did within stop =
     last_quiet stops budget begin from start s last is reached told (no_change_at stops budget from start s t reached did.0 did.1) stop
 last_more stops budget begin from start s t last is (stepped.Ended ending) reached goes told did within stop =
     let ok = ap step_of reached.same ∙ each_completes budget from start goes in absurd (cc (sym did.0, ok))
@@ -174,9 +174,9 @@ quiet_joined stops budget begin end from start one other j low high = elim (case
 
 -- where nothing is met at all, there is the beginning
 pub begins_over : (stops : Stops) (budget from : ℕ) (start : State) → HaveNoStops stops budget start 0 from
-    → IsStopBefore stops budget start from 0 found.Begin
+    → IsStopBefore stops budget start from 0 found.RunStart
 begins_over stops budget from start quiet =
-    last_before stops budget 0 from start (record { place = 0; found = found.Begin }) (omega arith) quiet (λ same. cc same)
+    last_before stops budget 0 from start (record { place = 0; found = found.RunStart }) (omega arith) quiet (λ same. cc same)
     (begins stops budget start)
 
 -- where an interrupt breaks it off, it stays
@@ -188,10 +188,10 @@ stays_broken stops budget from start = record {
 }
 
 -- the machine behind a step that completes
-pub stepped_place : (stops : Stops) (budget from : ℕ) (start s t : State) (kind : Stepped) → IsReached start from s
+pub stepped_place : (stops : Stops) (budget from : ℕ) (start s t : State) (kind : StepResult) → IsReached start from s
     → from < last_step budget start → IsStepped stops s t kind → IsReached start (from + 1) t
-stepped_place stops budget from start s t stepped.Changed reached goes did = next_place start s t from reached did.0
-stepped_place stops budget from start s t stepped.Quiet reached goes did = next_place start s t from reached did.0
+stepped_place stops budget from start s t stepped.WatchTriggered reached goes did = next_place start s t from reached did.0
+stepped_place stops budget from start s t stepped.NotTriggered reached goes did = next_place start s t from reached did.0
 stepped_place stops budget from start s t (stepped.Ended ending) reached goes did =
     let ok = ap step_of reached.same ∙ each_completes budget from start goes in absurd (cc (sym did.0, ok))
 
@@ -204,7 +204,7 @@ steps_back stops budget before from start s t is reached e same =
 
 pub stays_behind_change : (stops : Stops) (budget before from : ℕ) (start s t : State) → from ≡ before + 1 → before < budget
     → IsReached start before s → step_of s ≡ Ok t → TriggersWatch stops s t
-    → IsStepBefore stops budget start from from found.Change
+    → IsStepBefore stops budget start from from found.WatchTriggered
 stays_behind_change stops budget before from start s t is within reached e differ =
     (refl, record { before = before; place_is = is; change = change_at stops budget before start s t reached within e differ })
 
@@ -214,11 +214,11 @@ pub completes_before : (before from : ℕ) (start s : State) → from ≡ before
 completes_before before from start s is there reached =
     ap step_of reached.same ∙ each_completes from before start (omega arith)
 
-pub back_within : (stops : Stops) (budget from place : ℕ) (start : State) (found : Found)
+pub back_within : (stops : Stops) (budget from place : ℕ) (start : State) (found : MoveResult)
     → IsStepBefore stops budget start from place found → place ≤ from
 back_within stops budget from place start found.Done stop = let is = stop.0 in omega arith
-back_within stops budget from place start found.Change stop = let is = stop.0 in omega arith
-back_within stops budget from place start found.Begin stop = let is = stop.0 in omega arith
-back_within stops budget from place start found.Break stop = absurd stop
+back_within stops budget from place start found.WatchTriggered stop = let is = stop.0 in omega arith
+back_within stops budget from place start found.RunStart stop = let is = stop.0 in omega arith
+back_within stops budget from place start found.Breakpoint stop = absurd stop
 back_within stops budget from place start (found.End ending) stop = absurd stop
 back_within stops budget from place start found.Interrupted stop = absurd stop

@@ -14,7 +14,7 @@ use Rattle.rv_trace.proofs.Public.{each_completes}
 use Rattle.rv_history.specs.declared.bounds.Bounds.{Bounds}
 use Rattle.rv_history.specs.declared.bounds.Bounds.TheVariants as bounds
 use Rattle.rv_history.specs.declared.found.SearchEnd.{SearchEnd}
-use Rattle.rv_history.specs.declared.stepping.Stepped.TheVariants as stepped
+use Rattle.rv_history.specs.declared.stepping.StepResult.TheVariants as stepped
 use Rattle.rv_history.specs.declared.stops.Stops.{Stops}
 use Rattle.rv_history.specs.LastStop.{IsLastStopIn}
 use Rattle.rv_history.specs.Places.{IsReached, last_step}
@@ -119,6 +119,6 @@ pub last_run : (stops : Stops) (budget begin place n : ℕ) (start s t : State) 
     → IsLastStopIn stops budget start begin (place + n) last × IsReached start (place + n) t
 last_run stops budget begin place n start s t last none reached few within ran absent so =
     over_run stops (λ k. IsLastStopIn stops budget start begin k last) start (last_step budget start)
-    (λ k u v there low e begins stop. last_more stops budget begin k start u v last false stepped.Quiet there low (sym begins)
+    (λ k u v there low e begins stop. last_more stops budget begin k start u v last false stepped.NotTriggered there low (sym begins)
     (e, is_unset stops u v none) (omega arith) stop)
     n place s t reached few ran absent so

@@ -6,7 +6,7 @@ use Rattle.rv_trace.specs.declared_ending.Ending.{Ending}
 use Rattle.rv_trace.specs.Run.{step_of}
 use Rattle.rv_trace.specs.State.{State}
 use Rattle.rv_trace.specs.Bus.{BusContents}
-use Rattle.rv_history.specs.Counts.{IsFound, count_at, count_value}
+use Rattle.rv_history.specs.Counts.{IsFirstStepIfAny, count_at, count_value}
 use Rattle.rv_history.specs.Places.{IsReached, last_step}
 use Rattle.rv_history.specs.declared.counts.Count.{Count}
 use Rattle.rv_history.proofs.Reaching.{comes_within, ends_by_budget, ends_here}
@@ -30,7 +30,7 @@ lacks_more count value place start s reached other before j below is =
 
 pub found_here : (count : Count) (value budget place : ℕ) (start s : State) → IsReached start place s → place ≤ budget
     → count_value count (length start.bus.script) s.bus ≡ value → LacksUpTo count value start place
-    → IsFound count value budget start (Some place)
+    → IsFirstStepIfAny count value budget start (Some place)
 found_here count value budget place start s reached within is before = record {
   within = comes_within budget place start reached.completed within;
   there = sym (count_here count start s place reached) ∙ is;
@@ -39,26 +39,26 @@ found_here count value budget place start s reached within is before = record {
 
 none_to_end : (count : Count) (value budget place : ℕ) (start s : State) → IsReached start place s
     → place ≡ last_step budget start → (count_value count (length start.bus.script) s.bus ≡ value → ⊥)
-    → LacksUpTo count value start place → IsFound count value budget start None
+    → LacksUpTo count value start place → IsFirstStepIfAny count value budget start None
 none_to_end count value budget place start s reached end other before j within is =
     lacks_more count value place start s reached other before j (omega arith) is
 
 pub none_at_end : (count : Count) (value budget place : ℕ) (start s : State) (ending : Ending) → IsReached start place s
     → place < budget → step_of s ≡ Err ending → (count_value count (length start.bus.script) s.bus ≡ value → ⊥)
-    → LacksUpTo count value start place → IsFound count value budget start None
+    → LacksUpTo count value start place → IsFirstStepIfAny count value budget start None
 none_at_end count value budget place start s ending reached within e other before =
     none_to_end count value budget place start s reached (ends_here budget place start s ending reached within e).0 other before
 
 pub none_at_budget : (count : Count) (value budget place : ℕ) (start s : State) → IsReached start place s → place ≡ budget
     → (count_value count (length start.bus.script) s.bus ≡ value → ⊥) → LacksUpTo count value start place
-    → IsFound count value budget start None
+    → IsFirstStepIfAny count value budget start None
 none_at_budget count value budget place start s reached all other before =
     let there = subst (λ (k : ℕ). IsReached start k s) all reached in
     none_to_end count value budget place start s reached (all ∙ (ends_by_budget budget start there.completed).0) other before
 
 pub result_at_budget : (count : Count) (value budget place : ℕ) (start s : State) → IsReached start place s → place ≡ budget
     → count_value count (length start.bus.script) s.bus ≡ value → LacksUpTo count value start place
-    → IsFound count value budget start (Some budget)
+    → IsFirstStepIfAny count value budget start (Some budget)
 result_at_budget count value budget place start s reached all is before =
     found_here count value budget budget start s (subst (λ (k : ℕ). IsReached start k s) all reached) (omega arith) is
     (subst (λ (k : ℕ). LacksUpTo count value start k) all before)

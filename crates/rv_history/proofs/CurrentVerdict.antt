@@ -9,7 +9,7 @@ use Rattle.std.proofs.lemmas.List.{get_or-take, get_or_default, length-take}
 use Rattle.std.proofs.lemmas.List.Elements.{All-cons, All-filter, All-same, All-take, All-weaker, filter_passes}
 use Rattle.std.proofs.lemmas.List.Kept.{AllPairs-cons, AllPairs-filter}
 use Rattle.rv_history.specs.declared.machine_at.MachineAt.{MachineAt}
-use Rattle.rv_history.specs.Kept.{AreDecreasing, IsLastUpTo}
+use Rattle.rv_history.specs.StoredStates.{AreDecreasing, IsLastUpTo}
 
 -- what is kept of a list is as all of it is
 pub all_filtered : {X F : Type 0} (R : F → X → Bool → F → Type 0) (test : X → Bool) (f : F)

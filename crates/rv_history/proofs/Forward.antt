@@ -8,8 +8,8 @@ use Rattle.rv_trace.specs.declared_ending.Ending.TheVariants.{Budget}
 use Rattle.rv_trace.specs.Run.{run_of, step_of}
 use Rattle.rv_trace.specs.State.{State}
 use Rattle.rv_history.specs.declared.bounds.Bounds.{Bounds}
-use Rattle.rv_history.specs.declared.found.Found.{Found}
-use Rattle.rv_history.specs.declared.found.Found.TheVariants as found
+use Rattle.rv_history.specs.declared.found.MoveResult.{MoveResult}
+use Rattle.rv_history.specs.declared.found.MoveResult.TheVariants as found
 use Rattle.rv_history.specs.declared.stops.Stops.{Stops}
 use Rattle.rv_history.specs.Moves.{HasNoForwardStop, IsNextStep, IsNextStop, result_at_budget}
 use Rattle.rv_history.specs.Places.{IsChangeAt, IsHaltAt, IsReached, last_step}
@@ -75,7 +75,7 @@ quiet_more stops bounds budget from place start s t reached within e same absent
 
 pub stops_by_break : (stops : Stops) (bounds : Bounds) (budget from place : ℕ) (start s : State) → IsReached start place s → from ≤ place
     → place ≤ budget → (ltb from place && halts_at stops bounds s.pc) ≡ true → QuietUpTo stops bounds budget start from place
-    → IsNextStop stops bounds budget start from place found.Break
+    → IsNextStop stops bounds budget start from place found.Breakpoint
 stops_by_break stops bounds budget from place start s reached low within is quiet = record {
   order = low;
   within = comes_within budget place start reached.completed within;
@@ -86,7 +86,7 @@ stops_by_break stops bounds budget from place start s reached low within is quie
 pub stops_by_change : (stops : Stops) (bounds : Bounds) (budget from place : ℕ) (start s t : State) → IsReached start place s → from ≤ place
     → place < budget → step_of s ≡ Ok t → TriggersWatch stops s t
     → (ltb from place && halts_at stops bounds s.pc) ≡ false → QuietUpTo stops bounds budget start from place
-    → IsNextStop stops bounds budget start from place found.Change
+    → IsNextStop stops bounds budget start from place found.WatchTriggered
 stops_by_change stops bounds budget from place start s t reached low within e differ absent quiet = record {
   order = low;
   within = comes_within budget place start reached.completed (omega arith);
@@ -124,7 +124,7 @@ at_budget stops bounds budget from place start s end reached quiet = (
 
 breaks_at_budget : (stops : Stops) (bounds : Bounds) (budget from place : ℕ) (start s : State) → IsReached start place s → from ≤ budget
     → place ≡ budget → (ltb from budget && halts_at stops bounds s.pc) ≡ true → QuietUpTo stops bounds budget start from place
-    → IsNextStop stops bounds budget start from budget found.Break
+    → IsNextStop stops bounds budget start from budget found.Breakpoint
 breaks_at_budget stops bounds budget from place start s reached low end is quiet =
     let there = at_budget stops bounds budget from place start s end reached quiet in
     stops_by_break stops bounds budget from budget start s there.0 low (omega arith) is there.1
@@ -140,13 +140,13 @@ stops_by_budget stops bounds budget from place start s reached low end absent qu
       between = there.1;
     }
 
-pub stops_at_budget : (stops : Stops) (bounds : Bounds) (budget from place at : ℕ) (start s : State) (told : Found) → IsReached start place s
+pub stops_at_budget : (stops : Stops) (bounds : Bounds) (budget from place at : ℕ) (start s : State) (told : MoveResult) → IsReached start place s
     → from ≤ budget → place ≡ budget → at ≡ budget
     → told ≡ result_at_budget (ltb from budget && halts_at stops bounds s.pc) → QuietUpTo stops bounds budget start from place
     → IsNextStop stops bounds budget start from at told
 stops_at_budget stops bounds budget from place at start s told reached low end at_is told_is quiet =
     subst (λ (k : ℕ). IsNextStop stops bounds budget start from k told) (sym at_is)
-    (subst (λ (f : Found). IsNextStop stops bounds budget start from budget f) (sym told_is)
+    (subst (λ (f : MoveResult). IsNextStop stops bounds budget start from budget f) (sym told_is)
     (by_halt (ltb from budget && halts_at stops bounds s.pc) refl))
   where
     by_halt : (halts : Bool) → (ltb from budget && halts_at stops bounds s.pc) ≡ halts
@@ -162,7 +162,7 @@ step_done stops budget from start s t reached within e same =
     (refl, goes_on budget from start s t reached within e, no_change_at stops budget from start s t reached e same)
 
 pub step_changes : (stops : Stops) (budget from : ℕ) (start s t : State) → IsReached start from s → from < budget
-    → step_of s ≡ Ok t → TriggersWatch stops s t → IsNextStep stops budget start from from found.Change
+    → step_of s ≡ Ok t → TriggersWatch stops s t → IsNextStep stops budget start from from found.WatchTriggered
 step_changes stops budget from start s t reached within e differ = (refl, change_at stops budget from start s t reached within e differ)
 
 pub step_ends : (stops : Stops) (budget from : ℕ) (start s : State) (ending : Ending) → IsReached start from s → from < budget

@@ -18,24 +18,24 @@ use Rattle.rv_trace.specs.Run.{after_fetch, step_of}
 use Rattle.rv_trace.proofs.Public.{ok_is}
 use Rattle.rv_trace.specs.Trace.{state_after}
 use Rattle.rv_trace.proofs.Public.{after_none}
-use Rattle.rv_history.specs.Printing.{Begins}
+use Rattle.rv_history.specs.Printing.{BeginsWith}
 use Rattle.rv_history.proofs.Reaching.{by_step, state_end, state_first}
 
 -- a state has printed what another has, and maybe more
 abbrev Grows : State → State → Type 0
-Grows s u = Begins u.bus.output s.bus.output
+Grows s u = BeginsWith u.bus.output s.bus.output
 
-same_begins : (whole front : List ℕ) → whole ≡ front → Begins whole front
+same_begins : (whole front : List ℕ) → whole ≡ front → BeginsWith whole front
 same_begins whole front same = record { rest = []; whole_is = same ∙ sym (append-nil front) }
 
-begins_on : (whole middle front : List ℕ) → Begins middle front → Begins whole middle → Begins whole front
+begins_on : (whole middle front : List ℕ) → BeginsWith middle front → BeginsWith whole middle → BeginsWith whole front
 begins_on whole middle front first second = record {
   rest = first.rest ++ second.rest;
   whole_is = second.whole_is ∙ ap (λ (text : List ℕ). text ++ second.rest) first.whole_is
       ∙ append_assoc front first.rest second.rest;
 }
 
-all_of : (s : State) → Begins s.bus.output s.bus.output
+all_of : (s : State) → BeginsWith s.bus.output s.bus.output
 all_of s = same_begins s.bus.output s.bus.output refl
 
 by_test : {A E : Type 0} (P : A → Type 0) (b : Bool) (x y : Result A E) → ok_is P x → ok_is P y → ok_is P (cond b x y)
@@ -45,7 +45,7 @@ by_test P false x y p q = q
 -- ---- accesses
 
 abbrev Prints : BusContents → BusContents → Type 0
-Prints c d = Begins d.output c.output
+Prints c d = BeginsWith d.output c.output
 
 console_grows : (c : BusContents) (a : ℕ) (w : Width) (v : ℕ) → ok_is (Prints c) (console_store c a w v)
 console_grows c a Byte v = tt
@@ -72,7 +72,7 @@ store_prints c a w v =
     (put_prints c a w v) tt))
 
 abbrev Loads : BusContents → ℕ × BusContents → Type 0
-Loads c p = Begins p.1.output c.output
+Loads c p = BeginsWith p.1.output c.output
 
 console_loads : (c : BusContents) (a : ℕ) (w : Width) → ok_is (Loads c) (console_load c a w)
 console_loads c a Byte = tt
@@ -190,25 +190,25 @@ step_grows s = go (fetch s.isa s.bus s.pc)
     go (Ok p) = effect_grows p.0.op p.0 p.1 s
     go (Err e) = tt
 
-step_prints : (s t : State) → step_of s ≡ Ok t → Begins t.bus.output s.bus.output
+step_prints : (s t : State) → step_of s ≡ Ok t → BeginsWith t.bus.output s.bus.output
 step_prints s t e = subst (ok_is (Grows s)) e (step_grows s)
 
 -- ---- runs
 
-run_prints : (n : ℕ) (s : State) → Begins (state_after n s).bus.output s.bus.output
+run_prints : (n : ℕ) (s : State) → BeginsWith (state_after n s).bus.output s.bus.output
 run_prints zero s = same_begins _ s.bus.output (ap (λ (u : State). u.bus.output) (after_none s))
-run_prints (suc n) s = by_step s (Begins (state_after (suc n) s).bus.output s.bus.output)
-    (λ t e. subst (λ (u : State). Begins u.bus.output s.bus.output) (sym (state_first n s t e))
+run_prints (suc n) s = by_step s (BeginsWith (state_after (suc n) s).bus.output s.bus.output)
+    (λ t e. subst (λ (u : State). BeginsWith u.bus.output s.bus.output) (sym (state_first n s t e))
     (begins_on (state_after n t).bus.output t.bus.output s.bus.output (step_prints s t e) (run_prints n t)))
     (λ e is. same_begins _ s.bus.output (ap (λ (u : State). u.bus.output) (state_end n s e is)))
 
 -- the output at a place begins with that at a place before
-pub printed_stays : (i j : ℕ) (s : State) → i ≤ j → Begins (state_after j s).bus.output (state_after i s).bus.output
+pub printed_stays : (i j : ℕ) (s : State) → i ≤ j → BeginsWith (state_after j s).bus.output (state_after i s).bus.output
 printed_stays zero j s low =
-    subst (λ (u : State). Begins (state_after j s).bus.output u.bus.output) (sym (after_none s)) (run_prints j s)
+    subst (λ (u : State). BeginsWith (state_after j s).bus.output u.bus.output) (sym (after_none s)) (run_prints j s)
 printed_stays (suc i) zero s low = absurd (omega arith)
-printed_stays (suc i) (suc j) s low = by_step s (Begins (state_after (suc j) s).bus.output (state_after (suc i) s).bus.output)
-    (λ t e. subst (λ (u : State). Begins u.bus.output (state_after (suc i) s).bus.output) (sym (state_first j s t e))
-    (subst (λ (u : State). Begins (state_after j t).bus.output u.bus.output) (sym (state_first i s t e))
+printed_stays (suc i) (suc j) s low = by_step s (BeginsWith (state_after (suc j) s).bus.output (state_after (suc i) s).bus.output)
+    (λ t e. subst (λ (u : State). BeginsWith u.bus.output (state_after (suc i) s).bus.output) (sym (state_first j s t e))
+    (subst (λ (u : State). BeginsWith (state_after j t).bus.output u.bus.output) (sym (state_first i s t e))
     (printed_stays i j t (omega arith))))
     (λ e is. same_begins _ _ (ap (λ (u : State). u.bus.output) (state_end j s e is ∙ sym (state_end i s e is))))

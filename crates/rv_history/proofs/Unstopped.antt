@@ -13,8 +13,8 @@ use Rattle.rv_trace.specs.Bus.{BusContents}
 use Rattle.rv_trace.specs.Trace.{state_after}
 use Rattle.rv_history.specs.declared.bounds.Bounds.{Bounds}
 use Rattle.rv_history.specs.declared.bounds.Bounds.TheVariants as bounds
-use Rattle.rv_history.specs.declared.found.Found.TheVariants as found
-use Rattle.rv_history.specs.declared.forward_move.Arrived.{Arrived}
+use Rattle.rv_history.specs.declared.found.MoveResult.TheVariants as found
+use Rattle.rv_history.specs.declared.forward_move.MoveEnd.{MoveEnd}
 use Rattle.rv_history.specs.declared.forward_move.ForwardMove.{ForwardMove}
 use Rattle.rv_history.specs.declared.machine_at.MachineAt.{MachineAt}
 use Rattle.rv_history.specs.declared.stops.Stops.{Stops}
@@ -23,7 +23,7 @@ use Rattle.rv_history.specs.declared.access.Access.{Access}
 use Rattle.rv_history.specs.declared.stops.WatchHit.{WatchHit}
 use Rattle.rv_history.specs.declared.stops.WatchHit.TheVariants as set_off
 use Rattle.rv_history.specs.Accesses.{access_at}
-use Rattle.rv_history.specs.Kept.{IsAt}
+use Rattle.rv_history.specs.StoredStates.{IsAt}
 use Rattle.rv_history.specs.LastStop.{HasNoStopAt}
 use Rattle.rv_history.specs.ForwardMoves.{IsArrival, IsMoveInProgress}
 use Rattle.rv_history.specs.Moves.{HasNoForwardStop, IsEndAt, IsNextStop, IsStepBefore, IsStopBefore}
@@ -74,7 +74,7 @@ quiet_at stops budget place start none = record {
 }
 
 pub begins_unstopped : (stops : Stops) (budget from : ℕ) (start : State) → AreEmpty stops
-    → IsStopBefore stops budget start from 0 found.Begin
+    → IsStopBefore stops budget start from 0 found.RunStart
 begins_unstopped stops budget from start none = begins_over stops budget from start (λ j low high. quiet_at stops budget j start none)
 
 pub step_unwatched : (stops : Stops) (budget before from : ℕ) (start : State) → AreUnwatched stops → from ≡ before + 1
@@ -151,21 +151,21 @@ under_way stops start leg none all there order within = record {
 }
 
 -- a move that meets nothing comes to an end before its budget
-pub ends_before : (stops : Stops) (start : State) (leg : ForwardMove) (at : MachineAt) (arrived : Arrived) (end : ℕ) (ending : Ending)
+pub ends_before : (stops : Stops) (start : State) (leg : ForwardMove) (at : MachineAt) (arrived : MoveEnd) (end : ℕ) (ending : Ending)
     → AreEmpty stops → leg.bounds ≡ bounds.All → leg.from ≤ at.place → arrived ≡ record { at = at; found = found.End ending }
     → run_of end start ≡ record { ending = ending; steps = at.place; state = state_of at.machine } → at.place < end
     → end ≤ leg.budget → IsArrival stops start leg arrived
 ends_before stops start leg at arrived end ending none all order is ran short within =
     let there = ran_to start (state_of at.machine) end at.place ending ran in
     let far = comes_within leg.budget at.place start there.completed (omega (arith, short, within)) in
-    subst (λ (a : Arrived). IsArrival stops start leg a) (sym is) (
+    subst (λ (a : MoveEnd). IsArrival stops start leg a) (sym is) (
       there,
       ends_anywhere stops leg.bounds leg.budget leg.from at.place start ending none all (omega (arith, order, far))
           (ends_within leg.budget end at.place start (state_of at.machine) ending ran short within),
     )
 
 -- or it comes to its budget
-pub ends_at : (stops : Stops) (start : State) (leg : ForwardMove) (at : MachineAt) (arrived : Arrived) → AreEmpty stops
+pub ends_at : (stops : Stops) (start : State) (leg : ForwardMove) (at : MachineAt) (arrived : MoveEnd) → AreEmpty stops
     → leg.bounds ≡ bounds.All → leg.from ≤ at.place → arrived ≡ record { at = at; found = found.End Budget } → IsAt start at
     → at.place ≡ leg.budget → IsArrival stops start leg arrived
 ends_at stops start leg at arrived none all order is there end =
@@ -173,10 +173,10 @@ ends_at stops start leg at arrived none all order is there end =
     let here : IsEndAt leg.budget start at.place Budget =
     subst (λ (k : ℕ). IsEndAt leg.budget start k Budget) (sym end) (ends_by_budget leg.budget start full) in
     let far = comes_within leg.budget at.place start there.completed (omega (arith, end)) in
-    subst (λ (a : Arrived). IsArrival stops start leg a) (sym is)
+    subst (λ (a : MoveEnd). IsArrival stops start leg a) (sym is)
     (there, ends_anywhere stops leg.bounds leg.budget leg.from at.place start Budget none all (omega (arith, order, far)) here)
 
-pub ends_told : {E : Type 0} (stops : Stops) (start : State) (leg : ForwardMove) (result : Result Arrived E) → AreEmpty stops
+pub ends_told : {E : Type 0} (stops : Stops) (start : State) (leg : ForwardMove) (result : Result MoveEnd E) → AreEmpty stops
     → IfOk result (λ arrived. (none : Stops) → AreEmpty none → IsArrival none start leg arrived) → IfOk result (IsArrival stops start leg)
 ends_told stops start leg (Ok arrived) none arrives = arrives stops none
 ends_told stops start leg (Err error) none arrives = tt

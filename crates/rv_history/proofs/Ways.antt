@@ -5,14 +5,14 @@ use Rattle.rv_trace.specs.Run.{run_of, step_of}
 use Rattle.rv_trace.specs.State.{State}
 use Rattle.rv_trace.specs.declared_ending.Ending.{Ending}
 use Rattle.rv_trace.specs.Trace.{state_after}
-use Rattle.rv_history.specs.Kept.{IsAt}
+use Rattle.rv_history.specs.StoredStates.{IsAt}
 use Rattle.rv_history.specs.ForwardMoves.{IsArrival, IsMoveInProgress}
 use Rattle.rv_history.specs.Moves.{IsNextStop, result_at_budget}
 use Rattle.rv_history.specs.Stops.{TriggersWatch, halts_at}
 use Rattle.rv_history.specs.declared.bounds.Bounds.TheVariants as bounds
-use Rattle.rv_history.specs.declared.found.Found.{Found}
-use Rattle.rv_history.specs.declared.found.Found.TheVariants as found
-use Rattle.rv_history.specs.declared.forward_move.Arrived.{Arrived}
+use Rattle.rv_history.specs.declared.found.MoveResult.{MoveResult}
+use Rattle.rv_history.specs.declared.found.MoveResult.TheVariants as found
+use Rattle.rv_history.specs.declared.forward_move.MoveEnd.{MoveEnd}
 use Rattle.rv_history.specs.declared.forward_move.ForwardMove.{ForwardMove}
 use Rattle.rv_history.specs.declared.machine_at.MachineAt.{MachineAt}
 use Rattle.rv_history.specs.declared.stops.Stops.{Stops}
@@ -36,20 +36,20 @@ same_at start one other there place state = record {
 }
 
 -- a move that ends ends where it stands
-pub arrives : (stops : Stops) (start : State) (leg now : ForwardMove) (at : MachineAt) (told : Found) (arrived : Arrived)
+pub arrives : (stops : Stops) (start : State) (leg now : ForwardMove) (at : MachineAt) (told : MoveResult) (arrived : MoveEnd)
     → now ≡ record leg { at = now.at } → arrived ≡ record { at = at; found = told } → IsAt start at → at.place ≡ now.at.place
     → IsNextStop stops now.bounds now.budget start now.from now.at.place told → IsArrival stops start leg arrived
 arrives stops start leg now at told arrived same is there place stop =
     let here : IsArrival stops start now (record { at = at; found = told }) =
     (there, subst (λ (k : ℕ). IsNextStop stops now.bounds now.budget start now.from k told) (sym place) stop) in
-    subst (λ (a : Arrived). IsArrival stops start leg a) (sym is)
+    subst (λ (a : MoveEnd). IsArrival stops start leg a) (sym is)
     (subst (λ (l : ForwardMove). IsArrival stops start l (record { at = at; found = told })) same here)
 
-module _ (stops : Stops) (start : State) (leg now : ForwardMove) (arrived : Arrived) (way : IsMoveInProgress stops start now)
+module _ (stops : Stops) (start : State) (leg now : ForwardMove) (arrived : MoveEnd) (way : IsMoveInProgress stops start now)
     (same : now ≡ record leg { at = now.at }) where
-  pub arrives_halted : arrived ≡ record { at = now.at; found = found.Break }
+  pub arrives_halted : arrived ≡ record { at = now.at; found = found.Breakpoint }
       → (ltb now.from now.at.place && halts_at stops now.bounds (state_of now.at.machine).pc) ≡ true → IsArrival stops start leg arrived
-  arrives_halted is halts = arrives stops start leg now now.at found.Break arrived same is way.there refl
+  arrives_halted is halts = arrives stops start leg now now.at found.Breakpoint arrived same is way.there refl
       (stops_by_break stops now.bounds now.budget now.from now.at.place start (state_of now.at.machine) way.there way.order
       way.within halts way.quiet)
 
@@ -68,15 +68,15 @@ module _ (stops : Stops) (start : State) (leg now : ForwardMove) (arrived : Arri
       (stops_by_end stops now.bounds now.budget now.from now.at.place start (state_of now.at.machine) ending way.there way.order
       goes e halts way.quiet)
 
-  pub arrives_changed : (at : MachineAt) (t : State) → arrived ≡ record { at = at; found = found.Change } → IsAt start at
+  pub arrives_changed : (at : MachineAt) (t : State) → arrived ≡ record { at = at; found = found.WatchTriggered } → IsAt start at
       → at.place ≡ now.at.place → now.at.place < now.budget → step_of (state_of now.at.machine) ≡ Ok t
       → TriggersWatch stops (state_of now.at.machine) t
       → (ltb now.from now.at.place && halts_at stops now.bounds (state_of now.at.machine).pc) ≡ false → IsArrival stops start leg arrived
-  arrives_changed at t is there place goes e differ halts = arrives stops start leg now at found.Change arrived same is there place
+  arrives_changed at t is there place goes e differ halts = arrives stops start leg now at found.WatchTriggered arrived same is there place
       (stops_by_change stops now.bounds now.budget now.from now.at.place start (state_of now.at.machine) t way.there way.order
       goes e differ halts way.quiet)
 
-  pub arrives_at_budget : (told : Found) → arrived ≡ record { at = now.at; found = told } → now.budget ≤ now.at.place
+  pub arrives_at_budget : (told : MoveResult) → arrived ≡ record { at = now.at; found = told } → now.budget ≤ now.at.place
       → told ≡ result_at_budget (ltb now.from now.at.place && halts_at stops now.bounds (state_of now.at.machine).pc)
       → IsArrival stops start leg arrived
   arrives_at_budget told is end told_is =

@@ -7,32 +7,32 @@ use Rattle.rv_trace.specs.Effect.{address}
 use Rattle.rv_trace.specs.State.{State}
 use Rattle.rv_trace.specs.Steps.{instr_at}
 use Rattle.rv_history.specs.declared.access.Access.{Access}
-use Rattle.rv_history.specs.declared.access.Reach.{Reach}
+use Rattle.rv_history.specs.declared.access.AccessKind.{AccessKind}
 use Rattle.rv_history.specs.declared.stops.Watch.{Watch}
 
 -- an access that reads this many bytes
-abbrev pub read_of : ℕ → Option Reach
-read_of count = Some (record { is_read = true; count = count })
+abbrev pub read_access : ℕ → Option AccessKind
+read_access count = Some (record { is_read = true; count = count })
 
 -- an access that writes this many bytes
-abbrev pub write_of : ℕ → Option Reach
-write_of count = Some (record { is_read = false; count = count })
+abbrev pub write_access : ℕ → Option AccessKind
+write_access count = Some (record { is_read = false; count = count })
 
 -- whether an instruction reads or writes, and how many bytes, or `None` if it does not access memory
-abbrev pub reach_of : Op → Option Reach
-reach_of op.Lb = read_of 1
-reach_of op.Lbu = read_of 1
-reach_of op.Lh = read_of 2
-reach_of op.Lhu = read_of 2
-reach_of op.Lw = read_of 4
-reach_of op.Sb = write_of 1
-reach_of op.Sh = write_of 2
-reach_of op.Sw = write_of 4
-reach_of _ = None
+abbrev pub access_kind_of : Op → Option AccessKind
+access_kind_of op.Lb = read_access 1
+access_kind_of op.Lbu = read_access 1
+access_kind_of op.Lh = read_access 2
+access_kind_of op.Lhu = read_access 2
+access_kind_of op.Lw = read_access 4
+access_kind_of op.Sb = write_access 1
+access_kind_of op.Sh = write_access 2
+access_kind_of op.Sw = write_access 4
+access_kind_of _ = None
 
 -- the bytes that the instruction `i` reads or writes in the state `s`, or `None` if it does not access memory
 abbrev pub access_by : State → Instr → Option Access
-access_by s i = option_map (λ reach. record { is_read = reach.is_read; address = address s i; count = reach.count }) (reach_of i.op)
+access_by s i = option_map (λ reach. record { is_read = reach.is_read; address = address s i; count = reach.count }) (access_kind_of i.op)
 
 -- the bytes that the instruction at the pc reads or writes, or `None` if it does not access memory or there is no instruction
 abbrev pub access_at : State → Option Access

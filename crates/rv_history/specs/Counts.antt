@@ -23,6 +23,6 @@ pub record IsFirstStepWith (count : Count) (value budget : ℕ) (start : State) 
   pub first : (j : ℕ) → j < place → count_at count start j ≢ value
 
 -- the first step of the run at which the count has this value, or `None` if the run reaches no such step within the budget
-abbrev pub IsFound : Count → ℕ → ℕ → State → Option ℕ → Type 0
-IsFound count value budget start (Some place) = IsFirstStepWith count value budget start place
-IsFound count value budget start None = (j : ℕ) → j ≤ last_step budget start → count_at count start j ≢ value
+abbrev pub IsFirstStepIfAny : Count → ℕ → ℕ → State → Option ℕ → Type 0
+IsFirstStepIfAny count value budget start (Some place) = IsFirstStepWith count value budget start place
+IsFirstStepIfAny count value budget start None = (j : ℕ) → j ≤ last_step budget start → count_at count start j ≢ value

@@ -1,9 +1,9 @@
 -- Forward moves in progress.
 use Rattle.std.specs.Prelude.{ℕ, ◌≤◌, ◌<◌}
 use Rattle.rv_trace.specs.State.{State}
-use Rattle.rv_history.specs.Kept.{IsAt}
+use Rattle.rv_history.specs.StoredStates.{IsAt}
 use Rattle.rv_history.specs.Moves.{HasNoForwardStop, IsNextStop}
-use Rattle.rv_history.specs.declared.forward_move.Arrived.{Arrived}
+use Rattle.rv_history.specs.declared.forward_move.MoveEnd.{MoveEnd}
 use Rattle.rv_history.specs.declared.forward_move.ForwardMove.{ForwardMove}
 use Rattle.rv_history.specs.declared.stops.Stops.{Stops}
 
@@ -15,6 +15,6 @@ pub record IsMoveInProgress (stops : Stops) (start : State) (leg : ForwardMove) 
   pub quiet : (j : ℕ) → leg.from ≤ j → j < leg.at.place → HasNoForwardStop stops leg.bounds leg.budget start leg.from j
 
 -- a forward move ended at its next stop, and its machine is in the state of the run at this step
-abbrev pub IsArrival : Stops → State → ForwardMove → Arrived → Type 0
+abbrev pub IsArrival : Stops → State → ForwardMove → MoveEnd → Type 0
 IsArrival stops start leg arrived =
     IsAt start arrived.at × IsNextStop stops leg.bounds leg.budget start leg.from arrived.at.place arrived.found

@@ -4,21 +4,21 @@ use Rattle.rv_trace.specs.State.{State}
 use Rattle.rv_history.specs.Moves.{IsStopBefore, IsUninterrupted}
 use Rattle.rv_history.specs.Places.{IsBreakAt, IsChangeAt}
 use Rattle.rv_history.specs.declared.found.SearchEnd.{SearchEnd}
-use Rattle.rv_history.specs.declared.found.Found.TheVariants as found
-use Rattle.rv_history.specs.declared.search_back.Part.{Part}
-use Rattle.rv_history.specs.declared.stepping.Stepped.{Stepped}
-use Rattle.rv_history.specs.declared.stepping.Stepped.TheVariants as stepped
+use Rattle.rv_history.specs.declared.found.MoveResult.TheVariants as found
+use Rattle.rv_history.specs.declared.search_back.SearchedPart.{SearchedPart}
+use Rattle.rv_history.specs.declared.stepping.StepResult.{StepResult}
+use Rattle.rv_history.specs.declared.stepping.StepResult.TheVariants as stepped
 use Rattle.rv_history.specs.declared.stops.Stops.{Stops}
 
 -- the last stop after the search has passed the step `place`: `place` if the Bool says that there is a breakpoint, or else `last`
 abbrev pub last_at : Option SearchEnd → ℕ → Bool → Option SearchEnd
-last_at last place is_break = if is_break then Some (record { place = place; found = found.Break }) else last
+last_at last place is_break = if is_break then Some (record { place = place; found = found.Breakpoint }) else last
 
 -- the last stop after the search has passed the step `place`, or `None` if it has found none; given the last stop before, whether there is
 -- a breakpoint at `place`, and the result of the step from there
-abbrev pub last_stop_after : Option SearchEnd → ℕ → Bool → Stepped → Option SearchEnd
-last_stop_after last place is_break stepped.Changed = Some (record { place = place + 1; found = found.Change })
-last_stop_after last place is_break stepped.Quiet = last_at last place is_break
+abbrev pub last_stop_after : Option SearchEnd → ℕ → Bool → StepResult → Option SearchEnd
+last_stop_after last place is_break stepped.WatchTriggered = Some (record { place = place + 1; found = found.WatchTriggered })
+last_stop_after last place is_break stepped.NotTriggered = last_at last place is_break
 last_stop_after last place is_break (stepped.Ended ending) = last_at last place is_break
 
 -- there is no breakpoint at the step `place`, and the step from there triggers no watchpoint
@@ -36,6 +36,6 @@ IsLastStopIn stops budget start begin end (Some last) = IsStopBefore stops budge
 IsLastStopIn stops budget start begin end None = HaveNoStops stops budget start begin end
 
 -- the result of searching backwards from the step `end` to the beginning of a part of the run, for any budget of at least `end` steps
-pub record IsSearchedPart (stops : Stops) (start : State) (end : ℕ) (part : Part) : Type 0 where
+pub record IsSearchedPart (stops : Stops) (start : State) (end : ℕ) (part : SearchedPart) : Type 0 where
   pub begin : part.begin < end
   pub last : (budget : ℕ) → end ≤ budget → IsLastStopIn stops budget start part.begin end part.last

@@ -9,7 +9,7 @@ pub mod Counts
 pub mod Positions
 pub mod PositionCode
 pub mod Printing
-pub mod Kept
+pub mod StoredStates
 pub mod ForwardMoves
 pub use Rattle.rv_trace.specs.Bus
 pub use Rattle.rv_trace.specs.Machine

@@ -4,14 +4,14 @@ ghost use Rattle.std.specs.Prelude.{◌≡◌, ◌+◌};
 ghost use Rattle.rv_trace.specs.IsaWords.{IsWellFormed};
 ghost use Rattle.rv_trace.specs.Effect.{address};
 ghost use Rattle.rv_trace.specs.Machine.{state_of};
-ghost use Rattle.rv_history.specs.Accesses.{access_at, access_by, is_hit, reach_of};
+ghost use Rattle.rv_history.specs.Accesses.{access_at, access_by, is_hit, access_kind_of};
 
 use crate::stops::Watch;
 use rv_trace::{Instr, Machine, Op, accessed_address, code_at, instr_of};
 
 /// How an instruction accesses memory.
 #[derive(Clone, Copy)]
-pub(crate) struct Reach {
+pub(crate) struct AccessKind {
     pub is_read: bool,
     /// The number of bytes.
     pub count: u32,
@@ -40,7 +40,7 @@ fn access_by(machine: &Machine, instr: Instr) -> Option<Access>
     requires { IsWellFormed instr }
     ensures { result ≡ access_by (state_of machine.now) instr }
 {
-    let reach = reach_of(instr.op)?;
+    let reach = access_kind_of(instr.op)?;
     Some(Access {
         is_read: reach.is_read,
         address: accessed_address(machine, instr),
@@ -49,8 +49,8 @@ fn access_by(machine: &Machine, instr: Instr) -> Option<Access>
 }
 
 // Returns whether an instruction reads or writes, and how many bytes, or `None` if it does not access memory.
-fn reach_of(op: Op) -> Option<Reach>
-    ensures { result ≡ reach_of op }
+fn access_kind_of(op: Op) -> Option<AccessKind>
+    ensures { result ≡ access_kind_of op }
 {
     let (is_read, count) = match op {
         Op::Lb | Op::Lbu => (true, 1),
@@ -61,7 +61,7 @@ fn reach_of(op: Op) -> Option<Reach>
         Op::Sw => (false, 4),
         _ => return None,
     };
-    Some(Reach { is_read, count })
+    Some(AccessKind { is_read, count })
 }
 
 impl Access {

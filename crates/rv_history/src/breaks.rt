@@ -8,15 +8,15 @@ ghost use Rattle.rv_history.specs.LastStop.{IsSearchedPart};
 ghost use Rattle.rv_history.specs.ForwardMoves.{IsArrival, IsMoveInProgress};
 ghost use Rattle.rv_history.specs.Stops.{AreUnwatched, is_break};
 ghost use Rattle.rv_history.specs.declared.bounds.Bounds.TheVariants.{All as AllAddresses};
-ghost use Rattle.rv_history.specs.declared.found.Found.TheVariants.{Interrupted};
+ghost use Rattle.rv_history.specs.declared.found.MoveResult.TheVariants.{Interrupted};
 
 use crate::checkpoints::Checkpoints;
-use crate::forward_move::{Arrived, ForwardMove};
-use crate::found::Found;
+use crate::forward_move::{MoveEnd, ForwardMove};
+use crate::found::MoveResult;
 use crate::interrupt::Interrupt;
-use crate::search_back::{Part, last_stop_after};
+use crate::search_back::{SearchedPart, last_stop_after};
 use crate::slices::{is_at_least_a_slice, is_slice_end, slice_end};
-use crate::stepping::{Stepped, step};
+use crate::stepping::{StepResult, step};
 use crate::stops::Stops;
 use rv_trace::Machine;
 use std::alloc::{AllocError, Global};
@@ -29,7 +29,7 @@ pub(crate) fn next_breakpoint<I: Interrupt>(
     mut leg: ForwardMove,
     stops: &Stops,
     interrupt: &mut I,
-) -> Result<Arrived, AllocError>
+) -> Result<MoveEnd, AllocError>
     requires way { IsMoveInProgress stops.now track.old leg }
     requires unbounded { leg.bounds ≡ AllAddresses }
     requires unwatched { AreUnwatched stops.now }
@@ -39,14 +39,14 @@ pub(crate) fn next_breakpoint<I: Interrupt>(
 {
     'places: while leg.at.place < leg.budget {
         if leg.is_stopped(stops) {
-            return Ok(leg.arrived(Found::Break));
+            return Ok(leg.arrived(MoveResult::Breakpoint));
         }
         if leg.store_and_poll(alloc, track, interrupt)? {
-            return Ok(leg.arrived(Found::Interrupted));
+            return Ok(leg.arrived(MoveResult::Interrupted));
         }
         let end = slice_end(leg.at.place, leg.budget);
         if let Some(ending) = step(&mut leg.at.machine) {
-            return Ok(leg.arrived(Found::End(ending)));
+            return Ok(leg.arrived(MoveResult::End(ending)));
         }
         leg.at.place += 1;
         let left = end - leg.at.place;
@@ -64,7 +64,7 @@ pub(crate) fn search_breakpoints<I: Interrupt>(
     end: u32,
     stops: &Stops,
     interrupt: &mut I,
-) -> Result<Option<Part>, AllocError>
+) -> Result<Option<SearchedPart>, AllocError>
     requires some { 0 < end }
     requires comes { (run_of end track.now).steps ≡ end }
     requires unwatched { AreUnwatched stops.now }
@@ -84,11 +84,11 @@ pub(crate) fn search_breakpoints<I: Interrupt>(
         let slice = slice_end(at.place, end);
         let is_break = stops.has_break(at.machine.pc());
         let _ = step(&mut at.machine);
-        last = last_stop_after(last, at.place, is_break, Stepped::Quiet);
+        last = last_stop_after(last, at.place, is_break, StepResult::NotTriggered);
         at.place += 1;
         at.place += run_between(&mut at.machine, stops, slice - at.place);
     }
-    Ok(Some(Part { begin, last }))
+    Ok(Some(SearchedPart { begin, last }))
 }
 
 // Executes at most `most` steps, none of them at a breakpoint, and returns how many it executed. Takes the time of a run.

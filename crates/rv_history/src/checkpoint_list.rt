@@ -2,7 +2,7 @@
 
 ghost use Rattle.std.specs.Prelude.{◌≡◌, ◌≤◌, ◌<◌, [], All, IfNone, IfSome};
 ghost use Rattle.rv_trace.specs.State.{State};
-ghost use Rattle.rv_history.specs.Kept.{AreStates, IsAt, IsLastUpTo};
+ghost use Rattle.rv_history.specs.StoredStates.{AreStates, IsAt, IsLastUpTo};
 
 use crate::machine_at::MachineAt;
 use std::alloc::{AllocError, Global};
@@ -17,7 +17,7 @@ pub(crate) struct CheckpointList {
 
 impl Model for CheckpointList {
     ghost use Rattle.std.specs.Prelude.{◌<◌, ◌≤◌, List, length};
-    ghost use Rattle.rv_history.specs.Kept.{AreDecreasing};
+    ghost use Rattle.rv_history.specs.StoredStates.{AreDecreasing};
     ghost use Rattle.rv_history.specs.declared.machine_at.MachineAt.{MachineAt};
     ghost use Rattle.rv_history.specs.PositionCode.{state_code};
     ghost use Rattle.std.specs.Coded.{codes};
@@ -63,7 +63,7 @@ impl CheckpointList {
     }
 
     /// Whether the state at the step `place` is stored.
-    pub(crate) fn has(&self, place: u32) -> bool {
+    pub(crate) fn contains(&self, place: u32) -> bool {
         match self.last_up_to(place) {
             Some(at) => at.place == place,
             None => false,
@@ -71,7 +71,7 @@ impl CheckpointList {
     }
 
     /// Stores a state. Drops the states at its step and later ones, and the earliest state if there is no room.
-    pub(crate) fn keep(&mut self, at: MachineAt) -> Result<(), AllocError>
+    pub(crate) fn store(&mut self, at: MachineAt) -> Result<(), AllocError>
         ensures { (start : State) → AreStates start self.old → IsAt start at → AreStates start self.new }
     {
         let place = at.place;

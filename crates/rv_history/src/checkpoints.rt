@@ -16,7 +16,7 @@ use std::marker::Model;
 const INTERVAL: u32 = 1 << 22;
 
 // The maximum distance, in steps, from a stored state to the end of a backward move, of a seek, or of a move that stopped at a watchpoint.
-const NEAR: u32 = 1 << 16;
+const MAX_NEAR_DISTANCE: u32 = 1 << 16;
 
 // The default memory limit of a session, in megabytes.
 const DEFAULT_MEGABYTES: u32 = 256;
@@ -53,7 +53,7 @@ pub(crate) struct Checkpoints {
 impl Model for Checkpoints {
     ghost use Rattle.std.specs.Prelude.{◌<◌};
     ghost use Rattle.rv_trace.specs.State.{State};
-    ghost use Rattle.rv_history.specs.Kept.{AreStates};
+    ghost use Rattle.rv_history.specs.StoredStates.{AreStates};
     ghost use Rattle.rv_history.specs.PositionCode.{state_code};
     ghost use Rattle.rv_history.specs.Starts.{start_of};
 
@@ -68,7 +68,7 @@ impl Model for Checkpoints {
 }
 
 impl Checkpoints {
-    ghost use Rattle.rv_history.specs.Kept.{IsAt};
+    ghost use Rattle.rv_history.specs.StoredStates.{IsAt};
     ghost use Rattle.rv_history.specs.Starts.{start_of};
 
     /// Returns a run that has stored no state except its start.
@@ -104,7 +104,7 @@ impl Checkpoints {
     pub(crate) fn before(&self, alloc: Global, place: u32) -> Result<MachineAt, AllocError>
         ensures { IfOk result (λ at. IsAt self.now at × (at.place ≤ place)) }
     {
-        if let Some(kept) = self.nearest(place) {
+        if let Some(kept) = self.last_stored(place) {
             return kept.try_clone(alloc);
         }
         let machine = self.start.machine(alloc)?;
@@ -112,7 +112,7 @@ impl Checkpoints {
     }
 
     /// Returns `at` or a copy of the last stored state at or before the step `place`, whichever is later; `at` is not after that step.
-    pub(crate) fn last_of(
+    pub(crate) fn later_of(
         &self,
         alloc: Global,
         at: MachineAt,
@@ -123,14 +123,14 @@ impl Checkpoints {
         ensures there { IfOk result (IsAt self.now) }
         ensures order { IfOk result (λ last. (at.place ≤ last.place) × (last.place ≤ place)) }
     {
-        match self.nearest(place) {
+        match self.last_stored(place) {
             Some(kept) if at.place < kept.place => kept.try_clone(alloc),
             _ => Ok(at),
         }
     }
 
     // Returns the last stored state at or before the step `place`, or `None` if only the start is.
-    fn nearest(&self, place: u32) -> Option<&MachineAt>
+    fn last_stored(&self, place: u32) -> Option<&MachineAt>
         ensures state { IfSome result (λ at. IsAt self.now at.now) }
         ensures before { IfSome result (λ at. at.now.place ≤ place) }
     {
@@ -148,7 +148,7 @@ impl Checkpoints {
         ensures { IfOk result (λ machine. state_of machine ≡ state_after steps self.now) }
     {
         let mut at = self.before(alloc, steps)?;
-        let _ = at.go_to(steps);
+        let _ = at.run_to_step(steps);
         Ok(at.machine)
     }
 
@@ -165,13 +165,13 @@ impl Checkpoints {
     {
         let mut at = self.before(alloc, place)?;
         while let Some(next) = self.next_step_to_store(at.place, place) {
-            let _ = at.go_to(next);
+            let _ = at.run_to_step(next);
             if at.place < next {
                 break;
             }
-            self.keep(alloc, &at)?;
+            self.store(alloc, &at)?;
         }
-        let ending = at.go_to(place);
+        let ending = at.run_to_step(place);
         Ok((at, ending))
     }
 
@@ -199,10 +199,10 @@ impl Checkpoints {
         requires { IsAt self.old at.now }
         ensures { self.new ≡ self.old }
     {
-        if at.place == 0 || at.place % self.interval != 0 || self.coarse.has(at.place) {
+        if at.place == 0 || at.place % self.interval != 0 || self.coarse.contains(at.place) {
             return Ok(());
         }
-        self.keep(alloc, at)
+        self.store(alloc, at)
     }
 
     // Returns the next step after `at`, up to `place`, at which a state must be stored, or `None` if there is none.
@@ -215,14 +215,14 @@ impl Checkpoints {
         if stride <= left {
             return Some(at + stride);
         }
-        if NEAR < left {
+        if MAX_NEAR_DISTANCE < left {
             return Some(at + left / 2);
         }
         None
     }
 
     // Stores the state of a machine. Doubles the interval if there is no room for another state at its multiples.
-    fn keep(&mut self, alloc: Global, at: &MachineAt) -> Result<(), AllocError>
+    fn store(&mut self, alloc: Global, at: &MachineAt) -> Result<(), AllocError>
         requires { IsAt self.old at.now }
         ensures { self.new ≡ self.old }
     {
@@ -232,9 +232,9 @@ impl Checkpoints {
             self.coarse.retain_multiples(self.interval);
         }
         if at.place % self.interval == 0 {
-            self.coarse.keep(kept)
+            self.coarse.store(kept)
         } else {
-            self.near.keep(kept)
+            self.near.store(kept)
         }
     }
 }

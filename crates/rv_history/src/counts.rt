@@ -1,7 +1,7 @@
 //! Counts that a run reaches.
 
 ghost use Rattle.std.specs.Prelude.{◌≡◌, ◌≤◌, IfOk};
-ghost use Rattle.rv_history.specs.Counts.{IsFound, count_value};
+ghost use Rattle.rv_history.specs.Counts.{IsFirstStepIfAny, count_value};
 ghost use Rattle.rv_history.specs.Starts.{start_of};
 
 use crate::start::Start;
@@ -20,14 +20,14 @@ pub enum Count {
 
 /// Returns the first step at which a count has this value, or `None` if the run reaches no such step. Takes the time of the run up to
 /// there.
-pub(crate) fn first_with(
+pub(crate) fn first_step_with(
     alloc: Global,
     start: &Start,
     budget: u32,
     count: Count,
     value: u32,
 ) -> Result<Option<u32>, AllocError>
-    ensures { IfOk result (IsFound count value budget (start_of start.now)) }
+    ensures { IfOk result (IsFirstStepIfAny count value budget (start_of start.now)) }
 {
     let mut machine = start.machine(alloc)?;
     let script = start.bus.script_remaining();

@@ -2,13 +2,13 @@
 
 ghost use Rattle.std.specs.Prelude.{◌≡◌, ◌≤◌, ◌&&◌, IfOk, IsTrue, nat_lt, true};
 ghost use Rattle.rv_trace.specs.Machine.{state_of};
-ghost use Rattle.rv_history.specs.Kept.{IsAt};
+ghost use Rattle.rv_history.specs.StoredStates.{IsAt};
 ghost use Rattle.rv_history.specs.Moves.{result_at_budget};
 ghost use Rattle.rv_history.specs.Stops.{halts_at};
 
 use crate::bounds::Bounds;
 use crate::checkpoints::Checkpoints;
-use crate::found::Found;
+use crate::found::MoveResult;
 use crate::interrupt::Interrupt;
 use crate::machine_at::MachineAt;
 use crate::slices::{is_at_least_a_slice, is_slice_end};
@@ -29,17 +29,17 @@ pub(crate) struct ForwardMove {
 
 /// The machine at the step where a forward move ended, and the result of the move.
 #[derive(Drop)]
-pub(crate) struct Arrived {
+pub(crate) struct MoveEnd {
     pub at: MachineAt,
-    pub found: Found,
+    pub found: MoveResult,
 }
 
 impl ForwardMove {
     /// Returns the end of the move at its current step, with this result.
-    pub(crate) fn arrived(self, found: Found) -> Arrived
+    pub(crate) fn arrived(self, found: MoveResult) -> MoveEnd
         ensures { result ≡ record { at = self.at; found = found } }
     {
-        Arrived { at: self.at, found }
+        MoveEnd { at: self.at, found }
     }
 
     /// Whether the move must stop at its current step: it is after its first step, and at a breakpoint or outside of the bounds.
@@ -52,14 +52,14 @@ impl ForwardMove {
 
     /// Returns the result of a move that has used up the budget: that it is at a breakpoint or outside of the bounds, or else the end of
     /// the run.
-    pub(crate) fn result_at_budget(&self, stops: &Stops) -> Found
+    pub(crate) fn result_at_budget(&self, stops: &Stops) -> MoveResult
         ensures { result ≡ result_at_budget (nat_lt self.now.from self.now.at.place
             && halts_at stops.now self.now.bounds (state_of self.now.at.machine).pc) }
     {
         if self.is_stopped(stops) {
-            Found::Break
+            MoveResult::Breakpoint
         } else {
-            Found::End(Ending::Budget)
+            MoveResult::End(Ending::Budget)
         }
     }
 

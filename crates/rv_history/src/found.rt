@@ -4,17 +4,17 @@ use rv_trace::Ending;
 
 /// The result of a move: why it ended.
 #[derive(Clone, Copy)]
-pub enum Found {
+pub enum MoveResult {
     /// The step was completed.
     Done,
     /// The pc is at a breakpoint, or outside the bounds of a forward move.
-    Break,
+    Breakpoint,
     /// A watchpoint is triggered: by the next step after a forward move, by the preceding step after a backward move.
-    Change,
+    WatchTriggered,
     /// The run ends here.
     End(Ending),
     /// The run begins here.
-    Begin,
+    RunStart,
     /// An interrupt ended the move.
     Interrupted,
 }
@@ -23,5 +23,5 @@ pub enum Found {
 #[derive(Clone, Copy)]
 pub(crate) struct SearchEnd {
     pub place: u32,
-    pub found: Found,
+    pub found: MoveResult,
 }

@@ -6,15 +6,15 @@ ghost use Rattle.rv_trace.specs.Trace.{state_after};
 
 use crate::bounds::Bounds;
 use crate::checkpoints::Checkpoints;
-use crate::counts::{Count, first_with};
+use crate::counts::{Count, first_step_with};
 use crate::forward_move::ForwardMove;
-use crate::found::{Found, SearchEnd};
+use crate::found::{MoveResult, SearchEnd};
 use crate::interrupt::Interrupt;
 use crate::machine_at::MachineAt;
 use crate::search::next_stop;
 use crate::search_back::{step_before, stop_before};
 use crate::start::Start;
-use crate::stepping::{Stepped, step_watched};
+use crate::stepping::{StepResult, step_watched};
 use crate::stops::{Stops, WatchHit};
 use rv_trace::{Ending, Machine};
 use std::alloc::{AllocError, Global};
@@ -47,7 +47,7 @@ impl Model for History {
 }
 
 impl History {
-    ghost use Rattle.rv_history.specs.Counts.{IsFirstStepWith, IsFound};
+    ghost use Rattle.rv_history.specs.Counts.{IsFirstStepWith, IsFirstStepIfAny};
     ghost use Rattle.rv_history.specs.Moves.{IsNextStep, IsNextStop, IsStepBefore, IsStopBefore};
     ghost use Rattle.rv_history.specs.Places.{IsReached, last_step};
     ghost use Rattle.rv_history.specs.Starts.{start_of};
@@ -97,9 +97,9 @@ impl History {
         stops: &Stops,
         bounds: Bounds,
         interrupt: &mut I,
-    ) -> Result<Found, AllocError>
+    ) -> Result<MoveResult, AllocError>
         ensures stop { IfOk result (IsNextStop stops.now bounds self.old.budget self.old.start self.old.place self.new.place) }
-        ensures broken_off { IfOk result (λ found. found ≡ Found.Interrupted → I.was_raised interrupt.new ≡ true) }
+        ensures broken_off { IfOk result (λ found. found ≡ MoveResult.Interrupted → I.was_raised interrupt.new ≡ true) }
         ensures run { self.new ≡ record self.old { place = self.new.place } }
         ensures same { OnErr result (self.new ≡ self.old) }
     {
@@ -121,22 +121,22 @@ impl History {
 
     /// Moves one step forwards, and returns why the move ended. Does not move at the end of the run, or if the step would trigger a
     /// watchpoint.
-    pub fn step(&mut self, alloc: Global, stops: &Stops) -> Result<Found, AllocError>
+    pub fn step(&mut self, alloc: Global, stops: &Stops) -> Result<MoveResult, AllocError>
         ensures step { IfOk result (IsNextStep stops.now self.old.budget self.old.start self.old.place self.new.place) }
         ensures run { self.new ≡ record self.old { place = self.new.place } }
         ensures same { OnErr result (self.new ≡ self.old) }
     {
         if self.place == self.budget {
-            return Ok(Found::End(Ending::Budget));
+            return Ok(MoveResult::End(Ending::Budget));
         }
         let mut machine = self.machine.try_clone(alloc)?;
         match step_watched(alloc, &mut machine, stops)? {
-            Stepped::Ended(ending) => Ok(Found::End(ending)),
-            Stepped::Changed => Ok(Found::Change),
-            Stepped::Quiet => {
+            StepResult::Ended(ending) => Ok(MoveResult::End(ending)),
+            StepResult::WatchTriggered => Ok(MoveResult::WatchTriggered),
+            StepResult::NotTriggered => {
                 self.machine = machine;
                 self.place += 1;
-                Ok(Found::Done)
+                Ok(MoveResult::Done)
             }
         }
     }
@@ -148,37 +148,37 @@ impl History {
         alloc: Global,
         stops: &Stops,
         interrupt: &mut I,
-    ) -> Result<Found, AllocError>
+    ) -> Result<MoveResult, AllocError>
         ensures stop { IfOk result (IsStopBefore stops.now self.old.budget self.old.start self.old.place self.new.place) }
-        ensures broken_off { IfOk result (λ found. found ≡ Found.Interrupted → I.was_raised interrupt.new ≡ true) }
+        ensures broken_off { IfOk result (λ found. found ≡ MoveResult.Interrupted → I.was_raised interrupt.new ≡ true) }
         ensures run { self.new ≡ record self.old { place = self.new.place } }
         ensures same { OnErr result (self.new ≡ self.old) }
     {
-        if stops.are_none() {
+        if stops.is_empty() {
             let begin = SearchEnd {
                 place: 0,
-                found: Found::Begin,
+                found: MoveResult::RunStart,
             };
-            return self.arrive(alloc, begin);
+            return self.finish_search(alloc, begin);
         }
         // From now on there are stored states near the current step, and the parts of the search are short.
         let _ = self.track.reach(alloc, self.place)?;
         let arrival = stop_before(alloc, &self.track, self.place, stops, interrupt)?;
-        if let Found::Interrupted = arrival.found {
+        if let MoveResult::Interrupted = arrival.found {
             return Ok(arrival.found);
         }
-        self.arrive(alloc, arrival)
+        self.finish_search(alloc, arrival)
     }
 
     /// Moves one step back, and returns why the move ended. Does not move at the start of the run, or after a step that triggers a
     /// watchpoint.
-    pub fn step_back(&mut self, alloc: Global, stops: &Stops) -> Result<Found, AllocError>
+    pub fn step_back(&mut self, alloc: Global, stops: &Stops) -> Result<MoveResult, AllocError>
         ensures step { IfOk result (IsStepBefore stops.now self.old.budget self.old.start self.old.place self.new.place) }
         ensures run { self.new ≡ record self.old { place = self.new.place } }
         ensures same { OnErr result (self.new ≡ self.old) }
     {
         let arrival = step_before(alloc, &self.track, self.place, stops)?;
-        self.arrive(alloc, arrival)
+        self.finish_search(alloc, arrival)
     }
 
     /// Moves to the step `place` if the run reaches it, and returns whether it does.
@@ -210,14 +210,14 @@ impl History {
     ) -> Result<bool, AllocError>
         ensures granted { IfOk result (λ granted. MatchBool granted
             (IsFirstStepWith count value self.old.budget self.old.start self.new.place)
-            (IsFound count value self.old.budget self.old.start None × (self.new ≡ self.old))) }
+            (IsFirstStepIfAny count value self.old.budget self.old.start None × (self.new ≡ self.old))) }
         ensures run { self.new ≡ record self.old { place = self.new.place } }
         ensures same { OnErr result (self.new ≡ self.old) }
     {
-        match first_with(alloc, self.track.start(), self.budget, count, value)? {
+        match first_step_with(alloc, self.track.start(), self.budget, count, value)? {
             Some(place) => {
-                let found = Found::Done;
-                let _ = self.arrive(alloc, SearchEnd { place, found })?;
+                let found = MoveResult::Done;
+                let _ = self.finish_search(alloc, SearchEnd { place, found })?;
                 Ok(true)
             }
             None => Ok(false),
@@ -257,7 +257,7 @@ impl History {
     }
 
     // Moves to the step where a search ended, and returns the result of the search.
-    fn arrive(&mut self, alloc: Global, arrival: SearchEnd) -> Result<Found, AllocError>
+    fn finish_search(&mut self, alloc: Global, arrival: SearchEnd) -> Result<MoveResult, AllocError>
         requires { arrival.place ≤ last_step self.old.budget self.old.start }
         ensures found { IfOk result (λ found. found ≡ arrival.found) }
         ensures moved { IfOk result (λ found. self.new ≡ record self.old { place = arrival.place }) }

@@ -27,7 +27,7 @@ mod watch_hits;
 
 pub use bounds::Bounds;
 pub use counts::Count;
-pub use found::Found;
+pub use found::MoveResult;
 pub use history::History;
 pub use interrupt::Interrupt;
 pub use law::{console_only_grows, moves_are_determined};

@@ -4,7 +4,7 @@ ghost use Rattle.std.specs.Prelude.{◌≡◌, ◌≤◌, IfOk};
 ghost use Rattle.rv_trace.specs.Machine.{state_of};
 ghost use Rattle.rv_trace.specs.Run.{run_of};
 ghost use Rattle.rv_trace.specs.State.{State};
-ghost use Rattle.rv_history.specs.Kept.{IsAt};
+ghost use Rattle.rv_history.specs.StoredStates.{IsAt};
 
 use rv_trace::{Ending, Machine};
 use std::alloc::{AllocError, Global};
@@ -30,7 +30,7 @@ impl MachineAt {
     }
 
     /// Runs the machine to the step `place`, or to the end of the run if that comes first. Returns how this run ended.
-    pub(crate) fn go_to(&mut self, place: u32) -> Ending
+    pub(crate) fn run_to_step(&mut self, place: u32) -> Ending
         requires { self.old.place ≤ place }
         ensures ran { (start : State) → IsAt start self.old → run_of place start
             ≡ record { ending = result; steps = self.new.place; state = state_of self.new.machine } }

@@ -1,20 +1,20 @@
 //! Forward searches in a run.
 
 ghost use Rattle.std.specs.Prelude.{◌≡◌, ◌≤◌, IfOk, true};
-ghost use Rattle.rv_history.specs.Kept.{IsAt};
+ghost use Rattle.rv_history.specs.StoredStates.{IsAt};
 ghost use Rattle.rv_history.specs.ForwardMoves.{IsArrival, IsMoveInProgress};
 ghost use Rattle.rv_history.specs.Stops.{AreEmpty};
 ghost use Rattle.rv_history.specs.declared.bounds.Bounds.TheVariants.{All as AllAddresses};
-ghost use Rattle.rv_history.specs.declared.found.Found.TheVariants.{Interrupted};
+ghost use Rattle.rv_history.specs.declared.found.MoveResult.TheVariants.{Interrupted};
 ghost use Rattle.rv_history.specs.declared.stops.Stops.{Stops};
 
 use crate::breaks::next_breakpoint;
 use crate::checkpoints::Checkpoints;
-use crate::forward_move::{Arrived, ForwardMove};
-use crate::found::Found;
+use crate::forward_move::{MoveEnd, ForwardMove};
+use crate::found::MoveResult;
 use crate::interrupt::Interrupt;
 use crate::slices::slice_end;
-use crate::stepping::{Stepped, step_with_watched_bytes};
+use crate::stepping::{StepResult, step_with_watched_bytes};
 use crate::stops::Stops;
 use rv_trace::Ending;
 use std::alloc::{AllocError, Global};
@@ -26,7 +26,7 @@ pub(crate) fn next_stop<I: Interrupt>(
     leg: ForwardMove,
     stops: &Stops,
     interrupt: &mut I,
-) -> Result<Arrived, AllocError>
+) -> Result<MoveEnd, AllocError>
     requires { IsMoveInProgress stops.now track.old leg }
     ensures stop { IfOk result (IsArrival stops.now track.old leg) }
     ensures broken_off { IfOk result (λ arrived. arrived.found ≡ Interrupted → I.was_raised interrupt.new ≡ true) }
@@ -36,7 +36,7 @@ pub(crate) fn next_stop<I: Interrupt>(
         return next_stop_by_steps(alloc, track, leg, stops, interrupt);
     }
     // Without stops to look for, the run goes at full speed.
-    if stops.are_none() {
+    if stops.is_empty() {
         return run_to_end(alloc, track, leg, interrupt);
     }
     if stops.have_no_watchpoints() {
@@ -52,7 +52,7 @@ fn next_stop_by_steps<I: Interrupt>(
     mut leg: ForwardMove,
     stops: &Stops,
     interrupt: &mut I,
-) -> Result<Arrived, AllocError>
+) -> Result<MoveEnd, AllocError>
     requires { IsMoveInProgress stops.now track.old leg }
     ensures stop { IfOk result (IsArrival stops.now track.old leg) }
     ensures broken_off { IfOk result (λ arrived. arrived.found ≡ Interrupted → I.was_raised interrupt.new ≡ true) }
@@ -61,20 +61,20 @@ fn next_stop_by_steps<I: Interrupt>(
     let mut watched = stops.watched_bytes(alloc, leg.at.machine.bus())?;
     'places: while leg.at.place < leg.budget {
         if leg.is_stopped(stops) {
-            return Ok(leg.arrived(Found::Break));
+            return Ok(leg.arrived(MoveResult::Breakpoint));
         }
         if leg.store_and_poll(alloc, track, interrupt)? {
-            return Ok(leg.arrived(Found::Interrupted));
+            return Ok(leg.arrived(MoveResult::Interrupted));
         }
         match step_with_watched_bytes(alloc, &mut leg.at.machine, stops, &mut watched)? {
-            Stepped::Ended(ending) => return Ok(leg.arrived(Found::End(ending))),
-            Stepped::Changed => {
+            StepResult::Ended(ending) => return Ok(leg.arrived(MoveResult::End(ending))),
+            StepResult::WatchTriggered => {
                 // The machine is after the step, and the move before it.
                 let at = track.machine_at_step(alloc, leg.at.place)?;
-                let found = Found::Change;
-                return Ok(Arrived { at, found });
+                let found = MoveResult::WatchTriggered;
+                return Ok(MoveEnd { at, found });
             }
-            Stepped::Quiet => {}
+            StepResult::NotTriggered => {}
         }
         leg.at.place += 1;
     }
@@ -89,7 +89,7 @@ fn run_to_end<I: Interrupt>(
     track: &mut Checkpoints,
     leg: ForwardMove,
     interrupt: &mut I,
-) -> Result<Arrived, AllocError>
+) -> Result<MoveEnd, AllocError>
     requires there { IsAt track.old leg.at }
     requires order { leg.from ≤ leg.at.place }
     requires within { leg.at.place ≤ leg.budget }
@@ -98,7 +98,7 @@ fn run_to_end<I: Interrupt>(
     ensures broken_off { IfOk result (λ arrived. arrived.found ≡ Interrupted → I.was_raised interrupt.new ≡ true) }
     ensures same { track.new ≡ track.old }
 {
-    let at = track.last_of(alloc, leg.at, leg.budget)?;
+    let at = track.later_of(alloc, leg.at, leg.budget)?;
     let mut way = ForwardMove {
         from: leg.from,
         budget: leg.budget,
@@ -107,13 +107,13 @@ fn run_to_end<I: Interrupt>(
     };
     'places: while way.at.place < way.budget {
         if way.store_and_poll(alloc, track, interrupt)? {
-            return Ok(way.arrived(Found::Interrupted));
+            return Ok(way.arrived(MoveResult::Interrupted));
         }
         let end = slice_end(way.at.place, way.budget);
-        let ending = way.at.go_to(end);
+        let ending = way.at.run_to_step(end);
         if way.at.place < end {
-            return Ok(way.arrived(Found::End(ending)));
+            return Ok(way.arrived(MoveResult::End(ending)));
         }
     }
-    Ok(way.arrived(Found::End(Ending::Budget)))
+    Ok(way.arrived(MoveResult::End(Ending::Budget)))
 }

@@ -4,20 +4,20 @@ ghost use Rattle.std.specs.Prelude.{◌≡◌, ◌≤◌, ◌<◌, ℕ, IfNone, 
 ghost use Rattle.rv_trace.specs.Run.{run_of};
 ghost use Rattle.rv_history.specs.LastStop.{IsSearchedPart, last_stop_after};
 ghost use Rattle.rv_history.specs.Moves.{IsStepBefore, IsStopBefore};
-ghost use Rattle.rv_history.specs.declared.found.Found.TheVariants.{Interrupted};
+ghost use Rattle.rv_history.specs.declared.found.MoveResult.TheVariants.{Interrupted};
 
 use crate::breaks::search_breakpoints;
 use crate::checkpoints::Checkpoints;
-use crate::found::{Found, SearchEnd};
+use crate::found::{MoveResult, SearchEnd};
 use crate::interrupt::Interrupt;
 use crate::slices::{is_at_least_a_slice, is_slice_end};
-use crate::stepping::{Stepped, step_watched, step_with_watched_bytes};
+use crate::stepping::{StepResult, step_watched, step_with_watched_bytes};
 use crate::stops::Stops;
 use std::alloc::{AllocError, Global};
 
 /// The result of searching one part of a run.
 #[derive(Clone, Copy)]
-pub(crate) struct Part {
+pub(crate) struct SearchedPart {
     /// The step where the part begins.
     pub begin: u32,
     /// The last stop in the part; `None` if there is none.
@@ -40,7 +40,7 @@ pub(crate) fn stop_before<I: Interrupt>(
 {
     let broken_off = SearchEnd {
         place: from,
-        found: Found::Interrupted,
+        found: MoveResult::Interrupted,
     };
     let mut end = from;
     while 0 < end {
@@ -57,7 +57,7 @@ pub(crate) fn stop_before<I: Interrupt>(
     }
     Ok(SearchEnd {
         place: 0,
-        found: Found::Begin,
+        found: MoveResult::RunStart,
     })
 }
 
@@ -69,7 +69,7 @@ fn search_part<I: Interrupt>(
     end: u32,
     stops: &Stops,
     interrupt: &mut I,
-) -> Result<Option<Part>, AllocError>
+) -> Result<Option<SearchedPart>, AllocError>
     requires some { 0 < end }
     requires comes { (run_of end track.now).steps ≡ end }
     ensures part { IfOk result (λ searched. IfSome searched (IsSearchedPart stops.now track.now end)) }
@@ -90,7 +90,7 @@ fn search_part<I: Interrupt>(
         let stepped = step_with_watched_bytes(alloc, &mut at.machine, stops, &mut watched)?;
         last = last_stop_after(last, place, is_break, stepped);
     }
-    Ok(Some(Part { begin, last }))
+    Ok(Some(SearchedPart { begin, last }))
 }
 
 /// Returns the last stop after the search has passed the step `place`, or `None` if it has found none. `last` is the last stop before,
@@ -99,21 +99,21 @@ pub(crate) fn last_stop_after(
     last: Option<SearchEnd>,
     place: u32,
     is_break: bool,
-    stepped: Stepped,
+    stepped: StepResult,
 ) -> Option<SearchEnd>
     requires { place < 0xFFFF_FFFF }
     ensures { result ≡ last_stop_after last place is_break stepped }
 {
     match stepped {
-        Stepped::Changed => Some(SearchEnd {
+        StepResult::WatchTriggered => Some(SearchEnd {
             place: place + 1,
-            found: Found::Change,
+            found: MoveResult::WatchTriggered,
         }),
-        Stepped::Quiet | Stepped::Ended(_) => {
+        StepResult::NotTriggered | StepResult::Ended(_) => {
             if is_break {
                 Some(SearchEnd {
                     place,
-                    found: Found::Break,
+                    found: MoveResult::Breakpoint,
                 })
             } else {
                 last
@@ -136,23 +136,23 @@ pub(crate) fn step_before(
     if from == 0 {
         return Ok(SearchEnd {
             place: 0,
-            found: Found::Begin,
+            found: MoveResult::RunStart,
         });
     }
     let before = from - 1;
     let done = SearchEnd {
         place: before,
-        found: Found::Done,
+        found: MoveResult::Done,
     };
     if stops.have_no_watchpoints() {
         return Ok(done);
     }
     let mut machine = track.machine_after(alloc, before)?;
     match step_watched(alloc, &mut machine, stops)? {
-        Stepped::Changed => Ok(SearchEnd {
+        StepResult::WatchTriggered => Ok(SearchEnd {
             place: from,
-            found: Found::Change,
+            found: MoveResult::WatchTriggered,
         }),
-        Stepped::Quiet | Stepped::Ended(_) => Ok(done),
+        StepResult::NotTriggered | StepResult::Ended(_) => Ok(done),
     }
 }

@@ -12,13 +12,13 @@ use std::alloc::{AllocError, Global};
 
 /// The result of a step.
 #[derive(Clone, Copy)]
-pub(crate) enum Stepped {
+pub(crate) enum StepResult {
     /// The step did not complete: the run ended.
     Ended(Ending),
     /// The step triggered a watchpoint.
-    Changed,
+    WatchTriggered,
     /// The step triggered no watchpoint.
-    Quiet,
+    NotTriggered,
 }
 
 /// Executes a step of a machine, and returns whether it completed, and whether it triggered a watchpoint. After an error the step may have
@@ -27,7 +27,7 @@ pub(crate) fn step_watched(
     alloc: Global,
     machine: &mut Machine,
     stops: &Stops,
-) -> Result<Stepped, AllocError>
+) -> Result<StepResult, AllocError>
     ensures { IfOk result (IsStepped stops.now (state_of machine.old) (state_of machine.new)) }
 {
     let mut watched = stops.watched_bytes(alloc, machine.bus())?;
@@ -40,23 +40,23 @@ pub(crate) fn step_with_watched_bytes(
     machine: &mut Machine,
     stops: &Stops,
     watched: &mut Vec<u8>,
-) -> Result<Stepped, AllocError>
+) -> Result<StepResult, AllocError>
     requires { watched.old.items ≡ watched_bytes stops.now (state_of machine.old).bus }
     ensures step { IfOk result (IsStepped stops.now (state_of machine.old) (state_of machine.new)) }
     ensures known { OnOk result (watched.new.items ≡ watched_bytes stops.now (state_of machine.new).bus) }
 {
     let is_touched = stops.access_hit(machine).is_some();
     if let Some(ending) = step(machine) {
-        return Ok(Stepped::Ended(ending));
+        return Ok(StepResult::Ended(ending));
     }
     if !stops.have_bytes(machine.bus(), watched.as_slice()) {
         *watched = stops.watched_bytes(alloc, machine.bus())?;
-        return Ok(Stepped::Changed);
+        return Ok(StepResult::WatchTriggered);
     }
     if is_touched {
-        return Ok(Stepped::Changed);
+        return Ok(StepResult::WatchTriggered);
     }
-    Ok(Stepped::Quiet)
+    Ok(StepResult::NotTriggered)
 }
 
 /// Executes one step of a machine. Returns `None` if it completes, and otherwise the end of the run, with the machine unchanged. This is a

@@ -43,7 +43,7 @@ impl Stops {
     ghost use Rattle.rv_history.specs.Stops.{first_differing, is_break, watched_bytes};
 
     /// Whether there are no breakpoints and no watchpoints.
-    pub(crate) fn are_none(&self) -> bool
+    pub(crate) fn is_empty(&self) -> bool
         ensures { IsTrue result ↔ ((self.now.breaks ≡ [])
             × ((self.now.watches ≡ []) × ((self.now.reads ≡ []) × (self.now.accesses ≡ [])))) }
     {

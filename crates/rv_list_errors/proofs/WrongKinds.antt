@@ -5,7 +5,7 @@ use Rattle.std.specs.Borrow.{Bor}
 use Rattle.std.specs.Fmt.{decimal}
 use Rattle.std.specs.List.{find}
 use Rattle.toml.specs.Data.{Members, get_member}
-use Rattle.rv_lists.specs.declared.keys.Kind.{Kind}
+use Rattle.rv_lists.specs.declared.keys.ValueType.{ValueType}
 use Rattle.rv_list_errors.specs.JobFaults.{BeginsWithRegion, BeginsWithValue, ExplainsSameAs, ExplainsName, ExplainsExpectedValue}
 use Rattle.rv_list_errors.specs.JobFaults.{has_wrong_type_at_key, has_wrong_type_at, key_and_type}
 use Rattle.rv_list_errors.specs.Lines.{BeginsWith}
@@ -27,12 +27,12 @@ pub region_of_number : (key : List ℕ) (ms : Members) (place : ℕ) (told : Lis
 region_of_number key ms place told (rest, so) =
     inr (decimal (place + 1) ++ rest, so ∙ append_assoc (codes "region ") (decimal (place + 1)) rest)
 
-names_of : (found : Option (Bor (Bor (List ℕ) × Kind)))
+names_of : (found : Option (Bor (Bor (List ℕ) × ValueType)))
     → option_map (λ known. key_and_type known.now) found ≡ option_map key_and_type (option_map (λ known. known.now) found)
 names_of None = refl
 names_of (Some known) = refl
 
-pub found_in_names : (ms : Members) (keys : List (Bor (List ℕ) × Kind)) (found : Option (Bor (Bor (List ℕ) × Kind)))
+pub found_in_names : (ms : Members) (keys : List (Bor (List ℕ) × ValueType)) (found : Option (Bor (Bor (List ℕ) × ValueType)))
     → option_map (λ known. known.now) found ≡ find (has_wrong_type_at_key ms) keys
     → option_map (λ known. key_and_type known.now) found ≡ find (has_wrong_type_at ms) (map key_and_type keys)
 found_in_names ms keys found is =

@@ -9,8 +9,8 @@ use Rattle.std.specs.Borrow.{Bor}
 use Rattle.toml.specs.Data.{Data, Items, Members, get_member, item, no_items, table}
 use Rattle.toml.specs.View.{items_view}
 use Rattle.rv_lists.specs.Keys.{is_absent_or, is_number, is_region_array, is_text, is_text_array, text_at_key}
-use Rattle.rv_lists.specs.declared.keys.Kind.{Kind}
-use Rattle.rv_lists.specs.declared.keys.Kind.TheVariants as kind
+use Rattle.rv_lists.specs.declared.keys.ValueType.{ValueType}
+use Rattle.rv_lists.specs.declared.keys.ValueType.TheVariants as kind
 use Rattle.rv_lists.specs.Limits.{max_script_len}
 use Rattle.rv_lists.specs.Faults.{job_error_name}
 use Rattle.rv_lists.specs.declared.error.JobError.{JobError}
@@ -195,12 +195,12 @@ abbrev pub BeginsWithRegion : List ℕ → Members → List ℕ → Type 0
 BeginsWithRegion key ms told = BeginsWithValue key ms told ⊎ BeginsWith (codes "region ") told
 
 -- `told` explains that the value of this key does not have the type of this kind
-abbrev pub ExplainsWrongType : List ℕ → Kind → Members → List ℕ → Type 0
+abbrev pub ExplainsWrongType : List ℕ → ValueType → Members → List ℕ → Type 0
 ExplainsWrongType key kind.Regions ms told = BeginsWithRegion key ms told
 ExplainsWrongType key _ ms told = BeginsWithValue key ms told
 
 -- the keys of a job in the order of the format, each with the type of its value
-abbrev pub types_of_keys : List (List ℕ × Kind)
+abbrev pub types_of_keys : List (List ℕ × ValueType)
 types_of_keys =
     (codes "name", kind.Text)
     ∷ (codes "image", kind.Text)
@@ -221,26 +221,26 @@ types_of_keys =
     ∷ []
 
 -- whether a value has this type
-abbrev pub is_of_kind : Kind → Data → Bool
+abbrev pub is_of_kind : ValueType → Data → Bool
 is_of_kind kind.Text = is_text
 is_of_kind kind.Number = is_number
 is_of_kind kind.Texts = is_text_array
 is_of_kind kind.Regions = is_region_array
 
 -- whether the job has this key, with a value that does not have the type of the key
-abbrev pub has_wrong_type_at : Members → List ℕ × Kind → Bool
+abbrev pub has_wrong_type_at : Members → List ℕ × ValueType → Bool
 has_wrong_type_at ms known = not (is_absent_or (is_of_kind known.1) known.0 ms)
 
 -- a key and its type in the code's table, as contracts see them
-abbrev pub key_and_type : Bor (List ℕ) × Kind → List ℕ × Kind
+abbrev pub key_and_type : Bor (List ℕ) × ValueType → List ℕ × ValueType
 key_and_type known = (known.0.now, known.1)
 
 -- whether the job has this key of the code's table, with a value that does not have the type of the key
-abbrev pub has_wrong_type_at_key : Members → Bor (List ℕ) × Kind → Bool
+abbrev pub has_wrong_type_at_key : Members → Bor (List ℕ) × ValueType → Bool
 has_wrong_type_at_key ms known = has_wrong_type_at ms (key_and_type known)
 
 -- `told` explains that the value of this key has the wrong type; without a key, that some type is invalid
-abbrev pub ExplainsWrongTypeOfKey : Members → Option (List ℕ × Kind) → List ℕ → Type 0
+abbrev pub ExplainsWrongTypeOfKey : Members → Option (List ℕ × ValueType) → List ℕ → Type 0
 ExplainsWrongTypeOfKey ms None told = told ≡ codes "invalid type"
 ExplainsWrongTypeOfKey ms (Some known) told = ExplainsWrongType known.0 known.1 ms told
 

@@ -16,7 +16,7 @@ use crate::names::{Suggestion, push_unknown_same_as};
 use crate::regions::{form_memory_map, push_region_fault};
 use crate::values::{elements_at_key, text_at_key, value_at_key};
 use rv_lists::limits::{MAX_BUDGET, MAX_CONSOLE_LEN, MAX_PATH_LEN, MAX_SCRIPT_LEN, MAX_SYMBOL_LEN};
-use rv_lists::{FaultKind, JOB_KEYS, Kind, is_name};
+use rv_lists::{FaultKind, JOB_KEYS, ValueType, is_name};
 use std::alloc::{AllocError, Global};
 use std::collections::BTreeMap;
 use toml::{Table, Value};
@@ -74,7 +74,7 @@ pub(crate) struct FaultyJob<'a> {
 enum KeyFault {
     Unknown,
     UnknownInRegion,
-    OtherKind(Kind),
+    OtherKind(ValueType),
     Expected(Explanation),
     DuplicateName,
     NoEarlierJob,
@@ -130,20 +130,20 @@ impl<'a> FaultyJob<'a> {
     // Returns the error of a value of the right type, or `None` if it is valid.
     fn value_fault(
         &self,
-        kind: Kind,
+        kind: ValueType,
         key: &str,
         value: &Value,
         met: &CheckedKeys<'_>,
     ) -> Option<KeyFault> {
         match kind {
-            Kind::Text => self.text_fault(key, value.as_str().unwrap_or(""), met),
-            Kind::Number => wanted(number_fault(key, value.as_integer().unwrap_or(0))),
-            Kind::Texts => wanted(signature_fault(elements_at_key(self.table, key))),
-            Kind::Regions if has_region_with_unknown_key(self.table) => Some(
+            ValueType::Text => self.text_fault(key, value.as_str().unwrap_or(""), met),
+            ValueType::Number => wanted(number_fault(key, value.as_integer().unwrap_or(0))),
+            ValueType::Texts => wanted(signature_fault(elements_at_key(self.table, key))),
+            ValueType::Regions if has_region_with_unknown_key(self.table) => Some(
                 KeyFault::UnknownInRegion,
             ),
-            Kind::Regions if form_memory_map(elements_at_key(self.table, key)) => None,
-            Kind::Regions => Some(KeyFault::NoMap),
+            ValueType::Regions if form_memory_map(elements_at_key(self.table, key)) => None,
+            ValueType::Regions => Some(KeyFault::NoMap),
         }
     }
 

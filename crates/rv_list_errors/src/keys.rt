@@ -14,7 +14,7 @@ use crate::message::Message;
 use crate::names::{Suggestion, near_name, push_names};
 use crate::regions::push_region_number;
 use crate::values::elements_at_key;
-use rv_lists::{JOB_KEYS, Kind};
+use rv_lists::{JOB_KEYS, ValueType};
 use toml::{Table, Value};
 
 /// The table that keys belong to: the whole list, a job or a region.
@@ -66,7 +66,7 @@ fn is_job_key(key: &str) -> bool
 }
 
 // Whether `name` is one of these keys.
-fn is_key_among(keys: &[(&str, Kind)], name: &str) -> bool
+fn is_key_among(keys: &[(&str, ValueType)], name: &str) -> bool
     ensures { result ≡ list_any (λ key. bytes_eq name.now key.0.now) keys.now }
 {
     keys.iter().any(|key| name == key.0)

@@ -15,7 +15,7 @@ use crate::explanations::{Explanation, accepted_texts, push_explanation};
 use crate::message::Message;
 use crate::regions::push_region_number;
 use crate::values::{elements_at_key, push_expected_value, value_at_key};
-use rv_lists::{JOB_KEYS, Kind};
+use rv_lists::{JOB_KEYS, ValueType};
 use toml::{Table, Value};
 
 /// Appends the first key of a job, in the order of the format, whose value has the wrong type, and the expected type.
@@ -31,8 +31,8 @@ pub(crate) fn push_wrong_type(message: &mut Message, table: &Table)
 // Returns the first of these keys whose value has the wrong type, or `None` if there is none.
 fn key_of_wrong_type<'k>(
     table: &Table,
-    keys: &'k [(&'static str, Kind)],
-) -> Option<&'k (&'static str, Kind)>
+    keys: &'k [(&'static str, ValueType)],
+) -> Option<&'k (&'static str, ValueType)>
     ensures { option_map (λ known. key_and_type known.now) result
         ≡ find (has_wrong_type_at (table_view table.now)) (map key_and_type keys.now) }
 {
@@ -42,8 +42,8 @@ fn key_of_wrong_type<'k>(
 // Returns the first of these keys whose value has the wrong type, or `None` if there is none.
 fn first_key_of_wrong_type<'k>(
     table: &Table,
-    keys: &'k [(&'static str, Kind)],
-) -> Option<&'k (&'static str, Kind)>
+    keys: &'k [(&'static str, ValueType)],
+) -> Option<&'k (&'static str, ValueType)>
     ensures { option_map (λ known. known.now) result ≡ find (has_wrong_type_at_key (table_view table.now)) keys.now }
 {
     keys.iter()
@@ -51,7 +51,7 @@ fn first_key_of_wrong_type<'k>(
 }
 
 // Whether there is a value at a key and it does not have this type.
-fn is_value_of_other_kind(table: &Table, key: &str, kind: Kind) -> bool
+fn is_value_of_other_kind(table: &Table, key: &str, kind: ValueType) -> bool
     ensures { result ≡ not (is_absent_or (is_of_kind kind) key.now (table_view table.now)) }
 {
     match value_at_key(table, key) {
@@ -61,14 +61,14 @@ fn is_value_of_other_kind(table: &Table, key: &str, kind: Kind) -> bool
 }
 
 /// Whether a value has this type.
-pub(crate) fn is_value_of_type(kind: Kind, value: &Value) -> bool
+pub(crate) fn is_value_of_type(kind: ValueType, value: &Value) -> bool
     ensures { result ≡ is_of_kind kind (view value.now) }
 {
     match kind {
-        Kind::Text => value.is_str(),
-        Kind::Number => value.is_integer(),
-        Kind::Texts => is_array_of_texts(value),
-        Kind::Regions => is_array_of_regions(value),
+        ValueType::Text => value.is_str(),
+        ValueType::Number => value.is_integer(),
+        ValueType::Texts => is_array_of_texts(value),
+        ValueType::Regions => is_array_of_regions(value),
     }
 }
 
@@ -154,14 +154,14 @@ fn is_not_boolean(value: Option<&Value>) -> bool
 const NUMBER: &str = "expected an integer";
 
 /// Appends a key whose value does not have this type, its value, and the expected type. For regions, appends the bad region.
-pub(crate) fn push_value_of_wrong_type(message: &mut Message, table: &Table, key: &str, kind: Kind)
+pub(crate) fn push_value_of_wrong_type(message: &mut Message, table: &Table, key: &str, kind: ValueType)
     ensures { AppendsTextThat message.old message.new (ExplainsWrongType key.now kind (table_view table.now)) }
 {
     match kind {
-        Kind::Text => push_text_of_wrong_type(message, table, key),
-        Kind::Number => push_expected_value(message, table, key, NUMBER),
-        Kind::Texts => push_expected_value(message, table, key, "expected an array of strings"),
-        Kind::Regions => push_regions_of_wrong_type(message, table, key),
+        ValueType::Text => push_text_of_wrong_type(message, table, key),
+        ValueType::Number => push_expected_value(message, table, key, NUMBER),
+        ValueType::Texts => push_expected_value(message, table, key, "expected an array of strings"),
+        ValueType::Regions => push_regions_of_wrong_type(message, table, key),
     }
 }
 

@@ -13,7 +13,7 @@ use toml::{Table, Value};
 
 /// The TOML type of the value of a job's key.
 #[derive(Clone, Copy)]
-pub enum Kind {
+pub enum ValueType {
     Text,
     Number,
     /// An array of texts.
@@ -23,23 +23,23 @@ pub enum Kind {
 }
 
 /// The keys of a job, each with the type of its value.
-pub const JOB_KEYS: [(&str, Kind); 16] = [
-    ("name", Kind::Text),
-    ("image", Kind::Text),
-    ("budget", Kind::Number),
-    ("input", Kind::Text),
-    ("input_hex", Kind::Text),
-    ("region", Kind::Regions),
-    ("load", Kind::Text),
-    ("signature", Kind::Texts),
-    ("expect_exit", Kind::Number),
-    ("expect_signature", Kind::Text),
-    ("expect_console", Kind::Text),
-    ("expect_console_file", Kind::Text),
-    ("expect_end", Kind::Text),
-    ("same_as", Kind::Text),
-    ("isa", Kind::Text),
-    ("misaligned", Kind::Text),
+pub const JOB_KEYS: [(&str, ValueType); 16] = [
+    ("name", ValueType::Text),
+    ("image", ValueType::Text),
+    ("budget", ValueType::Number),
+    ("input", ValueType::Text),
+    ("input_hex", ValueType::Text),
+    ("region", ValueType::Regions),
+    ("load", ValueType::Text),
+    ("signature", ValueType::Texts),
+    ("expect_exit", ValueType::Number),
+    ("expect_signature", ValueType::Text),
+    ("expect_console", ValueType::Text),
+    ("expect_console_file", ValueType::Text),
+    ("expect_end", ValueType::Text),
+    ("same_as", ValueType::Text),
+    ("isa", ValueType::Text),
+    ("misaligned", ValueType::Text),
 ];
 
 /// Returns the value at a key, or `None` if there is no such key.
@@ -118,7 +118,7 @@ fn is_job_key(name: &str) -> bool
 }
 
 // Whether `name` is one of these keys.
-fn is_key_among(keys: &[(&str, Kind)], name: &str) -> bool
+fn is_key_among(keys: &[(&str, ValueType)], name: &str) -> bool
     ensures { result ≡ list_any (λ key. bytes_eq name.now key.0.now) keys.now }
 {
     keys.iter().any(|key| name == key.0)

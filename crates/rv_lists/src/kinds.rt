@@ -10,7 +10,7 @@ ghost use Rattle.rv_lists.specs.Keys.{regions_have_unknown_key, has_wrong_type, 
 ghost use Rattle.rv_lists.specs.KeysInside.{is_value_of_type};
 
 use crate::keys::{
-    JOB_KEYS, Kind, array_at_key, has_unknown_job_key, has_unknown_region_key, value_at_key,
+    JOB_KEYS, ValueType, array_at_key, has_unknown_job_key, has_unknown_region_key, value_at_key,
 };
 use toml::{Table, Value};
 
@@ -65,7 +65,7 @@ fn has_job_key_types(table: &Table) -> bool
 }
 
 // Whether each of these keys is missing from a table, or its value has the required type.
-fn has_key_types(table: &Table, keys: &[(&str, Kind)]) -> bool
+fn has_key_types(table: &Table, keys: &[(&str, ValueType)]) -> bool
     ensures { result ≡ list_all
         (λ key. is_absent_or (is_value_of_type key.1) key.0.now (table_view table.now)) keys.now }
 {
@@ -74,7 +74,7 @@ fn has_key_types(table: &Table, keys: &[(&str, Kind)]) -> bool
 }
 
 // Whether the key is missing, or its value has this type.
-fn is_absent_or_of_type(table: &Table, key: &str, kind: Kind) -> bool
+fn is_absent_or_of_type(table: &Table, key: &str, kind: ValueType) -> bool
     ensures { result ≡ is_absent_or (is_value_of_type kind) key.now (table_view table.now) }
 {
     match value_at_key(table, key) {
@@ -84,14 +84,14 @@ fn is_absent_or_of_type(table: &Table, key: &str, kind: Kind) -> bool
 }
 
 // Whether a value has this type.
-fn is_value_of_type(kind: Kind, value: &Value) -> bool
+fn is_value_of_type(kind: ValueType, value: &Value) -> bool
     ensures { result ≡ is_value_of_type kind (view value.now) }
 {
     match kind {
-        Kind::Text => value.is_str(),
-        Kind::Number => value.is_integer(),
-        Kind::Texts => is_text_array(value),
-        Kind::Regions => is_region_array(value),
+        ValueType::Text => value.is_str(),
+        ValueType::Number => value.is_integer(),
+        ValueType::Texts => is_text_array(value),
+        ValueType::Regions => is_region_array(value),
     }
 }
 

@@ -23,7 +23,7 @@ mod texts;
 pub use all_faults::{first_fault_refuses_a_list, read_faults};
 pub use error::{JobError, What};
 pub use job::{ExpectedConsole, ExpectedEnd, Job, JobList, Symbols};
-pub use keys::{JOB_KEYS, Kind};
+pub use keys::{JOB_KEYS, ValueType};
 pub use list::read_jobs;
 
 // From the crates below: what this interface names, and what its callers need with it.

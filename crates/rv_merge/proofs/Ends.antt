@@ -236,7 +236,7 @@ module _ (texts : List (List ℕ)) (shard : Shard) (sources : List (Option ℕ))
   flawed at (flaw.RepeatedName n) w =
       has_name_twice texts shard sources slots h w.all some n at w.low w.there w.twice
   flawed at (flaw.Line line) w = absurd w
-  flawed at flaw.CutOff w = absurd w
+  flawed at flaw.Truncated w = absurd w
   flawed at flaw.Whole w = absurd w
   flawed at flaw.Choice w = absurd w
   flawed at flaw.DifferentShardCount w = absurd w

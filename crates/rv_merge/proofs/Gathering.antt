@@ -232,7 +232,7 @@ has_other_run texts at first part flaw.DifferentJobCount a b h =
 has_other_run texts at first part flaw.DifferentStamp a b h =
     record { shard = first; other = part; is = a; of = b; differ = h }
 has_other_run texts at first part (flaw.Line line) a b h = absurd h
-has_other_run texts at first part flaw.CutOff a b h = absurd h
+has_other_run texts at first part flaw.Truncated a b h = absurd h
 has_other_run texts at first part flaw.Whole a b h = absurd h
 has_other_run texts at first part flaw.Choice a b h = absurd h
 has_other_run texts at first part (flaw.DifferentText earlier) a b h = absurd h
@@ -249,7 +249,7 @@ has_other_kind texts at report flaw.DifferentShardCount is h = absurd h
 has_other_kind texts at report flaw.DifferentJobCount is h = absurd h
 has_other_kind texts at report flaw.DifferentStamp is h = absurd h
 has_other_kind texts at report (flaw.Line line) is h = absurd h
-has_other_kind texts at report flaw.CutOff is h = absurd h
+has_other_kind texts at report flaw.Truncated is h = absurd h
 has_other_kind texts at report (flaw.DifferentText earlier) is h = absurd h
 has_other_kind texts at report (flaw.RepeatedName n) is h = absurd h
 

@@ -94,7 +94,7 @@ flaw_never : (run : Run) (rows : List Row) (texts : List (List ℕ)) (at : ℕ) 
 flaw_never run rows texts at (flaw.Line line) parts new within h =
     let p = each_part run rows texts at parts within in
     h.none p.1.of.report p.1.of.saved p.1.of.text
-flaw_never run rows texts at flaw.CutOff parts new within h =
+flaw_never run rows texts at flaw.Truncated parts new within h =
     let p = each_part run rows texts at parts within in
     h.none p.1.of.report p.1.of.saved p.1.of.text
 flaw_never run rows texts at flaw.Whole parts new within h =

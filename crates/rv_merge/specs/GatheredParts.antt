@@ -11,7 +11,7 @@ use Rattle.rv_merge.specs.declared.error.Flaw.{Flaw}
 use Rattle.rv_merge.specs.declared.error.Flaw.TheVariants as flaw
 use Rattle.rv_merge.specs.declared.error.MergeError.{MergeError}
 use Rattle.rv_merge.specs.declared.error.MergeError.TheVariants as error
-use Rattle.rv_merge.specs.declared.gathered_parts.Gathered.{Gathered}
+use Rattle.rv_merge.specs.declared.gathered_parts.MergeState.{MergeState}
 use Rattle.rv_merge.specs.declared.part.Part.{Part}
 use Rattle.rv_merge.specs.Parts.{IsReportAt, Run, run_of_shard, shard_in, nth_text}
 use Rattle.rv_merge.specs.Refusals.{IsRepeatedName}
@@ -87,7 +87,7 @@ pub record Holds (texts : List (List ℕ)) (count : ℕ) (shard : Shard)
       (at : ℕ) → at < count → IsPartAdded (run_of_shard shard) sources slots (nth_text texts at)
 
 -- the first `count` texts have been added to `g`
-abbrev pub IsMergeStateAfter : List (List ℕ) → ℕ → Gathered → Type 0
+abbrev pub IsMergeStateAfter : List (List ℕ) → ℕ → MergeState → Type 0
 IsMergeStateAfter texts count g = Holds texts count g.first g.sources.items g.slots.items
 
 -- ---- the end

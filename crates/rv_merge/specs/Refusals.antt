@@ -64,7 +64,7 @@ pub record HasRepeatedName (texts : List (List ℕ)) (bytes : List ℕ) (n : ℕ
 -- the text at the index `at` has this flaw
 abbrev pub HasFlaw : List (List ℕ) → ℕ → Flaw → Type 0
 HasFlaw texts at (flaw.Line line) = IsUnread (read.Line line) (nth_text texts at)
-HasFlaw texts at flaw.CutOff = IsUnread read.CutOff (nth_text texts at)
+HasFlaw texts at flaw.Truncated = IsUnread read.Truncated (nth_text texts at)
 HasFlaw texts at flaw.Whole = IsReportAt extent.Whole (nth_text texts at)
 HasFlaw texts at flaw.Choice = (jobs : ℕ) × IsReportAt (extent.Choice jobs) (nth_text texts at)
 HasFlaw texts at flaw.DifferentShardCount =

@@ -31,7 +31,7 @@ pub enum Flaw {
     Line(usize),
     /// It is a truncated report.
     #[error("it is truncated")]
-    CutOff,
+    Truncated,
     /// It is a whole report.
     #[error("it is a whole report")]
     Whole,

@@ -14,7 +14,7 @@ use std::alloc::{AllocError, Global};
 
 /// The rows of the texts so far, each in the slot of its job.
 #[derive(Drop)]
-pub(crate) struct Gathered {
+pub(crate) struct MergeState {
     /// The shard of the first text.
     pub(crate) first: Shard,
     /// For each shard, the index of its text, if it has one so far.
@@ -24,7 +24,7 @@ pub(crate) struct Gathered {
 }
 
 /// Returns the state before the first text is added: it has the run of this shard, and no row.
-pub(crate) fn initial_state(alloc: Global, shard: &Shard) -> Result<Gathered, AllocError>
+pub(crate) fn initial_state(alloc: Global, shard: &Shard) -> Result<MergeState, AllocError>
     ensures first { IfOk result (λ g. g.first ≡ shard.now) }
     ensures sources { IfOk result (λ g. g.sources.items ≡ replicate shard.now.shards None) }
     ensures slots { IfOk result (λ g. g.slots.items ≡ replicate shard.now.jobs None) }
@@ -32,7 +32,7 @@ pub(crate) fn initial_state(alloc: Global, shard: &Shard) -> Result<Gathered, Al
     let stamp = String::from_str(alloc, shard.stamp.as_str())?;
     let sources = empty_slots(alloc, shard.shards)?;
     let slots = empty_slots(alloc, shard.jobs)?;
-    Ok(Gathered {
+    Ok(MergeState {
         first: Shard {
             jobs: shard.jobs,
             number: shard.number,
@@ -58,7 +58,7 @@ fn empty_slots<T: Drop>(alloc: Global, count: u32) -> Result<Vec<Option<T>>, All
 /// Adds the rows of a part, whose text is at an index, unless its shard already had an identical text. Returns an error if the part belongs
 /// to another run, or its shard already had a different text.
 pub(crate) fn add_part(
-    gathered: &mut Gathered,
+    gathered: &mut MergeState,
     texts: &[&[u8]],
     at: usize,
     part: Part,

@@ -9,7 +9,7 @@ ghost use Rattle.rv_merge.specs.GatheredParts.{HaveSources, IsMergeStateAfter, I
 ghost use Rattle.rv_merge.specs.GatheredParts.{ExplainsIncomplete, rows_from_slots};
 
 use crate::error::{Flaw, MergeError};
-use crate::gathered_parts::{Gathered, add_part, initial_state};
+use crate::gathered_parts::{MergeState, add_part, initial_state};
 use crate::names::first_repeated_name;
 use crate::part::part_at;
 use rv_rows::{Row, Rows};
@@ -33,7 +33,7 @@ pub fn merge_parts(alloc: Global, texts: &[&[u8]]) -> Result<Rows, MergeError>
 }
 
 // Gathers the rows of all texts, or returns the first error of a text.
-fn gather_parts(alloc: Global, texts: &[&[u8]]) -> Result<Gathered, MergeError>
+fn gather_parts(alloc: Global, texts: &[&[u8]]) -> Result<MergeState, MergeError>
     requires { 0 < length texts.now }
     ensures holds { IfOk result (λ g. IsMergeStateAfter (bytes_of_texts texts.now) (length texts.now) g) }
     ensures err { IfErr result (HasMergeError (bytes_of_texts texts.now)) }
@@ -49,7 +49,7 @@ fn gather_parts(alloc: Global, texts: &[&[u8]]) -> Result<Gathered, MergeError>
 }
 
 // Returns the gathered rows, or an error if a shard has no text or two rows have the same name.
-fn rows_of_parts(alloc: Global, gathered: Gathered) -> Result<Rows, MergeError>
+fn rows_of_parts(alloc: Global, gathered: MergeState) -> Result<Rows, MergeError>
     requires { 0 < length gathered.sources.items }
     ensures rows { IfOk result (λ rows. IsComplete gathered.sources.items gathered.slots.items
         rows) }

@@ -31,7 +31,7 @@ pub(crate) fn part_at(alloc: Global, texts: &[&[u8]], at: usize) -> Result<Part,
         },
         Err(ReadError::OutOfMemory) => Err(MergeError::OutOfMemory),
         Err(ReadError::Line(line)) => Err(MergeError::Text(at, Flaw::Line(line))),
-        Err(ReadError::CutOff) => Err(MergeError::Text(at, Flaw::CutOff)),
+        Err(ReadError::Truncated) => Err(MergeError::Text(at, Flaw::Truncated)),
     }
 }
 

@@ -11,7 +11,7 @@ use Rattle.std.proofs.lemmas.List.Sorted.{IsPermutation-map, ties_still_rise}
 use Rattle.rv_count_tables.specs.Table.{functions_increase_from}
 use Rattle.rv_count_tables.specs.declared.table.FunctionName.{FunctionName}
 use Rattle.rv_count_tables.specs.Trees.{all_steps}
-use Rattle.rv_count_tables.specs.declared_spot.Spot.{Spot}
+use Rattle.rv_count_tables.specs.declared_spot.CallNode.{CallNode}
 use Rattle.rv_profile.specs.Profile.{AreWithin, IsProfileOf, FunctionCounts, precedes, function_counts_of, function_counts, profiles_of}
 use Rattle.rv_profile.specs.declared.function.FunctionProfile.{FunctionProfile}
 use Rattle.rv_profile.proofs.Parts.{profile_within}
@@ -49,7 +49,7 @@ by_address low xs rise k d from within =
     (subst (λ (n : ℕ). address_of (get_or xs k d) ≤ address_of (get_or xs n d)) (sym next)
     (neighbours low xs k d rise (omega (arith, within))))
 
-addresses : (spots : List Spot) (names : List FunctionName) (xs : List FunctionProfile) → profiles_of xs ≡ map (function_counts spots) names
+addresses : (spots : List CallNode) (names : List FunctionName) (xs : List FunctionProfile) → profiles_of xs ≡ map (function_counts spots) names
     → map (λ n. n.function) names ≡ map address_of xs
 addresses spots names xs is =
     sym (map-map (λ (p : FunctionCounts). p.function) (function_counts spots) names)
@@ -105,7 +105,7 @@ none_in_order : IsSortedBy precedes (profiles_of [])
 none_in_order k d from lt = absurd (omega arith)
 
 -- functions that stood by address, sorted stably by these keys
-pub by_own_steps : (spots : List Spot) (names : List FunctionName) (xs ys : List FunctionProfile) → all_steps spots < 2 ^ 64
+pub by_own_steps : (spots : List CallNode) (names : List FunctionName) (xs ys : List FunctionProfile) → all_steps spots < 2 ^ 64
     → functions_increase_from 0 names ≡ true → profiles_of xs ≡ map (function_counts spots) names → IsPermutation xs ys
     → IsSortedByKey key_of nat_cmp ys → IsStableByKey key_of nat_cmp xs ys → IsProfileOf spots names (profiles_of ys)
 by_own_steps spots names xs ys few rise is same sorted stable =

@@ -8,7 +8,7 @@ use Rattle.rv_count_tables.specs.Table.{AreNamesOf, has_name, name_of, functions
 use Rattle.rv_count_tables.specs.declared.table.FunctionName.{FunctionName}
 use Rattle.rv_count_tables.specs.Profiles.{AreFunctionsOf, own_steps_of_all, times}
 use Rattle.rv_count_tables.specs.Trees.{address_if}
-use Rattle.rv_count_tables.specs.declared_spot.Spot.{Spot}
+use Rattle.rv_count_tables.specs.declared_spot.CallNode.{CallNode}
 use Rattle.rv_profile.specs.Profile.{IsProfileOf, FunctionCounts, total_own_steps, function_counts}
 
 abbrev pub function_of : FunctionName → ℕ
@@ -47,18 +47,18 @@ named_once low f (n ∷ ns) rise =
         let named = ap (λ (b : Bool). address_if (has_name (cond b (Some n.name) (name_of f ns)))) is in
         omega (arith, here, named, rest)
 
-pub are_functions : (spots : List Spot) (names : List FunctionName) → functions_increase_from 0 names ≡ true → AreNamesOf spots names
+pub are_functions : (spots : List CallNode) (names : List FunctionName) → functions_increase_from 0 names ≡ true → AreNamesOf spots names
     → AreFunctionsOf spots (map function_of names)
 are_functions spots names rise of = record { once = λ f. named_once 0 f names rise ∙ ap address_if (of f) }
 
-pub own_of_names : (spots : List Spot) (names : List FunctionName) → total_own_steps (map (function_counts spots) names) ≡ own_steps_of_all (map function_of names) spots
+pub own_of_names : (spots : List CallNode) (names : List FunctionName) → total_own_steps (map (function_counts spots) names) ≡ own_steps_of_all (map function_of names) spots
 own_of_names spots [] = refl
 own_of_names spots (n ∷ ns) =
     let h = own_of_names spots ns in
     let a = sum_by-cons (λ (p : FunctionCounts). p.own) (function_counts spots n) (map (function_counts spots) ns) in
     omega (arith, h, a)
 
-pub own_of_profile : (spots : List Spot) (names : List FunctionName) (found : List FunctionCounts) → IsProfileOf spots names found
+pub own_of_profile : (spots : List CallNode) (names : List FunctionName) (found : List FunctionCounts) → IsProfileOf spots names found
     → total_own_steps found ≡ own_steps_of_all (map function_of names) spots
 own_of_profile spots names found is =
     sum_by-IsPermutation (λ (p : FunctionCounts). p.own) (map (function_counts spots) names) found is.each ∙ own_of_names spots names

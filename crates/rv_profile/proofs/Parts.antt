@@ -2,7 +2,7 @@
 use Rattle.std.proofs.Common.{◌==◌, ◌≤◌, Bool, true, false, ℕ, List, [], ◌∷◌, arith}
 use Rattle.rv_count_tables.specs.Profiles.{has_function, inclusive_steps_after}
 use Rattle.rv_count_tables.specs.Trees.{all_steps, own_steps_of, path_after, steps_if}
-use Rattle.rv_count_tables.specs.declared_spot.Spot.{Spot}
+use Rattle.rv_count_tables.specs.declared_spot.CallNode.{CallNode}
 use Rattle.std.specs.List.Sorted.{IsPermutation}
 use Rattle.std.specs.Prelude.{map}
 use Rattle.std.proofs.lemmas.List.Elements.{All-cons, All-nil}
@@ -14,27 +14,27 @@ if_at_most : (test : Bool) (n : ℕ) → steps_if test n ≤ n
 if_at_most true n = omega arith
 if_at_most false n = omega arith
 
-own_at_most : (function : ℕ) (spots : List Spot) → own_steps_of function spots ≤ all_steps spots
+own_at_most : (function : ℕ) (spots : List CallNode) → own_steps_of function spots ≤ all_steps spots
 own_at_most function [] = omega arith
 own_at_most function (s ∷ ss) =
     let here = if_at_most (s.function == function) s.steps in
     let rest = own_at_most function ss in
     omega (arith, here, rest)
 
-inclusive_at_most : (function : ℕ) (front : List ℕ) (spots : List Spot) → inclusive_steps_after function front spots ≤ all_steps spots
+inclusive_at_most : (function : ℕ) (front : List ℕ) (spots : List CallNode) → inclusive_steps_after function front spots ≤ all_steps spots
 inclusive_at_most function front [] = omega arith
 inclusive_at_most function front (s ∷ ss) =
     let here = if_at_most (has_function function (path_after front s)) s.steps in
     let rest = inclusive_at_most function (path_after front s) ss in
     omega (arith, here, rest)
 
-named_within : (spots : List Spot) (names : List FunctionName) → AreWithin (all_steps spots) (map (function_counts spots) names)
+named_within : (spots : List CallNode) (names : List FunctionName) → AreWithin (all_steps spots) (map (function_counts spots) names)
 named_within spots [] = All-nil (IsWithin (all_steps spots))
 named_within spots (n ∷ ns) =
     All-cons (IsWithin (all_steps spots)) (function_counts spots n) (map (function_counts spots) ns)
     (own_at_most n.function spots, inclusive_at_most n.function [] spots) (named_within spots ns)
 
-pub profile_within : (spots : List Spot) (names : List FunctionName) (found : List FunctionCounts) → IsPermutation (map (function_counts spots) names) found
+pub profile_within : (spots : List CallNode) (names : List FunctionName) (found : List FunctionCounts) → IsPermutation (map (function_counts spots) names) found
     → AreWithin (all_steps spots) found
 profile_within spots names found each =
     All-permutation (IsWithin (all_steps spots)) (map (function_counts spots) names) found each (named_within spots names)

@@ -4,30 +4,30 @@ use Rattle.std.specs.Prelude.{nat_lt}
 use Rattle.std.proofs.lemmas.Bool.{and_cases, and_left, and_right, le-ltb, ltb-false}
 use Rattle.std.proofs.lemmas.List.{take_all, take_more, take-append-drop}
 use Rattle.rv_count_tables.specs.Trees.{calls_of_node, sum_over_nodes, steps_of}
-use Rattle.rv_count_tables.specs.declared_spot.Spot.{Spot}
+use Rattle.rv_count_tables.specs.declared_spot.CallNode.{CallNode}
 use Rattle.rv_profile.specs.ImageStacks.{fit_in_64_bits, if_fitting, sums_of, with_node}
 use Rattle.rv_profile.specs.declared.sums.Sums.{Sums}
 
-sum_parts : (count : Spot → ℕ) (xs ys : List Spot)
+sum_parts : (count : CallNode → ℕ) (xs ys : List CallNode)
     → sum_over_nodes count (xs ++ ys) ≡ sum_over_nodes count xs + sum_over_nodes count ys
 sum_parts count [] ys = omega arith
 sum_parts count (x ∷ xs) ys = let h = sum_parts count xs ys in omega (arith, h)
 
-counted_more : (count : Spot → ℕ) (spots : List Spot) (k : ℕ) (d : Spot) → k < length spots
+counted_more : (count : CallNode → ℕ) (spots : List CallNode) (k : ℕ) (d : CallNode) → k < length spots
     → sum_over_nodes count (take (k + 1) spots) ≡ sum_over_nodes count (take k spots) + count (get_or spots k d)
 counted_more count spots k d within =
     let more = ap (sum_over_nodes count) (take_more spots k d within) in
     let parts = sum_parts count (take k spots) (get_or spots k d ∷ []) in
     omega (arith, more, parts)
 
-first_at_most : (count : Spot → ℕ) (spots : List Spot) (k : ℕ) → sum_over_nodes count (take k spots) ≤ sum_over_nodes count spots
+first_at_most : (count : CallNode → ℕ) (spots : List CallNode) (k : ℕ) → sum_over_nodes count (take k spots) ≤ sum_over_nodes count spots
 first_at_most count spots k =
     let parts = sum_parts count (take k spots) (drop k spots) in
     let whole = ap (sum_over_nodes count) (take-append-drop k spots) in
     omega (arith, parts, whole)
 
 -- one spot more
-sums_more : (spots : List Spot) (k : ℕ) (d : Spot) → k < length spots
+sums_more : (spots : List CallNode) (k : ℕ) (d : CallNode) → k < length spots
     → sums_of (take (k + 1) spots) ≡ with_node (sums_of (take k spots)) (get_or spots k d)
 sums_more spots k d within = λ i. record {
   steps = counted_more steps_of spots k d within i;
@@ -60,26 +60,26 @@ past_in_more s t a b st ab past = elim (and_cases (nat_lt s (2 ^ 64)) (nat_lt a 
   | inr many ↦ let high = ltb-false a (2 ^ 64) many in and_right (nat_lt t (2 ^ 64)) (nat_lt b (2 ^ 64)) (le-ltb b (2 ^ 64) (omega (arith, high, ab)))
 ]
 
-past_with : (spots : List Spot) (k : ℕ) (d : Spot) → k < length spots
+past_with : (spots : List CallNode) (k : ℕ) (d : CallNode) → k < length spots
     → fit_in_64_bits (with_node (sums_of (take k spots)) (get_or spots k d)) ≡ false → fit_in_64_bits (sums_of spots) ≡ false
 past_with spots k d within past =
     past_in_more _ _ _ _ (first_at_most steps_of spots (k + 1)) (first_at_most calls_of_node spots (k + 1))
     (ap fit_in_64_bits (sums_more spots k d within) ∙ past)
 
 -- with a spot more
-pub one_more : (spots : List Spot) (k : ℕ) (d : Spot) (s t : Sums) → k < length spots → s ≡ sums_of (take k spots)
+pub one_more : (spots : List CallNode) (k : ℕ) (d : CallNode) (s t : Sums) → k < length spots → s ≡ sums_of (take k spots)
     → Some t ≡ if_fitting (with_node s (get_or spots k d)) → (t ≡ sums_of (take (k + 1) spots)) × (fit_in_64_bits t ≡ true)
 one_more spots k d s t within is more =
     let both = fit (with_node s (get_or spots k d)) t more in
     (both.0 ∙ ap (λ (r : Sums). with_node r (get_or spots k d)) is ∙ sym (sums_more spots k d within), both.1)
 
-pub none_of_all : (spots : List Spot) (k : ℕ) (d : Spot) (s : Sums) → k < length spots → s ≡ sums_of (take k spots)
+pub none_of_all : (spots : List CallNode) (k : ℕ) (d : CallNode) (s : Sums) → k < length spots → s ≡ sums_of (take k spots)
     → None ≡ if_fitting (with_node s (get_or spots k d)) → None ≡ if_fitting (sums_of spots)
 none_of_all spots k d s within is none =
     let past = ap (λ (r : Sums). fit_in_64_bits (with_node r (get_or spots k d))) (sym is) ∙ none_fit (with_node s (get_or spots k d)) none in
     sym (ap (λ (b : Bool). cond b (Some (sums_of spots)) None) (past_with spots k d within past))
 
-pub all_fit : (spots : List Spot) (k : ℕ) (s : Sums) → length spots ≤ k → s ≡ sums_of (take k spots) → fit_in_64_bits s ≡ true
+pub all_fit : (spots : List CallNode) (k : ℕ) (s : Sums) → length spots ≤ k → s ≡ sums_of (take k spots) → fit_in_64_bits s ≡ true
     → Some s ≡ if_fitting (sums_of spots)
 all_fit spots k s all is few =
     let same : s ≡ sums_of spots = is ∙ ap sums_of (take_all k spots all) in

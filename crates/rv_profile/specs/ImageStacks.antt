@@ -7,11 +7,11 @@ use Rattle.rv_count_tables.specs.declared.table.FunctionName.{FunctionName}
 use Rattle.rv_cover_view.specs.ImageCounts.{entry_of_image}
 use Rattle.rv_cover_view.specs.JobImages.{ImageFileView}
 use Rattle.rv_count_tables.specs.Trees.{all_calls, all_steps}
-use Rattle.rv_count_tables.specs.declared_spot.Spot.{Spot}
+use Rattle.rv_count_tables.specs.declared_spot.CallNode.{CallNode}
 use Rattle.rv_profile.specs.declared.sums.Sums.{Sums}
 
 -- the call-tree nodes that the table has for the image with these bytes; empty if the table does not have this image
-abbrev pub nodes_of : CountTable → List ℕ → List Spot
+abbrev pub nodes_of : CountTable → List ℕ → List CallNode
 nodes_of table bytes = option_map_or (λ counted. counted.spots) (entry_of_image table bytes) []
 
 -- the names of the functions that the table has for the image with these bytes; empty if the table does not have this image
@@ -21,7 +21,7 @@ names_of table bytes = option_map_or (λ counted. counted.functions) (entry_of_i
 -- ---- tables with call trees
 
 -- whether the list of nodes is not empty
-abbrev pub has_nodes : List Spot → Bool
+abbrev pub has_nodes : List CallNode → Bool
 has_nodes [] = false
 has_nodes (s ∷ ss) = true
 
@@ -32,11 +32,11 @@ has_stacks table = list_any (λ counted. has_nodes counted.spots) table.images
 -- ---- sums
 
 -- the sum of the steps and the sum of the calls of all nodes
-abbrev pub sums_of : List Spot → Sums
+abbrev pub sums_of : List CallNode → Sums
 sums_of spots = record { steps = all_steps spots; arrivals = all_calls spots }
 
 -- the sums, to which the steps and the calls of one more node are added
-abbrev pub with_node : Sums → Spot → Sums
+abbrev pub with_node : Sums → CallNode → Sums
 with_node sums s = record { steps = sums.steps + s.steps; arrivals = sums.arrivals + s.arrivals }
 
 -- whether both sums fit in 64 bits

@@ -5,7 +5,7 @@ use Rattle.std.specs.List.Sorted.{IsPermutation, IsSortedBy}
 use Rattle.rv_count_tables.specs.declared.table.FunctionName.{FunctionName}
 use Rattle.rv_count_tables.specs.Profiles.{arrivals_in, inclusive_steps_after}
 use Rattle.rv_count_tables.specs.Trees.{own_steps_of}
-use Rattle.rv_count_tables.specs.declared_spot.Spot.{Spot}
+use Rattle.rv_count_tables.specs.declared_spot.CallNode.{CallNode}
 use Rattle.rv_profile.specs.declared.function.FunctionProfile.{FunctionProfile}
 
 -- the counts of a function: its own steps, which are the steps of the nodes whose path ends with it; its inclusive steps, which are the
@@ -20,7 +20,7 @@ pub record FunctionCounts : Type 0 where
   pub arrivals : ℕ
 
 -- the counts in a call tree of the function with this name and address
-abbrev pub function_counts : List Spot → FunctionName → FunctionCounts
+abbrev pub function_counts : List CallNode → FunctionName → FunctionCounts
 function_counts spots named = record {
   name = named.name;
   function = named.function;
@@ -34,7 +34,7 @@ abbrev pub precedes : FunctionCounts → FunctionCounts → Bool
 precedes p q = nat_lt q.own p.own || ((p.own == q.own) && nat_lt p.function q.function)
 
 -- `found` has the counts of each named function in the call tree, once, in the order that `precedes` defines
-pub record IsProfileOf (spots : List Spot) (names : List FunctionName) (found : List FunctionCounts) : Type 0 where
+pub record IsProfileOf (spots : List CallNode) (names : List FunctionName) (found : List FunctionCounts) : Type 0 where
   pub each : IsPermutation (map (function_counts spots) names) found
   pub order : IsSortedBy precedes found
 

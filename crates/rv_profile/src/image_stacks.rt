@@ -8,13 +8,13 @@ ghost use Rattle.rv_count_tables.specs.Trees.{IsTree};
 ghost use Rattle.rv_profile.specs.ImageStacks.{has_stacks, image_past_64_bits, is_past_64_bits, has_nodes, names_of, nodes_of};
 
 use crate::sums::sums_of;
-use rv_count_tables::{CountTable, FunctionName, ImageCounts, Spot};
+use rv_count_tables::{CountTable, FunctionName, ImageCounts, CallNode};
 use rv_cover_view::{ImageFile, entry_of_image};
 
 /// The call tree of an image.
 #[derive(Clone, Copy)]
 pub(crate) struct ImageStacks<'t> {
-    pub(crate) spots: &'t [Spot],
+    pub(crate) spots: &'t [CallNode],
     /// The names of the functions in it, sorted by function address.
     pub(crate) names: &'t [FunctionName],
     ghost rising: { functions_increase_from 0 names.now ≡ true },

@@ -3,7 +3,7 @@
 ghost use Rattle.std.specs.Prelude.{◌≡◌};
 ghost use Rattle.rv_profile.specs.ImageStacks.{if_fitting, sums_of, with_node};
 
-use rv_count_tables::Spot;
+use rv_count_tables::CallNode;
 
 /// How many instructions were executed in all nodes, and how often runs entered them.
 #[derive(Clone, Copy)]
@@ -14,7 +14,7 @@ pub(crate) struct Sums {
 
 impl Sums {
     // Returns the sums, to which the counts of one more node are added, or `None` if one of them does not fit in 64 bits.
-    fn with_node(self, spot: Spot) -> Option<Sums>
+    fn with_node(self, spot: CallNode) -> Option<Sums>
         ensures { result ≡ if_fitting (with_node self spot) }
     {
         Some(Sums {
@@ -25,7 +25,7 @@ impl Sums {
 }
 
 /// Returns the sums over all nodes, or `None` if one of them does not fit in 64 bits.
-pub(crate) fn sums_of(spots: &[Spot]) -> Option<Sums>
+pub(crate) fn sums_of(spots: &[CallNode]) -> Option<Sums>
     ensures { result ≡ if_fitting (sums_of spots.now) }
 {
     let mut sums = Sums {

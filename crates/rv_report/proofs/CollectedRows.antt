@@ -9,7 +9,7 @@ use Rattle.rv_base.specs.Limits.{max_jobs}
 use Rattle.rv_report.specs.declared.row.Row.{Row}
 use Rattle.rv_report.specs.declared.saved.Extent.{Extent}
 use Rattle.rv_report.specs.Report.{line, row_text}
-use Rattle.rv_report.specs.LenientReport.{lines, Gathered, state_between_rows, with_unfinished_row}
+use Rattle.rv_report.specs.LenientReport.{lines, ReaderStateView, state_between_rows, with_unfinished_row}
 use Rattle.rv_report.specs.Saved.{IsValidRow, are_increasing, row_names}
 use Rattle.rv_report.proofs.Spelled.{says, row_says}
 use Rattle.rv_report.proofs.Reports.{rising_parts}
@@ -21,7 +21,7 @@ use Rattle.rv_report.proofs.PartialRow.{Agrees, partial_row}
 
 -- so many rows have a line among the first: behind the earlier rows there are as many, with the same
 -- numbers and names, whose lines begin with those
-pub record Covers (earlier : List ℕ) (done : List Row) (ns : List ℕ) (rows : List Row) (k : ℕ) (f : Gathered) : Type 0 where
+pub record Covers (earlier : List ℕ) (done : List Row) (ns : List ℕ) (rows : List Row) (k : ℕ) (f : ReaderStateView) : Type 0 where
   pub count : ℕ
   pub within : count ≤ length rows
   pub first : List Row
@@ -34,7 +34,7 @@ pub record Covers (earlier : List ℕ) (done : List Row) (ns : List ℕ) (rows :
   pub lines : numbered_lines (take count ns) first ≡ take k (numbered_lines ns rows) ++ more
 
 -- no line of them
-unfoldable pub none_covered : (earlier : List ℕ) (done : List Row) (ns : List ℕ) (rows : List Row) (f : Gathered) → Extends earlier done f
+unfoldable pub none_covered : (earlier : List ℕ) (done : List Row) (ns : List ℕ) (rows : List Row) (f : ReaderStateView) → Extends earlier done f
     → Covers earlier done ns rows zero f
 none_covered earlier done ns rows f h = record {
   count = zero;
@@ -50,7 +50,7 @@ none_covered earlier done ns rows f h = record {
 }
 
 -- no rows
-empty_covered : (earlier : List ℕ) (done : List Row) (k : ℕ) (f : Gathered) → Extends earlier done f
+empty_covered : (earlier : List ℕ) (done : List Row) (k : ℕ) (f : ReaderStateView) → Extends earlier done f
     → Covers earlier done [] [] k f
 empty_covered earlier done zero f h = none_covered earlier done [] [] f h
 empty_covered earlier done (suc k) f h = record {
@@ -67,7 +67,7 @@ empty_covered earlier done (suc k) f h = record {
 }
 
 -- some lines of the first row
-unfoldable pub one_covered : (earlier : List ℕ) (done : List Row) (n : ℕ) (ns : List ℕ) (row : Row) (rows : List Row) (k : ℕ) (f : Gathered)
+unfoldable pub one_covered : (earlier : List ℕ) (done : List Row) (n : ℕ) (ns : List ℕ) (row : Row) (rows : List Row) (k : ℕ) (f : ReaderStateView)
     → k ≤ length (row_lines n row) → HasRow earlier done n (Agrees n row k) f
     → Covers earlier done (n ∷ ns) (row ∷ rows) k f
 one_covered earlier done n ns row rows k f few h = record {
@@ -92,7 +92,7 @@ take_past (x ∷ xs) ys (suc k) i is = ap (λ t. x ∷ t) (take_past xs ys k i (
 
 -- the first row, and lines of those behind it
 unfoldable pub more_covered : (earlier : List ℕ) (done : List Row) (n : ℕ) (ns : List ℕ) (row : Row) (rows : List Row) (k i : ℕ)
-    (f : Gathered) → k ≡ length (row_lines n row) + i
+    (f : ReaderStateView) → k ≡ length (row_lines n row) + i
     → Covers (earlier ++ n ∷ []) (done ++ row ∷ []) ns rows i f
     → Covers earlier done (n ∷ ns) (row ∷ rows) k f
 more_covered earlier done n ns row rows k i f is h =
@@ -177,6 +177,6 @@ rows_covered (suc k) (n ∷ ns) (row ∷ rows) w earlier done e before each coun
           subst C (sym (take_past here later (suc k) i is))
           (more_covered earlier done n ns row rows (suc k) i
           (with_unfinished_row (says (joined (here ++ take i later) ++ w) g)) is
-          (subst (λ (f : Gathered). Covers (earlier ++ n ∷ []) (done ++ row ∷ []) ns rows i (with_unfinished_row f))
+          (subst (λ (f : ReaderStateView). Covers (earlier ++ n ∷ []) (done ++ row ∷ []) ns rows i (with_unfinished_row f))
           (sym (whole_row_says n row (take i later) w earlier done e each.0 (omega arith) (omega arith) (omega arith))) rest))
     ]

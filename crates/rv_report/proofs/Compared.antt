@@ -5,9 +5,9 @@ use Rattle.std.proofs.lemmas.Slice.Eq.{bytes_eq-Decides}
 use Rattle.std.specs.Str.{bytes_eq}
 use Rattle.std.specs.Prelude.{Result, Ok, Err, IfErr}
 use Rattle.std.specs.Result.{IsErrAnd}
-use Rattle.rv_report.specs.declared.read.FirstWord.TheVariants as word
+use Rattle.rv_report.specs.declared.read.FirstWordState.TheVariants as word
 use Rattle.rv_report.specs.declared.read.ReadError.{ReadError}
-use Rattle.rv_report.specs.declared.read.ReadError.TheVariants.{OutOfMemory, Line, CutOff}
+use Rattle.rv_report.specs.declared.read.ReadError.TheVariants.{OutOfMemory, Line, Truncated}
 use Rattle.rv_report.specs.declared.saved.SavedReport.{SavedReport}
 use Rattle.rv_report.specs.LenientReport.{lenient_report}
 use Rattle.rv_report.specs.Saved.{IsValidReport, saved_text}
@@ -37,36 +37,36 @@ never bytes text r s t other wanted h e =
     false≢true (other ∙ (bytes_eq-Decides text bytes).1 same)
 
 pub err_is : (bytes text : List ℕ) (r : SavedReport) (error : ReadError) → r ≡ lenient_report bytes → text ≡ saved_text r
-    → error ≡ read_error_from 1 word.Ahead text bytes → (x : SavedReport) × IsValidReport x × AgreeBeforeError error (saved_text x) bytes
+    → error ≡ read_error_from 1 word.NotStarted text bytes → (x : SavedReport) × IsValidReport x × AgreeBeforeError error (saved_text x) bytes
 err_is bytes text r error s t f = (
   r,
   can_be bytes r s,
   subst (λ (e : ReadError). AgreeBeforeError e (saved_text r) bytes)
-      (sym (f ∙ ap (λ (x : List ℕ). read_error_from 1 word.Ahead x bytes) t))
+      (sym (f ∙ ap (λ (x : List ℕ). read_error_from 1 word.NotStarted x bytes) t))
       (tells (saved_text r) bytes),
 )
 
 is_index : (error place : ReadError) → error ≡ place → IsSameReadError error place
 is_index OutOfMemory place e = tt
 is_index (Line line) place e = sym e
-is_index CutOff place e = sym e
+is_index Truncated place e = sym e
 
 pub place_is : (bytes text : List ℕ) (r : SavedReport) (error : ReadError) → r ≡ lenient_report bytes → text ≡ saved_text r
-    → error ≡ read_error_from 1 word.Ahead text bytes
-    → IsSameReadError error (read_error_from 1 word.Ahead (saved_text (lenient_report bytes)) bytes)
+    → error ≡ read_error_from 1 word.NotStarted text bytes
+    → IsSameReadError error (read_error_from 1 word.NotStarted (saved_text (lenient_report bytes)) bytes)
 place_is bytes text r error s t f =
-    is_index error (read_error_from 1 word.Ahead (saved_text (lenient_report bytes)) bytes)
-    (f ∙ ap (λ (x : List ℕ). read_error_from 1 word.Ahead x bytes) (t ∙ ap saved_text s))
+    is_index error (read_error_from 1 word.NotStarted (saved_text (lenient_report bytes)) bytes)
+    (f ∙ ap (λ (x : List ℕ). read_error_from 1 word.NotStarted x bytes) (t ∙ ap saved_text s))
 
 pub least_is : (bytes text : List ℕ) (r : SavedReport) (error : ReadError) → r ≡ lenient_report bytes → text ≡ saved_text r
-    → error ≡ read_error_from 1 word.Ahead text bytes → IsFirstError error bytes
+    → error ≡ read_error_from 1 word.NotStarted text bytes → IsFirstError error bytes
 least_is bytes text r error s t f =
-    told_is_least bytes error (f ∙ ap (λ (x : List ℕ). read_error_from 1 word.Ahead x bytes) (t ∙ ap saved_text s))
+    told_is_least bytes error (f ∙ ap (λ (x : List ℕ). read_error_from 1 word.NotStarted x bytes) (t ∙ ap saved_text s))
 
 pub cut_is : (bytes text : List ℕ) (r : SavedReport) (error : ReadError) → r ≡ lenient_report bytes → text ≡ saved_text r
-    → error ≡ read_error_from 1 word.Ahead text bytes → IsReportPrefix bytes → IsSameReadError error CutOff
+    → error ≡ read_error_from 1 word.NotStarted text bytes → IsReportPrefix bytes → IsSameReadError error Truncated
 cut_is bytes text r error s t f begins =
-    is_index error CutOff (f ∙ ap (λ (x : List ℕ). read_error_from 1 word.Ahead x bytes) (t ∙ ap saved_text s)
+    is_index error Truncated (f ∙ ap (λ (x : List ℕ). read_error_from 1 word.NotStarted x bytes) (t ∙ ap saved_text s)
     ∙ begun_is_cut bytes begins)
 
 -- nothing is said of the text where memory ran out

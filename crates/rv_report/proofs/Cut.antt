@@ -11,7 +11,7 @@ use Rattle.rv_report.specs.declared.row.Row.{Row}
 use Rattle.rv_report.specs.declared.saved.Extent.{Extent}
 use Rattle.rv_report.specs.declared.saved.Extent.TheVariants.{Choice}
 use Rattle.rv_report.specs.declared.saved.SavedReport.{SavedReport}
-use Rattle.rv_report.specs.LenientReport.{Gathered, increasing_count, count_before_repeated_name, extent_or_selection, gather_rows, lenient_report}
+use Rattle.rv_report.specs.LenientReport.{ReaderStateView, increasing_count, count_before_repeated_name, extent_or_selection, state_after_text, lenient_report}
 use Rattle.rv_report.specs.Saved.{IsValidReport, are_increasing, are_distinct, matches_job_numbers, row_names}
 use Rattle.rv_report.proofs.Drafts.{AreGood, gathered_good}
 
@@ -119,7 +119,7 @@ pub length-names : (rows : List Row) → length (row_names rows) ≡ length rows
 length-names [] = refl
 length-names (row ∷ rows) = ap suc (length-names rows)
 
-cut_saved : (g : Gathered) (rising : List Row) (count : ℕ) → rising ≡ take (increasing_count 0 g.numbers) g.rows
+cut_saved : (g : ReaderStateView) (rising : List Row) (count : ℕ) → rising ≡ take (increasing_count 0 g.numbers) g.rows
     → count ≡ count_before_repeated_name [] (row_names rising) → AreGood g.rows
     → IsValidReport (record {
       extent = extent_or_selection g.extent (take count g.numbers);
@@ -151,7 +151,7 @@ cut_saved g rising count r is good =
 pub said_can_be : (text : List ℕ) → IsValidReport (lenient_report text)
 unfolding lenient_report
 said_can_be text =
-    let g = gather_rows text in
+    let g = state_after_text text in
     let rising = take (increasing_count 0 g.numbers) g.rows in
     cut_saved g rising (count_before_repeated_name [] (row_names rising)) refl refl (gathered_good text)
 
@@ -172,7 +172,7 @@ within_last before last (n ∷ ns) low h =
 pub few_numbers : (ns : List ℕ) → are_increasing 0 max_jobs ns ≡ true → length ns ≤ max_jobs
 few_numbers ns h = let k = within_last 0 max_jobs ns (omega arith) h in omega arith
 
-pub few_cut : (g : Gathered) (rising : List Row) (count : ℕ) → rising ≡ take (increasing_count 0 g.numbers) g.rows
+pub few_cut : (g : ReaderStateView) (rising : List Row) (count : ℕ) → rising ≡ take (increasing_count 0 g.numbers) g.rows
     → count ≡ count_before_repeated_name [] (row_names rising) → length (take count g.numbers) ≤ max_jobs
 few_cut g rising count r is =
     let most = increasing_count 0 g.numbers in
@@ -183,7 +183,7 @@ few_cut g rising count r is =
     few_numbers (take count g.numbers) (rising_taken 0 count g.numbers (omega arith))
 
 -- the same, of what was worked out piece by piece
-pub cut_made : (g : Gathered) (rising : List Row) (count : ℕ) (e : Extent) (ns : List ℕ) (rs : List Row)
+pub cut_made : (g : ReaderStateView) (rising : List Row) (count : ℕ) (e : Extent) (ns : List ℕ) (rs : List Row)
     → rising ≡ take (increasing_count 0 g.numbers) g.rows → count ≡ count_before_repeated_name [] (row_names rising)
     → ns ≡ take count g.numbers → rs ≡ take count rising → e ≡ extent_or_selection g.extent ns → AreGood g.rows
     → IsValidReport (record { extent = e; numbers = ns; rows = rs })
@@ -195,5 +195,5 @@ cut_made g rising count e ns rs up is n r x good =
     ∙ ap (λ (t : List Row). record { extent = e'; numbers = take count g.numbers; rows = t }) r))
     (cut_saved g rising count up is good)
 
-pub good_view : (g : Gathered) (text : List ℕ) → g ≡ gather_rows text → AreGood g.rows
-good_view g text is = subst (λ (x : Gathered). AreGood x.rows) (sym is) (gathered_good text)
+pub good_view : (g : ReaderStateView) (text : List ℕ) → g ≡ state_after_text text → AreGood g.rows
+good_view g text is = subst (λ (x : ReaderStateView). AreGood x.rows) (sym is) (gathered_good text)

@@ -8,8 +8,8 @@ use Rattle.rv_report.specs.declared.row.Row.{Row}
 use Rattle.rv_report.specs.declared.saved.Extent.{Extent}
 use Rattle.rv_report.specs.declared.saved.Extent.TheVariants.{Whole, Choice}
 use Rattle.rv_report.specs.declared.saved.Extent.TheVariants as extent
-use Rattle.rv_report.specs.declared.read.FirstWord.TheVariants as word
-use Rattle.rv_report.specs.declared.read.ReadError.TheVariants.{CutOff}
+use Rattle.rv_report.specs.declared.read.FirstWordState.TheVariants as word
+use Rattle.rv_report.specs.declared.read.ReadError.TheVariants.{Truncated}
 use Rattle.rv_report.specs.Report.{line}
 use Rattle.rv_report.specs.LenientReport.{lenient_report}
 use Rattle.rv_report.specs.Saved.{saved_text}
@@ -49,7 +49,7 @@ row_begun (c ∷ d ∷ f ∷ g ∷ p) t q e =
     (subst (λ (n : ℕ). begins_row (106 ∷ 111 ∷ 98 ∷ n ∷ g ∷ p) ≡ true) fourth refl))
 
 last_line_cut : (e : Extent) (count m : ℕ) (p : List ℕ) → lacks 10 (106 ∷ p) ≡ true → begins_row (106 ∷ p) ≡ true
-    → read_error_from m word.Ahead (line (last_words e count) ++ []) (106 ∷ p) ≡ CutOff
+    → read_error_from m word.NotStarted (line (last_words e count) ++ []) (106 ∷ p) ≡ Truncated
 last_line_cut extent.Whole count m p plain row =
     row_cut p (drop 1 (line (last_words extent.Whole count) ++ [])) 100 m plain refl refl row
 last_line_cut (extent.Choice jobs) count m p plain row =
@@ -60,7 +60,7 @@ last_line_cut (extent.Shard s) count m p plain row =
 -- the bytes end in a row's first line, and the rows go on or end
 between_cut : (ns : List ℕ) (rows : List Row) (e : Extent) (count m n : ℕ) (name p q : List ℕ) → lacks 10 (106 ∷ p) ≡ true
     → job_words n name ≡ (106 ∷ p) ++ q
-    → read_error_from m word.Ahead (joined (numbered_lines ns rows ++ last_words e count ∷ [])) (106 ∷ p) ≡ CutOff
+    → read_error_from m word.NotStarted (joined (numbered_lines ns rows ++ last_words e count ∷ [])) (106 ∷ p) ≡ Truncated
 between_cut [] rows e count m n name p q plain is =
     last_line_cut e count m p plain (row_begun p (decimal n ++ codes " " ++ name) q is)
 between_cut (k ∷ ns) [] e count m n name p q plain is =
@@ -72,27 +72,27 @@ between_cut (k ∷ ns) (row ∷ rows) e count m n name p q plain is =
 
 pub onward_cut : (b : ℕ) (p : List ℕ) (more : List (List ℕ)) (ns : List ℕ) (rows : List Row) (e : Extent) (count m : ℕ)
     → lacks 10 (b ∷ p) ≡ true → Onward (b ∷ p) more
-    → read_error_from m word.Ahead (joined ((more ++ numbered_lines ns rows) ++ last_words e count ∷ [])) (b ∷ p) ≡ CutOff
+    → read_error_from m word.NotStarted (joined ((more ++ numbered_lines ns rows) ++ last_words e count ∷ [])) (b ∷ p) ≡ Truncated
 onward_cut b p more ns rows e count m plain (inl on) =
     let last = last_words e count ∷ [] in
-    ap (λ (t : List (List ℕ)). read_error_from m word.Ahead (joined ((t ++ numbered_lines ns rows) ++ last)) (b ∷ p)) on.2
+    ap (λ (t : List (List ℕ)). read_error_from m word.NotStarted (joined ((t ++ numbered_lines ns rows) ++ last)) (b ∷ p)) on.2
     ∙ alike_cut (b ∷ p) on.0 (joined ((on.1 ++ numbered_lines ns rows) ++ last)) m plain on.3
 onward_cut b p more ns rows e count m plain (inr on) =
     let last = last_words e count ∷ [] in
     let first : 106 ≡ b = ap (λ (t : List ℕ). get_or t 0 0) on.3 in
-    let P : ℕ → Type 0 = λ c. read_error_from m word.Ahead (joined (numbered_lines ns rows ++ last)) (c ∷ p) ≡ CutOff in
-    ap (λ (t : List (List ℕ)). read_error_from m word.Ahead (joined ((t ++ numbered_lines ns rows) ++ last)) (b ∷ p)) on.4
+    let P : ℕ → Type 0 = λ c. read_error_from m word.NotStarted (joined (numbered_lines ns rows ++ last)) (c ∷ p) ≡ Truncated in
+    ap (λ (t : List (List ℕ)). read_error_from m word.NotStarted (joined ((t ++ numbered_lines ns rows) ++ last)) (b ∷ p)) on.4
     ∙ subst P first (between_cut ns rows e count m on.0 on.1 p on.2
     (subst (λ (c : ℕ). lacks 10 (c ∷ p) ≡ true) (sym first) plain)
     (subst (λ (c : ℕ). job_words on.0 on.1 ≡ (c ∷ p) ++ on.2) (sym first) on.3))
 
 -- what is told behind lines that are the same
 pub cut_lines : (ls more : List (List ℕ)) (p text : List ℕ) → text ≡ joined (ls ++ more)
-    → ((m : ℕ) → read_error_from m word.Ahead (joined more) p ≡ CutOff)
-    → read_error_from 1 word.Ahead text (joined ls ++ p) ≡ CutOff
+    → ((m : ℕ) → read_error_from m word.NotStarted (joined more) p ≡ Truncated)
+    → read_error_from 1 word.NotStarted text (joined ls ++ p) ≡ Truncated
 cut_lines ls more p text e h =
     let passed = passed_lines ls (joined more) p 1 in
-    ap (λ (t : List ℕ). read_error_from 1 word.Ahead t (joined ls ++ p)) (e ∙ flat_map-append line ls more)
+    ap (λ (t : List ℕ). read_error_from 1 word.NotStarted t (joined ls ++ p)) (e ∙ flat_map-append line ls more)
     ∙ passed.1 ∙ h passed.0
 
 pub said_text : (text : List ℕ) (ls : List (List ℕ)) → said_lines text ≡ ls → saved_text (lenient_report text) ≡ joined ls

@@ -12,10 +12,10 @@ use Rattle.rv_report.specs.declared.saved.Extent.TheVariants.{Whole, Choice}
 use Rattle.rv_report.specs.declared.saved.Extent.TheVariants as extent
 use Rattle.rv_report.specs.declared.saved.Shard.{Shard}
 use Rattle.rv_report.specs.declared.saved.SavedReport.{SavedReport}
-use Rattle.rv_report.specs.declared.read.FirstWord.TheVariants as word
-use Rattle.rv_report.specs.declared.read.ReadError.TheVariants.{CutOff}
+use Rattle.rv_report.specs.declared.read.FirstWordState.TheVariants as word
+use Rattle.rv_report.specs.declared.read.ReadError.TheVariants.{Truncated}
 use Rattle.rv_report.specs.Report.{line}
-use Rattle.rv_report.specs.LenientReport.{Gathered, state_between_rows, with_stage_done, with_unfinished_row, gather_rows, lenient_report, part_extent_of_line}
+use Rattle.rv_report.specs.LenientReport.{ReaderStateView, state_between_rows, with_stage_done, with_unfinished_row, state_after_text, lenient_report, part_extent_of_line}
 use Rattle.rv_report.specs.LenientReport.{shard_of_text, extent_or_selection, after_job_or_last_line, with_line, decimal_number, text_before_byte, text_after_byte}
 use Rattle.rv_report.specs.Saved.{IsValidReport, matches_job_numbers, shard_text, row_names, saved_text}
 use Rattle.rv_report.specs.Differences.{read_error_from}
@@ -71,13 +71,13 @@ line_behind (l ∷ ls) (m ∷ ms) b p v h k plain e =
 -- ---- the rows
 
 abbrev IsCut : List ℕ → Type 0
-IsCut bytes = read_error_from 1 word.Ahead (saved_text (lenient_report bytes)) bytes ≡ CutOff
+IsCut bytes = read_error_from 1 word.NotStarted (saved_text (lenient_report bytes)) bytes ≡ Truncated
 
 -- the bytes end in a line of a row
 rows_cut : (r : SavedReport) → IsValidReport r → (k b : ℕ) (p q : List ℕ) → lacks 10 (b ∷ p) ≡ true
     → k < length (numbered_lines r.numbers r.rows) → get_or (numbered_lines r.numbers r.rows) k [] ≡ (b ∷ p) ++ q
     → IsCut (joined (take k (numbered_lines r.numbers r.rows)) ++ b ∷ p)
-unfolding lenient_report gather_rows
+unfolding lenient_report state_after_text
 rows_cut r h k b p q plain within begins =
     let counted = h.listed.counted in
     let few = few_numbers r.numbers h.listed.rising in
@@ -120,9 +120,9 @@ chosen_line e ns h = chosen IsPartLine (matches_job_numbers e ns) e (Choice max_
 
 -- what is gathered of all rows and a beginning of the last line
 gathered_last : (r : SavedReport) → IsValidReport r → (b : ℕ) (p : List ℕ) → lacks 10 (b ∷ p) ≡ true
-    → gather_rows (joined (numbered_lines r.numbers r.rows) ++ b ∷ p)
+    → state_after_text (joined (numbered_lines r.numbers r.rows) ++ b ∷ p)
     ≡ with_unfinished_row (with_line (b ∷ p) (state_between_rows r.numbers r.rows Whole))
-unfolding gather_rows
+unfolding state_after_text
 gathered_last r h b p plain =
     let counted = h.listed.counted in
     let few = few_numbers r.numbers h.listed.rising in
@@ -224,7 +224,7 @@ part_cut r h p q plain part begins =
     let alike : AlikeLine (112 ∷ p) last = subst (λ (t : List ℕ). AlikeLine (112 ∷ p) t) (sym there.1)
     (same_word (codes "part") here.0 there.0 (112 ∷ p) q (sym here.1 ∙ begins)) in
     cut_lines ls (last ∷ []) (112 ∷ p) (saved_text (lenient_report text))
-    (said_text text (ls ++ last ∷ []) (ap (λ (g : Gathered). saved_lines (said_by g)) gathered ∙ said.2))
+    (said_text text (ls ++ last ∷ []) (ap (λ (g : ReaderStateView). saved_lines (said_by g)) gathered ∙ said.2))
     (λ m. alike_cut (112 ∷ p) last [] m plain alike)
 
 last_cut : (r : SavedReport) → IsValidReport r → (e : Extent) (b : ℕ) (p q : List ℕ) → lacks 10 (b ∷ p) ≡ true → r.extent ≡ e
@@ -256,7 +256,7 @@ last_cut r h (extent.Shard s) b p q plain is begins =
 
 -- ---- any beginning of a report
 
-end_cut : (z : List ℕ) (m : ℕ) → read_error_from m word.Ahead z [] ≡ CutOff
+end_cut : (z : List ℕ) (m : ℕ) → read_error_from m word.NotStarted z [] ≡ Truncated
 unfolding read_error_from
 end_cut [] m = refl
 end_cut (b ∷ z) m = refl
@@ -267,7 +267,7 @@ pub lines_cut : (r : SavedReport) → IsValidReport r → (ls : List (List ℕ))
 lines_cut r h ls [] v are plain is =
     let said = said_begins r h ls v [] are is in
     let passed = passed_lines ls said.0 [] 1 in
-    ap (λ (t : List ℕ). read_error_from 1 word.Ahead t (joined ls ++ [])) said.1 ∙ passed.1 ∙ end_cut said.0 passed.0
+    ap (λ (t : List ℕ). read_error_from 1 word.NotStarted t (joined ls ++ [])) said.1 ∙ passed.1 ∙ end_cut said.0 passed.0
 lines_cut r h ls (b ∷ p) v are plain is =
     let rows = numbered_lines r.numbers r.rows in
     let last = last_words r.extent (length r.rows) in

@@ -26,10 +26,10 @@ use Rattle.rv_report.specs.declared.gathering.Stage.TheVariants as stage
 use Rattle.rv_report.specs.declared.saved.Extent.{Extent}
 use Rattle.rv_report.specs.declared.saved.Extent.TheVariants.{Whole}
 use Rattle.rv_report.specs.LenientReport.{lines, name_or_dash, job_number_of_line, job_name_of_line, text_after_byte, decimal_number_from, decimal_number, with_digit}
-use Rattle.rv_report.specs.LenientReport.{hex_number, with_zero_digits, hex_word, is_hex_word, hex_bytes, bytes_if_decoded, refusal_or_first, fault_ending_of_text}
-use Rattle.rv_report.specs.LenientReport.{row_ending_of_line, verdict_of_line, part_extent_of_line, Gathered, state_between_rows, with_finished_row, with_stage_done, unfinished_row, padded_words}
+use Rattle.rv_report.specs.LenientReport.{hex_number, with_zero_digits, hex_word, is_hex_word, hex_bytes, bytes_if_decoded, refusal_or_default, fault_ending_of_text}
+use Rattle.rv_report.specs.LenientReport.{row_ending_of_line, verdict_of_line, part_extent_of_line, ReaderStateView, state_between_rows, with_finished_row, with_stage_done, unfinished_row, padded_words}
 use Rattle.rv_report.specs.LenientReport.{after_job_or_last_line, after_end_line, after_steps_line, after_console_line, after_signature_line, after_word_or_verdict_line, with_line_at_stage}
-use Rattle.rv_report.specs.LenientReport.{with_line, with_lines, with_unfinished_row, gather_rows, hex_digit_value}
+use Rattle.rv_report.specs.LenientReport.{with_line, with_lines, with_unfinished_row, state_after_text, hex_digit_value}
 use Rattle.rv_report.specs.Saved.{max_words, IsWord, IsValidEnd, IsValidSignature, IsValidRow}
 
 -- ---- names
@@ -104,21 +104,21 @@ can_be why h e =
     false≢true f
 
 found_can : (p : Refusal → Bool) (all : List Refusal) → list_all can all ≡ true
-    → can (refusal_or_first (find p all)) ≡ true
+    → can (refusal_or_default (find p all)) ≡ true
 unfolding can
 found_can p [] h = refl
 found_can p (why ∷ all) h =
     let parts = and_parts (can why) (list_all can all) h in
-    let Q : Option Refusal → Type 0 = λ o. can (refusal_or_first o) ≡ true in
+    let Q : Option Refusal → Type 0 = λ o. can (refusal_or_default o) ≡ true in
     elim (cases_Bool (p why)) [
       | inl e ↦ subst Q (sym (ap (λ (t : Bool). cond t (Some why) (find p all)) e)) parts.0
       | inr e ↦ subst Q (sym (ap (λ (t : Bool). cond t (Some why) (find p all)) e)) (found_can p all parts.1)
     ]
 
-refusal_good : (name : List ℕ) → refusal_or_first (refusal_named name) ≡ refusal.Image image.OutOfMemory → ⊥
+refusal_good : (name : List ℕ) → refusal_or_default (refusal_named name) ≡ refusal.Image image.OutOfMemory → ⊥
 unfolding can
 refusal_good name =
-    can_be (refusal_or_first (refusal_named name)) (found_can (λ r. bytes_eq name (refusal_name r)) row_refusals refl)
+    can_be (refusal_or_default (refusal_named name)) (found_can (λ r. bytes_eq name (refusal_name r)) row_refusals refl)
 
 pick : {X : Type 0} (P : X → Type 0) (b : Bool) (x y : X) → P x → P y → P (if b then x else y)
 pick P true x y h k = h
@@ -137,7 +137,7 @@ ending_good : (line : List ℕ) → IsValidEnd (row_ending_of_line line)
 unfolding row_ending_of_line
 ending_good line =
     let kind = slice_index line 4 in
-    let refused = ending.Refused (refusal_or_first (refusal_named (drop 12 line))) in
+    let refused = ending.Refused (refusal_or_default (refusal_named (drop 12 line))) in
     let last : RowEnd = if kind == 98 then ending.Budget else refused in
     let next : RowEnd = if kind == 102 then fault_ending_of_text (drop 10 line) else last in
     pick IsValidEnd (kind == 101) (ending.Exit (decimal_number (drop 9 line))) next (number_small 0 (drop 9 line) (omega arith))
@@ -150,7 +150,7 @@ abbrev pub AreGood : List Row → Type 0
 AreGood rows = AllByRecursion IsValidRow rows
 
 -- the rows can stand in a report, and what is known of the next row can too
-abbrev IsDraft : Gathered → Type 0
+abbrev IsDraft : ReaderStateView → Type 0
 IsDraft g = AreGood g.rows × (is_name g.name ≡ true) × IsValidEnd g.ending × IsWord g.steps × IsBytes g.console
     × (g.count ≤ max_words) × (length g.words ≤ g.count) × AllByRecursion IsWord g.words
 
@@ -168,7 +168,7 @@ signature_good : (signed : Bool) (words : List ℕ) → length words ≤ max_wor
 signature_good true words few each = (few, each)
 signature_good false words few each = tt
 
-row_good : (v : Verdict) (g : Gathered) → IsDraft g → IsValidRow (unfinished_row v g)
+row_good : (v : Verdict) (g : ReaderStateView) → IsDraft g → IsValidRow (unfinished_row v g)
 unfolding unfinished_row
 row_good v g h =
     let few = h.5 in
@@ -181,47 +181,47 @@ row_good v g h =
       signature = signature_good g.signed g.words (omega arith) h.7;
     }
 
-draft_closed : (v : Verdict) (g : Gathered) → IsDraft g → IsDraft (with_finished_row v g)
+draft_closed : (v : Verdict) (g : ReaderStateView) → IsDraft g → IsDraft (with_finished_row v g)
 unfolding with_finished_row
 draft_closed v g h =
     draft_whole (g.numbers ++ g.number ∷ []) (g.rows ++ unfinished_row v g ∷ []) g.extent
     (all-append IsValidRow g.rows (unfinished_row v g ∷ []) h.0 (row_good v g h, tt))
 
-draft_between : (line : List ℕ) (g : Gathered) → IsDraft g → IsDraft (after_job_or_last_line line g)
+draft_between : (line : List ℕ) (g : ReaderStateView) → IsDraft g → IsDraft (after_job_or_last_line line g)
 unfolding after_job_or_last_line
 draft_between line g h =
-    let job : Gathered = record g { number = job_number_of_line line; name = job_name_of_line line; is_in_row = true; stage = stage.Ending } in
-    let part : Gathered = with_stage_done (record g { extent = part_extent_of_line line }) in
-    let other : Gathered = if slice_index line 0 == 112 then part else with_stage_done g in
+    let job : ReaderStateView = record g { number = job_number_of_line line; name = job_name_of_line line; is_in_row = true; stage = stage.Ending } in
+    let part : ReaderStateView = with_stage_done (record g { extent = part_extent_of_line line }) in
+    let other : ReaderStateView = if slice_index line 0 == 112 then part else with_stage_done g in
     pick IsDraft ((slice_index line 0 == 106) && nat_lt (length g.rows) max_jobs) job other
     (h.0, name_of_is_name line, h.2, h.3, h.4, h.5, h.6, h.7)
     (pick IsDraft (slice_index line 0 == 112) part (with_stage_done g) h h)
 
-draft_ending : (line : List ℕ) (g : Gathered) → IsDraft g → IsDraft (after_end_line line g)
+draft_ending : (line : List ℕ) (g : ReaderStateView) → IsDraft g → IsDraft (after_end_line line g)
 unfolding after_end_line
 draft_ending line g h =
     pick IsDraft (slice_index line 0 == 101) (record g { ending = row_ending_of_line line; stage = stage.Steps }) (with_stage_done g)
     (h.0, h.1, ending_good line, h.3, h.4, h.5, h.6, h.7) h
 
-draft_steps : (line : List ℕ) (g : Gathered) → IsDraft g → IsDraft (after_steps_line line g)
+draft_steps : (line : List ℕ) (g : ReaderStateView) → IsDraft g → IsDraft (after_steps_line line g)
 unfolding after_steps_line
 draft_steps line g h =
     pick IsDraft ((slice_index line 0 == 115) && (slice_index line 1 == 116))
     (record g { steps = decimal_number (drop 6 line); stage = stage.Console }) (with_stage_done g)
     (h.0, h.1, h.2, number_small 0 (drop 6 line) (omega arith), h.4, h.5, h.6, h.7) h
 
-draft_console : (line : List ℕ) (g : Gathered) → IsDraft g → IsDraft (after_console_line line g)
+draft_console : (line : List ℕ) (g : ReaderStateView) → IsDraft g → IsDraft (after_console_line line g)
 unfolding after_console_line
 draft_console line g h =
     pick IsDraft (slice_index line 0 == 99) (record g { console = hex_bytes (drop 8 line); stage = stage.Signature })
     (with_stage_done g) (h.0, h.1, h.2, h.3, bytes_good (drop 8 line), h.5, h.6, h.7) h
 
-draft_signature : (line : List ℕ) (g : Gathered) → IsDraft g → IsDraft (after_signature_line line g)
+draft_signature : (line : List ℕ) (g : ReaderStateView) → IsDraft g → IsDraft (after_signature_line line g)
 unfolding after_signature_line
 draft_signature line g h =
     let count = decimal_number (drop 10 line) in
     let is : Bool = (slice_index line 0 == 115) && (slice_index line 1 == 105) in
-    let is_in_row : Gathered = record g {
+    let is_in_row : ReaderStateView = record g {
       signed = not (slice_index line 10 == 45);
       count = count;
       words = [];
@@ -232,13 +232,13 @@ draft_signature line g h =
     let small : count ≤ max_words = grind (arith, nat_tests) in
     (h.0, h.1, h.2, h.3, h.4, small, omega arith, tt)) h
 
-draft_words : (line : List ℕ) (g : Gathered) → IsDraft g → IsDraft (after_word_or_verdict_line line g)
+draft_words : (line : List ℕ) (g : ReaderStateView) → IsDraft g → IsDraft (after_word_or_verdict_line line g)
 unfolding after_word_or_verdict_line
 draft_words line g h =
-    let word : Gathered = record g { words = g.words ++ hex_word line ∷ [] } in
-    let row : Gathered = with_finished_row (verdict_of_line line) g in
+    let word : ReaderStateView = record g { words = g.words ++ hex_word line ∷ [] } in
+    let row : ReaderStateView = with_finished_row (verdict_of_line line) g in
     let ended : Bool = (slice_index line 0 == 118) && (length g.words == g.count) in
-    let other : Gathered = if ended then row else with_stage_done g in
+    let other : ReaderStateView = if ended then row else with_stage_done g in
     pick_if IsDraft (is_hex_word line && nat_lt (length g.words) g.count) word other
     (λ t. let room = (and_parts (is_hex_word line) (nat_lt (length g.words) g.count) t).1 in
     let more : length g.words < g.count = grind (arith, nat_tests) in
@@ -247,16 +247,16 @@ draft_words line g h =
     (h.0, h.1, h.2, h.3, h.4, h.5, omega arith, words))
     (pick IsDraft ended row (with_stage_done g) (draft_closed (verdict_of_line line) g h) h)
 
-draft_at : (s : Stage) (line : List ℕ) (g : Gathered) → IsDraft g → IsDraft (with_line_at_stage s line g)
-draft_at stage.Between line g h = draft_between line g h
+draft_at : (s : Stage) (line : List ℕ) (g : ReaderStateView) → IsDraft g → IsDraft (with_line_at_stage s line g)
+draft_at stage.BetweenRows line g h = draft_between line g h
 draft_at stage.Ending line g h = draft_ending line g h
 draft_at stage.Steps line g h = draft_steps line g h
 draft_at stage.Console line g h = draft_console line g h
 draft_at stage.Signature line g h = draft_signature line g h
 draft_at stage.Words line g h = draft_words line g h
-draft_at stage.Over line g h = h
+draft_at stage.Done line g h = h
 
-draft_lines : (ls : List (List ℕ)) (g : Gathered) → IsDraft g → IsDraft (with_lines ls g)
+draft_lines : (ls : List (List ℕ)) (g : ReaderStateView) → IsDraft g → IsDraft (with_lines ls g)
 unfolding with_lines with_line
 draft_lines [] g h = h
 draft_lines (l ∷ ls) g h = draft_lines ls (with_line_at_stage g.stage l g) (draft_at g.stage l g h)
@@ -269,7 +269,7 @@ length-zeros : (count : ℕ) → length {A = ℕ} (replicate count 0) ≡ count
 length-zeros zero = refl
 length-zeros (suc count) = ap suc (length-zeros count)
 
-draft_padded : (g : Gathered) → IsDraft g → IsDraft (record g { words = padded_words g.count g.words })
+draft_padded : (g : ReaderStateView) → IsDraft g → IsDraft (record g { words = padded_words g.count g.words })
 unfolding padded_words
 draft_padded g h =
     let missing = g.count - length g.words in
@@ -279,14 +279,14 @@ draft_padded g h =
     let words = all-append IsWord g.words (replicate missing 0) h.7 (zeros_good missing) in
     (h.0, h.1, h.2, h.3, h.4, h.5, omega arith, words)
 
-draft_finished : (g : Gathered) → IsDraft g → IsDraft (with_unfinished_row g)
+draft_finished : (g : ReaderStateView) → IsDraft g → IsDraft (with_unfinished_row g)
 unfolding with_unfinished_row
 draft_finished g h =
-    let filled : Gathered = record g { words = padded_words g.count g.words } in
+    let filled : ReaderStateView = record g { words = padded_words g.count g.words } in
     pick IsDraft g.is_in_row (with_finished_row Unasked filled) g (draft_closed Unasked filled (draft_padded g h)) h
 
-pub gathered_good : (text : List ℕ) → AreGood (gather_rows text).rows
-unfolding gather_rows
+pub gathered_good : (text : List ℕ) → AreGood (state_after_text text).rows
+unfolding state_after_text
 gathered_good text =
-    let start : Gathered = state_between_rows [] [] Whole in
+    let start : ReaderStateView = state_between_rows [] [] Whole in
     (draft_finished (with_lines (lines text) start) (draft_lines (lines text) start (draft_whole [] [] Whole tt))).0

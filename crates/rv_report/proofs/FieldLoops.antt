@@ -12,7 +12,7 @@ use Rattle.std.specs.Str.{IsAscii, IsUtf8}
 use Rattle.rv_base.specs.Names.{is_name, is_name_byte}
 use Rattle.rv_base.specs.Limits.{is_within}
 use Rattle.std.specs.Prelude.{Result, Ok, Err, IfOk}
-use Rattle.rv_report.specs.LenientReport.{Gathered, with_line, with_lines, lines, index_of_byte, decimal_number_from, hex_number, with_digit}
+use Rattle.rv_report.specs.LenientReport.{ReaderStateView, with_line, with_lines, lines, index_of_byte, decimal_number_from, hex_number, with_digit}
 use Rattle.rv_report.specs.LenientReport.{hex_digit_value, with_zero_digits, are_hex_digits, is_hex_digit}
 use Rattle.rv_report.specs.declared.row.Row.{Row}
 use Rattle.std.specs.Prelude.{is_some}
@@ -135,7 +135,7 @@ hex_yes xs i h e = hex_step xs i h ∙ ap (λ (t : Bool). t && are_hex_digits (d
 
 -- ---- lines, taken one by one
 
-pub said_step : (rest front behind : List ℕ) (p : ℕ) (g h : Gathered) → 0 < length rest → p ≡ index_of_byte 10 rest
+pub said_step : (rest front behind : List ℕ) (p : ℕ) (g h : ReaderStateView) → 0 < length rest → p ≡ index_of_byte 10 rest
     → front ≡ take p rest → behind ≡ drop (p + 1) rest
     → h ≡ with_line front g → with_lines (lines behind) h ≡ with_lines (lines rest) g
 unfolding with_lines
@@ -144,7 +144,7 @@ said_step rest front behind p g h some is f b w =
     ∙ ap (with_lines (lines (drop (p + 1) rest))) (w ∙ ap (λ (x : List ℕ). with_line x g) f)
     ∙ ap (λ (ls : List (List ℕ)). with_lines ls g) (sym (first_line_of rest p some is))
 
-pub said_end : (rest : List ℕ) (g : Gathered) → length rest ≡ 0 → with_lines (lines rest) g ≡ g
+pub said_end : (rest : List ℕ) (g : ReaderStateView) → length rest ≡ 0 → with_lines (lines rest) g ≡ g
 unfolding with_lines lines
 said_end [] g h = refl
 said_end (b ∷ bs) g h = absurd (omega arith)

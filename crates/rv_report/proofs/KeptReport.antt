@@ -11,7 +11,7 @@ use Rattle.rv_report.specs.declared.saved.Extent.{Extent}
 use Rattle.rv_report.specs.declared.saved.Extent.TheVariants.{Whole}
 use Rattle.rv_report.specs.declared.saved.SavedReport.{SavedReport}
 use Rattle.rv_report.specs.Report.{line}
-use Rattle.rv_report.specs.LenientReport.{lines, Gathered, state_between_rows, with_unfinished_row, gather_rows}
+use Rattle.rv_report.specs.LenientReport.{lines, ReaderStateView, state_between_rows, with_unfinished_row, state_after_text}
 use Rattle.rv_report.specs.LenientReport.{lenient_report, increasing_count, count_before_repeated_name, extent_or_selection}
 use Rattle.rv_report.specs.Saved.{IsValidReport, are_increasing, are_distinct, row_names, numbered_text, extent_line, saved_text}
 use Rattle.rv_report.proofs.Spelled.{says, says_line}
@@ -62,7 +62,7 @@ numbered_append (a ∷ ks) bs (x ∷ xs) ys h =
     ∙ sym (append_assoc (row_lines a x) (numbered_lines ks xs) (numbered_lines bs ys))
 
 -- what is said, of what is gathered
-abbrev pub said_by : Gathered → SavedReport
+abbrev pub said_by : ReaderStateView → SavedReport
 said_by g = said_of (take (increasing_count 0 g.numbers) g.rows) g
 
 -- what is taken of two lists, of which the first is there
@@ -116,7 +116,7 @@ pub record SaidLines (known more : List (List ℕ)) (numbers : List ℕ) (e : Ex
       ++ last_words (extent_or_selection e all_numbers) count ∷ [])
 
 -- the rows that are covered are said
-pub kept_cut : (r : SavedReport) → IsValidReport r → (k : ℕ) (f : Gathered) → (c : Covers [] [] r.numbers r.rows k f)
+pub kept_cut : (r : SavedReport) → IsValidReport r → (k : ℕ) (f : ReaderStateView) → (c : Covers [] [] r.numbers r.rows k f)
     → SaidLines (take k (numbered_lines r.numbers r.rows)) c.more c.more_numbers f.extent (saved_lines (said_by f))
 kept_cut r h k f c =
     let counted = h.listed.counted in
@@ -148,8 +148,8 @@ kept_cut r h k f c =
 
 -- ---- a whole report says itself, whatever follows
 
-gathered_past : (r : SavedReport) → IsValidReport r → (w : List ℕ) → gather_rows (saved_text r ++ w) ≡ gather_rows (saved_text r)
-unfolding gather_rows saved_text
+gathered_past : (r : SavedReport) → IsValidReport r → (w : List ℕ) → state_after_text (saved_text r ++ w) ≡ state_after_text (saved_text r)
+unfolding state_after_text saved_text
 gathered_past r h w =
     let counted = h.listed.counted in
     let few = few_numbers r.numbers h.listed.rising in
@@ -182,7 +182,7 @@ said_lines text = saved_lines (lenient_report text)
 rows_kept : (r : SavedReport) → IsValidReport r → (k : ℕ) (w : List ℕ) → k ≤ length (numbered_lines r.numbers r.rows)
     → (more : List (List ℕ)) × (said_lines (joined (take k (numbered_lines r.numbers r.rows)) ++ w)
     ≡ take k (numbered_lines r.numbers r.rows) ++ more)
-unfolding lenient_report gather_rows
+unfolding lenient_report state_after_text
 rows_kept r h k w within =
     let counted = h.listed.counted in
     let few = few_numbers r.numbers h.listed.rising in

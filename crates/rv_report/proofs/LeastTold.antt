@@ -2,10 +2,10 @@
 use Rattle.std.proofs.Common.{◌≡◌, ◌∙◌, ◌==◌, ◌+◌, ◌-◌, ◌<◌, ◌≤◌, ℕ, zero, suc, Bool, true, false, ◌&&◌, not, cond, List, []}
 use Rattle.std.proofs.Common.{◌∷◌, ◌++◌, refl, sym, ap, arith, subst, append_assoc, inl, inr}
 use Rattle.std.proofs.lemmas.Bool.{and_from, cases_Bool, cases_lt, false≢true}
-use Rattle.rv_report.specs.declared.read.FirstWord.{FirstWord}
-use Rattle.rv_report.specs.declared.read.FirstWord.TheVariants as word
+use Rattle.rv_report.specs.declared.read.FirstWordState.{FirstWordState}
+use Rattle.rv_report.specs.declared.read.FirstWordState.TheVariants as word
 use Rattle.rv_report.specs.declared.read.ReadError.{ReadError}
-use Rattle.rv_report.specs.declared.read.ReadError.TheVariants.{OutOfMemory, Line, CutOff}
+use Rattle.rv_report.specs.declared.read.ReadError.TheVariants.{OutOfMemory, Line, Truncated}
 use Rattle.rv_report.specs.declared.saved.SavedReport.{SavedReport}
 use Rattle.rv_report.specs.LenientReport.{lenient_report}
 use Rattle.rv_report.specs.Saved.{IsValidReport, saved_text}
@@ -23,14 +23,14 @@ use Rattle.rv_report.proofs.LeastLine.{split_lines, lines_stay, feeds_of, past_f
 is_line : ReadError → Bool
 is_line OutOfMemory = false
 is_line (Line line) = true
-is_line CutOff = false
+is_line Truncated = false
 
 line_of : ReadError → ℕ
 line_of OutOfMemory = zero
 line_of (Line line) = line
-line_of CutOff = zero
+line_of Truncated = zero
 
-cut_is_no_line : (told : ℕ) → CutOff ≡ Line told → ⊥
+cut_is_no_line : (told : ℕ) → Truncated ≡ Line told → ⊥
 unfolding is_line
 cut_is_no_line told e = let f : false ≡ true = ap is_line e in false≢true f
 
@@ -38,13 +38,13 @@ same_told : (line told : ℕ) → Line line ≡ Line told → line ≡ told
 unfolding line_of
 same_told line told e = ap line_of e
 
-not_earlier_at : (line : ℕ) (met : FirstWord) (other : ℕ) (rest : List ℕ) (told : ℕ)
+not_earlier_at : (line : ℕ) (met : FirstWordState) (other : ℕ) (rest : List ℕ) (told : ℕ)
     → read_error_at line met other rest ≡ Line told → line ≡ told
 not_earlier_at line met other rest told e =
     let cut : Bool = can_begin_report_line met other rest && (line_feed_count rest == 0) in
     elim (cases_Bool cut) [
-      | inl z ↦ absurd (cut_is_no_line told (sym (ap (λ (s : Bool). cond s CutOff (Line line)) z) ∙ e))
-      | inr z ↦ same_told line told (sym (ap (λ (s : Bool). cond s CutOff (Line line)) z) ∙ e)
+      | inl z ↦ absurd (cut_is_no_line told (sym (ap (λ (s : Bool). cond s Truncated (Line line)) z) ∙ e))
+      | inr z ↦ same_told line told (sym (ap (λ (s : Bool). cond s Truncated (Line line)) z) ∙ e)
     ]
 
 line_grows : (line b : ℕ) → line ≤ line_after_byte line b
@@ -54,7 +54,7 @@ line_grows line b =
       | inr e ↦ let s : line_after_byte line b ≡ line = ap (λ (t : Bool). cond t (line + 1) line) e in omega arith
     ]
 
-not_earlier : (text bytes : List ℕ) (line : ℕ) (met : FirstWord) (told : ℕ)
+not_earlier : (text bytes : List ℕ) (line : ℕ) (met : FirstWordState) (told : ℕ)
     → read_error_from line met text bytes ≡ Line told → line ≤ told
 unfolding read_error_from
 not_earlier [] [] line met told e = absurd (cut_is_no_line told e)
@@ -91,7 +91,7 @@ line_and_feeds line b u =
     ]
 
 -- what two texts begin with has no line that is told
-told_behind : (u z w : List ℕ) (line : ℕ) (met : FirstWord) (told : ℕ)
+told_behind : (u z w : List ℕ) (line : ℕ) (met : FirstWordState) (told : ℕ)
     → read_error_from line met (u ++ z) (u ++ w) ≡ Line told → line + line_feed_count u ≤ told
 unfolding read_error_from
 told_behind [] z w line met told e = let s = not_earlier z w line met told e in omega arith
@@ -106,7 +106,7 @@ told_behind (b ∷ u) z w line met told e =
 -- ---- the line itself
 
 pub invalid_line : (bytes : List ℕ) (told : ℕ)
-    → read_error_from 1 word.Ahead (saved_text (lenient_report bytes)) bytes ≡ Line told
+    → read_error_from 1 word.NotStarted (saved_text (lenient_report bytes)) bytes ≡ Line told
     → told ≤ line_feed_count bytes → IsReportPrefix (first_lines told bytes) → ⊥
 invalid_line bytes told e within begins =
     let stay = lines_stay bytes told within begins in
@@ -114,10 +114,10 @@ invalid_line bytes told e within begins =
     let u = first_lines told bytes in
     let whole : bytes ≡ u ++ s.rest = s.all ∙ ap (λ (t : List ℕ). t ++ s.rest) (sym s.first) in
     let feeds : line_feed_count u ≡ told = ap line_feed_count s.first ∙ s.feeds in
-    let moved : read_error_from 1 word.Ahead (u ++ stay.0) (u ++ s.rest) ≡ Line told =
-    sym (ap (λ (t : List ℕ). read_error_from 1 word.Ahead t bytes) stay.1
-    ∙ ap (λ (t : List ℕ). read_error_from 1 word.Ahead (u ++ stay.0) t) whole) ∙ e in
-    let behind = told_behind u stay.0 s.rest 1 word.Ahead told moved in
+    let moved : read_error_from 1 word.NotStarted (u ++ stay.0) (u ++ s.rest) ≡ Line told =
+    sym (ap (λ (t : List ℕ). read_error_from 1 word.NotStarted t bytes) stay.1
+    ∙ ap (λ (t : List ℕ). read_error_from 1 word.NotStarted (u ++ stay.0) t) whole) ∙ e in
+    let behind = told_behind u stay.0 s.rest 1 word.NotStarted told moved in
     absurd (omega arith)
 
 -- ---- the lines before
@@ -204,7 +204,7 @@ all_lines (b ∷ bs) (suc c) h =
 
 -- it is cut off
 pub begun_is_cut : (bytes : List ℕ) → IsReportPrefix bytes
-    → read_error_from 1 word.Ahead (saved_text (lenient_report bytes)) bytes ≡ CutOff
+    → read_error_from 1 word.NotStarted (saved_text (lenient_report bytes)) bytes ≡ Truncated
 begun_is_cut bytes begins =
     let s = split_lines bytes (line_feed_count bytes) (omega arith) in
     let feeds = s.feeds in
@@ -213,11 +213,11 @@ begun_is_cut bytes begins =
     let plain = no_feed_lacks s.rest (omega arith) in
     let cut = lines_cut begins.0 begins.2 s.ls s.rest begins.1 s.are_lines plain
     (begins.3 ∙ ap (λ (t : List ℕ). t ++ begins.1) s.all ∙ append_assoc (joined s.ls) s.rest begins.1) in
-    subst (λ (t : List ℕ). read_error_from 1 word.Ahead (saved_text (lenient_report t)) t ≡ CutOff) (sym s.all) cut
+    subst (λ (t : List ℕ). read_error_from 1 word.NotStarted (saved_text (lenient_report t)) t ≡ Truncated) (sym s.all) cut
 
 -- no report begins with the lines up to the one that is told
 none_begins : (bytes : List ℕ) (told : ℕ)
-    → read_error_from 1 word.Ahead (saved_text (lenient_report bytes)) bytes ≡ Line told
+    → read_error_from 1 word.NotStarted (saved_text (lenient_report bytes)) bytes ≡ Line told
     → IsReportPrefix (first_lines told bytes) → ⊥
 none_begins bytes told e begins =
     elim (cases_lt (line_feed_count bytes) told) [
@@ -229,7 +229,7 @@ none_begins bytes told e begins =
 
 -- ---- both
 
-least_of : (bytes : List ℕ) (e : ReadError) → e ≡ read_error_from 1 word.Ahead (saved_text (lenient_report bytes)) bytes
+least_of : (bytes : List ℕ) (e : ReadError) → e ≡ read_error_from 1 word.NotStarted (saved_text (lenient_report bytes)) bytes
     → AgreeBeforeError e (saved_text (lenient_report bytes)) bytes → IsFirstError e bytes
 least_of bytes OutOfMemory is alike = tt
 least_of bytes (Line told) is alike =
@@ -239,7 +239,7 @@ least_of bytes (Line told) is alike =
           (omega arith);
       refused = none_begins bytes told (sym is);
     }
-least_of bytes CutOff is alike =
+least_of bytes Truncated is alike =
     let none = alike.5 in
     let n = feeds_append alike.0 alike.1 in
     let same : line_feed_count bytes ≡ line_feed_count (alike.0 ++ alike.1) = ap line_feed_count alike.3 in
@@ -248,7 +248,7 @@ least_of bytes CutOff is alike =
 
 -- what is told is the least
 pub told_is_least : (bytes : List ℕ) (e : ReadError)
-    → e ≡ read_error_from 1 word.Ahead (saved_text (lenient_report bytes)) bytes → IsFirstError e bytes
+    → e ≡ read_error_from 1 word.NotStarted (saved_text (lenient_report bytes)) bytes → IsFirstError e bytes
 told_is_least bytes e is =
     least_of bytes e is (subst (λ (x : ReadError). AgreeBeforeError x (saved_text (lenient_report bytes)) bytes) (sym is)
     (tells (saved_text (lenient_report bytes)) bytes))

@@ -4,7 +4,7 @@ use Rattle.std.proofs.Common.{take, drop, get_or, refl, sym, ap, arith, append_a
 use Rattle.std.specs.List.{flat_map, AllByRecursion}
 use Rattle.std.proofs.lemmas.Bool.{and_parts, false≢true}
 use Rattle.rv_report.specs.Report.{line}
-use Rattle.rv_report.specs.LenientReport.{Gathered, with_line}
+use Rattle.rv_report.specs.LenientReport.{ReaderStateView, with_line}
 use Rattle.rv_report.proofs.Pieces.{lacks}
 use Rattle.rv_report.proofs.Spelled.{says, says_line}
 
@@ -50,7 +50,7 @@ first_of_lines (l ∷ ls) (m ∷ ms) v h k e =
     ap (λ (t : List ℕ). t ∷ ls) same.0 ∙ ap (λ (ts : List (List ℕ)). m ∷ ts) (first_of_lines ls ms v h.1 k.1 same.1)
 
 -- what lines say, the first before the others
-pub says_first : (l : List ℕ) (ls : List (List ℕ)) (w : List ℕ) (g : Gathered) → lacks 10 l ≡ true
+pub says_first : (l : List ℕ) (ls : List (List ℕ)) (w : List ℕ) (g : ReaderStateView) → lacks 10 l ≡ true
     → says (joined (l ∷ ls) ++ w) g ≡ says (joined ls ++ w) (with_line l g)
 says_first l ls w g h = ap (λ (t : List ℕ). says t g) (append_assoc (line l) (joined ls) w)
     ∙ says_line l (joined ls ++ w) g h

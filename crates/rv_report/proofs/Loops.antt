@@ -4,8 +4,8 @@ use Rattle.std.proofs.Common.{List, [], ◌∷◌, length, take, drop, get_or, r
 use Rattle.std.proofs.Common.{append-nil, append_assoc, nat_lt, nat_le}
 use Rattle.std.proofs.lemmas.List.{at_drop_more, at_drop_all, drop_more}
 use Rattle.std.proofs.lemmas.Bool.Decides.{nat_tests}
-use Rattle.rv_report.specs.declared.read.FirstWord.{FirstWord}
-use Rattle.rv_report.specs.declared.read.ReadError.TheVariants.{Line, CutOff}
+use Rattle.rv_report.specs.declared.read.FirstWordState.{FirstWordState}
+use Rattle.rv_report.specs.declared.read.ReadError.TheVariants.{Line, Truncated}
 use Rattle.std.proofs.lemmas.Bool.{and_parts}
 use Rattle.rv_report.specs.Differences.{line_feed_count, word_after_byte, line_after_byte, read_error_from, read_error_at}
 use Rattle.rv_base.specs.Limits.{max_jobs}
@@ -35,20 +35,20 @@ feeds_later xs i h other =
 
 -- ---- the first difference
 
-pub difference_end : (line : ℕ) (met : FirstWord) (text bytes : List ℕ) (i : ℕ) → length bytes ≤ i
-    → read_error_from line met text (drop i bytes) ≡ CutOff
+pub difference_end : (line : ℕ) (met : FirstWordState) (text bytes : List ℕ) (i : ℕ) → length bytes ≤ i
+    → read_error_from line met text (drop i bytes) ≡ Truncated
 unfolding read_error_from
 difference_end line met [] bytes i h = at_drop_all (read_error_from line met []) bytes i h
 difference_end line met (t ∷ ts) bytes i h = at_drop_all (read_error_from line met (t ∷ ts)) bytes i h
 
-pub difference_past : (line : ℕ) (met : FirstWord) (text bytes : List ℕ) (i : ℕ) → length text ≤ i → i < length bytes
+pub difference_past : (line : ℕ) (met : FirstWordState) (text bytes : List ℕ) (i : ℕ) → length text ≤ i → i < length bytes
     → read_error_from line met (drop i text) (drop i bytes) ≡ Line line
 unfolding read_error_from
 difference_past line met text bytes i h k =
     at_drop_all (λ (xs : List ℕ). read_error_from line met xs (drop i bytes)) text i h
     ∙ at_drop_more (read_error_from line met []) bytes i 0 k
 
-difference_step : (line : ℕ) (met : FirstWord) (text bytes : List ℕ) (i : ℕ) → i < length text → i < length bytes
+difference_step : (line : ℕ) (met : FirstWordState) (text bytes : List ℕ) (i : ℕ) → i < length text → i < length bytes
     → read_error_from line met (drop i text) (drop i bytes)
     ≡ cond (get_or bytes i 0 == get_or text i 0)
     (read_error_from (line_after_byte line (get_or bytes i 0)) (word_after_byte met (get_or bytes i 0)) (drop (i + 1) text)
@@ -59,7 +59,7 @@ difference_step line met text bytes i h k =
     at_drop_more (λ (xs : List ℕ). read_error_from line met xs (drop i bytes)) text i 0 h
     ∙ at_drop_more (read_error_from line met (get_or text i 0 ∷ drop (i + 1) text)) bytes i 0 k
 
-pub difference_here : (line : ℕ) (met : FirstWord) (text bytes : List ℕ) (i : ℕ) → i < length text → i < length bytes
+pub difference_here : (line : ℕ) (met : FirstWordState) (text bytes : List ℕ) (i : ℕ) → i < length text → i < length bytes
     → (get_or bytes i 0 ≡ get_or text i 0 → ⊥)
     → read_error_from line met (drop i text) (drop i bytes) ≡ read_error_at line met (get_or text i 0) (drop i bytes)
 difference_here line met text bytes i h k other =
@@ -71,7 +71,7 @@ difference_here line met text bytes i h k other =
     (read_error_at line met (get_or text i 0) (get_or bytes i 0 ∷ drop (i + 1) bytes))) e
     ∙ ap (read_error_at line met (get_or text i 0)) (sym (drop_more bytes i 0 k))
 
-pub difference_later : (line : ℕ) (met : FirstWord) (text bytes : List ℕ) (i : ℕ) → i < length text
+pub difference_later : (line : ℕ) (met : FirstWordState) (text bytes : List ℕ) (i : ℕ) → i < length text
     → i < length bytes → get_or bytes i 0 ≡ get_or text i 0
     → read_error_from line met (drop i text) (drop i bytes)
     ≡ read_error_from (line_after_byte line (get_or bytes i 0)) (word_after_byte met (get_or bytes i 0)) (drop (i + 1) text)

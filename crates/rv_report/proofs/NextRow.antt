@@ -18,7 +18,7 @@ use Rattle.rv_report.specs.declared.row.RowEnd.TheVariants as ending
 use Rattle.rv_report.specs.declared.row.Verdict.{Verdict}
 use Rattle.rv_report.specs.declared.gathering.Stage.TheVariants as stage
 use Rattle.rv_report.specs.Report.{refusal_name, verdict_name, dash_if_empty}
-use Rattle.rv_report.specs.LenientReport.{lines, is_hex_word, hex_word, are_hex_digits, verdict_of_line, Gathered, state_between_rows, with_finished_row, with_stage_done}
+use Rattle.rv_report.specs.LenientReport.{lines, is_hex_word, hex_word, are_hex_digits, verdict_of_line, ReaderStateView, state_between_rows, with_finished_row, with_stage_done}
 use Rattle.rv_report.specs.LenientReport.{unfinished_row, after_word_or_verdict_line, with_line, with_lines, with_unfinished_row}
 use Rattle.rv_report.specs.Saved.{IsWord, IsValidSignature, IsValidRow, max_words}
 use Rattle.rv_report.proofs.Pieces.{lacks}
@@ -135,7 +135,7 @@ line_alone b (c ∷ p) h =
     ap (λ (t : Bool). cond t ([] ∷ lines (c ∷ p)) (onto_first b (lines (c ∷ p)))) (not-true (b == 10) parts.0)
     ∙ ap (onto_first b) (line_alone c p parts.1)
 
-pub says_alone : (b : ℕ) (p : List ℕ) (g : Gathered) → lacks 10 (b ∷ p) ≡ true → says (b ∷ p) g ≡ with_line (b ∷ p) g
+pub says_alone : (b : ℕ) (p : List ℕ) (g : ReaderStateView) → lacks 10 (b ∷ p) ≡ true → says (b ∷ p) g ≡ with_line (b ∷ p) g
 unfolding with_lines
 says_alone b p g h = ap (λ (ls : List (List ℕ)). with_lines ls g) (line_alone b p h)
 
@@ -146,19 +146,19 @@ and_no true = refl
 and_no false = refl
 
 -- a line that begins with v is the verdict, once all words are there
-verdict_read : (p : List ℕ) (g : Gathered) → (length g.words == g.count) ≡ true
+verdict_read : (p : List ℕ) (g : ReaderStateView) → (length g.words == g.count) ≡ true
     → with_line (118 ∷ p) (record g { stage = stage.Words })
     ≡ with_finished_row (verdict_of_line (118 ∷ p)) (record g { stage = stage.Words })
 unfolding with_line after_word_or_verdict_line are_hex_digits
 verdict_read p g full =
-    let here : Gathered = record g { stage = stage.Words } in
+    let here : ReaderStateView = record g { stage = stage.Words } in
     let row = with_finished_row (verdict_of_line (118 ∷ p)) here in
-    let word : Gathered = record here { words = g.words ++ hex_word (118 ∷ p) ∷ [] } in
+    let word : ReaderStateView = record here { words = g.words ++ hex_word (118 ∷ p) ∷ [] } in
     ap (λ (t : Bool). cond (t && nat_lt (length g.words) g.count) word
     (cond (length g.words == g.count) row (with_stage_done here))) (and_no (nat_lt 0 (length (118 ∷ p))))
     ∙ ap (λ (t : Bool). cond t row (with_stage_done here)) full
 
-abbrev all_words : ℕ → Row → Gathered → Gathered
+abbrev all_words : ℕ → Row → ReaderStateView → ReaderStateView
 all_words n row g = record g {
   number = n;
   name = row.name;
@@ -172,16 +172,16 @@ all_words n row g = record g {
   stage = stage.Words;
 }
 
-signature_read : (n : ℕ) (row : Row) (w : List ℕ) (g : Gathered) → IsValidRow row → n < 2 ^ 32 → length g.rows < max_jobs
+signature_read : (n : ℕ) (row : Row) (w : List ℕ) (g : ReaderStateView) → IsValidRow row → n < 2 ^ 32 → length g.rows < max_jobs
     → says (joined (job_words n row.name ∷ end_words row.ending ∷ steps_change_text row.steps ∷ console_change_text row.console
-    ∷ lines_of_signature row.signature) ++ w) (record g { stage = stage.Between })
+    ∷ lines_of_signature row.signature) ++ w) (record g { stage = stage.BetweenRows })
     ≡ says w (all_words n row g)
 signature_read n row w g is small few =
     four_lines n row (lines_of_signature row.signature) w g is small few
     ∙ ap (λ (t : List ℕ). says (t ++ w) (after_console n row g)) (joined_signature row.signature)
     ∙ signature_says row.signature w (after_console n row g) is.signature
 
-closed_row_is : (n : ℕ) (row : Row) (p q : List ℕ) (v : Verdict) (g : Gathered) → verdict_change_text row.verdict ≡ p ++ q
+closed_row_is : (n : ℕ) (row : Row) (p q : List ℕ) (v : Verdict) (g : ReaderStateView) → verdict_change_text row.verdict ≡ p ++ q
     → HasRow g.numbers g.rows n (NextAgrees n row (job_words n row.name ∷ end_words row.ending ∷ steps_change_text row.steps
     ∷ console_change_text row.console ∷ lines_of_signature row.signature) p)
     (with_unfinished_row (with_finished_row v (all_words n row g)))
@@ -203,12 +203,12 @@ closed_row_is n row p q v g is = record {
 }
 
 -- a beginning of the verdict's line
-pub next_verdict : (n : ℕ) (row : Row) (b : ℕ) (p q : List ℕ) (g : Gathered) → IsValidRow row → n < 2 ^ 32
+pub next_verdict : (n : ℕ) (row : Row) (b : ℕ) (p q : List ℕ) (g : ReaderStateView) → IsValidRow row → n < 2 ^ 32
     → length g.rows < max_jobs → lacks 10 (b ∷ p) ≡ true → verdict_change_text row.verdict ≡ (b ∷ p) ++ q
     → HasRow g.numbers g.rows n (NextAgrees n row (job_words n row.name ∷ end_words row.ending ∷ steps_change_text row.steps
     ∷ console_change_text row.console ∷ lines_of_signature row.signature) (b ∷ p))
     (with_unfinished_row (says (joined (job_words n row.name ∷ end_words row.ending ∷ steps_change_text row.steps
-    ∷ console_change_text row.console ∷ lines_of_signature row.signature) ++ b ∷ p) (record g { stage = stage.Between })))
+    ∷ console_change_text row.console ∷ lines_of_signature row.signature) ++ b ∷ p) (record g { stage = stage.BetweenRows })))
 next_verdict n row b p q g is small few plain begins =
     let first : 118 ≡ b = ap (λ (t : List ℕ). get_or t 0 0) begins in
     let v = verdict_of_line (118 ∷ p) in
@@ -216,20 +216,20 @@ next_verdict n row b p q g is small few plain begins =
     let read : says (b ∷ p) all ≡ with_finished_row v all =
     says_alone b p all plain ∙ ap (λ (c : ℕ). with_line (c ∷ p) all) (sym first)
     ∙ verdict_read p all (same_length (length (words_or_nil row.signature))) in
-    subst (λ (f : Gathered). HasRow g.numbers g.rows n (NextAgrees n row (job_words n row.name ∷ end_words row.ending
+    subst (λ (f : ReaderStateView). HasRow g.numbers g.rows n (NextAgrees n row (job_words n row.name ∷ end_words row.ending
     ∷ steps_change_text row.steps ∷ console_change_text row.console ∷ lines_of_signature row.signature) (b ∷ p)) (with_unfinished_row f))
     (sym (signature_read n row (b ∷ p) g is small few ∙ read)) (closed_row_is n row (b ∷ p) q v g begins)
 
 -- ---- a word
 
-word_read : (l : List ℕ) (g : Gathered) → is_hex_word l ≡ true → length g.words < g.count
+word_read : (l : List ℕ) (g : ReaderStateView) → is_hex_word l ≡ true → length g.words < g.count
     → with_line l (record g { stage = stage.Words }) ≡ record g { words = g.words ++ hex_word l ∷ []; stage = stage.Words }
 unfolding with_line after_word_or_verdict_line
 word_read l g hex more =
-    let here : Gathered = record g { stage = stage.Words } in
-    let word : Gathered = record here { words = g.words ++ hex_word l ∷ [] } in
+    let here : ReaderStateView = record g { stage = stage.Words } in
+    let word : ReaderStateView = record here { words = g.words ++ hex_word l ∷ [] } in
     let row = with_finished_row (verdict_of_line l) here in
-    let other : Gathered = cond ((slice_index l 0 == 118) && (length g.words == g.count)) row (with_stage_done here) in
+    let other : ReaderStateView = cond ((slice_index l 0 == 118) && (length g.words == g.count)) row (with_stage_done here) in
     let room : nat_lt (length g.words) g.count ≡ true = grind (arith, nat_tests) in
     ap (λ (t : Bool). cond (t && nat_lt (length g.words) g.count) word other) hex
     ∙ ap (λ (t : Bool). cond t word other) room
@@ -254,7 +254,7 @@ word_is_hex w b p q is =
     (subst (λ (t : List ℕ). are_hex_digits t ≡ true) (first_of_word w b p q is)
     (digits_taken (suc (length p)) (word_digits w) (all_digits w)))
 
-word_lines : (n count : ℕ) (ws : List ℕ) (h : ℕ) (row : Row) (p : List ℕ) (g : Gathered) → AlikeLine p (word_digits h) → (r : Row)
+word_lines : (n count : ℕ) (ws : List ℕ) (h : ℕ) (row : Row) (p : List ℕ) (g : ReaderStateView) → AlikeLine p (word_digits h) → (r : Row)
     → KnowsLines (count_words count ∷ map word_digits (ws ++ h ∷ [])) (after_console n row g) r
     → NextAgrees n row (job_words n row.name ∷ end_words row.ending ∷ steps_change_text row.steps
     ∷ console_change_text row.console ∷ count_words count ∷ map word_digits ws) p r
@@ -277,14 +277,14 @@ word_lines n count ws h row p g alike r k =
       alike = alike;
     }
 
-pub next_word : (n : ℕ) (row : Row) (ws : List ℕ) (i : ℕ) (b : ℕ) (p q : List ℕ) (g : Gathered) → IsValidRow row → n < 2 ^ 32
+pub next_word : (n : ℕ) (row : Row) (ws : List ℕ) (i : ℕ) (b : ℕ) (p q : List ℕ) (g : ReaderStateView) → IsValidRow row → n < 2 ^ 32
     → length g.rows < max_jobs → lacks 10 (b ∷ p) ≡ true → row.signature ≡ Some ws → i < length ws
     → get_or ws i 0 < 2 ^ 32 → word_digits (get_or ws i 0) ≡ (b ∷ p) ++ q
     → HasRow g.numbers g.rows n (NextAgrees n row (job_words n row.name ∷ end_words row.ending ∷ steps_change_text row.steps
     ∷ console_change_text row.console ∷ count_words (length ws) ∷ map word_digits (take i ws)) (b ∷ p))
     (with_unfinished_row (says (joined (job_words n row.name ∷ end_words row.ending ∷ steps_change_text row.steps
     ∷ console_change_text row.console ∷ count_words (length ws) ∷ map word_digits (take i ws)) ++ b ∷ p)
-    (record g { stage = stage.Between })))
+    (record g { stage = stage.BetweenRows })))
 unfolding with_lines
 next_word n row ws i b p q g is small few plain signed within fits begins =
     let count = length ws in
@@ -294,8 +294,8 @@ next_word n row ws i b p q g is small few plain signed within fits begins =
     let words : IsValidSignature (Some ws) = subst (λ (s : Option (List ℕ)). IsValidSignature s) signed is.signature in
     let most : length ws ≤ max_words = words.0 in
     let fewer : length some < count = let e = length-taken i ws (omega arith) in omega arith in
-    let now : Gathered = record before { signed = true; count = count; words = some; stage = stage.Words } in
-    let next : Gathered = record before { signed = true; count = count; words = some ++ h ∷ [] } in
+    let now : ReaderStateView = record before { signed = true; count = count; words = some; stage = stage.Words } in
+    let next : ReaderStateView = record before { signed = true; count = count; words = some ++ h ∷ [] } in
     let longer = length-append some (h ∷ []) in
     let ls = count_words count ∷ map word_digits some in
     let read = four_lines n row ls (b ∷ p) g is small few
@@ -304,7 +304,7 @@ next_word n row ws i b p q g is small few plain signed within fits begins =
     ∙ word_read (b ∷ p) now (word_is_hex (get_or ws i 0) b p q begins) fewer in
     let K = NextAgrees n row (job_words n row.name ∷ end_words row.ending ∷ steps_change_text row.steps
     ∷ console_change_text row.console ∷ ls) (b ∷ p) in
-    subst (λ (f : Gathered). HasRow g.numbers g.rows n K (with_unfinished_row f)) (sym read)
+    subst (λ (f : ReaderStateView). HasRow g.numbers g.rows n K (with_unfinished_row f)) (sym read)
     (with_less g.numbers g.rows n (KnowsWords next) K (with_unfinished_row (record next { is_in_row = true; stage = stage.Words }))
     (words_keep [] next (omega arith))
     (λ r k. word_lines n count some h row (b ∷ p) g (begun_word (get_or ws i 0) b p q fits begins) r

@@ -11,7 +11,7 @@ use Rattle.rv_base.specs.Limits.{max_jobs}
 use Rattle.rv_report.specs.declared.row.Row.{Row}
 use Rattle.rv_report.specs.declared.saved.Extent.{Extent}
 use Rattle.rv_report.specs.declared.gathering.Stage.TheVariants as stage
-use Rattle.rv_report.specs.LenientReport.{Gathered, state_between_rows, with_unfinished_row}
+use Rattle.rv_report.specs.LenientReport.{ReaderStateView, state_between_rows, with_unfinished_row}
 use Rattle.rv_report.specs.Saved.{IsValidRow, IsWord, IsValidSignature, are_increasing}
 use Rattle.rv_report.proofs.Pieces.{lacks}
 use Rattle.rv_report.proofs.Spelled.{says, end_words}
@@ -49,15 +49,15 @@ word_at (w ∷ ws) (suc i) h within = word_at ws i h.1 (omega arith)
 -- ---- a row
 
 -- the row is said with the known lines, and goes on alike
-abbrev ContinuesIn : ℕ → Row → List (List ℕ) → List ℕ → Gathered → Type 0
+abbrev ContinuesIn : ℕ → Row → List (List ℕ) → List ℕ → ReaderStateView → Type 0
 ContinuesIn n row ls p g = HasRow g.numbers g.rows n (NextAgrees n row ls p)
-    (with_unfinished_row (says (joined ls ++ p) (record g { stage = stage.Between })))
+    (with_unfinished_row (says (joined ls ++ p) (record g { stage = stage.BetweenRows })))
 
 abbrev with_head : ℕ → Row → List (List ℕ) → List (List ℕ)
 with_head n row ls = job_words n row.name ∷ end_words row.ending ∷ steps_change_text row.steps ∷ console_change_text row.console ∷ ls
 
 -- in the signature's words or the verdict
-last_goes_on : (s : Option (List ℕ)) (i n : ℕ) (row : Row) (b : ℕ) (p q : List ℕ) (g : Gathered) → row.signature ≡ s → IsValidRow row
+last_goes_on : (s : Option (List ℕ)) (i n : ℕ) (row : Row) (b : ℕ) (p q : List ℕ) (g : ReaderStateView) → row.signature ≡ s → IsValidRow row
     → n < 2 ^ 32 → length g.rows < max_jobs → lacks 10 (b ∷ p) ≡ true
     → suc i < length (lines_of_signature s ++ verdict_change_text row.verdict ∷ [])
     → get_or (lines_of_signature s ++ verdict_change_text row.verdict ∷ []) (suc i) [] ≡ (b ∷ p) ++ q
@@ -91,7 +91,7 @@ last_goes_on (Some ws) i n row b p q g signed is small few plain within begins =
           (next_verdict n row b p q g is small few plain element))
     ]
 
-row_goes_on : (k n : ℕ) (row : Row) (b : ℕ) (p q : List ℕ) (g : Gathered) → IsValidRow row → n < 2 ^ 32 → length g.rows < max_jobs
+row_goes_on : (k n : ℕ) (row : Row) (b : ℕ) (p q : List ℕ) (g : ReaderStateView) → IsValidRow row → n < 2 ^ 32 → length g.rows < max_jobs
     → length g.words ≤ g.count → lacks 10 (b ∷ p) ≡ true → 0 < k → k < length (row_lines n row)
     → get_or (row_lines n row) k [] ≡ (b ∷ p) ++ q → ContinuesIn n row (take k (row_lines n row)) (b ∷ p) g
 row_goes_on zero n row b p q g is small few room plain some within begins = absurd (omega arith)
@@ -99,25 +99,25 @@ row_goes_on (suc zero) n row b p q g is small few room plain some within begins 
     let k : ℕ = suc zero in
     let ls = take k (row_lines n row) in
     with_less g.numbers g.rows n (Agrees n row k) (NextAgrees n row ls (b ∷ p))
-    (with_unfinished_row (says (joined ls ++ b ∷ p) (record g { stage = stage.Between })))
+    (with_unfinished_row (says (joined ls ++ b ∷ p) (record g { stage = stage.BetweenRows })))
     (partial_row (suc zero) n row (b ∷ p) g is small few room some within) (next_one n row (b ∷ p) q begins)
 row_goes_on (suc (suc zero)) n row b p q g is small few room plain some within begins =
     let k : ℕ = suc (suc zero) in
     let ls = take k (row_lines n row) in
     with_less g.numbers g.rows n (Agrees n row k) (NextAgrees n row ls (b ∷ p))
-    (with_unfinished_row (says (joined ls ++ b ∷ p) (record g { stage = stage.Between })))
+    (with_unfinished_row (says (joined ls ++ b ∷ p) (record g { stage = stage.BetweenRows })))
     (partial_row (suc (suc zero)) n row (b ∷ p) g is small few room some within) (next_two n row (b ∷ p) q begins)
 row_goes_on (suc (suc (suc zero))) n row b p q g is small few room plain some within begins =
     let k : ℕ = suc (suc (suc zero)) in
     let ls = take k (row_lines n row) in
     with_less g.numbers g.rows n (Agrees n row k) (NextAgrees n row ls (b ∷ p))
-    (with_unfinished_row (says (joined ls ++ b ∷ p) (record g { stage = stage.Between })))
+    (with_unfinished_row (says (joined ls ++ b ∷ p) (record g { stage = stage.BetweenRows })))
     (partial_row (suc (suc (suc zero))) n row (b ∷ p) g is small few room some within) (next_three n row (b ∷ p) q begins)
 row_goes_on (suc (suc (suc (suc zero)))) n row b p q g is small few room plain some within begins =
     let k : ℕ = suc (suc (suc (suc zero))) in
     let ls = take k (row_lines n row) in
     with_less g.numbers g.rows n (Agrees n row k) (NextAgrees n row ls (b ∷ p))
-    (with_unfinished_row (says (joined ls ++ b ∷ p) (record g { stage = stage.Between })))
+    (with_unfinished_row (says (joined ls ++ b ∷ p) (record g { stage = stage.BetweenRows })))
     (partial_row (suc (suc (suc (suc zero)))) n row (b ∷ p) g is small few room some within)
     (next_four n row (b ∷ p) q begins)
 row_goes_on (suc (suc (suc (suc (suc i))))) n row b p q g is small few room plain some within begins =
@@ -132,12 +132,12 @@ Onward p more = ((next : List ℕ) × (rest : List (List ℕ)) × (more ≡ next
     ⊎ ((n : ℕ) × (name q : List ℕ) × (job_words n name ≡ p ++ q) × (more ≡ []))
 
 pub record NextCovers (earlier : List ℕ) (done : List Row) (ns : List ℕ) (rows : List Row) (k : ℕ) (p : List ℕ)
-    (f : Gathered) : Type 0 where
+    (f : ReaderStateView) : Type 0 where
   pub covers : Covers earlier done ns rows k f
   pub onward : Onward p covers.more
 
 one_next : (earlier : List ℕ) (done : List Row) (n : ℕ) (ns : List ℕ) (row : Row) (rows : List Row) (k : ℕ) (p : List ℕ)
-    (f : Gathered) → k ≤ length (row_lines n row) → HasRow earlier done n (NextAgrees n row (take k (row_lines n row)) p) f
+    (f : ReaderStateView) → k ≤ length (row_lines n row) → HasRow earlier done n (NextAgrees n row (take k (row_lines n row)) p) f
     → NextCovers earlier done (n ∷ ns) (row ∷ rows) k p f
 unfolding one_covered
 one_next earlier done n ns row rows k p f few h =
@@ -155,7 +155,7 @@ one_next earlier done n ns row rows k p f few h =
     }
 
 more_next : (earlier : List ℕ) (done : List Row) (n : ℕ) (ns : List ℕ) (row : Row) (rows : List Row) (k i : ℕ) (p : List ℕ)
-    (f : Gathered) → k ≡ length (row_lines n row) + i
+    (f : ReaderStateView) → k ≡ length (row_lines n row) + i
     → NextCovers (earlier ++ n ∷ []) (done ++ row ∷ []) ns rows i p f
     → NextCovers earlier done (n ∷ ns) (row ∷ rows) k p f
 unfolding more_covered
@@ -222,6 +222,6 @@ rows_next (suc k) (n ∷ ns) (row ∷ rows) b p q earlier done e before each cou
           subst C (sym (take_past here later (suc k) i is))
           (more_next earlier done n ns row rows (suc k) i (b ∷ p)
           (with_unfinished_row (says (joined (here ++ take i later) ++ b ∷ p) g)) is
-          (subst (λ (f : Gathered). NextCovers (earlier ++ n ∷ []) (done ++ row ∷ []) ns rows i (b ∷ p) (with_unfinished_row f))
+          (subst (λ (f : ReaderStateView). NextCovers (earlier ++ n ∷ []) (done ++ row ∷ []) ns rows i (b ∷ p) (with_unfinished_row f))
           (sym (whole_row_says n row (take i later) (b ∷ p) earlier done e each.0 (omega arith) (omega arith) (omega arith))) rest))
     ]

@@ -11,7 +11,7 @@ use Rattle.rv_text.specs.Words.{word_digits}
 use Rattle.rv_report.specs.declared.row.Row.{Row}
 use Rattle.rv_report.specs.declared.gathering.Stage.TheVariants as stage
 use Rattle.rv_report.specs.Report.{line}
-use Rattle.rv_report.specs.LenientReport.{lines, decimal_number, decimal_number_from, Gathered, with_line, with_unfinished_row}
+use Rattle.rv_report.specs.LenientReport.{lines, decimal_number, decimal_number_from, ReaderStateView, with_line, with_unfinished_row}
 use Rattle.rv_report.specs.Saved.{IsWord, IsValidSignature, max_words}
 use Rattle.rv_report.proofs.Pieces.{first_is_other}
 use Rattle.rv_report.proofs.Words.{lacks-decimal, number_of-decimal}
@@ -32,7 +32,7 @@ taken_within (suc count) [] = omega arith
 taken_within (suc count) (x ∷ xs) = let h = taken_within count xs in omega arith
 
 -- the line of the count
-count_says : (n : ℕ) (g : Gathered) → n ≤ max_words
+count_says : (n : ℕ) (g : ReaderStateView) → n ≤ max_words
     → with_line (count_words n) (record g { stage = stage.Signature })
     ≡ record g { signed = true; count = n; words = []; stage = stage.Words }
 count_says n g few =
@@ -44,7 +44,7 @@ count_says n g few =
     ∙ ap (λ (k : ℕ). record g { signed = true; count = k; words = []; stage = stage.Words }) value
 
 -- a row has what is known before the signature, and these lines of it
-pub record KnowsLines (ls : List (List ℕ)) (g : Gathered) (r : Row) : Type 0 where
+pub record KnowsLines (ls : List (List ℕ)) (g : ReaderStateView) (r : Row) : Type 0 where
   pub name : r.name ≡ g.name
   pub ending : r.ending ≡ g.ending
   pub steps : r.steps ≡ g.steps
@@ -52,7 +52,7 @@ pub record KnowsLines (ls : List (List ℕ)) (g : Gathered) (r : Row) : Type 0 w
   pub more : List (List ℕ)
   pub signature : lines_of_signature r.signature ≡ ls ++ more
 
-unsigned_lines : (g : Gathered) (r : Row) → KnowsWords (record g { signed = false; count = 0; words = [] }) r
+unsigned_lines : (g : ReaderStateView) (r : Row) → KnowsWords (record g { signed = false; count = 0; words = [] }) r
     → KnowsLines (codes "signature -" ∷ []) g r
 unsigned_lines g r k = record {
   name = k.name;
@@ -63,7 +63,7 @@ unsigned_lines g r k = record {
   signature = ap lines_of_signature k.signature;
 }
 
-pub signed_lines : (n : ℕ) (ws : List ℕ) (g : Gathered) (r : Row)
+pub signed_lines : (n : ℕ) (ws : List ℕ) (g : ReaderStateView) (r : Row)
     → KnowsWords (record g { signed = true; count = n; words = ws }) r
     → KnowsLines (count_words n ∷ map word_digits ws) g r
 signed_lines n ws g r k = record {
@@ -77,18 +77,18 @@ signed_lines n ws g r k = record {
       ∙ ap (λ (t : List (List ℕ)). count_words n ∷ t) (map-append word_digits ws k.more);
 }
 
-unsigned_says : (w : List ℕ) (g : Gathered) → says (joined (codes "signature -" ∷ []) ++ w) (record g { stage = stage.Signature })
+unsigned_says : (w : List ℕ) (g : ReaderStateView) → says (joined (codes "signature -" ∷ []) ++ w) (record g { stage = stage.Signature })
     ≡ says w (record g { signed = false; count = 0; words = []; stage = stage.Words })
 unfolding decimal_number_from
 unsigned_says w g =
     says_first (codes "signature -") [] w (record g { stage = stage.Signature }) refl
     ∙ ap (says w) (signature_text_says (codes "-") g refl)
 
-pub signed_says : (n : ℕ) (ws w : List ℕ) (g : Gathered) → n ≤ max_words → length ws ≤ n → AllByRecursion IsWord ws
+pub signed_says : (n : ℕ) (ws w : List ℕ) (g : ReaderStateView) → n ≤ max_words → length ws ≤ n → AllByRecursion IsWord ws
     → says (joined (count_words n ∷ map word_digits ws) ++ w) (record g { stage = stage.Signature })
     ≡ says w (record g { signed = true; count = n; words = ws; stage = stage.Words })
 signed_says n ws w g few within each =
-    let known : Gathered = record g { signed = true; count = n; words = []; stage = stage.Words } in
+    let known : ReaderStateView = record g { signed = true; count = n; words = []; stage = stage.Words } in
     says_first (count_words n) (map word_digits ws) w (record g { stage = stage.Signature })
     (lacks-decimal 10 n (omega arith) (omega arith))
     ∙ ap (says (joined (map word_digits ws) ++ w)) (count_says n g few)
@@ -96,15 +96,15 @@ signed_says n ws w g few within each =
     ∙ words_say ws w known each (omega arith)
 
 -- some lines of the signature, and not all, nor the verdict
-pub signature_part : (s : Option (List ℕ)) (i : ℕ) (v w : List ℕ) (g : Gathered) → IsValidSignature s
+pub signature_part : (s : Option (List ℕ)) (i : ℕ) (v w : List ℕ) (g : ReaderStateView) → IsValidSignature s
     → suc i < length (lines_of_signature s ++ v ∷ [])
     → Kept (KnowsLines (take (suc i) (lines_of_signature s ++ v ∷ []))) g
     (with_unfinished_row (says (joined (take (suc i) (lines_of_signature s ++ v ∷ [])) ++ w)
     (record g { is_in_row = true; stage = stage.Signature })))
 signature_part None zero v w g h within =
-    let known : Gathered = record g { signed = false; count = 0; words = [] } in
+    let known : ReaderStateView = record g { signed = false; count = 0; words = [] } in
     let K = KnowsLines (codes "signature -" ∷ []) in
-    subst (λ (f : Gathered). Kept K g (with_unfinished_row f)) (sym (unsigned_says w (record g { is_in_row = true })))
+    subst (λ (f : ReaderStateView). Kept K g (with_unfinished_row f)) (sym (unsigned_says w (record g { is_in_row = true })))
     (with_less g.numbers g.rows g.number (KnowsWords known) (K g)
     (with_unfinished_row (says w (record known { is_in_row = true; stage = stage.Words }))) (words_keep (lines w) known (omega arith))
     (unsigned_lines g))
@@ -112,16 +112,16 @@ signature_part None (suc i) v w g h within = absurd (omega arith)
 signature_part (Some ws) i v w g h within =
     let n = length ws in
     let some = take i ws in
-    let known : Gathered = record g { signed = true; count = n; words = some } in
+    let known : ReaderStateView = record g { signed = true; count = n; words = some } in
     let a = length-append (map word_digits ws) (v ∷ []) in
     let b : length (map word_digits ws) ≡ n = length-map ws word_digits in
     let taken : map word_digits some ≡ take i (map word_digits ws ++ v ∷ []) =
     sym (take-append-le i (map word_digits ws) (v ∷ []) (omega arith) ∙ take-map word_digits i ws) in
     let few : length ws ≤ max_words = h.0 in
-    let K : List (List ℕ) → Gathered → Row → Type 0 = λ ls. KnowsLines (count_words n ∷ ls) in
+    let K : List (List ℕ) → ReaderStateView → Row → Type 0 = λ ls. KnowsLines (count_words n ∷ ls) in
     subst (λ (ls : List (List ℕ)). Kept (K ls) g
     (with_unfinished_row (says (joined (count_words n ∷ ls) ++ w) (record g { is_in_row = true; stage = stage.Signature })))) taken
-    (subst (λ (f : Gathered). Kept (K (map word_digits some)) g (with_unfinished_row f))
+    (subst (λ (f : ReaderStateView). Kept (K (map word_digits some)) g (with_unfinished_row f))
     (sym (signed_says n some w (record g { is_in_row = true }) few (taken_within i ws) (all-taken IsWord i ws h.1)))
     (with_less g.numbers g.rows g.number (KnowsWords known) (K (map word_digits some) g)
     (with_unfinished_row (says w (record known { is_in_row = true; stage = stage.Words })))

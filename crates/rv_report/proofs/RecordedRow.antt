@@ -12,13 +12,13 @@ use Rattle.rv_report.specs.declared.row.Verdict.TheVariants.{Unasked}
 use Rattle.rv_report.specs.declared.gathering.Stage.{Stage}
 use Rattle.rv_report.specs.declared.gathering.Stage.TheVariants as stage
 use Rattle.rv_report.specs.LenientReport.{decimal_number, is_hex_word, hex_word, hex_bytes, row_ending_of_line, verdict_of_line}
-use Rattle.rv_report.specs.LenientReport.{Gathered, state_between_rows, with_finished_row, with_stage_done, unfinished_row, padded_words}
+use Rattle.rv_report.specs.LenientReport.{ReaderStateView, state_between_rows, with_finished_row, with_stage_done, unfinished_row, padded_words}
 use Rattle.rv_report.specs.LenientReport.{after_end_line, after_steps_line, after_console_line, after_signature_line, after_word_or_verdict_line, with_line, with_lines, with_unfinished_row}
 use Rattle.rv_report.specs.Saved.{max_words}
 use Rattle.rv_report.proofs.Grown.{chosen, chosen_if, at_end, Extends, grown}
 
 -- behind these rows there is one of this number, of which something is known
-pub record HasRow (numbers : List ℕ) (rows : List Row) (n : ℕ) (Knows : Row → Type 0) (f : Gathered) : Type 0 where
+pub record HasRow (numbers : List ℕ) (rows : List Row) (n : ℕ) (Knows : Row → Type 0) (f : ReaderStateView) : Type 0 where
   pub row : Row
   pub more_numbers : List ℕ
   pub more_rows : List Row
@@ -27,7 +27,7 @@ pub record HasRow (numbers : List ℕ) (rows : List Row) (n : ℕ) (Knows : Row 
   pub knows : Knows row
 
 -- so it is where more is known
-pub with_less : (numbers : List ℕ) (rows : List Row) (n : ℕ) (P Q : Row → Type 0) (f : Gathered) → HasRow numbers rows n P f
+pub with_less : (numbers : List ℕ) (rows : List Row) (n : ℕ) (P Q : Row → Type 0) (f : ReaderStateView) → HasRow numbers rows n P f
     → ((r : Row) → P r → Q r) → HasRow numbers rows n Q f
 with_less numbers rows n P Q f h less = record {
   row = h.row;
@@ -40,23 +40,23 @@ with_less numbers rows n P Q f h less = record {
 
 -- ---- what the stages know
 
-abbrev pub KnowsName : Gathered → Row → Type 0
+abbrev pub KnowsName : ReaderStateView → Row → Type 0
 KnowsName g r = r.name ≡ g.name
 
-abbrev pub KnowsEnding : Gathered → Row → Type 0
+abbrev pub KnowsEnding : ReaderStateView → Row → Type 0
 KnowsEnding g r = (r.name ≡ g.name) × (r.ending ≡ g.ending)
 
-abbrev pub KnowsSteps : Gathered → Row → Type 0
+abbrev pub KnowsSteps : ReaderStateView → Row → Type 0
 KnowsSteps g r = (r.name ≡ g.name) × (r.ending ≡ g.ending) × (r.steps ≡ g.steps)
 
-abbrev pub KnowsConsole : Gathered → Row → Type 0
+abbrev pub KnowsConsole : ReaderStateView → Row → Type 0
 KnowsConsole g r = (r.name ≡ g.name) × (r.ending ≡ g.ending) × (r.steps ≡ g.steps) × (r.console ≡ g.console)
 
 abbrev pub signature_of : Bool → List ℕ → Option (List ℕ)
 signature_of signed words = if signed then Some words else None
 
 -- the words so far, and so many more that all are there
-pub record KnowsWords (g : Gathered) (r : Row) : Type 0 where
+pub record KnowsWords (g : ReaderStateView) (r : Row) : Type 0 where
   pub name : r.name ≡ g.name
   pub ending : r.ending ≡ g.ending
   pub steps : r.steps ≡ g.steps
@@ -65,12 +65,12 @@ pub record KnowsWords (g : Gathered) (r : Row) : Type 0 where
   pub signature : r.signature ≡ signature_of g.signed (g.words ++ more)
   pub all : length (g.words ++ more) ≡ g.count
 
-abbrev pub Kept : (Gathered → Row → Type 0) → Gathered → Gathered → Type 0
+abbrev pub Kept : (ReaderStateView → Row → Type 0) → ReaderStateView → ReaderStateView → Type 0
 Kept Knows g f = HasRow g.numbers g.rows g.number (Knows g) f
 
 -- ---- the row that isn't whole
 
-closed_row : (s : Stage) (g : Gathered) → length g.words ≤ g.count
+closed_row : (s : Stage) (g : ReaderStateView) → length g.words ≤ g.count
     → Kept KnowsWords g (with_unfinished_row (record g { is_in_row = true; stage = s }))
 unfolding with_unfinished_row with_finished_row state_between_rows unfinished_row padded_words
 closed_row s g within =
@@ -95,20 +95,20 @@ closed_row s g within =
       };
     }
 
-pub over_lines : (ls : List (List ℕ)) (g : Gathered) → with_lines ls (record g { stage = stage.Over }) ≡ record g { stage = stage.Over }
+pub over_lines : (ls : List (List ℕ)) (g : ReaderStateView) → with_lines ls (record g { stage = stage.Done }) ≡ record g { stage = stage.Done }
 unfolding with_lines with_line
 over_lines [] g = refl
 over_lines (l ∷ ls) g = over_lines ls g
 
-over_row : (ls : List (List ℕ)) (g : Gathered) → length g.words ≤ g.count
-    → Kept KnowsWords g (at_end ls (record g { is_in_row = true; stage = stage.Over }))
+over_row : (ls : List (List ℕ)) (g : ReaderStateView) → length g.words ≤ g.count
+    → Kept KnowsWords g (at_end ls (record g { is_in_row = true; stage = stage.Done }))
 over_row ls g within =
-    subst (λ (f : Gathered). Kept KnowsWords g f) (sym (ap with_unfinished_row (over_lines ls (record g { is_in_row = true }))))
-    (closed_row stage.Over g within)
+    subst (λ (f : ReaderStateView). Kept KnowsWords g f) (sym (ap with_unfinished_row (over_lines ls (record g { is_in_row = true }))))
+    (closed_row stage.Done g within)
 
 -- ---- stage by stage, from the last on
 
-word_less : (g : Gathered) (w : ℕ) (r : Row) → KnowsWords (record g { words = g.words ++ w ∷ [] }) r → KnowsWords g r
+word_less : (g : ReaderStateView) (w : ℕ) (r : Row) → KnowsWords (record g { words = g.words ++ w ∷ [] }) r → KnowsWords g r
 word_less g w r k = record {
   name = k.name;
   ending = k.ending;
@@ -119,7 +119,7 @@ word_less g w r k = record {
   all = sym (ap (λ (t : List ℕ). length t) (append_assoc g.words (w ∷ []) k.more)) ∙ k.all;
 }
 
-whole_row : (v : Verdict) (g : Gathered) (f : Gathered) → (length g.words == g.count) ≡ true
+whole_row : (v : Verdict) (g : ReaderStateView) (f : ReaderStateView) → (length g.words == g.count) ≡ true
     → Extends (g.numbers ++ g.number ∷ []) (g.rows ++ unfinished_row v (record g { is_in_row = true; stage = stage.Words }) ∷ []) f
     → Kept KnowsWords g f
 unfolding unfinished_row
@@ -142,23 +142,23 @@ whole_row v g f full h =
       };
     }
 
-closed_grown : (ls : List (List ℕ)) (v : Verdict) (g : Gathered)
+closed_grown : (ls : List (List ℕ)) (v : Verdict) (g : ReaderStateView)
     → Extends (g.numbers ++ g.number ∷ []) (g.rows ++ unfinished_row v g ∷ []) (at_end ls (with_finished_row v g))
 unfolding with_finished_row state_between_rows
 closed_grown ls v g = grown ls (with_finished_row v g)
 
-pub words_keep : (ls : List (List ℕ)) (g : Gathered) → length g.words ≤ g.count
+pub words_keep : (ls : List (List ℕ)) (g : ReaderStateView) → length g.words ≤ g.count
     → Kept KnowsWords g (at_end ls (record g { is_in_row = true; stage = stage.Words }))
 unfolding with_lines with_line after_word_or_verdict_line
 words_keep [] g within = closed_row stage.Words g within
 words_keep (l ∷ ls) g within =
-    let P : Gathered → Type 0 = λ f. Kept KnowsWords g (at_end ls f) in
-    let here : Gathered = record g { is_in_row = true; stage = stage.Words } in
+    let P : ReaderStateView → Type 0 = λ f. Kept KnowsWords g (at_end ls f) in
+    let here : ReaderStateView = record g { is_in_row = true; stage = stage.Words } in
     let longer_words = g.words ++ hex_word l ∷ [] in
-    let word : Gathered = record here { words = longer_words } in
-    let row : Gathered = with_finished_row (verdict_of_line l) here in
+    let word : ReaderStateView = record here { words = longer_words } in
+    let row : ReaderStateView = with_finished_row (verdict_of_line l) here in
     let ended : Bool = (slice_index l 0 == 118) && (length g.words == g.count) in
-    let other : Gathered = if ended then row else with_stage_done here in
+    let other : ReaderStateView = if ended then row else with_stage_done here in
     chosen_if P (is_hex_word l && nat_lt (length g.words) g.count) word other
     (λ t. let room = (and_parts (is_hex_word l) (nat_lt (length g.words) g.count) t).1 in
     let few : length g.words < g.count = grind (arith, nat_tests) in
@@ -170,20 +170,20 @@ words_keep (l ∷ ls) g within =
     whole_row (verdict_of_line l) g (at_end ls row) full (closed_grown ls (verdict_of_line l) here))
     (over_row ls g within))
 
-words_to_console : (g : Gathered) (r : Row) → KnowsWords g r → KnowsConsole g r
+words_to_console : (g : ReaderStateView) (r : Row) → KnowsWords g r → KnowsConsole g r
 words_to_console g r k = (k.name, k.ending, k.steps, k.console)
 
-pub signature_keep : (ls : List (List ℕ)) (g : Gathered) → length g.words ≤ g.count
+pub signature_keep : (ls : List (List ℕ)) (g : ReaderStateView) → length g.words ≤ g.count
     → Kept KnowsConsole g (at_end ls (record g { is_in_row = true; stage = stage.Signature }))
 unfolding with_lines with_line after_signature_line
 signature_keep [] g within =
-    let here : Gathered = record g { is_in_row = true; stage = stage.Signature } in
+    let here : ReaderStateView = record g { is_in_row = true; stage = stage.Signature } in
     with_less g.numbers g.rows g.number (KnowsWords g) (KnowsConsole g) (with_unfinished_row here)
     (closed_row stage.Signature g within) (words_to_console g)
 signature_keep (l ∷ ls) g within =
-    let here : Gathered = record g { is_in_row = true; stage = stage.Signature } in
-    let known : Gathered = record g { signed = not (slice_index l 10 == 45); count = decimal_number (drop 10 l); words = [] } in
-    let next : Gathered = record known { is_in_row = true; stage = stage.Words } in
+    let here : ReaderStateView = record g { is_in_row = true; stage = stage.Signature } in
+    let known : ReaderStateView = record g { signed = not (slice_index l 10 == 45); count = decimal_number (drop 10 l); words = [] } in
+    let next : ReaderStateView = record known { is_in_row = true; stage = stage.Words } in
     chosen (λ f. Kept KnowsConsole g (at_end ls f))
     (((slice_index l 0 == 115) && (slice_index l 1 == 105)) && nat_le (decimal_number (drop 10 l)) max_words) next
     (with_stage_done here)
@@ -192,34 +192,34 @@ signature_keep (l ∷ ls) g within =
     (with_less g.numbers g.rows g.number (KnowsWords g) (KnowsConsole g) (at_end ls (with_stage_done here))
     (over_row ls g within) (words_to_console g))
 
-pub console_keep : (ls : List (List ℕ)) (g : Gathered) → length g.words ≤ g.count
+pub console_keep : (ls : List (List ℕ)) (g : ReaderStateView) → length g.words ≤ g.count
     → Kept KnowsSteps g (at_end ls (record g { is_in_row = true; stage = stage.Console }))
 unfolding with_lines with_line after_console_line
 console_keep [] g within =
-    let here : Gathered = record g { is_in_row = true; stage = stage.Console } in
+    let here : ReaderStateView = record g { is_in_row = true; stage = stage.Console } in
     with_less g.numbers g.rows g.number (KnowsWords g) (KnowsSteps g) (with_unfinished_row here)
     (closed_row stage.Console g within) (λ r k. (k.name, k.ending, k.steps))
 console_keep (l ∷ ls) g within =
-    let here : Gathered = record g { is_in_row = true; stage = stage.Console } in
-    let known : Gathered = record g { console = hex_bytes (drop 8 l) } in
-    let next : Gathered = record known { is_in_row = true; stage = stage.Signature } in
+    let here : ReaderStateView = record g { is_in_row = true; stage = stage.Console } in
+    let known : ReaderStateView = record g { console = hex_bytes (drop 8 l) } in
+    let next : ReaderStateView = record known { is_in_row = true; stage = stage.Signature } in
     chosen (λ f. Kept KnowsSteps g (at_end ls f)) (slice_index l 0 == 99) next (with_stage_done here)
     (with_less g.numbers g.rows g.number (KnowsConsole known) (KnowsSteps g) (at_end ls next)
     (signature_keep ls known within) (λ r k. (k.0, k.1, k.2)))
     (with_less g.numbers g.rows g.number (KnowsWords g) (KnowsSteps g) (at_end ls (with_stage_done here))
     (over_row ls g within) (λ r k. (k.name, k.ending, k.steps)))
 
-pub steps_keep : (ls : List (List ℕ)) (g : Gathered) → length g.words ≤ g.count
+pub steps_keep : (ls : List (List ℕ)) (g : ReaderStateView) → length g.words ≤ g.count
     → Kept KnowsEnding g (at_end ls (record g { is_in_row = true; stage = stage.Steps }))
 unfolding with_lines with_line after_steps_line
 steps_keep [] g within =
-    let here : Gathered = record g { is_in_row = true; stage = stage.Steps } in
+    let here : ReaderStateView = record g { is_in_row = true; stage = stage.Steps } in
     with_less g.numbers g.rows g.number (KnowsWords g) (KnowsEnding g) (with_unfinished_row here)
     (closed_row stage.Steps g within) (λ r k. (k.name, k.ending))
 steps_keep (l ∷ ls) g within =
-    let here : Gathered = record g { is_in_row = true; stage = stage.Steps } in
-    let known : Gathered = record g { steps = decimal_number (drop 6 l) } in
-    let next : Gathered = record known { is_in_row = true; stage = stage.Console } in
+    let here : ReaderStateView = record g { is_in_row = true; stage = stage.Steps } in
+    let known : ReaderStateView = record g { steps = decimal_number (drop 6 l) } in
+    let next : ReaderStateView = record known { is_in_row = true; stage = stage.Console } in
     chosen (λ f. Kept KnowsEnding g (at_end ls f)) ((slice_index l 0 == 115) && (slice_index l 1 == 116)) next
     (with_stage_done here)
     (with_less g.numbers g.rows g.number (KnowsSteps known) (KnowsEnding g) (at_end ls next)
@@ -227,17 +227,17 @@ steps_keep (l ∷ ls) g within =
     (with_less g.numbers g.rows g.number (KnowsWords g) (KnowsEnding g) (at_end ls (with_stage_done here))
     (over_row ls g within) (λ r k. (k.name, k.ending)))
 
-pub ending_keep : (ls : List (List ℕ)) (g : Gathered) → length g.words ≤ g.count
+pub ending_keep : (ls : List (List ℕ)) (g : ReaderStateView) → length g.words ≤ g.count
     → Kept KnowsName g (at_end ls (record g { is_in_row = true; stage = stage.Ending }))
 unfolding with_lines with_line after_end_line
 ending_keep [] g within =
-    let here : Gathered = record g { is_in_row = true; stage = stage.Ending } in
+    let here : ReaderStateView = record g { is_in_row = true; stage = stage.Ending } in
     with_less g.numbers g.rows g.number (KnowsWords g) (KnowsName g) (with_unfinished_row here)
     (closed_row stage.Ending g within) (λ r k. k.name)
 ending_keep (l ∷ ls) g within =
-    let here : Gathered = record g { is_in_row = true; stage = stage.Ending } in
-    let known : Gathered = record g { ending = row_ending_of_line l } in
-    let next : Gathered = record known { is_in_row = true; stage = stage.Steps } in
+    let here : ReaderStateView = record g { is_in_row = true; stage = stage.Ending } in
+    let known : ReaderStateView = record g { ending = row_ending_of_line l } in
+    let next : ReaderStateView = record known { is_in_row = true; stage = stage.Steps } in
     chosen (λ f. Kept KnowsName g (at_end ls f)) (slice_index l 0 == 101) next (with_stage_done here)
     (with_less g.numbers g.rows g.number (KnowsEnding known) (KnowsName g) (at_end ls next)
     (steps_keep ls known within) (λ r k. k.0))

@@ -13,7 +13,7 @@ use Rattle.rv_report.specs.Report.{line, row_text}
 use Rattle.rv_report.specs.declared.saved.Extent.{Extent}
 use Rattle.rv_report.specs.declared.saved.Extent.TheVariants.{Whole, Choice}
 use Rattle.rv_report.specs.declared.saved.SavedReport.{SavedReport}
-use Rattle.rv_report.specs.LenientReport.{lines, Gathered, state_between_rows, with_stage_done, with_line, with_lines, with_unfinished_row, gather_rows}
+use Rattle.rv_report.specs.LenientReport.{lines, ReaderStateView, state_between_rows, with_stage_done, with_line, with_lines, with_unfinished_row, state_after_text}
 use Rattle.rv_report.specs.LenientReport.{lenient_report, increasing_count, count_before_repeated_name, extent_or_selection}
 use Rattle.rv_report.specs.Saved.{IsValidRow, HasDistinctJobs, IsValidReport, are_increasing, are_distinct, matches_job_numbers, row_names, numbered_text}
 use Rattle.rv_report.specs.Saved.{saved_text}
@@ -55,7 +55,7 @@ rows_say (n ∷ ns) (row ∷ rows) rest earlier done e before each counted risin
     ∙ ap (λ (t : List Row). says rest (state_between_rows (earlier ++ n ∷ ns) t e)) (append_assoc done (row ∷ []) rows)
 
 -- the last line of all
-pub last_line_says : (xs : List ℕ) (g : Gathered) → lacks 10 xs ≡ true → says (line xs) g ≡ with_line xs g
+pub last_line_says : (xs : List ℕ) (g : ReaderStateView) → lacks 10 xs ≡ true → says (line xs) g ≡ with_line xs g
 unfolding lines with_lines
 last_line_says xs g h =
     ap (λ (t : List ℕ). says t g) (sym (append-nil (line xs))) ∙ says_line xs [] g h
@@ -66,8 +66,8 @@ unfolding with_unfinished_row state_between_rows
 finished_all numbers rows e = refl
 
 pub gathered_all : (r : SavedReport) → IsValidReport r → HasNumbers r.extent → length r.rows ≤ max_jobs
-    → gather_rows (saved_text r) ≡ with_stage_done (state_between_rows r.numbers r.rows r.extent)
-unfolding gather_rows saved_text
+    → state_after_text (saved_text r) ≡ with_stage_done (state_between_rows r.numbers r.rows r.extent)
+unfolding state_after_text saved_text
 gathered_all r h known few =
     let count = length r.rows in
     ap (λ (t : List ℕ). with_unfinished_row (says (numbered_text r.numbers r.rows ++ t) (state_between_rows [] [] Whole)))
@@ -108,14 +108,14 @@ unfolding extent_or_selection
 fitting_same e ns h = ap (λ (t : Bool). cond t e (Choice max_jobs)) h
 
 -- what is kept of rows that were gathered
-abbrev pub kept : ℕ → List Row → Gathered → SavedReport
+abbrev pub kept : ℕ → List Row → ReaderStateView → SavedReport
 kept count rows g = record {
   extent = extent_or_selection g.extent (take count g.numbers);
   numbers = take count g.numbers;
   rows = take count rows;
 }
 
-abbrev pub said_of : List Row → Gathered → SavedReport
+abbrev pub said_of : List Row → ReaderStateView → SavedReport
 said_of rising g = kept (count_before_repeated_name [] (row_names rising)) rising g
 
 kept_all : (r : SavedReport) (count : ℕ) → HasDistinctJobs r → count ≡ length r.rows
@@ -139,7 +139,7 @@ said-saved r h known few =
     let all = rising_all 0 r.numbers listed.rising in
     let rising : take (increasing_count 0 r.numbers) r.rows ≡ r.rows =
     take_all (increasing_count 0 r.numbers) r.rows (omega arith) in
-    ap (λ (g : Gathered). said_of (take (increasing_count 0 g.numbers) g.rows) g) (gathered_all r h known few)
+    ap (λ (g : ReaderStateView). said_of (take (increasing_count 0 g.numbers) g.rows) g) (gathered_all r h known few)
     ∙ ap (λ (rows : List Row). said_of rows (with_stage_done (state_between_rows r.numbers r.rows r.extent))) rising
     ∙ kept_all r (count_before_repeated_name [] (row_names r.rows)) listed
     (new_all [] (row_names r.rows) listed.new ∙ length-names r.rows)

@@ -26,8 +26,8 @@ use Rattle.rv_report.specs.Report.{dash_if_empty, console_line, signature_lines,
 use Rattle.rv_report.specs.declared.gathering.Stage.TheVariants as stage
 use Rattle.rv_report.specs.declared.saved.Extent.{Extent}
 use Rattle.rv_report.specs.LenientReport.{lines, text_before_byte, text_after_byte, decimal_number, hex_word, are_hex_digits, hex_bytes, name_or_dash}
-use Rattle.rv_report.specs.LenientReport.{job_number_of_line, job_name_of_line, fault_or_default, refusal_or_first, fault_ending_of_text, row_ending_of_line, verdict_of_line}
-use Rattle.rv_report.specs.LenientReport.{decimal_number_from, Gathered, state_between_rows, with_finished_row, with_stage_done, unfinished_row, after_job_or_last_line, after_end_line}
+use Rattle.rv_report.specs.LenientReport.{job_number_of_line, job_name_of_line, fault_or_default, refusal_or_default, fault_ending_of_text, row_ending_of_line, verdict_of_line}
+use Rattle.rv_report.specs.LenientReport.{decimal_number_from, ReaderStateView, state_between_rows, with_finished_row, with_stage_done, unfinished_row, after_job_or_last_line, after_end_line}
 use Rattle.rv_report.specs.LenientReport.{after_steps_line, after_console_line, after_signature_line, after_word_or_verdict_line, with_line, with_lines}
 use Rattle.rv_base.specs.Limits.{max_jobs}
 use Rattle.std.proofs.lemmas.Bool.Decides.{nat_tests}
@@ -37,10 +37,10 @@ use Rattle.rv_report.proofs.Words.{lacks-decimal, lacks-encode, lacks-digits, nu
 use Rattle.rv_report.proofs.Words.{is_word-digits, bytes_of-encode}
 
 -- what a text says, after what was gathered
-abbrev pub says : List ℕ → Gathered → Gathered
+abbrev pub says : List ℕ → ReaderStateView → ReaderStateView
 says text g = with_lines (lines text) g
 
-pub says_line : (xs rest : List ℕ) (g : Gathered) → lacks 10 xs ≡ true
+pub says_line : (xs rest : List ℕ) (g : ReaderStateView) → lacks 10 xs ≡ true
     → says (line xs ++ rest) g ≡ says rest (with_line xs g)
 unfolding with_lines
 says_line xs rest g h =
@@ -155,8 +155,8 @@ job_number n name h =
     ∙ ap decimal_number (before_at 32 (decimal n) name (lacks-decimal 32 n (omega arith) (omega arith)))
     ∙ number_of-decimal n h
 
-pub job_says : (n : ℕ) (name : List ℕ) (g : Gathered) → n < 2 ^ 32 → is_name name ≡ true → length g.rows < max_jobs
-    → with_line (codes "job " ++ decimal n ++ codes " " ++ name) (record g { stage = stage.Between })
+pub job_says : (n : ℕ) (name : List ℕ) (g : ReaderStateView) → n < 2 ^ 32 → is_name name ≡ true → length g.rows < max_jobs
+    → with_line (codes "job " ++ decimal n ++ codes " " ++ name) (record g { stage = stage.BetweenRows })
     ≡ record g { number = n; name = name; is_in_row = true; stage = stage.Ending }
 unfolding with_line after_job_or_last_line
 job_says n name g h is few =
@@ -175,7 +175,7 @@ job_says n name g h is few =
 
 -- ---- the line of the steps
 
-pub steps_says : (n : ℕ) (g : Gathered) → n < 2 ^ 32 → with_line (codes "steps " ++ decimal n)
+pub steps_says : (n : ℕ) (g : ReaderStateView) → n < 2 ^ 32 → with_line (codes "steps " ++ decimal n)
     (record g { stage = stage.Steps }) ≡ record g { steps = n; stage = stage.Console }
 unfolding with_line after_steps_line
 steps_says n g h = ap (λ (t : ℕ). record g { steps = t; stage = stage.Console }) (number_of-decimal n h)
@@ -244,7 +244,7 @@ fault_says kind pc value hp hv =
     ∙ ap (λ (w : ℕ). ending.Fault kind w (hex_word (word_digits value))) (word_of-digits pc hp)
     ∙ ap (λ (w : ℕ). ending.Fault kind pc w) (word_of-digits value hv)
 
-pub end_says : (e : RowEnd) (g : Gathered) → IsValidEnd e → with_line (end_words e) (record g { stage = stage.Ending })
+pub end_says : (e : RowEnd) (g : ReaderStateView) → IsValidEnd e → with_line (end_words e) (record g { stage = stage.Ending })
     ≡ record g { ending = e; stage = stage.Steps }
 unfolding with_line after_end_line row_ending_of_line
 end_says (ending.Exit code) g h = ap (λ (n : ℕ). record g { ending = ending.Exit n; stage = stage.Steps })
@@ -253,7 +253,7 @@ end_says (ending.Fault kind pc value) g h = ap (λ (e : RowEnd). record g { endi
     (fault_says kind pc value h.0 h.1)
 end_says ending.Budget g h = refl
 end_says (ending.Refused why) g h =
-    ap (λ (r : Option Refusal). record g { ending = ending.Refused (refusal_or_first r); stage = stage.Steps })
+    ap (λ (r : Option Refusal). record g { ending = ending.Refused (refusal_or_default r); stage = stage.Steps })
     (refusal_named-name why h)
 
 -- ---- the console's line
@@ -278,12 +278,12 @@ unfolding encode_with
 lacks-shown [] h = refl
 lacks-shown (b ∷ bs) h = ap (lacks 10) (dash_of_encode b bs) ∙ lacks-encode (b ∷ bs) h
 
-console_text_says : (text : List ℕ) (g : Gathered) → with_line (codes "console " ++ text)
+console_text_says : (text : List ℕ) (g : ReaderStateView) → with_line (codes "console " ++ text)
     (record g { stage = stage.Console }) ≡ record g { console = hex_bytes text; stage = stage.Signature }
 unfolding with_line after_console_line
 console_text_says text g = refl
 
-pub console_says : (bytes : List ℕ) (g : Gathered) → IsBytes bytes
+pub console_says : (bytes : List ℕ) (g : ReaderStateView) → IsBytes bytes
     → with_line (codes "console " ++ dash_if_empty (encode_lower bytes)) (record g { stage = stage.Console })
     ≡ record g { console = bytes; stage = stage.Signature }
 console_says bytes g h = console_text_says (dash_if_empty (encode_lower bytes)) g
@@ -292,13 +292,13 @@ console_says bytes g h = console_text_says (dash_if_empty (encode_lower bytes)) 
 -- ---- the signature's lines
 
 -- what a line says that is no word
-abbrev no_word : List ℕ → Gathered → Gathered
+abbrev no_word : List ℕ → ReaderStateView → ReaderStateView
 no_word line g =
     if (slice_index line 0 == 118) && (length g.words == g.count) then
     with_finished_row (verdict_of_line line) (record g { stage = stage.Words })
     else with_stage_done g
 
-pub word_says : (w : ℕ) (g : Gathered) → w < 2 ^ 32 → length g.words < g.count
+pub word_says : (w : ℕ) (g : ReaderStateView) → w < 2 ^ 32 → length g.words < g.count
     → with_line (word_digits w) (record g { stage = stage.Words })
     ≡ record g { words = g.words ++ w ∷ []; stage = stage.Words }
 unfolding with_line after_word_or_verdict_line
@@ -311,7 +311,7 @@ word_says w g h more =
     (no_word (word_digits w) g)) room
     ∙ ap (λ (v : ℕ). record g { words = g.words ++ v ∷ []; stage = stage.Words }) (word_of-digits w h)
 
-pub words_say : (ws rest : List ℕ) (g : Gathered) → AllByRecursion IsWord ws → length g.words + length ws ≤ g.count
+pub words_say : (ws rest : List ℕ) (g : ReaderStateView) → AllByRecursion IsWord ws → length g.words + length ws ≤ g.count
     → says (flat_map word_line ws ++ rest) (record g { stage = stage.Words })
     ≡ says rest (record g { words = g.words ++ ws; stage = stage.Words })
 words_say [] rest g h room = ap (λ (t : List ℕ). says rest (record g { words = t; stage = stage.Words }))
@@ -329,7 +329,7 @@ abbrev pub words_or_nil : Option (List ℕ) → List ℕ
 words_or_nil None = []
 words_or_nil (Some words) = words
 
-pub signature_text_says : (text : List ℕ) (g : Gathered) → nat_le (decimal_number text) max_words ≡ true
+pub signature_text_says : (text : List ℕ) (g : ReaderStateView) → nat_le (decimal_number text) max_words ≡ true
     → with_line (codes "signature " ++ text) (record g { stage = stage.Signature })
     ≡ record g { signed = not (slice_index text 0 == 45); count = decimal_number text; words = []; stage = stage.Words }
 unfolding with_line after_signature_line
@@ -340,7 +340,7 @@ signature_text_says text g small = ap (λ (t : Bool). cond t (record g {
   stage = stage.Words;
 }) (with_stage_done g)) small
 
-pub signature_says : (s : Option (List ℕ)) (rest : List ℕ) (g : Gathered) → IsValidSignature s
+pub signature_says : (s : Option (List ℕ)) (rest : List ℕ) (g : ReaderStateView) → IsValidSignature s
     → says (signature_lines s ++ rest) (record g { stage = stage.Signature })
     ≡ says rest (record g {
       signed = is_some s;
@@ -373,7 +373,7 @@ signature_says (Some ws) rest g h =
 
 -- ---- the verdict's line
 
-pub verdict_says : (v : Verdict) (g : Gathered) → (length g.words == g.count) ≡ true
+pub verdict_says : (v : Verdict) (g : ReaderStateView) → (length g.words == g.count) ≡ true
     → with_line (codes "verdict " ++ verdict_name v) (record g { stage = stage.Words }) ≡ with_finished_row v g
 unfolding with_line after_word_or_verdict_line are_hex_digits verdict_of_line with_finished_row unfinished_row
 verdict_says verdict.Unasked g full = ap (λ (t : Bool). cond t (with_finished_row verdict.Unasked g) (with_stage_done g)) full
@@ -398,7 +398,7 @@ pub same_length : (n : ℕ) → (n == n) ≡ true
 same_length n = grind arith
 
 -- what is gathered when all lines of a row but the last are read
-abbrev pub up_to_verdict : ℕ → Row → List ℕ → List Row → Extent → Gathered
+abbrev pub up_to_verdict : ℕ → Row → List ℕ → List Row → Extent → ReaderStateView
 up_to_verdict n row numbers rows extent = record {
   numbers = numbers;
   rows = rows;
@@ -444,10 +444,10 @@ row_says place n row rest numbers rows extent is same small few =
     let t2 = line c ++ t3 in
     let t1 = line s ++ t2 in
     let g0 = state_between_rows numbers rows extent in
-    let g1 : Gathered = record g0 { number = n; name = row.name; is_in_row = true; stage = stage.Ending } in
-    let g2 : Gathered = record g1 { ending = row.ending; stage = stage.Steps } in
-    let g3 : Gathered = record g2 { steps = row.steps; stage = stage.Console } in
-    let g4 : Gathered = record g3 { console = row.console; stage = stage.Signature } in
+    let g1 : ReaderStateView = record g0 { number = n; name = row.name; is_in_row = true; stage = stage.Ending } in
+    let g2 : ReaderStateView = record g1 { ending = row.ending; stage = stage.Steps } in
+    let g3 : ReaderStateView = record g2 { steps = row.steps; stage = stage.Console } in
+    let g4 : ReaderStateView = record g3 { console = row.console; stage = stage.Signature } in
     ap (λ (k : ℕ). says ((line (codes "job " ++ decimal k ++ codes " " ++ row.name)
     ++ end_line row.ending ++ line s ++ line c ++ signature_lines row.signature ++ line v) ++ rest) g0) same
     ∙ ap (λ (t : List ℕ). says t g0)

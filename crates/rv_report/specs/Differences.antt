@@ -2,10 +2,10 @@
 use Rattle.std.specs.Prelude.{◌≡◌, ◌==◌, ◌+◌, ◌&&◌, ◌||◌, ℕ, if◌then◌else◌, Bool, true, false}
 use Rattle.std.specs.Prelude.{List, [], ◌∷◌, ◌++◌, length, take, codes, Result, Ok, Err}
 use Rattle.std.specs.Str.{bytes_eq}
-use Rattle.rv_report.specs.declared.read.FirstWord.{FirstWord}
-use Rattle.rv_report.specs.declared.read.FirstWord.TheVariants as word
+use Rattle.rv_report.specs.declared.read.FirstWordState.{FirstWordState}
+use Rattle.rv_report.specs.declared.read.FirstWordState.TheVariants as word
 use Rattle.rv_report.specs.declared.read.ReadError.{ReadError}
-use Rattle.rv_report.specs.declared.read.ReadError.TheVariants.{OutOfMemory, Line, CutOff}
+use Rattle.rv_report.specs.declared.read.ReadError.TheVariants.{OutOfMemory, Line, Truncated}
 
 -- the number of line feeds in a text
 abbrev pub line_feed_count : List ℕ → ℕ
@@ -15,15 +15,15 @@ line_feed_count (b ∷ bs) = if b == 10 then line_feed_count bs + 1 else line_fe
 -- ---- how much of the first word of a line has been read
 
 -- how much of the first word of a line has been read, given how much had been read before one more letter of the line
-abbrev pub word_after_letter : FirstWord → FirstWord
-word_after_letter word.Ahead = word.Begun
-word_after_letter word.Begun = word.Begun
+abbrev pub word_after_letter : FirstWordState → FirstWordState
+word_after_letter word.NotStarted = word.Started
+word_after_letter word.Started = word.Started
 word_after_letter word.Ended = word.Ended
 
 -- how much of the first word of a line has been read, given how much had been read before the byte `b`: a line feed begins a new line, and
 -- a space ends the first word
-abbrev pub word_after_byte : FirstWord → ℕ → FirstWord
-word_after_byte met b = if b == 10 then word.Ahead else if b == 32 then word.Ended else word_after_letter met
+abbrev pub word_after_byte : FirstWordState → ℕ → FirstWordState
+word_after_byte met b = if b == 10 then word.NotStarted else if b == 32 then word.Ended else word_after_letter met
 
 -- whether the last line of a report, which is `done ..` or `part ..`, can begin with this byte
 abbrev pub begins_last_line : ℕ → Bool
@@ -35,18 +35,18 @@ begins_row text = bytes_eq (take 4 text) (take (length text) (codes "job "))
 
 -- whether the line that differs can still be the beginning of a report's line: its first word equals the expected one; or it can begin a
 -- row, `rest`, where the expected text has its last line, which begins with the byte `other`
-abbrev pub can_begin_report_line : FirstWord → ℕ → List ℕ → Bool
-can_begin_report_line word.Ahead other rest = begins_last_line other && begins_row rest
-can_begin_report_line word.Begun other rest = false
+abbrev pub can_begin_report_line : FirstWordState → ℕ → List ℕ → Bool
+can_begin_report_line word.NotStarted other rest = begins_last_line other && begins_row rest
+can_begin_report_line word.Started other rest = false
 can_begin_report_line word.Ended other rest = true
 
 -- ---- the first difference
 
--- the error at the first difference, if `rest` differs from a text whose next byte is `other`: this line; or `CutOff` if `rest` ends in
+-- the error at the first difference, if `rest` differs from a text whose next byte is `other`: this line; or `Truncated` if `rest` ends in
 -- this line, which can still be the beginning of a report's line
-abbrev pub read_error_at : ℕ → FirstWord → ℕ → List ℕ → ReadError
+abbrev pub read_error_at : ℕ → FirstWordState → ℕ → List ℕ → ReadError
 read_error_at line met other rest =
-    if can_begin_report_line met other rest && (line_feed_count rest == 0) then CutOff else Line line
+    if can_begin_report_line met other rest && (line_feed_count rest == 0) then Truncated else Line line
 
 -- the number of the line after the byte `b`: one more if `b` is a line feed, and otherwise `line`
 abbrev pub line_after_byte : ℕ → ℕ → ℕ
@@ -54,24 +54,24 @@ line_after_byte line b = if b == 10 then line + 1 else line
 
 -- the error at the first difference between the bytes and a text; before them, `line` was the number of the line, and `met` is how much of
 -- its first word had been read
-unfoldable pub read_error_from : ℕ → FirstWord → List ℕ → List ℕ → ReadError
-read_error_from line met text [] = CutOff
+unfoldable pub read_error_from : ℕ → FirstWordState → List ℕ → List ℕ → ReadError
+read_error_from line met text [] = Truncated
 read_error_from line met [] (b ∷ bs) = Line line
 read_error_from line met (t ∷ ts) (b ∷ bs) =
     if b == t then read_error_from (line_after_byte line b) (word_after_byte met b) ts bs
     else read_error_at line met t (b ∷ bs)
 
--- the error at the first difference between the bytes and a whole text: a line, counted from 1, or `CutOff`
+-- the error at the first difference between the bytes and a whole text: a line, counted from 1, or `Truncated`
 abbrev pub first_read_error : List ℕ → List ℕ → ReadError
-first_read_error text bytes = read_error_from 1 word.Ahead text bytes
+first_read_error text bytes = read_error_from 1 word.NotStarted text bytes
 
--- the bytes and the text agree before the error: on all lines before the line that the error names or, for `CutOff`, on all bytes up to
+-- the bytes and the text agree before the error: on all lines before the line that the error names or, for `Truncated`, on all bytes up to
 -- some point in the last line of the bytes
 abbrev pub AgreeBeforeError : ReadError → List ℕ → List ℕ → Type 0
 AgreeBeforeError OutOfMemory text bytes = Unit {0}
 AgreeBeforeError (Line line) text bytes = (common more other : List ℕ) × (bytes ≡ common ++ more)
     × (text ≡ common ++ other) × (line_feed_count common + 1 ≡ line)
-AgreeBeforeError CutOff text bytes = (common more other : List ℕ) × (bytes ≡ common ++ more)
+AgreeBeforeError Truncated text bytes = (common more other : List ℕ) × (bytes ≡ common ++ more)
     × (text ≡ common ++ other) × (line_feed_count more ≡ 0)
 
 -- the result is `x`, or the error that memory ran out
@@ -83,4 +83,4 @@ IsOkOrOutOfMemory x (Err e) = e ≡ OutOfMemory
 abbrev pub IsSameReadError : ReadError → ReadError → Type 0
 IsSameReadError OutOfMemory place = Unit {0}
 IsSameReadError (Line line) place = place ≡ Line line
-IsSameReadError CutOff place = place ≡ CutOff
+IsSameReadError Truncated place = place ≡ Truncated

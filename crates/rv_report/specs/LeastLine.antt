@@ -1,7 +1,7 @@
 -- The first invalid line of a text: some report begins with the lines before it, but no report begins with these lines and this one.
 use Rattle.std.specs.Prelude.{◌≡◌, ◌==◌, ◌-◌, ℕ, if◌then◌else◌, List, [], ◌∷◌, ◌++◌}
 use Rattle.rv_report.specs.declared.read.ReadError.{ReadError}
-use Rattle.rv_report.specs.declared.read.ReadError.TheVariants.{OutOfMemory, Line, CutOff}
+use Rattle.rv_report.specs.declared.read.ReadError.TheVariants.{OutOfMemory, Line, Truncated}
 use Rattle.rv_report.specs.declared.saved.SavedReport.{SavedReport}
 use Rattle.rv_report.specs.Saved.{IsValidReport, saved_text}
 use Rattle.rv_report.specs.Differences.{line_feed_count}
@@ -22,9 +22,9 @@ pub record IsFirstInvalidLine (line : ℕ) (bytes : List ℕ) : Type 0 where
   pub before : IsReportPrefix (first_lines (line - 1) bytes)
   pub refused : IsReportPrefix (first_lines line bytes) → ⊥
 
--- the error names the first invalid line of the bytes; if it is `CutOff`, some report begins with all complete lines of the bytes; memory
+-- the error names the first invalid line of the bytes; if it is `Truncated`, some report begins with all complete lines of the bytes; memory
 -- may always run out
 abbrev pub IsFirstError : ReadError → List ℕ → Type 0
 IsFirstError OutOfMemory bytes = Unit {0}
 IsFirstError (Line line) bytes = IsFirstInvalidLine line bytes
-IsFirstError CutOff bytes = IsReportPrefix (first_lines (line_feed_count bytes) bytes)
+IsFirstError Truncated bytes = IsReportPrefix (first_lines (line_feed_count bytes) bytes)

@@ -119,9 +119,9 @@ fault_or_default (Some kind) = kind
 fault_or_default None = fault.FetchAccess
 
 -- the refusal if it is given, and otherwise an arbitrary one
-abbrev pub refusal_or_first : Option Refusal → Refusal
-refusal_or_first (Some why) = why
-refusal_or_first None = refusal.ImageUnreadable
+abbrev pub refusal_or_default : Option Refusal → Refusal
+refusal_or_default (Some why) = why
+refusal_or_default None = refusal.ImageUnreadable
 
 -- ---- the values of single lines; the byte that distinguishes a line from others decides how it is read
 
@@ -147,7 +147,7 @@ row_ending_of_line line =
     if kind == 101 then ending.Exit (decimal_number (drop 9 line))
     else if kind == 102 then fault_ending_of_text (drop 10 line)
     else if kind == 98 then ending.Budget
-    else ending.Refused (refusal_or_first (refusal_named (drop 12 line)))
+    else ending.Refused (refusal_or_default (refusal_named (drop 12 line)))
 
 -- the verdict in a line `verdict ..`; the first byte after `verdict ` decides which verdict it is
 unfoldable pub verdict_of_line : List ℕ → Verdict
@@ -180,7 +180,7 @@ part_extent_of_line line =
 
 -- the state of the lenient reader: the finished rows and their job numbers, the extent in the last line, and the values of the unfinished
 -- row
-pub record Gathered : Type 0 where
+pub record ReaderStateView : Type 0 where
   pub numbers : List ℕ
   pub rows : List Row
   pub extent : Extent
@@ -198,7 +198,7 @@ pub record Gathered : Type 0 where
   pub stage : Stage
 
 -- the state with these finished rows, their job numbers and this extent, and without an unfinished row
-unfoldable pub state_between_rows : List ℕ → List Row → Extent → Gathered
+unfoldable pub state_between_rows : List ℕ → List Row → Extent → ReaderStateView
 state_between_rows numbers rows extent = record {
   numbers = numbers;
   rows = rows;
@@ -212,7 +212,7 @@ state_between_rows numbers rows extent = record {
   count = 0;
   words = [];
   is_in_row = false;
-  stage = stage.Between;
+  stage = stage.BetweenRows;
 }
 
 -- the words of a signature, followed by zeros up to `count` words, so that a truncated signature differs from its report only after the
@@ -221,7 +221,7 @@ unfoldable pub padded_words : ℕ → List ℕ → List ℕ
 padded_words count words = words ++ replicate (count - length words) 0
 
 -- the row that has the values of the unfinished row and this verdict
-unfoldable pub unfinished_row : Verdict → Gathered → Row
+unfoldable pub unfinished_row : Verdict → ReaderStateView → Row
 unfinished_row verdict g = record {
   name = g.name;
   ending = g.ending;
@@ -232,16 +232,16 @@ unfinished_row verdict g = record {
 }
 
 -- the state after the unfinished row is finished with this verdict and added to the rows
-unfoldable pub with_finished_row : Verdict → Gathered → Gathered
+unfoldable pub with_finished_row : Verdict → ReaderStateView → ReaderStateView
 with_finished_row verdict g =
     state_between_rows (g.numbers ++ g.number ∷ []) (g.rows ++ unfinished_row verdict g ∷ []) g.extent
 
 -- the state after a line that cannot come next: all later lines are ignored
-abbrev pub with_stage_done : Gathered → Gathered
-with_stage_done g = record g { stage = stage.Over }
+abbrev pub with_stage_done : ReaderStateView → ReaderStateView
+with_stage_done g = record g { stage = stage.Done }
 
 -- the state after a line between rows: the first line of a row, unless there are too many, or the last line of the report
-unfoldable pub after_job_or_last_line : List ℕ → Gathered → Gathered
+unfoldable pub after_job_or_last_line : List ℕ → ReaderStateView → ReaderStateView
 after_job_or_last_line line g =
     if (slice_index line 0 == 106) && nat_lt (length g.rows) max_jobs then
     record g { number = job_number_of_line line; name = job_name_of_line line; is_in_row = true; stage = stage.Ending }
@@ -249,27 +249,27 @@ after_job_or_last_line line g =
     else with_stage_done g
 
 -- the state after the line that should have the ending of a row
-unfoldable pub after_end_line : List ℕ → Gathered → Gathered
+unfoldable pub after_end_line : List ℕ → ReaderStateView → ReaderStateView
 after_end_line line g =
     if slice_index line 0 == 101 then record g { ending = row_ending_of_line line; stage = stage.Steps }
     else with_stage_done g
 
 -- the state after the line that should have the steps of a row
-unfoldable pub after_steps_line : List ℕ → Gathered → Gathered
+unfoldable pub after_steps_line : List ℕ → ReaderStateView → ReaderStateView
 after_steps_line line g =
     if (slice_index line 0 == 115) && (slice_index line 1 == 116) then
     record g { steps = decimal_number (drop 6 line); stage = stage.Console }
     else with_stage_done g
 
 -- the state after the line that should have the console of a row
-unfoldable pub after_console_line : List ℕ → Gathered → Gathered
+unfoldable pub after_console_line : List ℕ → ReaderStateView → ReaderStateView
 after_console_line line g =
     if slice_index line 0 == 99 then
     record g { console = hex_bytes (drop 8 line); stage = stage.Signature }
     else with_stage_done g
 
 -- the state after the line that should have the number of words of a row's signature; a dash, for no signature, is read as 0 words
-unfoldable pub after_signature_line : List ℕ → Gathered → Gathered
+unfoldable pub after_signature_line : List ℕ → ReaderStateView → ReaderStateView
 after_signature_line line g =
     if ((slice_index line 0 == 115) && (slice_index line 1 == 105))
     && nat_le (decimal_number (drop 10 line)) max_words then
@@ -282,7 +282,7 @@ after_signature_line line g =
     else with_stage_done g
 
 -- the state after the line that should have a word of the signature, or the verdict if all words have been read
-unfoldable pub after_word_or_verdict_line : List ℕ → Gathered → Gathered
+unfoldable pub after_word_or_verdict_line : List ℕ → ReaderStateView → ReaderStateView
 after_word_or_verdict_line line g =
     if is_hex_word line && nat_lt (length g.words) g.count then
     record g { words = g.words ++ hex_word line ∷ [] }
@@ -291,32 +291,32 @@ after_word_or_verdict_line line g =
     else with_stage_done g
 
 -- the state after one more line, given the stage, which says what the line should have
-abbrev pub with_line_at_stage : Stage → List ℕ → Gathered → Gathered
-with_line_at_stage stage.Between line g = after_job_or_last_line line g
+abbrev pub with_line_at_stage : Stage → List ℕ → ReaderStateView → ReaderStateView
+with_line_at_stage stage.BetweenRows line g = after_job_or_last_line line g
 with_line_at_stage stage.Ending line g = after_end_line line g
 with_line_at_stage stage.Steps line g = after_steps_line line g
 with_line_at_stage stage.Console line g = after_console_line line g
 with_line_at_stage stage.Signature line g = after_signature_line line g
 with_line_at_stage stage.Words line g = after_word_or_verdict_line line g
-with_line_at_stage stage.Over line g = g
+with_line_at_stage stage.Done line g = g
 
 -- the state after one more line
-unfoldable pub with_line : List ℕ → Gathered → Gathered
+unfoldable pub with_line : List ℕ → ReaderStateView → ReaderStateView
 with_line line g = with_line_at_stage g.stage line g
 
 -- the state after these lines
-unfoldable pub with_lines : List (List ℕ) → Gathered → Gathered
+unfoldable pub with_lines : List (List ℕ) → ReaderStateView → ReaderStateView
 with_lines [] g = g
 with_lines (line ∷ lines) g = with_lines lines (with_line line g)
 
 -- the state after the unfinished row, if there is one, is finished with the verdict `none` and added to the rows
-unfoldable pub with_unfinished_row : Gathered → Gathered
+unfoldable pub with_unfinished_row : ReaderStateView → ReaderStateView
 with_unfinished_row g =
     if g.is_in_row then with_finished_row verdict.Unasked (record g { words = padded_words g.count g.words }) else g
 
 -- the state after all lines of a text, with an unfinished row finished
-unfoldable pub gather_rows : List ℕ → Gathered
-gather_rows text = with_unfinished_row (with_lines (lines text) (state_between_rows [] [] extent.Whole))
+unfoldable pub state_after_text : List ℕ → ReaderStateView
+state_after_text text = with_unfinished_row (with_lines (lines text) (state_between_rows [] [] extent.Whole))
 
 -- ---- the rows before the first row that no report has at its index
 
@@ -340,7 +340,7 @@ extent_or_selection e numbers = if matches_job_numbers e numbers then e else ext
 -- repeated
 unfoldable pub lenient_report : List ℕ → SavedReport
 lenient_report text =
-    let g = gather_rows text in
+    let g = state_after_text text in
     let rising = take (increasing_count 0 g.numbers) g.rows in
     let count = count_before_repeated_name [] (row_names rising) in
     record {

@@ -1,10 +1,10 @@
 -- The state of reading a report, independent of how it is stored in memory.
 use Rattle.std.specs.Prelude.{string_bytes}
 use Rattle.rv_report.specs.declared.gathering.ReaderState.{ReaderState}
-use Rattle.rv_report.specs.LenientReport.{Gathered}
+use Rattle.rv_report.specs.LenientReport.{ReaderStateView}
 
 -- the state of reading a report that the fields of `ReaderState` represent
-abbrev pub reader_state_view : ReaderState → Gathered
+abbrev pub reader_state_view : ReaderState → ReaderStateView
 reader_state_view g = record {
   numbers = g.numbers.items;
   rows = g.rows.items;

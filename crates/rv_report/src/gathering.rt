@@ -3,7 +3,7 @@
 ghost use Rattle.std.specs.Prelude.{◌≡◌, ◌++◌, ◌∷◌, [], OnOk, IfOk, string_bytes};
 ghost use Rattle.rv_report.specs.LenientReport.{lines, state_between_rows, with_finished_row, with_stage_done, after_job_or_last_line, after_end_line, after_steps_line, after_console_line};
 ghost use Rattle.rv_report.specs.LenientReport.{after_signature_line};
-ghost use Rattle.rv_report.specs.LenientReport.{after_word_or_verdict_line, with_line, with_lines, unfinished_row, padded_words, with_unfinished_row, gather_rows};
+ghost use Rattle.rv_report.specs.LenientReport.{after_word_or_verdict_line, with_line, with_lines, unfinished_row, padded_words, with_unfinished_row, state_after_text};
 ghost use Rattle.rv_report.specs.View.{reader_state_view};
 
 use crate::fields::{
@@ -42,7 +42,7 @@ pub struct ReaderState {
 #[derive(Clone, Copy)]
 pub(crate) enum Stage {
     /// The first line of a job, or the last line of all.
-    Between,
+    BetweenRows,
     Ending,
     Steps,
     Console,
@@ -50,7 +50,7 @@ pub(crate) enum Stage {
     /// A word of the signature, or the verdict.
     Words,
     /// None: there was an unexpected line, or the last one.
-    Over,
+    Done,
 }
 
 /// The maximum number of words in a signature.
@@ -58,9 +58,9 @@ const MAX_WORDS: u32 = 65_536;
 
 /// Reads the lines of a text up to the first that cannot come next, and returns their rows. A row that is unfinished at the end is
 /// included.
-#[tactic(auto, unfolding(crate::specs::LenientReport::gather_rows))]
-pub fn gather_rows(alloc: Global, text: &[u8]) -> Result<ReaderState, AllocError>
-    ensures { IfOk result (λ g. reader_state_view g ≡ gather_rows text.now) }
+#[tactic(auto, unfolding(crate::specs::LenientReport::state_after_text))]
+pub fn read_rows(alloc: Global, text: &[u8]) -> Result<ReaderState, AllocError>
+    ensures { IfOk result (λ g. reader_state_view g ≡ state_after_text text.now) }
 {
     let mut gathering = initial_state(alloc)?;
     let mut rest = text;
@@ -92,7 +92,7 @@ fn initial_state(alloc: Global) -> Result<ReaderState, AllocError>
         count: 0,
         words: Vec::new(alloc),
         is_in_row: false,
-        stage: Stage::Between,
+        stage: Stage::BetweenRows,
     })
 }
 
@@ -102,13 +102,13 @@ fn add_line(alloc: Global, gathering: &mut ReaderState, line: &[u8]) -> Result<(
     ensures { OnOk result (reader_state_view gathering.new ≡ with_line line.now (reader_state_view gathering.old)) }
 {
     match gathering.stage {
-        Stage::Between => add_job_or_last_line(alloc, gathering, line),
+        Stage::BetweenRows => add_job_or_last_line(alloc, gathering, line),
         Stage::Ending => Ok(add_end_line(gathering, line)),
         Stage::Steps => Ok(add_steps_line(gathering, line)),
         Stage::Console => add_console_line(alloc, gathering, line),
         Stage::Signature => Ok(add_signature_line(gathering, line)),
         Stage::Words => add_word_or_verdict_line(alloc, gathering, line),
-        Stage::Over => Ok(()),
+        Stage::Done => Ok(()),
     }
 }
 
@@ -130,9 +130,9 @@ fn add_job_or_last_line(
         }
         b'p' => {
             gathering.extent = part_extent_of_line(alloc, line)?;
-            gathering.stage = Stage::Over;
+            gathering.stage = Stage::Done;
         }
-        _ => gathering.stage = Stage::Over,
+        _ => gathering.stage = Stage::Done,
     }
     Ok(())
 }
@@ -146,7 +146,7 @@ fn add_end_line(gathering: &mut ReaderState, line: &[u8])
         gathering.ending = row_ending_of_line(line);
         gathering.stage = Stage::Steps;
     } else {
-        gathering.stage = Stage::Over;
+        gathering.stage = Stage::Done;
     }
 }
 
@@ -159,7 +159,7 @@ fn add_steps_line(gathering: &mut ReaderState, line: &[u8])
         gathering.steps = decimal_number(tail_from(line, 6));
         gathering.stage = Stage::Console;
     } else {
-        gathering.stage = Stage::Over;
+        gathering.stage = Stage::Done;
     }
 }
 
@@ -172,7 +172,7 @@ fn add_console_line(alloc: Global, gathering: &mut ReaderState, line: &[u8]) -> 
         gathering.console = hex_bytes(alloc, tail_from(line, 8))?;
         gathering.stage = Stage::Signature;
     } else {
-        gathering.stage = Stage::Over;
+        gathering.stage = Stage::Done;
     }
     Ok(())
 }
@@ -189,7 +189,7 @@ fn add_signature_line(gathering: &mut ReaderState, line: &[u8])
         gathering.words.clear();
         gathering.stage = Stage::Words;
     } else {
-        gathering.stage = Stage::Over;
+        gathering.stage = Stage::Done;
     }
 }
 
@@ -208,7 +208,7 @@ fn add_word_or_verdict_line(
     } else if byte_at(line, 0) == b'v' && gathering.words.len() == gathering.count as usize {
         finish_row(alloc, gathering, verdict_of_line(line))
     } else {
-        gathering.stage = Stage::Over;
+        gathering.stage = Stage::Done;
         Ok(())
     }
 }
@@ -277,6 +277,6 @@ fn take_row(alloc: Global, gathering: &mut ReaderState, verdict: Verdict) -> Res
     gathering.signed = false;
     gathering.count = 0;
     gathering.is_in_row = false;
-    gathering.stage = Stage::Between;
+    gathering.stage = Stage::BetweenRows;
     Ok(row)
 }

@@ -5,7 +5,7 @@ ghost use Rattle.rv_report.specs.LenientReport.{increasing_count, extent_or_sele
 ghost use Rattle.rv_base.specs.Limits.{max_jobs};
 ghost use Rattle.rv_report.specs.Saved.{IsValidReport};
 
-use crate::gathering::gather_rows;
+use crate::gathering::read_rows;
 use crate::names::count_before_repeated_name;
 use crate::report::Rows;
 use crate::saved::{Extent, Numbers, SavedReport};
@@ -19,7 +19,7 @@ pub(crate) fn lenient_report(alloc: Global, text: &[u8]) -> Result<SavedReport, 
     ensures value { IfOk result (λ report. report ≡ lenient_report text.now) }
     ensures good { IfOk result (λ report. IsValidReport report) }
 {
-    let gathering = gather_rows(alloc, text)?;
+    let gathering = read_rows(alloc, text)?;
     let mut numbers = gathering.numbers;
     let mut rows = gathering.rows;
     rows.truncate(increasing_count(&numbers));

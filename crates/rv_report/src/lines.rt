@@ -1,7 +1,7 @@
 //! The values of single lines of a report. Any line has some value: the byte that distinguishes a line from others decides how it is read.
 
 ghost use Rattle.std.specs.Prelude.{◌≡◌, IfOk, string_bytes};
-ghost use Rattle.rv_report.specs.LenientReport.{job_number_of_line, job_name_of_line, fault_or_default, refusal_or_first, fault_ending_of_text, row_ending_of_line};
+ghost use Rattle.rv_report.specs.LenientReport.{job_number_of_line, job_name_of_line, fault_or_default, refusal_or_default, fault_ending_of_text, row_ending_of_line};
 ghost use Rattle.rv_report.specs.LenientReport.{verdict_of_line};
 ghost use Rattle.rv_report.specs.LenientReport.{shard_of_text, part_extent_of_line};
 ghost use Rattle.rv_report.specs.Report.{refusal_named};
@@ -58,7 +58,7 @@ fn fault_ending_of_text(text: &[u8]) -> RowEnd
 
 // Returns the refusal with this name, or an arbitrary one if no refusal has it.
 fn refusal_or_default(name: &[u8]) -> Refusal
-    ensures { result ≡ refusal_or_first (refusal_named name.now) }
+    ensures { result ≡ refusal_or_default (refusal_named name.now) }
 {
     Refusal::from_name(name).unwrap_or(Refusal::ImageUnreadable)
 }

@@ -37,7 +37,7 @@ pub fn read_partial_report(alloc: Global, bytes: &[u8]) -> Result<PartialReport,
             report,
             is_cut_off: false,
         }),
-        Err(ReadError::CutOff) => {
+        Err(ReadError::Truncated) => {
             let report = read_complete_rows(alloc, bytes)?;
             Ok(PartialReport {
                 report,

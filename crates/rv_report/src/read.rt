@@ -7,8 +7,8 @@ ghost use Rattle.rv_report.specs.Differences.{line_feed_count, word_after_byte, 
 ghost use Rattle.rv_report.specs.Differences.{read_error_at, AgreeBeforeError, IsOkOrOutOfMemory, IsSameReadError};
 ghost use Rattle.rv_report.specs.LenientReport.{lenient_report};
 ghost use Rattle.rv_report.specs.LeastLine.{IsFirstError, IsReportPrefix};
-ghost use Rattle.rv_report.specs.declared.read.ReadError.TheVariants.{OutOfMemory, CutOff};
-ghost use Rattle.rv_report.specs.declared.read.FirstWord.TheVariants as word;
+ghost use Rattle.rv_report.specs.declared.read.ReadError.TheVariants.{OutOfMemory, Truncated};
+ghost use Rattle.rv_report.specs.declared.read.FirstWordState.TheVariants as word;
 
 use crate::fields::leading_bytes;
 use crate::lenient_reader::lenient_report;
@@ -29,7 +29,7 @@ pub enum ReadError {
     /// The text ends before its report does: its complete lines are those of some report, and the incomplete line after them may begin a
     /// line of a report, judging by its first word.
     #[error("the report is truncated")]
-    CutOff,
+    Truncated,
 }
 
 impl From<AllocError> for ReadError {
@@ -54,11 +54,11 @@ pub fn read_report(alloc: Global, bytes: &[u8]) -> Result<SavedReport, ReadError
         × AgreeBeforeError error (saved_text report) bytes.now) }
     // Some report begins with the lines before the one in the error, and none with these lines and it.
     ensures least { IfErr result (λ error. IsFirstError error bytes.now) }
-    // If a prefix of a report's text is rejected, the error is `CutOff`.
-    ensures cut { IsReportPrefix bytes.now → IfErr result (λ error. IsSameReadError error CutOff) }
+    // If a prefix of a report's text is rejected, the error is `Truncated`.
+    ensures cut { IsReportPrefix bytes.now → IfErr result (λ error. IsSameReadError error Truncated) }
     // The location is that of the first difference from the report of the text's content.
     ensures place { IfErr result (λ error. IsSameReadError error
-        (read_error_from 1 word.Ahead (saved_text (lenient_report bytes.now)) bytes.now)) }
+        (read_error_from 1 word.NotStarted (saved_text (lenient_report bytes.now)) bytes.now)) }
 {
     let report = lenient_report(alloc, bytes)?;
     let written = saved_text(alloc, &report)?;
@@ -70,12 +70,12 @@ pub fn read_report(alloc: Global, bytes: &[u8]) -> Result<SavedReport, ReadError
     }
 }
 
-// Returns the error at the first difference between the bytes and the text: a line, counted from 1, or `CutOff`.
+// Returns the error at the first difference between the bytes and the text: a line, counted from 1, or `Truncated`.
 fn first_read_error(text: &[u8], bytes: &[u8]) -> ReadError
-    ensures { result ≡ read_error_from 1 word.Ahead text.now bytes.now }
+    ensures { result ≡ read_error_from 1 word.NotStarted text.now bytes.now }
 {
     let mut line = 1;
-    let mut met = FirstWord::Ahead;
+    let mut met = FirstWordState::NotStarted;
     for (at, b) in bytes.iter().enumerate() {
         if at == text.len() {
             return ReadError::Line(line);
@@ -88,16 +88,16 @@ fn first_read_error(text: &[u8], bytes: &[u8]) -> ReadError
         }
         met = met.word_after_byte(*b);
     }
-    ReadError::CutOff
+    ReadError::Truncated
 }
 
 // Returns the error, given that the remaining bytes `rest` differ in their first byte from a text whose next byte is `other`: this line, or
-// `CutOff` if `rest` ends in this line, and the line can still be the beginning of a report's line.
-fn read_error_at(line: usize, met: FirstWord, other: u8, rest: &[u8]) -> ReadError
+// `Truncated` if `rest` ends in this line, and the line can still be the beginning of a report's line.
+fn read_error_at(line: usize, met: FirstWordState, other: u8, rest: &[u8]) -> ReadError
     ensures { result ≡ read_error_at line met other rest.now }
 {
     if met.can_begin_report_line(other, rest) && !has_line_feed(rest) {
-        ReadError::CutOff
+        ReadError::Truncated
     } else {
         ReadError::Line(line)
     }
@@ -117,31 +117,31 @@ fn has_line_feed(text: &[u8]) -> bool
 
 /// How much of the first word of a line has been read: nothing, its first letters, or all of it.
 #[derive(Clone, Copy)]
-pub(crate) enum FirstWord {
-    Ahead,
-    Begun,
+pub(crate) enum FirstWordState {
+    NotStarted,
+    Started,
     Ended,
 }
 
-impl FirstWord {
+impl FirstWordState {
     // Returns how much of the first word of a line has been read, given how much had been read before this byte.
-    fn word_after_byte(self, b: u8) -> FirstWord
+    fn word_after_byte(self, b: u8) -> FirstWordState
         ensures { result ≡ word_after_byte self b }
     {
         match b {
-            b'\n' => FirstWord::Ahead,
-            b' ' => FirstWord::Ended,
+            b'\n' => FirstWordState::NotStarted,
+            b' ' => FirstWordState::Ended,
             _ => self.word_after_letter(),
         }
     }
 
     // Returns how much of the first word of a line has been read, given how much had been read before one more letter of the line.
-    fn word_after_letter(self) -> FirstWord
+    fn word_after_letter(self) -> FirstWordState
         ensures { result ≡ word_after_letter self }
     {
         match self {
-            FirstWord::Ended => FirstWord::Ended,
-            FirstWord::Ahead | FirstWord::Begun => FirstWord::Begun,
+            FirstWordState::Ended => FirstWordState::Ended,
+            FirstWordState::NotStarted | FirstWordState::Started => FirstWordState::Started,
         }
     }
 
@@ -150,9 +150,9 @@ impl FirstWord {
         ensures { result ≡ can_begin_report_line self other rest.now }
     {
         match self {
-            FirstWord::Ahead => begins_last_line(other) && begins_row(rest),
-            FirstWord::Begun => false,
-            FirstWord::Ended => true,
+            FirstWordState::NotStarted => begins_last_line(other) && begins_row(rest),
+            FirstWordState::Started => false,
+            FirstWordState::Ended => true,
         }
     }
 }

@@ -55,7 +55,7 @@ impl From<SinkFailed> for WriteError {
 }
 
 // Buffered text is written once it has this many bytes.
-const ENOUGH: usize = 32_768;
+const FLUSH_THRESHOLD: usize = 32_768;
 
 /// Writes the text of the report of a whole list to a sink. If it fails, a prefix of the text has been written.
 pub fn write_report<W: Sink>(alloc: Global, report: &Report, out: &mut W) -> Result<(), WriteError>
@@ -69,14 +69,14 @@ pub fn write_report<W: Sink>(alloc: Global, report: &Report, out: &mut W) -> Res
 {
     let rows = report.rows.as_slice();
     let mut text = String::new(alloc);
-    put_rows(alloc, rows, &mut text, out)?;
+    write_rows(alloc, rows, &mut text, out)?;
     push_done_line(&mut text, rows.len())?;
     flush_text(&mut text, out)?;
     Ok(())
 }
 
 // Writes the text of the rows: its beginning is sent to the sink, and the rest remains in `text`.
-fn put_rows<W: Sink>(
+fn write_rows<W: Sink>(
     alloc: Global,
     rows: &[Row],
     text: &mut String,
@@ -110,7 +110,7 @@ pub(crate) fn write_text_if_large<W: Sink>(text: &mut String, out: &mut W) -> Re
     ensures failed { IfErr result
         (λ error. (error ≡ WriteError.Failed) × (W.failure_count out.new ≡ one_more (W.failure_count out.old))) }
 {
-    if text.len() < ENOUGH {
+    if text.len() < FLUSH_THRESHOLD {
         return Ok(());
     }
     flush_text(text, out)

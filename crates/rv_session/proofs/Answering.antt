@@ -5,7 +5,7 @@ use Rattle.rv_gdb_protocol.specs.declared.request.Register.{Register}
 use Rattle.rv_gdb_protocol.specs.declared.request.Request.{Request}
 use Rattle.rv_gdb_protocol.specs.declared.request.Request.TheVariants as ask
 use Rattle.rv_gdb_protocol.specs.declared.request.Stoppoint.{Stoppoint}
-use Rattle.rv_session.specs.Answers.{IsAnswered, shown_reply}
+use Rattle.rv_session.specs.SessionReplies.{IsReply, read_only_reply}
 use Rattle.rv_session.specs.declared.reply.Reply.{Reply}
 use Rattle.rv_session.specs.declared.session.Session.{Session}
 
@@ -21,8 +21,8 @@ pub record IsLook (request : Request) : Type 0 where
   pub no_detach : request ≡ ask.Detach → ⊥
   pub no_kill : request ≡ ask.Kill → ⊥
 
-pub looked : (session : Session) (request : Request) (reply : Reply) → IsLook request → reply ≡ shown_reply session request
-    → IsAnswered session request reply session
+pub looked : (session : Session) (request : Request) (reply : Reply) → IsLook request → reply ≡ read_only_reply session request
+    → IsReply session request reply session
 looked session (ask.WriteRegister register value) reply look is = absurd (look.no_write register value refl)
 looked session (ask.Set place) reply look is = absurd (look.no_set place refl)
 looked session (ask.Clear place) reply look is = absurd (look.no_clear place refl)

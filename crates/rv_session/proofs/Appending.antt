@@ -5,7 +5,7 @@ use Rattle.std.specs.Result.{IfOk, OnOk}
 use Rattle.rv_gdb_protocol.specs.ReaderStates.{ReaderState, state_after_byte, incoming_at}
 use Rattle.rv_gdb_protocol.specs.Packets.{request_of}
 use Rattle.rv_gdb_protocol.specs.declared.frame.Incoming.{Incoming}
-use Rattle.rv_session.specs.Answers.{IsAnswered}
+use Rattle.rv_session.specs.SessionReplies.{IsReply}
 use Rattle.rv_session.specs.Incoming.{AppendsSome, IsByteReceived, IsRespondedTo, IsResponse, IsResponseUnless, IsPacketResponse, acknowledgement, packets_of, with_sent}
 use Rattle.rv_session.specs.declared.reply.Reply.{Reply}
 use Rattle.rv_session.specs.declared.session.Session.{Session}
@@ -51,7 +51,7 @@ pub over : (session : Session) (received : Incoming) → session.is_over ≡ tru
 over session received is = subst (λ (over : Bool). IsResponseUnless over session received [] session) (sym is) (refl, refl)
 
 pub taken : (session behind next : Session) (body old middle last : List ℕ) (reply : Reply)
-    → middle ≡ old ++ acknowledgement session → IsAnswered session (request_of body) reply behind
+    → middle ≡ old ++ acknowledgement session → IsReply session (request_of body) reply behind
     → last ≡ middle ++ packets_of reply → next ≡ with_sent behind reply
     → AppendsSome old last (λ out. IsPacketResponse session body out next)
 taken session behind next body old middle last reply acknowledged answered sent kept = record {

@@ -13,10 +13,10 @@ use Rattle.rv_gdb_protocol.specs.declared.request.Register.{Register}
 use Rattle.rv_gdb_protocol.specs.declared.request.Register.TheVariants as reg
 use Rattle.rv_gdb_protocol.specs.declared.request.Request.{Request}
 use Rattle.rv_gdb_protocol.specs.declared.request.Request.TheVariants as ask
-use Rattle.rv_session.specs.Answers.{IsAnswered, IsSetReply, IsRegisterWriteHandled, is_reset}
+use Rattle.rv_session.specs.SessionReplies.{IsReply, IsSetReply, IsRegisterWriteHandled, is_reset}
 use Rattle.rv_session.specs.Incoming.{IsByteReceived, IsCheckedPacketResponse, IsRespondedTo, IsResponse, IsResponseUnless, IsPacketResponse, is_wrong_checksum, with_sent}
 use Rattle.rv_session.specs.Replies.{refused}
-use Rattle.rv_session.specs.Sessions.{IsOpenIfRequested, at_place}
+use Rattle.rv_session.specs.Sessions.{IsOpenIfRequested, at_step}
 use Rattle.rv_session.specs.declared.reply.Reply.{Reply}
 use Rattle.rv_session.specs.declared.session.Session.{Session}
 
@@ -25,8 +25,8 @@ unasked : (next other : Session) → next ≡ other → other.requested ≡ None
 unasked next other is none = ap (λ (s : Session). s.requested) is ∙ none
 
 placed_unasked : (session next : Session) (place : ℕ) (moves : Bool) → session.requested ≡ None
-    → next ≡ (if moves then at_place session place else session) → next.requested ≡ None
-placed_unasked session next place true none is = unasked next (at_place session place) is none
+    → next ≡ (if moves then at_step session place else session) → next.requested ≡ None
+placed_unasked session next place true none is = unasked next (at_step session place) is none
 placed_unasked session next place false none is = unasked next session is none
 
 set_unasked : (session next : Session) (outcome : Result Stops Refusal) (reply : Reply) → session.requested ≡ None
@@ -40,12 +40,12 @@ written_unasked session next (reg.Hart number) value reply none written = unaske
 written_unasked session next reg.Steps value reply none written =
     placed_unasked session next value (nat_le value (last_step session.history.budget session.history.start)) none written.1
 written_unasked session next reg.Printed value reply none written =
-    unasked next (at_place session next.history.place) written.run none
+    unasked next (at_step session next.history.place) written.run none
 written_unasked session next reg.Taken value reply none written =
-    unasked next (at_place session next.history.place) written.run none
+    unasked next (at_step session next.history.place) written.run none
 
 answered_may : (session next : Session) (request : Request) (reply : Reply) → session.is_over ≡ false → session.requested ≡ None
-    → IsAnswered session request reply next → IsOpenIfRequested next
+    → IsReply session request reply next → IsOpenIfRequested next
 answered_may session next (ask.Move requested) reply going none answered = inr (ap (λ (s : Session). s.is_over) answered.1 ∙ going)
 answered_may session next (ask.WriteRegister register value) reply going none answered =
     inl (written_unasked session next register value reply none answered)

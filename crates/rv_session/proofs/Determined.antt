@@ -6,7 +6,7 @@ use Rattle.std.proofs.Math.Bridge.{le_prop}
 use Rattle.rv_history.specs.Moves.{IsInterrupted, IsUninterrupted}
 use Rattle.rv_history.specs.declared.counts.Count.{Count}
 use Rattle.rv_history.specs.declared.counts.Count.TheVariants as count
-use Rattle.rv_history.specs.declared.found.Found.{Found}
+use Rattle.rv_history.specs.declared.found.MoveResult.{MoveResult}
 use Rattle.rv_history.specs.declared.bounds.Bounds.TheVariants as bounds
 use Rattle.rv_history.specs.declared.stops.Stops.{Stops}
 use Rattle.rv_history.specs.declared.stops.Watch.{Watch}
@@ -29,18 +29,18 @@ use Rattle.rv_gdb_protocol.specs.declared.request.Request.{Request}
 use Rattle.rv_gdb_protocol.specs.declared.request.Request.TheVariants as ask
 use Rattle.rv_gdb_protocol.specs.declared.request.Stoppoint.{Stoppoint}
 use Rattle.rv_gdb_protocol.specs.declared.request.Stoppoint.TheVariants as trap
-use Rattle.rv_session.specs.Answers.{IsAnswered, IsSetReply, IsSeekHandled, IsSeekResult, IsStoppointSet, IsRegisterWriteHandled}
+use Rattle.rv_session.specs.SessionReplies.{IsReply, IsSetReply, IsSeekHandled, IsSeekResult, IsStoppointSet, IsRegisterWriteHandled}
 use Rattle.rv_session.specs.Incoming.{HasNoInterrupt, IsByteReceived, IsReceived, IsCheckedPacketResponse, IsRespondedTo, IsResponse, IsResponseUnless, IsPacketResponse, IsRequestedMoveMade, acknowledgement, byte_first, is_interrupted, is_wrong_checksum, move_first, no_bytes, packets_of, with_sent}
 use Rattle.rv_session.specs.Moved.{IsMoveResult, IsMoved, end_text_at, console_before_stop, console_sent_after, stop_of}
-use Rattle.rv_session.specs.Replies.{ok_if, stopping}
-use Rattle.rv_session.specs.Sessions.{at_place, state_at}
-use Rattle.rv_session.specs.Stoppoints.{IsTableAdded, IsAddedUnless, IsStoppointAdded, is_on, is_set, stoppoint_refusal, watches_of, with_watches}
+use Rattle.rv_session.specs.Replies.{ok_if, reply_with_end}
+use Rattle.rv_session.specs.Sessions.{at_step, state_at}
+use Rattle.rv_session.specs.Stoppoints.{IsTableAdded, IsAddedUnless, IsStoppointAdded, is_for_range, is_set, stoppoint_refusal, watches_of, with_watches}
 use Rattle.rv_session.specs.declared.reply.Reply.{Reply}
 use Rattle.rv_session.specs.declared.session.Session.{Session}
 
 -- ---- moves
 
-gone_one : (requested : Move) (stops : Stops) (budget from p q : ℕ) (start : State) (one other : Found)
+gone_one : (requested : Move) (stops : Stops) (budget from p q : ℕ) (start : State) (one other : MoveResult)
     → IsMoveResult requested stops budget start from p one → IsMoveResult requested stops budget start from q other → IsUninterrupted one → IsUninterrupted other
     → (p ≡ q) × (one ≡ other)
 gone_one move.Continue stops budget from p q start one other first second whole again =
@@ -54,7 +54,7 @@ gone_one move.ContinueBack stops budget from p q start one other first second wh
 gone_one move.StepBack stops budget from p q start one other first second whole again =
     one_step_before stops budget from p q start one other first second
 
-unbroken : (may_break : Bool) (found : Found) → may_break ≡ false → (IsInterrupted found → may_break ≡ true) → IsUninterrupted found
+unbroken : (may_break : Bool) (found : MoveResult) → may_break ≡ false → (IsInterrupted found → may_break ≡ true) → IsUninterrupted found
 unbroken may_break found never broken is = both_ways may_break never (broken is)
 
 moved_one : (end_text : List ℕ) (may_break : Bool) (session one other : Session) (requested : Move) (reply again : Reply) → may_break ≡ false
@@ -63,10 +63,10 @@ moved_one end_text may_break session one other requested reply again never first
     let same = gone_one requested session.stops session.history.budget session.history.place first.place second.place
     session.history.start first.found second.found first.gone second.gone
     (unbroken may_break first.found never first.broken_off) (unbroken may_break second.found never second.broken_off) in
-    let said : ℕ → Found → Reply = λ place found.
-    stopping (console_before_stop session requested (state_at session place)) (end_text_at end_text found)
+    let said : ℕ → MoveResult → Reply = λ place found.
+    reply_with_end (console_before_stop session requested (state_at session place)) (end_text_at end_text found)
     (stop_text (stop_of session requested place found)) in
-    let stands : ℕ → Found → Session = λ place found. record session {
+    let stands : ℕ → MoveResult → Session = λ place found. record session {
       history = record session.history { place = place };
       shown = console_sent_after session requested (state_at session place);
       last = stop_of session requested place found;
@@ -97,7 +97,7 @@ sought_one : (session one other : Session) (count : Count) (value : ℕ) (reply 
 sought_one session one other count value reply again first second =
     let same = sought_as_one session one other count value first.is_granted second.is_granted first.sought second.sought in (
       first.reply_is ∙ ap (λ (is : Bool). ok_if is refusal.NotReached) same.0 ∙ sym second.reply_is,
-      first.run ∙ ap (at_place session) same.1 ∙ sym second.run,
+      first.run ∙ ap (at_step session) same.1 ∙ sym second.run,
     )
 
 written_one : (session one other : Session) (register : Register) (value : ℕ) (reply again : Reply)
@@ -129,7 +129,7 @@ watch_of a address count within at long =
     (subst (λ (m : ℕ). (w : a.address + m ≤ 2 ^ 32) → a ≡ watch_made a.address m w) long
     (λ w. watch_with a.address a.count a.within w)) within
 
-watch_one : (range : Range) (one other : Watch) → is_on range one ≡ true → is_on range other ≡ true → one ≡ other
+watch_one : (range : Range) (one other : Watch) → is_for_range range one ≡ true → is_for_range range other ≡ true → one ≡ other
 unfolding watch_made
 watch_one range one other first second =
     let here = and_parts (one.address == range.address) (one.count == range.count) first in
@@ -177,8 +177,8 @@ trap_one session one other place reply again first second =
 
 -- ---- answers
 
-answered_one : (session one other : Session) (request : Request) (reply again : Reply) → IsAnswered session request reply one
-    → IsAnswered session request again other → (reply ≡ again) × (one ≡ other)
+answered_one : (session one other : Session) (request : Request) (reply again : Reply) → IsReply session request reply one
+    → IsReply session request again other → (reply ≡ again) × (one ≡ other)
 answered_one session one other (ask.WriteRegister register value) reply again first second =
     written_one session one other register value reply again first second
 answered_one session one other (ask.Set place) reply again first second =

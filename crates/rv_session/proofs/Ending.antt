@@ -1,8 +1,8 @@
 -- The stop that is told tells the ending.
 use Rattle.std.proofs.Common.{◌≡◌, ◌∙◌, ◌+◌, ◌-◌, ℕ, Bool, List, Option, Some, None, ap, refl, sym}
 use Rattle.std.specs.Prelude.{if◌then◌else◌}
-use Rattle.rv_history.specs.declared.found.Found.{Found}
-use Rattle.rv_history.specs.declared.found.Found.TheVariants as found
+use Rattle.rv_history.specs.declared.found.MoveResult.{MoveResult}
+use Rattle.rv_history.specs.declared.found.MoveResult.TheVariants as found
 use Rattle.rv_history.specs.declared.stops.WatchHit.{WatchHit}
 use Rattle.rv_history.specs.declared.stops.WatchHit.TheVariants as set_off
 use Rattle.rv_history.specs.declared_ending.Ending.{Ending}
@@ -11,7 +11,7 @@ use Rattle.rv_history.specs.declared_ending.FaultKind.{FaultKind}
 use Rattle.rv_history.specs.declared_ending.FaultKind.TheVariants as fault
 use Rattle.rv_gdb_protocol.specs.Stops.{NoEnding, EndKind, end_kind_of_stop, end_kind_of_fault}
 use Rattle.rv_gdb_protocol.specs.declared.request.Move.{Move}
-use Rattle.rv_session.specs.Endings.{text_with, end_kind_of_ending, end_kind_of_move_result}
+use Rattle.rv_session.specs.Endings.{text_at_end, end_kind_of_ending, end_kind_of_move_result}
 use Rattle.rv_session.specs.Moved.{IsMoved, end_stop, end_text_at, is_forward, stop_of, watch_between, stop_of_watch_hit}
 use Rattle.rv_session.specs.declared.reply.Reply.{Reply}
 use Rattle.rv_session.specs.declared.session.Session.{Session}
@@ -27,17 +27,17 @@ end_is_told (ending.Exit code) = refl
 end_is_told (ending.Fault kind pc value) = refl
 end_is_told ending.Budget = refl
 
-stop_is_told : (session : Session) (requested : Move) (place : ℕ) (found : Found)
+stop_is_told : (session : Session) (requested : Move) (place : ℕ) (found : MoveResult)
     → end_kind_of_stop (stop_of session requested place found) ≡ end_kind_of_move_result found
 stop_is_told session requested place found.Done = refl
-stop_is_told session requested place found.Break = refl
-stop_is_told session requested place found.Change = watch_is_none
+stop_is_told session requested place found.Breakpoint = refl
+stop_is_told session requested place found.WatchTriggered = watch_is_none
     (if is_forward requested then watch_between session place (place + 1) else watch_between session (place - 1) place)
 stop_is_told session requested place (found.End ending) = end_is_told ending
-stop_is_told session requested place found.Begin = refl
+stop_is_told session requested place found.RunStart = refl
 stop_is_told session requested place found.Interrupted = refl
 
-fault_has_text : (kind : FaultKind) (end_text : List ℕ) → text_with (end_kind_of_fault kind) end_text ≡ end_text
+fault_has_text : (kind : FaultKind) (end_text : List ℕ) → text_at_end (end_kind_of_fault kind) end_text ≡ end_text
 fault_has_text fault.FetchAccess end_text = refl
 fault_has_text fault.LoadAccess end_text = refl
 fault_has_text fault.StoreAccess end_text = refl
@@ -50,23 +50,23 @@ fault_has_text fault.Breakpoint end_text = refl
 fault_has_text fault.UnknownCall end_text = refl
 fault_has_text fault.ConsoleFull end_text = refl
 
-text_is_told : (end_text : List ℕ) (found : Found) → end_text_at end_text found ≡ text_with (end_kind_of_move_result found) end_text
+text_is_told : (end_text : List ℕ) (found : MoveResult) → end_text_at end_text found ≡ text_at_end (end_kind_of_move_result found) end_text
 text_is_told end_text (found.End (ending.Exit code)) = refl
 text_is_told end_text (found.End (ending.Fault kind pc value)) = sym (fault_has_text kind end_text)
 text_is_told end_text (found.End ending.Budget) = refl
 text_is_told end_text found.Done = refl
-text_is_told end_text found.Break = refl
-text_is_told end_text found.Change = refl
-text_is_told end_text found.Begin = refl
+text_is_told end_text found.Breakpoint = refl
+text_is_told end_text found.WatchTriggered = refl
+text_is_told end_text found.RunStart = refl
 text_is_told end_text found.Interrupted = refl
 
 pub end_told : (end_text : List ℕ) (may_break : Bool) (session next : Session) (requested : Move) (reply : Reply)
     (moved : IsMoved end_text may_break session requested reply next)
-    → (end_kind_of_stop next.last ≡ end_kind_of_move_result moved.found) × (reply.end_text ≡ text_with (end_kind_of_stop next.last) end_text)
+    → (end_kind_of_stop next.last ≡ end_kind_of_move_result moved.found) × (reply.end_text ≡ text_at_end (end_kind_of_stop next.last) end_text)
 end_told end_text may_break session next requested reply moved =
     let told : end_kind_of_stop next.last ≡ end_kind_of_move_result moved.found =
     ap (λ (s : Session). end_kind_of_stop s.last) moved.next_is ∙ stop_is_told session requested moved.place moved.found in (
       told,
       ap (λ (r : Reply). r.end_text) moved.reply_is ∙ text_is_told end_text moved.found
-          ∙ ap (λ (t : EndKind). text_with t end_text) (sym told),
+          ∙ ap (λ (t : EndKind). text_at_end t end_text) (sym told),
     )

@@ -6,30 +6,30 @@ use Rattle.std.specs.List.{flat_map, list_any, range_with_len}
 use Rattle.std.proofs.lemmas.Bool.{cases_lt}
 use Rattle.std.proofs.lemmas.List.{at_drop_more, drop_all, flat_map_more, take_all, take_min}
 use Rattle.rv_history.specs.Bus.{BusContents}
-use Rattle.rv_session.specs.Memory.{end_of_addresses, is_byte, leading, has_bytes_at}
+use Rattle.rv_session.specs.Memory.{end_of_addresses, is_byte, leading_values, has_bytes_at}
 
 -- ---- reads
 
 -- what can be read from an address on
 abbrev pub bytes_left : (ℕ → Option ℕ) → ℕ → ℕ → List ℕ
-bytes_left byte_of a n = leading (map byte_of (range_with_len a n))
+bytes_left byte_of a n = leading_values (map byte_of (range_with_len a n))
 
 one_left : (n i : ℕ) → i < n → n - i ≡ suc (n - (i + 1))
 one_left n i within = omega arith
 
 first_some : (byte_of : ℕ → Option ℕ) (a n byte : ℕ) → byte_of a ≡ Some byte
     → bytes_left byte_of a (suc n) ≡ byte ∷ bytes_left byte_of (a + 1) n
-unfolding leading
+unfolding leading_values
 first_some byte_of a n byte is =
-    ap (λ (first : Option ℕ). leading (first ∷ map byte_of (range_with_len (a + 1) n))) is
+    ap (λ (first : Option ℕ). leading_values (first ∷ map byte_of (range_with_len (a + 1) n))) is
 
 first_none : (byte_of : ℕ → Option ℕ) (a n : ℕ) → byte_of a ≡ None → bytes_left byte_of a (suc n) ≡ []
-unfolding leading
+unfolding leading_values
 first_none byte_of a n is =
-    ap (λ (first : Option ℕ). leading (first ∷ map byte_of (range_with_len (a + 1) n))) is
+    ap (λ (first : Option ℕ). leading_values (first ∷ map byte_of (range_with_len (a + 1) n))) is
 
 none_left : (byte_of : ℕ → Option ℕ) (a : ℕ) → bytes_left byte_of a 0 ≡ []
-unfolding leading
+unfolding leading_values
 none_left byte_of a = refl
 
 pub read_start : (byte_of : ℕ → Option ℕ) (a n : ℕ) (bytes : List ℕ) → bytes ≡ []

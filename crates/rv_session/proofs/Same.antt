@@ -13,10 +13,10 @@ use Rattle.rv_gdb_protocol.specs.declared.request.Request.{Request}
 use Rattle.rv_gdb_protocol.specs.declared.request.Request.TheVariants as ask
 use Rattle.rv_history.specs.declared.stops.Stops.{Stops}
 use Rattle.rv_gdb_protocol.specs.declared.request.Refusal.TheVariants as refusal
-use Rattle.rv_session.specs.Answers.{IsAnswered, IsSetReply, IsRegisterWriteHandled, is_reset}
+use Rattle.rv_session.specs.SessionReplies.{IsReply, IsSetReply, IsRegisterWriteHandled, is_reset}
 use Rattle.rv_session.specs.Incoming.{IsByteReceived, IsReceived, IsCheckedPacketResponse, IsRespondedTo, IsResponse, IsResponseUnless, IsPacketResponse, IsRequestedMoveMade, byte_first, is_interrupted, is_wrong_checksum, move_first, no_bytes, with_sent}
 use Rattle.rv_session.specs.Replies.{refused}
-use Rattle.rv_session.specs.Sessions.{IsSameRun, at_place}
+use Rattle.rv_session.specs.Sessions.{IsSameRun, at_step}
 use Rattle.rv_session.specs.declared.reply.Reply.{Reply}
 use Rattle.rv_session.specs.declared.session.Session.{Session}
 
@@ -70,11 +70,11 @@ by_fields session next other is start budget program script shown = quiet_by ses
 stays : (session next : Session) → next ≡ session → IsQuiet session next
 stays session next is = by_fields session next session is refl refl refl refl refl
 
-goes : (session next : Session) (place : ℕ) → next ≡ at_place session place → IsQuiet session next
-goes session next place is = by_fields session next (at_place session place) is refl refl refl refl refl
+goes : (session next : Session) (place : ℕ) → next ≡ at_step session place → IsQuiet session next
+goes session next place is = by_fields session next (at_step session place) is refl refl refl refl refl
 
 stays_or_goes : (session next : Session) (place : ℕ) (moves : Bool)
-    → next ≡ (if moves then at_place session place else session) → IsQuiet session next
+    → next ≡ (if moves then at_step session place else session) → IsQuiet session next
 stays_or_goes session next place true is = goes session next place is
 stays_or_goes session next place false is = stays session next is
 
@@ -92,7 +92,7 @@ written_quiet session next reg.Steps value reply written =
 written_quiet session next reg.Printed value reply written = goes session next next.history.place written.run
 written_quiet session next reg.Taken value reply written = goes session next next.history.place written.run
 
-answered_quiet : (session next : Session) (request : Request) (reply : Reply) → IsAnswered session request reply next
+answered_quiet : (session next : Session) (request : Request) (reply : Reply) → IsReply session request reply next
     → IsQuiet session next
 answered_quiet session next (ask.Move requested) reply answered = by_fields session next _ answered.1 refl refl refl refl refl
 answered_quiet session next (ask.WriteRegister register value) reply answered =

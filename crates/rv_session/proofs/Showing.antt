@@ -5,8 +5,8 @@ use Rattle.std.proofs.lemmas.Bool.{cases_lt}
 use Rattle.std.proofs.lemmas.List.{drop_all, take-append-drop, take-append-le}
 use Rattle.rv_history.specs.Moves.{IsNextStep}
 use Rattle.rv_history.specs.Places.{last_step}
-use Rattle.rv_history.specs.declared.found.Found.{Found}
-use Rattle.rv_history.specs.declared.found.Found.TheVariants as found
+use Rattle.rv_history.specs.declared.found.MoveResult.{MoveResult}
+use Rattle.rv_history.specs.declared.found.MoveResult.TheVariants as found
 use Rattle.rv_history.specs.declared.stops.Stops.{Stops}
 use Rattle.rv_history.proofs.Public.{printed_stays}
 use Rattle.rv_history.specs.State.{State}
@@ -43,18 +43,18 @@ shown_within front rest shown within = let long = length-append front rest in om
 
 -- ---- of moves
 
-stepped_within : (stops : Stops) (budget from place : ℕ) (start : State) (found : Found)
+stepped_within : (stops : Stops) (budget from place : ℕ) (start : State) (found : MoveResult)
     → IsNextStep stops budget start from place found → place ≤ last_step budget start
 stepped_within stops budget from place start found.Done step = let there = step.0 in let goes = step.1 in omega arith
 stepped_within stops budget from place start (found.End ending) step =
     let there = step.0 in let end = step.1.0 in omega arith
-stepped_within stops budget from place start found.Change step =
+stepped_within stops budget from place start found.WatchTriggered step =
     let there = step.0 in let goes = step.1.completes in omega arith
-stepped_within stops budget from place start found.Break step = absurd step
-stepped_within stops budget from place start found.Begin step = absurd step
+stepped_within stops budget from place start found.Breakpoint step = absurd step
+stepped_within stops budget from place start found.RunStart step = absurd step
 stepped_within stops budget from place start found.Interrupted step = absurd step
 
-went_within : (requested : Move) (stops : Stops) (budget from place : ℕ) (start : State) (found : Found)
+went_within : (requested : Move) (stops : Stops) (budget from place : ℕ) (start : State) (found : MoveResult)
     → is_forward requested ≡ true → IsMoveResult requested stops budget start from place found → place ≤ last_step budget start
 went_within move.Continue stops budget from place start found forward gone = gone.within
 went_within move.Step stops budget from place start found forward gone =
@@ -80,7 +80,7 @@ shows_forward session s end rest shown is first within =
           (shown_within front rest session.shown long),
     )
 
-shows_on : (session : Session) (requested : Move) (place : ℕ) (found : Found) (shown : List ℕ) (forward : Bool)
+shows_on : (session : Session) (requested : Move) (place : ℕ) (found : MoveResult) (shown : List ℕ) (forward : Bool)
     → is_forward requested ≡ forward
     → IsMoveResult requested session.stops session.history.budget session.history.start session.history.place place found
     → HasSentConsole session shown

@@ -4,7 +4,7 @@ use Rattle.std.specs.Prelude.{◌↔◌, IsTrue, if◌then◌else◌}
 use Rattle.std.proofs.lemmas.Bool.{le-leb, leb-true}
 use Rattle.std.proofs.lemmas.Bool.Decides.{same_from_decides}
 use Rattle.rv_history.specs.Positions.{Position}
-use Rattle.rv_session.specs.Sessions.{at_place}
+use Rattle.rv_session.specs.Sessions.{at_step}
 use Rattle.rv_session.specs.declared.session.Session.{Session}
 
 pub granted_is : (granted : Bool) (place last : ℕ) → (IsTrue granted ↔ (place ≤ last)) → granted ≡ leb place last
@@ -14,22 +14,22 @@ granted_is granted place last tells = same_from_decides granted (leb place last)
 -- a move that is granted
 moved_where : (session : Session) (history : Position) (place : ℕ) (granted : Bool)
     → history ≡ (if granted then record session.history { place = place } else session.history)
-    → record session { history = history } ≡ (if granted then at_place session place else session)
+    → record session { history = history } ≡ (if granted then at_step session place else session)
 moved_where session history place true is = ap (λ (h : Position). record session { history = h }) is
 moved_where session history place false is = ap (λ (h : Position). record session { history = h }) is
 
 pub sought_where : (session : Session) (history : Position) (place last : ℕ) (granted : Bool)
     → (IsTrue granted ↔ (place ≤ last))
     → history ≡ (if granted then record session.history { place = place } else session.history)
-    → record session { history = history } ≡ (if leb place last then at_place session place else session)
+    → record session { history = history } ≡ (if leb place last then at_step session place else session)
 sought_where session history place last granted tells is =
     moved_where session history place granted is
-    ∙ ap (λ (b : Bool). if b then at_place session place else session) (granted_is granted place last tells)
+    ∙ ap (λ (b : Bool). if b then at_step session place else session) (granted_is granted place last tells)
 
 -- the start is always granted
 pub went_to_start : (session : Session) (history : Position) (last : ℕ) (granted : Bool) → (IsTrue granted ↔ (0 ≤ last))
     → history ≡ (if granted then record session.history { place = 0 } else session.history)
-    → record session { history = history } ≡ at_place session 0
+    → record session { history = history } ≡ at_step session 0
 went_to_start session history last granted tells is =
     moved_where session history 0 granted is
-    ∙ ap (λ (b : Bool). if b then at_place session 0 else session) (tells.1 (omega arith))
+    ∙ ap (λ (b : Bool). if b then at_step session 0 else session) (tells.1 (omega arith))

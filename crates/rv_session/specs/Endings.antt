@@ -1,7 +1,7 @@
 -- What is reported to gdb about the end of the run.
 use Rattle.std.specs.Prelude.{ℕ, List, []}
-use Rattle.rv_history.specs.declared.found.Found.{Found}
-use Rattle.rv_history.specs.declared.found.Found.TheVariants as found
+use Rattle.rv_history.specs.declared.found.MoveResult.{MoveResult}
+use Rattle.rv_history.specs.declared.found.MoveResult.TheVariants as found
 use Rattle.rv_history.specs.declared_ending.Ending.{Ending}
 use Rattle.rv_history.specs.declared_ending.Ending.TheVariants as ending
 use Rattle.rv_gdb_protocol.specs.Stops.{Aborted, BadCall, BusError, Exited, FileTooLarge, IllegalInstruction, NoEnding, SegmentFault, EndKind, UsedUp, end_kind_of_fault}
@@ -13,22 +13,22 @@ end_kind_of_ending (ending.Fault kind pc value) = end_kind_of_fault kind
 end_kind_of_ending ending.Budget = UsedUp
 
 -- the kind of end that a move with this result reports; `NoEnding` if it did not reach the end of the run
-abbrev pub end_kind_of_move_result : Found → EndKind
+abbrev pub end_kind_of_move_result : MoveResult → EndKind
 end_kind_of_move_result (found.End ending) = end_kind_of_ending ending
 end_kind_of_move_result found.Done = NoEnding
-end_kind_of_move_result found.Break = NoEnding
-end_kind_of_move_result found.Change = NoEnding
-end_kind_of_move_result found.Begin = NoEnding
+end_kind_of_move_result found.Breakpoint = NoEnding
+end_kind_of_move_result found.WatchTriggered = NoEnding
+end_kind_of_move_result found.RunStart = NoEnding
 end_kind_of_move_result found.Interrupted = NoEnding
 
 -- the text if a stop reports an end of the run, and an empty text for `NoEnding`
-abbrev pub text_with : EndKind → List ℕ → List ℕ
-text_with NoEnding text = []
-text_with Exited text = text
-text_with UsedUp text = text
-text_with SegmentFault text = text
-text_with BusError text = text
-text_with IllegalInstruction text = text
-text_with Aborted text = text
-text_with BadCall text = text
-text_with FileTooLarge text = text
+abbrev pub text_at_end : EndKind → List ℕ → List ℕ
+text_at_end NoEnding text = []
+text_at_end Exited text = text
+text_at_end UsedUp text = text
+text_at_end SegmentFault text = text
+text_at_end BusError text = text
+text_at_end IllegalInstruction text = text
+text_at_end Aborted text = text
+text_at_end BadCall text = text
+text_at_end FileTooLarge text = text

@@ -11,7 +11,7 @@ use Rattle.rv_gdb_protocol.specs.declared.frame.Checksum.{Checksum}
 use Rattle.rv_gdb_protocol.specs.declared.frame.Checksum.TheVariants as verdict
 use Rattle.rv_gdb_protocol.specs.declared.request.Move.{Move}
 use Rattle.rv_gdb_protocol.specs.declared.request.Refusal.TheVariants as refusal
-use Rattle.rv_session.specs.Answers.{IsAnswered}
+use Rattle.rv_session.specs.SessionReplies.{IsReply}
 use Rattle.rv_session.specs.Moved.{IsMoved}
 use Rattle.rv_session.specs.Replies.{refused}
 use Rattle.rv_session.specs.declared.reply.Reply.{Reply}
@@ -76,7 +76,7 @@ pub record IsPacketResponse (session : Session) (body out : List ℕ) (next : Se
   pub reply : Reply
   -- the session after the reply
   pub after_reply : Session
-  pub answered : IsAnswered session (request_of body) reply after_reply
+  pub answered : IsReply session (request_of body) reply after_reply
   pub out_is : out ≡ acknowledgement session ++ packets_of reply
   pub next_is : next ≡ with_sent after_reply reply
 

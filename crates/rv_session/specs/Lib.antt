@@ -3,7 +3,7 @@ pub mod Memory
 pub mod Sessions
 pub mod Stoppoints
 pub mod Moved
-pub mod Answers
+pub mod SessionReplies
 pub mod Incoming
 pub mod Console
 pub mod Endings

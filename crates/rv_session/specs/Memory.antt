@@ -6,14 +6,14 @@ use Rattle.rv_history.specs.Bus.{BusContents}
 use Rattle.rv_gdb_protocol.specs.declared.request.Range.{Range}
 
 -- the values before the first `None`
-unfoldable pub leading : List (Option ℕ) → List ℕ
-leading [] = []
-leading (None ∷ rest) = []
-leading (Some byte ∷ rest) = byte ∷ leading rest
+unfoldable pub leading_values : List (Option ℕ) → List ℕ
+leading_values [] = []
+leading_values (None ∷ rest) = []
+leading_values (Some byte ∷ rest) = byte ∷ leading_values rest
 
 -- the maximum number of memory bytes in a reply; each byte takes two hexadecimal digits
-abbrev pub most_bytes : ℕ
-most_bytes = 8184
+abbrev pub max_memory_bytes : ℕ
+max_memory_bytes = 8184
 
 -- the number of addresses, which is one more than the last address
 abbrev pub end_of_addresses : ℕ
@@ -21,11 +21,11 @@ end_of_addresses = 4294967296
 
 -- how many bytes of a range are read: at most as many as fit in a reply, and none after the last address
 abbrev pub bytes_requested : Range → ℕ
-bytes_requested range = min (min range.count most_bytes) (end_of_addresses - range.address)
+bytes_requested range = min (min range.count max_memory_bytes) (end_of_addresses - range.address)
 
 -- the bytes of a range before the first address that is in no region
 unfoldable pub bytes_from : BusContents → Range → List ℕ
-bytes_from bus range = leading (map (fin.get bus.memory) (range_with_len range.address (bytes_requested range)))
+bytes_from bus range = leading_values (map (fin.get bus.memory) (range_with_len range.address (bytes_requested range)))
 
 -- whether the `Option` has a value, and the value is `byte`
 abbrev pub is_byte : Option ℕ → ℕ → Bool

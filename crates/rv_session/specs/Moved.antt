@@ -4,8 +4,8 @@ use Rattle.rv_history.specs.Moves.{IsInterrupted, IsNextStep, IsNextStop, IsStep
 use Rattle.rv_history.specs.Places.{last_step}
 use Rattle.rv_history.specs.Stops.{first_triggered}
 use Rattle.rv_history.specs.declared.bounds.Bounds.TheVariants as bounds
-use Rattle.rv_history.specs.declared.found.Found.{Found}
-use Rattle.rv_history.specs.declared.found.Found.TheVariants as found
+use Rattle.rv_history.specs.declared.found.MoveResult.{MoveResult}
+use Rattle.rv_history.specs.declared.found.MoveResult.TheVariants as found
 use Rattle.rv_history.specs.declared.stops.WatchHit.{WatchHit}
 use Rattle.rv_history.specs.declared.stops.WatchHit.TheVariants as set_off
 use Rattle.rv_history.specs.declared.stops.Stops.{Stops}
@@ -18,7 +18,7 @@ use Rattle.rv_gdb_protocol.specs.declared.request.Move.TheVariants as move
 use Rattle.rv_gdb_protocol.specs.declared.request.WatchKind.TheVariants as watch
 use Rattle.rv_gdb_protocol.specs.declared.stop.Stop.{Stop}
 use Rattle.rv_gdb_protocol.specs.declared.stop.Stop.TheVariants as stop
-use Rattle.rv_session.specs.Replies.{stopping}
+use Rattle.rv_session.specs.Replies.{reply_with_end}
 use Rattle.rv_session.specs.Sessions.{state_at}
 use Rattle.rv_session.specs.declared.reply.Reply.{Reply}
 use Rattle.rv_session.specs.declared.session.Session.{Session}
@@ -32,7 +32,7 @@ is_forward move.ContinueBack = false
 is_forward move.StepBack = false
 
 -- the move, made at step `from` of the run that starts in the state `start`, ends at the step `place` with the result `found`
-abbrev pub IsMoveResult : Move → Stops → ℕ → State → ℕ → ℕ → Found → Type 0
+abbrev pub IsMoveResult : Move → Stops → ℕ → State → ℕ → ℕ → MoveResult → Type 0
 IsMoveResult move.Continue stops budget start from place found = IsNextStop stops bounds.All budget start from place found
 IsMoveResult move.Step stops budget start from place found = IsNextStep stops budget start from place found
 IsMoveResult (move.StepWithin low high) stops budget start from place found =
@@ -65,17 +65,17 @@ watch_stop session requested place = stop_of_watch_hit
 
 -- if the move found a watchpoint hit and went forwards, the session is before the last step of its run, so that there is a step that
 -- triggered it
-abbrev pub CanReportHit : Session → Move → Found → Type 0
-CanReportHit session requested what = what ≡ found.Change → is_forward requested ≡ true
+abbrev pub CanReportHit : Session → Move → MoveResult → Type 0
+CanReportHit session requested what = what ≡ found.WatchTriggered → is_forward requested ≡ true
     → session.history.place < last_step session.history.budget session.history.start
 
 -- the stop that reports the result `found` of a move to the step `place`
-abbrev pub stop_of : Session → Move → ℕ → Found → Stop
+abbrev pub stop_of : Session → Move → ℕ → MoveResult → Stop
 stop_of session requested place found.Done = stop.Trap
-stop_of session requested place found.Break = stop.Trap
-stop_of session requested place found.Change = watch_stop session requested place
+stop_of session requested place found.Breakpoint = stop.Trap
+stop_of session requested place found.WatchTriggered = watch_stop session requested place
 stop_of session requested place (found.End ending) = end_stop ending
-stop_of session requested place found.Begin = stop.RunStart
+stop_of session requested place found.RunStart = stop.RunStart
 stop_of session requested place found.Interrupted = stop.Interrupt
 
 -- the console output that is sent before the stop in the state `s`: after a forward move, all output that was not sent before; after a
@@ -88,12 +88,12 @@ abbrev pub console_sent_after : Session → Move → State → ℕ
 console_sent_after session requested s = if is_forward requested then max session.shown (length s.bus.output) else session.shown
 
 -- `end_text`, the text about the end of the run, if the move reached the end; otherwise an empty text
-abbrev pub end_text_at : List ℕ → Found → List ℕ
+abbrev pub end_text_at : List ℕ → MoveResult → List ℕ
 end_text_at end_text (found.End ending) = end_text
 end_text_at end_text found.Done = []
-end_text_at end_text found.Break = []
-end_text_at end_text found.Change = []
-end_text_at end_text found.Begin = []
+end_text_at end_text found.Breakpoint = []
+end_text_at end_text found.WatchTriggered = []
+end_text_at end_text found.RunStart = []
 end_text_at end_text found.Interrupted = []
 
 -- the session makes the move `requested`: `reply` is the reply, and `next` is the session after it; `end_text` is the text about the end of
@@ -101,10 +101,10 @@ end_text_at end_text found.Interrupted = []
 pub record IsMoved (end_text : List ℕ) (may_break : Bool) (session : Session) (requested : Move) (reply : Reply) (next : Session)
     : Type 0 where
   pub place : ℕ
-  pub found : Found
+  pub found : MoveResult
   pub gone : IsMoveResult requested session.stops session.history.budget session.history.start session.history.place place found
   pub broken_off : IsInterrupted found → may_break ≡ true
-  pub reply_is : reply ≡ stopping (console_before_stop session requested (state_at session place)) (end_text_at end_text found)
+  pub reply_is : reply ≡ reply_with_end (console_before_stop session requested (state_at session place)) (end_text_at end_text found)
       (stop_text (stop_of session requested place found))
   pub next_is : next ≡ record session {
     history = record session.history { place = place };

@@ -9,16 +9,16 @@ abbrev pub with_body : List ℕ → Reply
 with_body body = record { printed = []; end_text = []; body = Some body }
 
 -- a reply with console output and a body
-abbrev pub printing : List ℕ → List ℕ → Reply
-printing printed body = record { printed = printed; end_text = []; body = Some body }
+abbrev pub with_console : List ℕ → List ℕ → Reply
+with_console printed body = record { printed = printed; end_text = []; body = Some body }
 
 -- the empty reply, for which nothing is sent
-abbrev pub silent : Reply
-silent = record { printed = []; end_text = []; body = None }
+abbrev pub empty_reply : Reply
+empty_reply = record { printed = []; end_text = []; body = None }
 
 -- a reply with console output, the text about the run's end, and a body
-abbrev pub stopping : List ℕ → List ℕ → List ℕ → Reply
-stopping printed end_text body = record { printed = printed; end_text = end_text; body = Some body }
+abbrev pub reply_with_end : List ℕ → List ℕ → List ℕ → Reply
+reply_with_end printed end_text body = record { printed = printed; end_text = end_text; body = Some body }
 
 -- the reply `OK`
 abbrev pub granted : Reply

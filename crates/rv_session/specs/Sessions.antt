@@ -34,8 +34,8 @@ abbrev pub here : Session → State
 here session = state_at session session.history.place
 
 -- the session at the step `place` of its run
-abbrev pub at_place : Session → ℕ → Session
-at_place session place = record session { history = record session.history { place = place } }
+abbrev pub at_step : Session → ℕ → Session
+at_step session place = record session { history = record session.history { place = place } }
 
 -- if a move is requested, the session is not over
 abbrev pub IsOpenIfRequested : Session → Type 0

@@ -18,8 +18,8 @@ abbrev pub max_stoppoints : ℕ
 max_stoppoints = 1024
 
 -- whether the watchpoint is for exactly this range
-abbrev pub is_on : Range → Watch → Bool
-is_on range watch = watch.address == range.address && watch.count == range.count
+abbrev pub is_for_range : Range → Watch → Bool
+is_for_range range watch = watch.address == range.address && watch.count == range.count
 
 -- the watchpoints of this kind
 abbrev pub watches_of : Stops → WatchKind → List Watch
@@ -36,7 +36,7 @@ with_watches stops watch.Accesses watches = record stops { accesses = watches }
 -- whether the breakpoint or watchpoint is among the stops
 abbrev pub is_set : Stops → Stoppoint → Bool
 is_set stops (trap.Break address) = list_any (λ other. other == address) stops.breaks
-is_set stops (trap.Watch kind range) = list_any (is_on range) (watches_of stops kind)
+is_set stops (trap.Watch kind range) = list_any (is_for_range range) (watches_of stops kind)
 
 -- whether at least one byte of the range is in a region
 abbrev pub has_byte : BusContents → Range → Bool
@@ -64,13 +64,13 @@ abbrev pub without_stoppoint : Stops → Stoppoint → Stops
 without_stoppoint stops (trap.Break address) =
     record stops { breaks = filter (λ other. not (other == address)) stops.breaks }
 without_stoppoint stops (trap.Watch kind range) =
-    with_watches stops kind (filter (λ watch. not (is_on range watch)) (watches_of stops kind))
+    with_watches stops kind (filter (λ watch. not (is_for_range range watch)) (watches_of stops kind))
 
 -- `next` is `watches` with a watchpoint for this range added at the end
 pub record IsWatchAdded (watches : List Watch) (range : Range) (next : List Watch) : Type 0 where
   pub watch : Watch
   pub next_is : next ≡ watches ++ watch ∷ []
-  pub on : is_on range watch ≡ true
+  pub on : is_for_range range watch ≡ true
 
 -- `next` is `stops` with a watchpoint of this kind for this range added
 pub record IsKindAdded (stops : Stops) (kind : WatchKind) (range : Range) (next : Stops) : Type 0 where

@@ -5,7 +5,7 @@ ghost use Rattle.std.specs.Int.{w32, to_be_bytes};
 ghost use Rattle.std.specs.List.{flat_map};
 ghost use Rattle.std.specs.Str.{bytes_eq};
 ghost use Rattle.rv_gdb_protocol.specs.declared.request.Refusal.TheVariants as refusal;
-ghost use Rattle.rv_session.specs.Answers.{counted, file_part, file_reply, size_reply, stat_words};
+ghost use Rattle.rv_session.specs.SessionReplies.{file_reply_prefix, file_part, file_reply, size_reply, stat_words};
 ghost use Rattle.rv_session.specs.Replies.{refused, with_body};
 
 use crate::reading::{are_same, shown_count};
@@ -32,7 +32,7 @@ impl Session {
         if are_same(self.program.path.as_slice(), path) {
             Reply::with_text(alloc, "F5")
         } else {
-            Reply::refusing(alloc, Refusal::OtherFile)
+            Reply::error_reply(alloc, Refusal::OtherFile)
         }
     }
 
@@ -105,7 +105,7 @@ fn push_words(body: &mut Vec<u8>, words: &[u32]) -> Result<(), AllocError>
 
 // Appends `F`, the count as eight hexadecimal digits, and `;`.
 fn push_file_reply_prefix(body: &mut Vec<u8>, count: u32) -> Result<(), AllocError>
-    ensures { OnOk result (body.new.items ≡ body.old.items ++ counted count) }
+    ensures { OnOk result (body.new.items ≡ body.old.items ++ file_reply_prefix count) }
 {
     let mut digits = [0u8; 8];
     hex::encode_to_slice(count.to_be_bytes().as_slice(), &mut digits).unwrap();

@@ -4,7 +4,7 @@ ghost use Rattle.std.specs.Prelude.{◌≡◌, ◌++◌, ℕ, Bool, List, None, 
 ghost use Rattle.rv_gdb_protocol.specs.Stops.{end_kind_of_stop};
 ghost use Rattle.rv_gdb_protocol.specs.declared.request.Move.{Move};
 ghost use Rattle.rv_session.specs.Console.{HasSentConsole};
-ghost use Rattle.rv_session.specs.Endings.{text_with, end_kind_of_move_result};
+ghost use Rattle.rv_session.specs.Endings.{text_at_end, end_kind_of_move_result};
 ghost use Rattle.rv_session.specs.Incoming.{HasNoInterrupt, IsByteReceived, IsReceived, is_interrupted};
 ghost use Rattle.rv_session.specs.Moved.{IsMoved};
 ghost use Rattle.rv_session.specs.declared.reply.Reply.{Reply};
@@ -43,5 +43,5 @@ pub fn console_is_sent_only_for_moves()
 pub fn ends_are_reported()
     ensures { (end_text : List ℕ) (may_break : Bool) (session next : Session) (requested : Move) (reply : Reply)
         (moved : IsMoved end_text may_break session requested reply next)
-        → (end_kind_of_stop next.last ≡ end_kind_of_move_result moved.found) × (reply.end_text ≡ text_with (end_kind_of_stop next.last) end_text) }
+        → (end_kind_of_stop next.last ≡ end_kind_of_move_result moved.found) × (reply.end_text ≡ text_at_end (end_kind_of_stop next.last) end_text) }
 {}

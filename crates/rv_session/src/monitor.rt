@@ -2,7 +2,7 @@
 
 ghost use Rattle.std.specs.Prelude.{◌≡◌, ◌++◌, IfOk, codes};
 ghost use Rattle.std.specs.Fmt.{decimal};
-ghost use Rattle.rv_session.specs.Answers.{IsCommandHandled, command_text, is_reset, script_bytes_consumed};
+ghost use Rattle.rv_session.specs.SessionReplies.{IsCommandHandled, command_text, is_reset, script_bytes_consumed};
 
 use crate::reading::are_same;
 use crate::reply::Reply;
@@ -15,7 +15,7 @@ const HELP: &str =
 
 impl Session {
     /// Handles `qRcmd,`: runs a `monitor` command, and returns its output and `OK`.
-    pub(crate) fn command(&mut self, alloc: Global, text: &[u8]) -> Result<Reply, AllocError>
+    pub(crate) fn run_command(&mut self, alloc: Global, text: &[u8]) -> Result<Reply, AllocError>
         ensures { IfOk result (λ reply. IsCommandHandled self.old text.now reply self.new) }
     {
         if is_reset(text) {
@@ -23,7 +23,7 @@ impl Session {
             return Reply::granted(alloc);
         }
         let printed = self.command_text(alloc, text)?;
-        Reply::printing(alloc, printed)
+        Reply::with_console(alloc, printed)
     }
 
     // Returns the output of a `monitor` command other than a reset.
@@ -54,7 +54,7 @@ impl Session {
         ensures { IfOk result (λ text. text.items
             ≡ decimal (script_bytes_consumed self.now) ++ codes " of " ++ decimal self.now.script ++ codes " bytes read\n") }
     {
-        let taken = self.taken();
+        let taken = self.script_bytes_consumed();
         let text = format!(in alloc; "{taken} of {} bytes read\n", self.script)?;
         Ok(text.into_bytes())
     }

@@ -2,18 +2,18 @@
 
 ghost use Rattle.std.specs.Prelude.{◌≡◌, IfOk, None, OnOk, is_some, true};
 ghost use Rattle.rv_history.specs.Moves.{IsInterrupted};
-ghost use Rattle.rv_history.specs.declared.found.Found.TheVariants as found;
+ghost use Rattle.rv_history.specs.declared.found.MoveResult.TheVariants as found;
 ghost use Rattle.rv_gdb_protocol.specs.Stops.{stop_text};
 ghost use Rattle.rv_session.specs.Moved.{CanReportHit, IsMoveResult, IsMoved, end_stop, end_text_at, is_forward, console_before_stop, console_sent_after, stop_of, watch_stop, stop_of_watch_hit};
 ghost use Rattle.rv_session.specs.Incoming.{IsRequestedMoveMade};
-ghost use Rattle.rv_session.specs.Replies.{stopping};
-ghost use Rattle.rv_session.specs.Sessions.{IsSameRun, at_place, here};
+ghost use Rattle.rv_session.specs.Replies.{reply_with_end};
+ghost use Rattle.rv_session.specs.Sessions.{IsSameRun, at_step, here};
 
 use crate::end_text::EndText;
 use crate::reply::Reply;
 use crate::session::Session;
 use rv_gdb_protocol::{Bytes, Move, Stop, WatchKind, push_stop};
-use rv_history::{Bounds, Ending, Found, Interrupt, WatchHit};
+use rv_history::{Bounds, Ending, MoveResult, Interrupt, WatchHit};
 use std::alloc::{AllocError, Global};
 
 impl Session {
@@ -53,23 +53,23 @@ impl Session {
         ensures { IfOk result
             (λ reply. IsMoved (E.end_text end.now) (I.was_raised interrupt.new) self.old requested reply self.new) }
     {
-        let found = self.go(alloc, requested, interrupt)?;
+        let found = self.make_move(alloc, requested, interrupt)?;
         let stop = self.stop_of(alloc, requested, found)?;
         let text = self.end_text_at(alloc, end, found)?;
         self.stop_reply(alloc, requested, stop, text)
     }
 
     // Makes a move, and returns the reason why it ended.
-    fn go<I: Interrupt>(
+    fn make_move<I: Interrupt>(
         &mut self,
         alloc: Global,
         requested: Move,
         interrupt: &mut I,
-    ) -> Result<Found, AllocError>
+    ) -> Result<MoveResult, AllocError>
         ensures gone { IfOk result (IsMoveResult requested self.old.stops self.old.history.budget self.old.history.start
             self.old.history.place self.new.history.place) }
         ensures broken_off { IfOk result (λ found. IsInterrupted found → I.was_raised interrupt.new ≡ true) }
-        ensures same { self.new ≡ at_place self.old self.new.history.place }
+        ensures same { self.new ≡ at_step self.old self.new.history.place }
     {
         match requested {
             Move::Continue => {
@@ -87,23 +87,23 @@ impl Session {
     }
 
     // Returns the stop that reports the result of a move.
-    fn stop_of(&self, alloc: Global, requested: Move, found: Found) -> Result<Stop, AllocError>
+    fn stop_of(&self, alloc: Global, requested: Move, found: MoveResult) -> Result<Stop, AllocError>
         requires { CanReportHit self.now requested found }
         ensures { IfOk result (λ stop. stop ≡ stop_of self.now requested self.now.history.place found) }
     {
         match found {
-            Found::Done | Found::Break => Ok(Stop::Trap),
-            Found::Begin => Ok(Stop::RunStart),
-            Found::Interrupted => Ok(Stop::Interrupt),
-            Found::End(ending) => Ok(end_stop(ending)),
-            Found::Change => self.watch_stop(alloc, requested),
+            MoveResult::Done | MoveResult::Breakpoint => Ok(Stop::Trap),
+            MoveResult::RunStart => Ok(Stop::RunStart),
+            MoveResult::Interrupted => Ok(Stop::Interrupt),
+            MoveResult::End(ending) => Ok(end_stop(ending)),
+            MoveResult::WatchTriggered => self.watch_stop(alloc, requested),
         }
     }
 
     // Returns the stop for a watchpoint hit: the next step triggers the watchpoint if the move was forwards, and the preceding step if it
     // was backwards.
     fn watch_stop(&self, alloc: Global, requested: Move) -> Result<Stop, AllocError>
-        requires { CanReportHit self.now requested found.Change }
+        requires { CanReportHit self.now requested found.WatchTriggered }
         ensures { IfOk result (λ stop. stop ≡ watch_stop self.now requested self.now.history.place) }
     {
         if is_forward(requested) {
@@ -120,18 +120,18 @@ impl Session {
         &self,
         alloc: Global,
         end: &E,
-        found: Found,
+        found: MoveResult,
     ) -> Result<Vec<u8>, AllocError>
         requires { E.start end.now ≡ self.now.history.start }
         ensures { IfOk result (λ text. text.items ≡ end_text_at (E.end_text end.now) found) }
     {
         let mut text = Vec::new(alloc);
         match found {
-            Found::End(_) => {
+            MoveResult::End(_) => {
                 let (place, machine) = (self.history.place(), self.history.machine());
                 end.push_end_text(alloc, place, machine, &mut text)?;
             }
-            Found::Done | Found::Break | Found::Change | Found::Begin | Found::Interrupted => {}
+            MoveResult::Done | MoveResult::Breakpoint | MoveResult::WatchTriggered | MoveResult::RunStart | MoveResult::Interrupted => {}
         }
         Ok(text)
     }
@@ -145,12 +145,12 @@ impl Session {
         text: Vec<u8>,
     ) -> Result<Reply, AllocError>
         ensures reply { IfOk result
-            (λ reply. reply ≡ stopping (console_before_stop self.old requested (here self.old)) text.items (stop_text stop)) }
+            (λ reply. reply ≡ reply_with_end (console_before_stop self.old requested (here self.old)) text.items (stop_text stop)) }
         ensures next { OnOk result (self.new ≡ record self.old { shown = console_sent_after self.old requested (here self.old); last = stop }) }
     {
         let mut body = Vec::new(alloc);
         push_stop(&mut body, stop)?;
-        let printed = self.show(alloc, requested)?;
+        let printed = self.take_unsent_console(alloc, requested)?;
         self.last = stop;
         Ok(Reply {
             printed: Bytes::new(printed),
@@ -160,7 +160,7 @@ impl Session {
     }
 
     // Returns the console output that was not sent yet and counts it as sent, if the move was forwards; otherwise returns an empty text.
-    fn show(&mut self, alloc: Global, requested: Move) -> Result<Vec<u8>, AllocError>
+    fn take_unsent_console(&mut self, alloc: Global, requested: Move) -> Result<Vec<u8>, AllocError>
         ensures printed { IfOk result (λ printed. printed.items ≡ console_before_stop self.old requested (here self.old)) }
         ensures shown { IfOk result (λ printed. self.new ≡ record self.old { shown = console_sent_after self.old requested (here self.old) }) }
     {

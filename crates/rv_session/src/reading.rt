@@ -3,7 +3,7 @@
 ghost use Rattle.std.specs.Prelude.{◌≡◌, IfOk};
 ghost use Rattle.std.specs.Str.{bytes_eq};
 ghost use Rattle.rv_gdb_protocol.specs.RegisterTexts.{register_text};
-ghost use Rattle.rv_session.specs.Answers.{hart_value, memory_reply, current_registers, shown_count, script_bytes_consumed, value_of};
+ghost use Rattle.rv_session.specs.SessionReplies.{hart_value, memory_reply, current_registers, shown_count, script_bytes_consumed, value_of};
 ghost use Rattle.rv_session.specs.Memory.{bytes_requested, bytes_from};
 ghost use Rattle.rv_session.specs.Replies.{with_body};
 ghost use Rattle.rv_session.specs.Sessions.{here};
@@ -15,7 +15,7 @@ use rv_history::Bus;
 use std::alloc::{AllocError, Global};
 
 /// The maximum number of memory bytes in a reply, two digits each.
-const MOST_BYTES: u32 = 8184;
+const MAX_BYTES: u32 = 8184;
 
 impl Session {
     /// Handles `g`: returns the reply with the values of x0 to x31 and the pc.
@@ -45,7 +45,7 @@ impl Session {
             Register::Hart(number) => self.hart_value(number),
             Register::Steps => self.history.place(),
             Register::Printed => shown_count(self.history.machine().bus().console().len()),
-            Register::Taken => shown_count(self.taken()),
+            Register::Taken => shown_count(self.script_bytes_consumed()),
         }
     }
 
@@ -62,7 +62,7 @@ impl Session {
     }
 
     /// Returns the number of bytes that the program has consumed from the input script.
-    pub(crate) fn taken(&self) -> usize
+    pub(crate) fn script_bytes_consumed(&self) -> usize
         ensures { result ≡ script_bytes_consumed self.now }
     {
         let left = self.history.machine().bus().script_remaining();
@@ -75,7 +75,7 @@ impl Session {
     {
         let bytes = bytes_from(alloc, self.history.machine().bus(), range)?;
         if bytes.as_slice().is_empty() {
-            return Reply::refusing(alloc, Refusal::Failed);
+            return Reply::error_reply(alloc, Refusal::Failed);
         }
         let mut body = Vec::new(alloc);
         push_memory(alloc, &mut body, bytes.as_slice())?;
@@ -102,7 +102,7 @@ fn bytes_requested(range: Range) -> u32
     ensures { result ≡ bytes_requested range }
 {
     let room = (1u64 << 32) - u64::from(range.address);
-    let count = range.count.min(MOST_BYTES);
+    let count = range.count.min(MAX_BYTES);
     u64::from(count).min(room) as u32
 }
 

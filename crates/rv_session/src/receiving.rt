@@ -61,10 +61,10 @@ impl Session {
             Incoming::ResendRequested => self.resend(out),
             Incoming::TooLong => self.reject_long_packet(alloc, out),
             Incoming::Packet(body, sum) => {
-                if self.is_refused(*sum) {
+                if self.is_rejected(*sum) {
                     return request_resend(out);
                 }
-                self.take_body(alloc, out, body.as_slice())
+                self.respond_to_body(alloc, out, body.as_slice())
             }
         }
     }
@@ -86,25 +86,25 @@ impl Session {
         ensures next { OnOk result (self.new ≡ with_sent self.old (refused refusal.TooLong)) }
     {
         self.acknowledge(out)?;
-        let reply = Reply::refusing(alloc, Refusal::TooLong)?;
+        let reply = Reply::error_reply(alloc, Refusal::TooLong)?;
         self.send(alloc, out, &reply)
     }
 
     // Whether a packet must be rejected: its checksum is wrong, and packets are acknowledged.
-    fn is_refused(&self, sum: Checksum) -> bool
+    fn is_rejected(&self, sum: Checksum) -> bool
         ensures { result ≡ (self.now.acknowledges && is_wrong_checksum sum) }
     {
         self.acknowledges && is_wrong_checksum(sum)
     }
 
     // Appends the acknowledgement of a packet, if packets are acknowledged, and the reply to its request.
-    fn take_body(&mut self, alloc: Global, out: &mut Vec<u8>, body: &[u8]) -> Result<(), AllocError>
+    fn respond_to_body(&mut self, alloc: Global, out: &mut Vec<u8>, body: &[u8]) -> Result<(), AllocError>
         ensures { OnOk result (AppendsSome out.old.items out.new.items
             (λ told. IsPacketResponse self.old body.now told self.new)) }
     {
         self.acknowledge(out)?;
         let request = parse_request(alloc, body)?;
-        let reply = self.answer(alloc, &request)?;
+        let reply = self.reply_to(alloc, &request)?;
         self.send(alloc, out, &reply)
     }
 

@@ -4,9 +4,9 @@ ghost use Rattle.std.specs.Prelude.{◌≡◌, IfOk, Some, false, true};
 ghost use Rattle.rv_gdb_protocol.specs.Replies.{part_text};
 ghost use Rattle.rv_gdb_protocol.specs.Stops.{stop_text};
 ghost use Rattle.rv_gdb_protocol.specs.declared.stop.Stop.TheVariants as stop;
-ghost use Rattle.rv_session.specs.Answers.{IsAnswered, IsStoppointSet, common_reply, shown_reply};
-ghost use Rattle.rv_session.specs.Replies.{granted, with_body, silent};
-ghost use Rattle.rv_session.specs.Sessions.{at_place};
+ghost use Rattle.rv_session.specs.SessionReplies.{IsReply, IsStoppointSet, common_reply, read_only_reply};
+ghost use Rattle.rv_session.specs.Replies.{granted, with_body, empty_reply};
+ghost use Rattle.rv_session.specs.Sessions.{at_step};
 ghost use Rattle.rv_session.specs.Stoppoints.{without_stoppoint};
 
 use crate::reply::Reply;
@@ -19,28 +19,28 @@ use std::alloc::{AllocError, Global};
 
 impl Session {
     /// Returns the reply to a request. A move is only recorded; its reply follows once [`Session::work`] has made it.
-    pub(crate) fn answer(&mut self, alloc: Global, request: &Request) -> Result<Reply, AllocError>
-        ensures { IfOk result (λ reply. IsAnswered self.old request.now reply self.new) }
+    pub(crate) fn reply_to(&mut self, alloc: Global, request: &Request) -> Result<Reply, AllocError>
+        ensures { IfOk result (λ reply. IsReply self.old request.now reply self.new) }
     {
         match request {
             Request::WriteRegister(register, value) => {
                 self.write_register(alloc, *register, *value)
             }
-            Request::Set(trap) => self.set(alloc, *trap),
-            Request::Clear(trap) => self.clear(alloc, *trap),
-            Request::Move(requested) => Ok(self.ask(alloc, *requested)),
-            Request::Command(text) => self.command(alloc, text.as_slice()),
+            Request::Set(trap) => self.set_stoppoint(alloc, *trap),
+            Request::Clear(trap) => self.clear_stoppoint(alloc, *trap),
+            Request::Move(requested) => Ok(self.record_move(alloc, *requested)),
+            Request::Command(text) => self.run_command(alloc, text.as_slice()),
             Request::Restart => self.restart(alloc),
             Request::NoAcknowledgements => self.end_acknowledgements(alloc),
             Request::Detach => self.detach(alloc),
-            Request::Kill => Ok(self.end(alloc)),
+            Request::Kill => Ok(self.kill(alloc)),
             _ => self.read_only_reply(alloc, request),
         }
     }
 
     // Returns the reply to a request that does not change the session.
     fn read_only_reply(&self, alloc: Global, request: &Request) -> Result<Reply, AllocError>
-        ensures { IfOk result (λ reply. reply ≡ shown_reply self.now request.now) }
+        ensures { IfOk result (λ reply. reply ≡ read_only_reply self.now request.now) }
     {
         match request {
             Request::LastStop => self.last_stop(alloc),
@@ -51,12 +51,12 @@ impl Session {
             Request::WriteMemory(address, bytes) => {
                 self.write_memory(alloc, *address, bytes.as_slice())
             }
-            Request::Description(part) => part_of(alloc, TARGET.as_bytes(), *part),
-            Request::ImagePath(part) => part_of(alloc, self.program.path.as_slice(), *part),
+            Request::Description(part) => part_reply(alloc, TARGET.as_bytes(), *part),
+            Request::ImagePath(part) => part_reply(alloc, self.program.path.as_slice(), *part),
             Request::OpenFile(path) => self.open_file(alloc, path.as_slice()),
             Request::FileSize => self.file_size(alloc),
             Request::ReadFile(part) => self.read_file(alloc, *part),
-            _ => fixed(alloc, request),
+            _ => common_reply(alloc, request),
         }
     }
 
@@ -70,7 +70,7 @@ impl Session {
     }
 
     // Handles `Z`: sets a breakpoint or watchpoint, and returns `OK` or a refusal.
-    fn set(&mut self, alloc: Global, trap: Stoppoint) -> Result<Reply, AllocError>
+    fn set_stoppoint(&mut self, alloc: Global, trap: Stoppoint) -> Result<Reply, AllocError>
         ensures { IfOk result (λ reply. IsStoppointSet self.old trap reply self.new) }
     {
         match with_stoppoint(alloc, &self.stops, self.history.machine().bus(), trap)? {
@@ -79,12 +79,12 @@ impl Session {
                 self.stops = stops;
                 Ok(reply)
             }
-            Err(refusal) => Reply::refusing(alloc, refusal),
+            Err(refusal) => Reply::error_reply(alloc, refusal),
         }
     }
 
     // Handles `z`: clears a breakpoint or watchpoint, if it is set, and returns `OK`.
-    fn clear(&mut self, alloc: Global, trap: Stoppoint) -> Result<Reply, AllocError>
+    fn clear_stoppoint(&mut self, alloc: Global, trap: Stoppoint) -> Result<Reply, AllocError>
         ensures { IfOk result (λ reply. (reply ≡ granted)
             × (self.new ≡ record self.old { stops = without_stoppoint self.old.stops trap })) }
     {
@@ -96,7 +96,7 @@ impl Session {
     // Handles `vRun`: moves to the start of the run, and returns the reply that reports a stop there.
     fn restart(&mut self, alloc: Global) -> Result<Reply, AllocError>
         ensures { IfOk result (λ reply. (reply ≡ with_body (stop_text stop.Trap))
-            × (self.new ≡ record (at_place self.old 0) { last = stop.Trap })) }
+            × (self.new ≡ record (at_step self.old 0) { last = stop.Trap })) }
     {
         self.go_to_start(alloc)?;
         self.last = Stop::Trap;
@@ -123,33 +123,33 @@ impl Session {
 
     // Handles `vCont;`, `c`, `s`, `bc` and `bs`: records the move, which must be made before another byte is received, and returns an empty
     // reply.
-    fn ask(&mut self, alloc: Global, requested: Move) -> Reply
-        ensures reply { result ≡ silent }
+    fn record_move(&mut self, alloc: Global, requested: Move) -> Reply
+        ensures reply { result ≡ empty_reply }
         ensures next { self.new ≡ record self.old { requested = Some requested } }
     {
         self.requested = Some(requested);
-        Reply::silent(alloc)
+        Reply::empty_reply(alloc)
     }
 
     // Handles `k`: ends the session, and returns an empty reply.
-    fn end(&mut self, alloc: Global) -> Reply
-        ensures reply { result ≡ silent }
+    fn kill(&mut self, alloc: Global) -> Reply
+        ensures reply { result ≡ empty_reply }
         ensures next { self.new ≡ record self.old { is_over = true } }
     {
         self.is_over = true;
-        Reply::silent(alloc)
+        Reply::empty_reply(alloc)
     }
 }
 
 // Returns the reply to a request whose reply is the same in every session; an empty reply for any other request.
-fn fixed(alloc: Global, request: &Request) -> Result<Reply, AllocError>
+fn common_reply(alloc: Global, request: &Request) -> Result<Reply, AllocError>
     ensures { IfOk result (λ reply. reply ≡ common_reply request.now) }
 {
     Reply::with_text(alloc, fixed_reply(request).unwrap_or(""))
 }
 
 // Returns the reply with the requested part of a text.
-fn part_of(alloc: Global, text: &[u8], part: Part) -> Result<Reply, AllocError>
+fn part_reply(alloc: Global, text: &[u8], part: Part) -> Result<Reply, AllocError>
     ensures { IfOk result (λ reply. reply ≡ with_body (part_text text.now part)) }
 {
     let mut body = Vec::new(alloc);

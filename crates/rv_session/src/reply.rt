@@ -17,7 +17,7 @@ pub struct Reply {
 }
 
 impl Reply {
-    ghost use Rattle.rv_session.specs.Replies.{granted, ok_if, printing, refused, with_body, silent};
+    ghost use Rattle.rv_session.specs.Replies.{granted, ok_if, with_console, refused, with_body, empty_reply};
 
     /// Creates a reply with only this body.
     pub(crate) fn with_body(alloc: Global, body: Vec<u8>) -> Reply
@@ -31,8 +31,8 @@ impl Reply {
     }
 
     /// Creates an empty reply, for which nothing is sent.
-    pub(crate) fn silent(alloc: Global) -> Reply
-        ensures { result ≡ silent }
+    pub(crate) fn empty_reply(alloc: Global) -> Reply
+        ensures { result ≡ empty_reply }
     {
         Reply {
             printed: Bytes::new(Vec::new(alloc)),
@@ -42,8 +42,8 @@ impl Reply {
     }
 
     /// Creates a reply with a text that gdb shows, followed by `OK`.
-    pub(crate) fn printing(alloc: Global, text: Vec<u8>) -> Result<Reply, AllocError>
-        ensures { IfOk result (λ reply. reply ≡ printing text.items (codes "OK")) }
+    pub(crate) fn with_console(alloc: Global, text: Vec<u8>) -> Result<Reply, AllocError>
+        ensures { IfOk result (λ reply. reply ≡ with_console text.items (codes "OK")) }
     {
         let granted = Vec::from_slice(alloc, b"OK")?;
         Ok(Reply {
@@ -68,7 +68,7 @@ impl Reply {
     }
 
     /// Creates the reply to a request that is refused for this reason.
-    pub(crate) fn refusing(alloc: Global, refusal: Refusal) -> Result<Reply, AllocError>
+    pub(crate) fn error_reply(alloc: Global, refusal: Refusal) -> Result<Reply, AllocError>
         ensures { IfOk result (λ reply. reply ≡ refused refusal) }
     {
         Reply::with_text(alloc, refusal_text(refusal))
@@ -85,7 +85,7 @@ impl Reply {
         if is_granted {
             Reply::granted(alloc)
         } else {
-            Reply::refusing(alloc, refusal)
+            Reply::error_reply(alloc, refusal)
         }
     }
 }

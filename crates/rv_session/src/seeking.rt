@@ -1,8 +1,8 @@
 //! Seeks: gdb writes one of the run's counts, and the session moves to the first step with that value.
 
 ghost use Rattle.std.specs.Prelude.{◌≡◌, IfOk, OnOk};
-ghost use Rattle.rv_session.specs.Answers.{IsStepSeekHandled, IsSeekHandled};
-ghost use Rattle.rv_session.specs.Sessions.{at_place};
+ghost use Rattle.rv_session.specs.SessionReplies.{IsStepSeekHandled, IsSeekHandled};
+ghost use Rattle.rv_session.specs.Sessions.{at_step};
 
 use crate::reply::Reply;
 use crate::session::Session;
@@ -13,7 +13,7 @@ use std::alloc::{AllocError, Global};
 impl Session {
     /// Moves to the start of the run.
     pub(crate) fn go_to_start(&mut self, alloc: Global) -> Result<(), AllocError>
-        ensures { OnOk result (self.new ≡ at_place self.old 0) }
+        ensures { OnOk result (self.new ≡ at_step self.old 0) }
     {
         let _is_granted = self.history.seek(alloc, 0)?;
         Ok(())

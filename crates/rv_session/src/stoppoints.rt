@@ -1,7 +1,7 @@
 //! Breakpoints and watchpoints as gdb sets and clears them.
 
 ghost use Rattle.std.specs.Prelude.{◌≡◌, ◌≤◌, ◌+◌, ◌^◌, IfOk};
-ghost use Rattle.rv_session.specs.Stoppoints.{IsStoppointAdded, has_byte, is_full, is_on, is_set, watches_of, with_watches, without_stoppoint};
+ghost use Rattle.rv_session.specs.Stoppoints.{IsStoppointAdded, has_byte, is_full, is_for_range, is_set, watches_of, with_watches, without_stoppoint};
 ghost use Rattle.rv_history.specs.Bus.{BusContents};
 ghost use Rattle.rv_gdb_protocol.specs.declared.request.Stoppoint.TheVariants as trap;
 
@@ -61,7 +61,7 @@ fn with_break(
     ensures { (bus : BusContents) → IfOk result (IsStoppointAdded stops.now bus (trap.Break address)) }
 {
     if has_break(stops, address) {
-        let same = copied(alloc, stops)?;
+        let same = copy_stops(alloc, stops)?;
         return Ok(Ok(same));
     }
     if is_full(stops) {
@@ -69,7 +69,7 @@ fn with_break(
     }
     let mut breaks = Vec::from_slice(alloc, stops.breaks.as_slice())?;
     breaks.push(address)?;
-    let mut next = copied(alloc, stops)?;
+    let mut next = copy_stops(alloc, stops)?;
     next.breaks = Sequence::new(breaks);
     Ok(Ok(next))
 }
@@ -92,7 +92,7 @@ fn with_watch(
         return Ok(Err(Refusal::Malformed));
     }
     if has_watch(stops, kind, range) {
-        let same = copied(alloc, stops)?;
+        let same = copy_stops(alloc, stops)?;
         return Ok(Ok(same));
     }
     if is_full(stops) {
@@ -103,7 +103,7 @@ fn with_watch(
         address: range.address,
         count: range.count,
     })?;
-    let next = copied(alloc, stops)?;
+    let next = copy_stops(alloc, stops)?;
     Ok(Ok(with_watches(next, kind, watches)))
 }
 
@@ -118,7 +118,7 @@ fn without_break(alloc: Global, stops: &Stops, address: u32) -> Result<Stops, Al
         .copied()
         .filter(|other| *other != address)
         .collect(alloc)?;
-    let mut next = copied(alloc, stops)?;
+    let mut next = copy_stops(alloc, stops)?;
     next.breaks = Sequence::new(breaks);
     Ok(next)
 }
@@ -135,9 +135,9 @@ fn without_watch(
     let watches = watches_of(stops, kind)
         .iter()
         .copied()
-        .filter(|watch| !is_on(watch, range))
+        .filter(|watch| !is_for_range(watch, range))
         .collect(alloc)?;
-    let next = copied(alloc, stops)?;
+    let next = copy_stops(alloc, stops)?;
     Ok(with_watches(next, kind, watches))
 }
 
@@ -177,11 +177,11 @@ fn has_watch(stops: &Stops, kind: WatchKind, range: Range) -> bool
 {
     watches_of(stops, kind)
         .iter()
-        .any(|watch| is_on(watch, range))
+        .any(|watch| is_for_range(watch, range))
 }
 
 // Returns a copy of the stops.
-fn copied(alloc: Global, stops: &Stops) -> Result<Stops, AllocError>
+fn copy_stops(alloc: Global, stops: &Stops) -> Result<Stops, AllocError>
     ensures { IfOk result (λ next. next ≡ stops.now) }
 {
     let breaks = Vec::from_slice(alloc, stops.breaks.as_slice())?;
@@ -197,8 +197,8 @@ fn copied(alloc: Global, stops: &Stops) -> Result<Stops, AllocError>
 }
 
 // Whether the watchpoint is for exactly this range.
-fn is_on(watch: &Watch, range: Range) -> bool
-    ensures { result ≡ is_on range watch.now }
+fn is_for_range(watch: &Watch, range: Range) -> bool
+    ensures { result ≡ is_for_range range watch.now }
 {
     watch.address == range.address && watch.count == range.count
 }

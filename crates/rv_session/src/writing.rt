@@ -5,7 +5,7 @@ ghost use Rattle.std.specs.FinMap as fin;
 ghost use Rattle.std.specs.Str.{bytes_eq};
 ghost use Rattle.hex.specs.Hex.{encode_lower};
 ghost use Rattle.rv_gdb_protocol.specs.declared.request.Refusal.TheVariants as refusal;
-ghost use Rattle.rv_session.specs.Answers.{IsRegisterWriteHandled, current_registers};
+ghost use Rattle.rv_session.specs.SessionReplies.{IsRegisterWriteHandled, current_registers};
 ghost use Rattle.rv_session.specs.Memory.{end_of_addresses, is_byte, has_bytes_at};
 ghost use Rattle.rv_session.specs.Replies.{ok_if};
 ghost use Rattle.rv_session.specs.Sessions.{here};

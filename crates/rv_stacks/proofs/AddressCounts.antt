@@ -9,7 +9,7 @@ use Rattle.rv_counting.specs.Coverage.{behind, executed_in_run, fetch_at, is_exe
 use Rattle.rv_counting.specs.declared_ending.Ending.{Ending}
 use Rattle.rv_counting.specs.Run.{step_of}
 use Rattle.rv_counting.specs.State.{State}
-use Rattle.rv_count_tables.specs.declared_spot.Spot.{Spot}
+use Rattle.rv_count_tables.specs.declared_spot.CallNode.{CallNode}
 use Rattle.rv_count_tables.specs.Trees.{own_steps_of}
 use Rattle.rv_stacks.specs.Stacks.{executed_in_function, counts_of_function, AreStacksOf}
 
@@ -199,7 +199,7 @@ module _ (function : ℕ → ℕ) (f : ℕ) where
       let first = first_in_function n s in
       omega (arith, split, here, rest, first)
 
-pub own_counts : (function : ℕ → ℕ) (f n : ℕ) (s : State) (cs : List AddressCounts) (spots : List Spot)
+pub own_counts : (function : ℕ → ℕ) (f n : ℕ) (s : State) (cs : List AddressCounts) (spots : List CallNode)
     → AreCountsOf n s cs → AreStacksOf function n s spots → own_steps_of f spots ≡ counts_of_function function f cs
 own_counts function f n s cs spots counts stacks =
     stacks.own f

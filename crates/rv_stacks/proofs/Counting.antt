@@ -12,7 +12,7 @@ use Rattle.rv_counting.specs.State.{State}
 use Rattle.rv_stacks.specs.declared.walk.Walk.{Walk}
 use Rattle.rv_stacks.specs.Nodes.{all_calls, all_steps}
 use Rattle.rv_stacks.specs.Stacks.{calls_by, calls_in, executed_in_function, path_at, steps_in, AreStacksOf}
-use Rattle.rv_count_tables.specs.declared_spot.Spot.{Spot}
+use Rattle.rv_count_tables.specs.declared_spot.CallNode.{CallNode}
 use Rattle.rv_stacks.specs.declared.node.WalkNode.{WalkNode}
 use Rattle.rv_stacks.specs.Walks.{ArePreorderOf}
 use Rattle.rv_stacks.specs.StackSteps.{AreNodesOf, HasEnteredFirst, AreStacksSoFar, StacksStep}
@@ -192,7 +192,7 @@ used_up function n i start s frames walk h over = record {
 }
 
 -- the nodes of a run as spots
-pub stacks_of_nodes : (function : ℕ → ℕ) (n : ℕ) (s : State) (nodes : List WalkNode) (spots : List Spot)
+pub stacks_of_nodes : (function : ℕ → ℕ) (n : ℕ) (s : State) (nodes : List WalkNode) (spots : List CallNode)
     → AreNodesOf function n s nodes → ArePreorderOf nodes spots → AreStacksOf function n s spots
 stacks_of_nodes function n s nodes spots h k = record {
   tree = k.tree;

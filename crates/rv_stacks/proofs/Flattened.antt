@@ -4,7 +4,7 @@ use Rattle.std.proofs.lemmas.Bool.{and_parts, eqb-true}
 use Rattle.std.proofs.lemmas.List.{take_all}
 use Rattle.std.specs.List.{list_all}
 use Rattle.std.specs.Str.{bytes_eq}
-use Rattle.rv_count_tables.specs.declared_spot.Spot.{Spot}
+use Rattle.rv_count_tables.specs.declared_spot.CallNode.{CallNode}
 use Rattle.rv_count_tables.specs.Trees.{calls_of_node, sum_over_path, sum_over_nodes, last_path, path_after, steps_if, steps_of, HasCalls, IsTree, FollowsInPreorder}
 use Rattle.rv_count_tables.specs.Trees as spots
 use Rattle.rv_count_tables.proofs.Public.{last_parts, stand_of_parts}
@@ -18,18 +18,18 @@ use Rattle.std.proofs.Common.{length-set}
 
 -- ---- a spot more
 
-counted_more : (count : Spot → ℕ) (path front : List ℕ) (ss : List Spot) (s : Spot)
+counted_more : (count : CallNode → ℕ) (path front : List ℕ) (ss : List CallNode) (s : CallNode)
     → sum_over_path count path front (ss ++ s ∷ [])
     ≡ sum_over_path count path front ss + cond (bytes_eq (path_after (last_path front ss) s) path) (count s) 0
 counted_more count path front [] s = omega arith
 counted_more count path front (x ∷ xs) s =
     let rest = counted_more count path (path_after front x) xs s in omega (arith, rest)
 
-sum_more : (count : Spot → ℕ) (ss : List Spot) (s : Spot) → sum_over_nodes count (ss ++ s ∷ []) ≡ sum_over_nodes count ss + count s
+sum_more : (count : CallNode → ℕ) (ss : List CallNode) (s : CallNode) → sum_over_nodes count (ss ++ s ∷ []) ≡ sum_over_nodes count ss + count s
 sum_more count [] s = omega arith
 sum_more count (x ∷ xs) s = let rest = sum_more count xs s in omega (arith, rest)
 
-some_more : (ss : List Spot) (s : Spot) → HasCalls ss → 0 < s.arrivals → HasCalls (ss ++ s ∷ [])
+some_more : (ss : List CallNode) (s : CallNode) → HasCalls ss → 0 < s.arrivals → HasCalls (ss ++ s ∷ [])
 some_more [] s h k = (k, tt)
 some_more (x ∷ xs) s h k = (h.0, some_more xs s h.1 k)
 
@@ -51,7 +51,7 @@ module _ (nodes : List WalkNode) (old new : PreorderBuilder) (number : ℕ) (nod
   abbrev parent : ℕ
   parent = get_or old.trail.items (length old.path.items) 0
 
-  abbrev spot : Spot
+  abbrev spot : CallNode
   spot = record { depth = depth; function = node.function; arrivals = node.arrivals; steps = node.steps }
 
   abbrev emptied : WalkNode
@@ -113,8 +113,8 @@ module _ (nodes : List WalkNode) (old new : PreorderBuilder) (number : ℕ) (nod
   flat : IsPreorderBuilder (set nodes (number - 1) emptied) new
   flat =
       let last = ap length of_last in record {
-        tree = subst (λ (ss : List Spot). IsTree ss) (sym spot_is) (stand_of_parts [] old.spots.items (spot ∷ []) h.tree (stands, tt));
-        some = subst (λ (ss : List Spot). HasCalls ss) (sym spot_is) (some_more old.spots.items spot h.some arrives);
+        tree = subst (λ (ss : List CallNode). IsTree ss) (sym spot_is) (stand_of_parts [] old.spots.items (spot ∷ []) h.tree (stands, tt));
+        some = subst (λ (ss : List CallNode). HasCalls ss) (sym spot_is) (some_more old.spots.items spot h.some arrives);
         trail = subst (λ (p : List ℕ). IsTrail (set nodes (number - 1) emptied) p new.trail.items) (sym path)
             (subst (λ (t : List ℕ). IsTrail (set nodes (number - 1) emptied) (old.path.items ++ node.function ∷ []) t) (sym trail)
             (trail_stays nodes (set nodes (number - 1) emptied) (old.path.items ++ node.function ∷ []) (old.trail.items ++ number ∷ [])
@@ -167,10 +167,10 @@ module _ (nodes : List WalkNode) (old new : PreorderBuilder) (number : ℕ) (nod
 pub went_back : (nodes : List WalkNode) (old new : PreorderBuilder) → ReturnsToParent nodes old new → MovesCounts nodes old nodes new
 went_back nodes old new h = record {
   flat = h.flat;
-  arrivals = λ path. ap (λ (ss : List Spot). spots.calls_at path ss + calls_at path nodes) h.spots;
-  steps = λ path. ap (λ (ss : List Spot). spots.steps_at path ss + steps_at path nodes) h.spots;
-  own = λ f. ap (λ (ss : List Spot). spots.own_steps_of f ss + own_steps_of f nodes) h.spots;
-  all_steps = ap (λ (ss : List Spot). spots.all_steps ss + all_steps nodes) h.spots;
+  arrivals = λ path. ap (λ (ss : List CallNode). spots.calls_at path ss + calls_at path nodes) h.spots;
+  steps = λ path. ap (λ (ss : List CallNode). spots.steps_at path ss + steps_at path nodes) h.spots;
+  own = λ f. ap (λ (ss : List CallNode). spots.own_steps_of f ss + own_steps_of f nodes) h.spots;
+  all_steps = ap (λ (ss : List CallNode). spots.all_steps ss + all_steps nodes) h.spots;
 }
 
 -- ---- from the first on
@@ -180,10 +180,10 @@ pub no_spot : (nodes : List WalkNode) (flat : PreorderBuilder) → flat.path.ite
 no_spot nodes flat path trail spots_are =
     let long = ap length path in
     let one = ap length trail in
-    let none = ap (λ (ss : List Spot). length (last_path [] ss)) spots_are in
+    let none = ap (λ (ss : List CallNode). length (last_path [] ss)) spots_are in
     let first = λ (k d : ℕ) (at : k ≡ 0). ap (λ (xs : List ℕ). get_or xs k d) trail ∙ ap (λ (j : ℕ). get_or (0 ∷ []) j d) at in record {
-      tree = subst (λ (ss : List Spot). IsTree ss) (sym spots_are) tt;
-      some = subst (λ (ss : List Spot). HasCalls ss) (sym spots_are) tt;
+      tree = subst (λ (ss : List CallNode). IsTree ss) (sym spots_are) tt;
+      some = subst (λ (ss : List CallNode). HasCalls ss) (sym spots_are) tt;
       trail = record {
         long = omega (arith, long, one);
         within = λ k d less. let e = first k d (omega (arith, less, one)) in omega (arith, e);
@@ -209,10 +209,10 @@ pub record Conserves (start left : List WalkNode) (flat : PreorderBuilder) : Typ
 pub none_moved : (nodes : List WalkNode) (flat : PreorderBuilder) → IsPreorderBuilder nodes flat → flat.spots.items ≡ [] → Conserves nodes nodes flat
 none_moved nodes flat h none = record {
   standing = h;
-  arrivals = λ path. let e = ap (λ (ss : List Spot). spots.calls_at path ss) none in omega (arith, e);
-  steps = λ path. let e = ap (λ (ss : List Spot). spots.steps_at path ss) none in omega (arith, e);
-  own = λ f. let e = ap (λ (ss : List Spot). spots.own_steps_of f ss) none in omega (arith, e);
-  all_steps = (let e = ap (λ (ss : List Spot). spots.all_steps ss) none in omega (arith, e));
+  arrivals = λ path. let e = ap (λ (ss : List CallNode). spots.calls_at path ss) none in omega (arith, e);
+  steps = λ path. let e = ap (λ (ss : List CallNode). spots.steps_at path ss) none in omega (arith, e);
+  own = λ f. let e = ap (λ (ss : List CallNode). spots.own_steps_of f ss) none in omega (arith, e);
+  all_steps = (let e = ap (λ (ss : List CallNode). spots.all_steps ss) none in omega (arith, e));
 }
 
 pub one_moved : (start before after : List WalkNode) (old new : PreorderBuilder) → Conserves start before old → MovesCounts before old after new

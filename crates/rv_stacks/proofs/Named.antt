@@ -8,7 +8,7 @@ use Rattle.std.specs.Str.{bytes_eq}
 use Rattle.rv_count_tables.proofs.Public.{first_is}
 use Rattle.rv_count_tables.specs.declared.table.ImageCounts.{ImageCounts}
 use Rattle.rv_count_tables.specs.Table.{calls_in, has_name, min_text_of, name_at, truncated_name, IsValidImage, IsValidNode}
-use Rattle.rv_count_tables.specs.declared_spot.Spot.{Spot}
+use Rattle.rv_count_tables.specs.declared_spot.CallNode.{CallNode}
 use Rattle.rv_count_tables.specs.Profiles.{ends_some_path}
 use Rattle.rv_count_tables.specs.Trees.{calls_at, calls_of_node, sum_over_path, ends_with, path_after}
 use Rattle.rv_stacks.proofs.Steps.{last_of}
@@ -22,12 +22,12 @@ further_counts b n m h = omega (arith, h)
 
 -- ---- among spots
 
-record IsLastOf (f : ℕ) (front : List ℕ) (ss : List Spot) : Type 0 where
+record IsLastOf (f : ℕ) (front : List ℕ) (ss : List CallNode) : Type 0 where
   pub path : List ℕ
   pub ends : ends_with f path ≡ true
   pub some : 0 < sum_over_path calls_of_node path front ss
 
-last_of_list : (f : ℕ) (front : List ℕ) (ss : List Spot) → AllByRecursion IsValidNode ss → ends_some_path f ss ≡ true
+last_of_list : (f : ℕ) (front : List ℕ) (ss : List CallNode) → AllByRecursion IsValidNode ss → ends_some_path f ss ≡ true
     → IsLastOf f front ss
 last_of_list f front [] h some = absurd (false≢true some)
 last_of_list f front (s ∷ ss) h some = elim (cases_Bool (s.function == f)) [

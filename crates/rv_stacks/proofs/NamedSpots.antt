@@ -11,7 +11,7 @@ use Rattle.rv_count_tables.specs.Lines.{lacks}
 use Rattle.rv_count_tables.specs.ReadSteps.{with_name, AgreesWithName}
 use Rattle.rv_count_tables.specs.Table.{has_name, name_of, IsValidNode}
 use Rattle.rv_counting.proofs.Public.{no_names}
-use Rattle.rv_count_tables.specs.declared_spot.Spot.{Spot}
+use Rattle.rv_count_tables.specs.declared_spot.CallNode.{CallNode}
 use Rattle.rv_count_tables.specs.Profiles.{ends_some_path}
 use Rattle.rv_count_tables.specs.Sums.{FitsFields}
 use Rattle.rv_count_tables.specs.Trees.{calls_of_node, sum_over_path, ends_with, path_after, HasCalls}
@@ -45,7 +45,7 @@ picked_name false text other o h k some = k some
 agrees_if_none : (text : List ℕ) (o : Option (List ℕ)) → o ≡ None → AgreesWithName text o
 agrees_if_none text o h = subst (AgreesWithName text) (sym h) tt
 
-module _ (name : ℕ → List ℕ) (spots : List Spot) (s : Spot) (names : List FunctionName)
+module _ (name : ℕ → List ℕ) (spots : List CallNode) (s : CallNode) (names : List FunctionName)
     (h : AreNamesBy name spots names) where
   known : (f : ℕ) → has_name (name_of s.function names) ≡ true
       → has_name (name_of f names) ≡ ends_some_path f (spots ++ s ∷ [])
@@ -84,7 +84,7 @@ pub each_push : {X : Type 0} (P : X → Type 0) (xs : List X) (x : X) → AllByR
 each_push P [] x h p = (p, tt)
 each_push P (y ∷ ys) x h p = (h.0, each_push P ys x h.1 p)
 
-pub can_stand : (ss : List Spot) → AllByRecursion FitsFields ss → HasCalls ss → AllByRecursion IsValidNode ss
+pub can_stand : (ss : List CallNode) → AllByRecursion FitsFields ss → HasCalls ss → AllByRecursion IsValidNode ss
 can_stand [] h some = tt
 can_stand (s ∷ ss) h some = (
   record {
@@ -102,7 +102,7 @@ can_stand (s ∷ ss) h some = (
 added : (b : Bool) (n m : ℕ) → b ≡ false → 0 < cond b n 0 + m → 0 < m
 added b n m h some = let e = ap (λ (t : Bool). cond t n 0) h in omega (arith, e, some)
 
-pub last_if_come : (f : ℕ) (path front : List ℕ) (ss : List Spot) → ends_with f path ≡ true
+pub last_if_come : (f : ℕ) (path front : List ℕ) (ss : List CallNode) → ends_with f path ≡ true
     → 0 < sum_over_path calls_of_node path front ss → ends_some_path f ss ≡ true
 last_if_come f path front [] ends some = absurd (omega (arith, some))
 last_if_come f path front (s ∷ ss) ends some = elim (cases_Bool (bytes_eq (path_after front s) path)) [

@@ -18,7 +18,7 @@ use Rattle.rv_counting.specs.declared_job.Job.{Job}
 use Rattle.rv_counting.specs.State.{State}
 use Rattle.rv_counting.specs.declared_row.Refusal.{Refusal}
 use Rattle.rv_calls.specs.Rows.{image_in, start_in}
-use Rattle.rv_count_tables.specs.declared_spot.Spot.{Spot}
+use Rattle.rv_count_tables.specs.declared_spot.CallNode.{CallNode}
 use Rattle.rv_count_tables.specs.Trees.{calls_at, steps_at, HasCalls, IsTree}
 use Rattle.rv_stacks.specs.Stacks.{function_at, AreCountsAndStacksOfJob, AreStacksOf}
 use Rattle.rv_stacks.specs.StackTables.{calls_by_job, calls_from, function_in, function_of_job, name_in_image, name_of_function, steps_by_job, steps_from, table_of_run, AreNamesBy, IsNamedBy, IsTableOfRun, RunsWithinABudget}
@@ -74,7 +74,7 @@ module _ (answers : List PathResult) (job : Job) where
   module _ (file : List ℕ) (image : Image) (bytes : image_bytes answers job ≡ Some file)
       (read : image_in answers job ≡ Some image) where
     module _ (s : State) (start : start_in answers job ≡ Ok s) (addresses : List AddressCounts) (functions : List FunctionName)
-        (spots : List Spot) (counts : AreCountsOf job.budget s addresses)
+        (spots : List CallNode) (counts : AreCountsOf job.budget s addresses)
         (stacks : AreStacksOf (function_at image file) job.budget s spots)
         (named : AreNamesBy (name_of_function image file) spots functions) where
       arrivals_are : (digest path : List ℕ)
@@ -129,7 +129,7 @@ module _ (answers : List PathResult) (job : Job) where
       }
 
     -- with what `count_job_with_stacks` answers
-    pub ran : (addresses : List AddressCounts) (spots : List Spot) (t : CountTable)
+    pub ran : (addresses : List AddressCounts) (spots : List CallNode) (t : CountTable)
         → IsTableOfRun (name_of_function image file) job.image file addresses spots t
         → AreCountsAndStacksOfJob (function_at image file) job.budget (start_in answers job) (Some (addresses, spots))
         → RunsWithinABudget answers job → IsOfJobs answers (job ∷ []) t
@@ -142,7 +142,7 @@ module _ (answers : List PathResult) (job : Job) where
             (its_table s start addresses is.functions spots both.0 both.1 is.named small (subst IsTable is.value is.table))
         by (Err why) start both = absurd both
 
-pub tree_of_job : (function : ℕ → ℕ) (n : ℕ) (r : Result State Refusal) (both : List AddressCounts × List Spot)
+pub tree_of_job : (function : ℕ → ℕ) (n : ℕ) (r : Result State Refusal) (both : List AddressCounts × List CallNode)
     → AreCountsAndStacksOfJob function n r (Some both) → IsTree both.1 × HasCalls both.1
 tree_of_job function n (Ok s) both h = (h.1.tree, h.1.some)
 tree_of_job function n (Err why) both h = absurd h

@@ -13,7 +13,7 @@ use Rattle.rv_count_tables.specs.declared.table.FunctionName.{FunctionName}
 use Rattle.rv_count_tables.specs.Lines.{lacks}
 use Rattle.rv_count_tables.specs.ReadSteps.{inserted, with_name}
 use Rattle.rv_count_tables.specs.Table.{has_name, name_of}
-use Rattle.rv_count_tables.specs.declared_spot.Spot.{Spot}
+use Rattle.rv_count_tables.specs.declared_spot.CallNode.{CallNode}
 use Rattle.rv_count_tables.specs.Profiles.{ends_some_path}
 use Rattle.rv_count_tables.specs.Sums.{FitsFields}
 use Rattle.rv_stacks.specs.StackTables.{AreNamedUpTo, AreNamesBy}
@@ -69,7 +69,7 @@ at_end next n (m ∷ ms) h over =
 pub none_named_yet : (name : ℕ → List ℕ) → AreNamedUpTo name [] 0 []
 none_named_yet name = record { named = none_named name; below = tt; last = λ f at. absurd (omega (arith, at)) }
 
-module _ (name : ℕ → List ℕ) (spots : List Spot) (next : ℕ) (names : List FunctionName) (s : Spot)
+module _ (name : ℕ → List ℕ) (spots : List CallNode) (next : ℕ) (names : List FunctionName) (s : CallNode)
     (h : AreNamedUpTo name spots next names) (rises : next ≤ s.function + 1) where
   last_is : (f : ℕ) → f + 1 ≡ s.function + 1 → ends_some_path f (spots ++ s ∷ []) ≡ true
   last_is f at =
@@ -101,15 +101,15 @@ module _ (name : ℕ → List ℕ) (spots : List Spot) (next : ℕ) (names : Lis
 
 -- ---- spots in another order
 
-pub named_in_order : (name : ℕ → List ℕ) (spots sorted : List Spot) (names : List FunctionName) → IsPermutation spots sorted
+pub named_in_order : (name : ℕ → List ℕ) (spots sorted : List CallNode) (names : List FunctionName) → IsPermutation spots sorted
     → AreNamesBy name sorted names → AreNamesBy name spots names
 named_in_order name spots sorted names same h = record {
   sound = h.sound;
-  of_spots = λ f. h.of_spots f ∙ sym (list_any-IsPermutation (λ (s : Spot). s.function == f) spots sorted same);
+  of_spots = λ f. h.of_spots f ∙ sym (list_any-IsPermutation (λ (s : CallNode). s.function == f) spots sorted same);
   each = h.each;
 }
 
-pub fit_in_order : (spots sorted : List Spot) → IsPermutation spots sorted → AllByRecursion FitsFields sorted
+pub fit_in_order : (spots sorted : List CallNode) → IsPermutation spots sorted → AllByRecursion FitsFields sorted
     → AllByRecursion FitsFields spots
 fit_in_order spots sorted same h = recursion_from_All FitsFields spots
     (All-permutation FitsFields sorted spots (IsPermutation-sym spots sorted same) (All-from_recursion FitsFields sorted h))

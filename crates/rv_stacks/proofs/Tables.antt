@@ -13,7 +13,7 @@ use Rattle.rv_count_tables.specs.Table.{truncated_name, min_text_of, increase_fr
 use Rattle.rv_counting.proofs.Public.{one_rises}
 use Rattle.rv_counting.specs.declared_answers.PathResult.{PathResult}
 use Rattle.rv_counting.specs.declared_job.Job.{Job}
-use Rattle.rv_count_tables.specs.declared_spot.Spot.{Spot}
+use Rattle.rv_count_tables.specs.declared_spot.CallNode.{CallNode}
 use Rattle.rv_count_tables.specs.Sums.{FitsFields}
 use Rattle.rv_count_tables.specs.Trees.{HasCalls, IsTree}
 use Rattle.rv_stacks.specs.StackTables.{name_of_job, AreNamesBy, IsNamedBy, IsTableOfRun, RunsWithinABudget}
@@ -34,7 +34,7 @@ one_image_is_table i h = record { images = (h, tt); rising = one_rises i; few = 
 
 -- that of a run, by what was made for it
 pub run_table : (name : ℕ → List ℕ) (path file digest shown : List ℕ) (addresses : List AddressCounts)
-    (functions : List FunctionName) (spots given : List Spot) (images : List ImageCounts)
+    (functions : List FunctionName) (spots given : List CallNode) (images : List ImageCounts)
     → images ≡ record { digest = digest; path = shown; addresses = addresses; functions = functions; spots = spots } ∷ []
     → digest ≡ sha256 file → shown ≡ printable_text path → AreValidCounts addresses → given ≡ spots
     → AreNamesBy name given functions → AllByRecursion FitsFields given → IsTree spots → HasCalls spots
@@ -43,7 +43,7 @@ pub run_table : (name : ℕ → List ℕ) (path file digest shown : List ℕ) (a
 run_table name path file digest shown addresses functions spots given images is d p counts same named fits tree some long
     bytes utf8 line =
     let i : ImageCounts = record { digest = digest; path = shown; addresses = addresses; functions = functions; spots = spots } in
-    let names = subst (λ (ss : List Spot). AreNamesBy name ss functions) same named in
+    let names = subst (λ (ss : List CallNode). AreNamesBy name ss functions) same named in
     record {
       functions = functions;
       named = names;
@@ -61,7 +61,7 @@ run_table name path file digest shown addresses functions spots given images is 
             counts = counts;
             names = names.sound;
             spots = record {
-              each = can_stand spots (subst (λ (ss : List Spot). AllByRecursion FitsFields ss) same fits) some;
+              each = can_stand spots (subst (λ (ss : List CallNode). AllByRecursion FitsFields ss) same fits) some;
               tree = tree;
             };
             of_spots = names.of_spots;

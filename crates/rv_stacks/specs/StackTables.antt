@@ -22,7 +22,7 @@ use Rattle.rv_counting.specs.declared_job.Job.{Job}
 use Rattle.rv_counting.specs.Plans.{PlanView}
 use Rattle.rv_counting.specs.State.{State}
 use Rattle.rv_calls.specs.Rows.{image_in, start_in}
-use Rattle.rv_count_tables.specs.declared_spot.Spot.{Spot}
+use Rattle.rv_count_tables.specs.declared_spot.CallNode.{CallNode}
 use Rattle.rv_count_tables.specs.Profiles.{ends_some_path}
 use Rattle.rv_count_tables.specs.Trees.{ends_with}
 use Rattle.rv_stacks.specs.Stacks as run
@@ -46,20 +46,20 @@ name_of_function image file f = printable_text (name_in_file image file f)
 
 -- `names` has each function with which the path of a node of `spots` ends, once, and with the name that the function `name` returns; it has
 -- no other function
-pub record AreNamesBy (name : ℕ → List ℕ) (spots : List Spot) (names : List FunctionName) : Type 0 where
+pub record AreNamesBy (name : ℕ → List ℕ) (spots : List CallNode) (names : List FunctionName) : Type 0 where
   pub sound : AreValidNames names
   pub of_spots : AreNamesOf spots names
   pub each : (f : ℕ) → has_name (name_of f names) ≡ true → name_of f names ≡ Some (name f)
 
 -- `names` has the names of the functions of `spots`; all these functions are below `next`, and unless `next` is 0, `next` - 1 is one of
 -- them
-pub record AreNamedUpTo (name : ℕ → List ℕ) (spots : List Spot) (next : ℕ) (names : List FunctionName) : Type 0 where
+pub record AreNamedUpTo (name : ℕ → List ℕ) (spots : List CallNode) (next : ℕ) (names : List FunctionName) : Type 0 where
   pub named : AreNamesBy name spots names
   pub below : AllByRecursion (λ n. n.function < next) names
   pub last : (f : ℕ) → f + 1 ≡ next → ends_some_path f spots ≡ true
 
 -- the table of one run: for the image with this path and these bytes, it has these counts, function names and nodes
-abbrev pub table_of_run : List ℕ → List ℕ → List AddressCounts → List FunctionName → List Spot → CountTable
+abbrev pub table_of_run : List ℕ → List ℕ → List AddressCounts → List FunctionName → List CallNode → CountTable
 table_of_run path file addresses functions spots = record {
   images = record {
     digest = sha256 file;
@@ -73,7 +73,7 @@ table_of_run path file addresses functions spots = record {
 
 -- `t` is the table of one run with these counts and nodes, of the image with this path and these bytes; the function `name` returns the
 -- names of its functions
-pub record IsTableOfRun (name : ℕ → List ℕ) (path file : List ℕ) (addresses : List AddressCounts) (spots : List Spot) (t : CountTable)
+pub record IsTableOfRun (name : ℕ → List ℕ) (path file : List ℕ) (addresses : List AddressCounts) (spots : List CallNode) (t : CountTable)
     : Type 0 where
   pub functions : List FunctionName
   pub named : AreNamesBy name spots functions

@@ -12,7 +12,7 @@ use Rattle.rv_counting.specs.SymbolSearch.{symbol_at}
 use Rattle.rv_counting.specs.Run.{step_of}
 use Rattle.rv_counting.specs.State.{State}
 use Rattle.rv_counting.specs.declared_row.Refusal.{Refusal}
-use Rattle.rv_count_tables.specs.declared_spot.Spot.{Spot}
+use Rattle.rv_count_tables.specs.declared_spot.CallNode.{CallNode}
 use Rattle.rv_count_tables.specs.Trees.{all_steps, calls_at, own_steps_of, steps_at, HasCalls, IsTree}
 
 -- ---- functions
@@ -91,7 +91,7 @@ executed_in_function function f (suc n) s =
 
 -- `spots` are the call-tree nodes of the run of at most `n` steps from the state `s`, which begins without frames, and so by entering its
 -- first function
-pub record AreStacksOf (function : ℕ → ℕ) (n : ℕ) (s : State) (spots : List Spot) : Type 0 where
+pub record AreStacksOf (function : ℕ → ℕ) (n : ℕ) (s : State) (spots : List CallNode) : Type 0 where
   pub tree : IsTree spots
   pub some : HasCalls spots
   pub steps : (path : List ℕ) → steps_at path spots ≡ steps_in function path n [] s
@@ -102,7 +102,7 @@ pub record AreStacksOf (function : ℕ → ℕ) (n : ℕ) (s : State) (spots : L
 
 -- the `Option` has the counts and the call tree of the job that begins in this state, within a budget of `n` steps; it is `None` if the job
 -- is refused
-abbrev pub AreCountsAndStacksOfJob : (ℕ → ℕ) → ℕ → Result State Refusal → Option (List AddressCounts × List Spot) → Type 0
+abbrev pub AreCountsAndStacksOfJob : (ℕ → ℕ) → ℕ → Result State Refusal → Option (List AddressCounts × List CallNode) → Type 0
 AreCountsAndStacksOfJob function n (Ok s) (Some both) = AreCountsOf n s both.0 × AreStacksOf function n s both.1
 AreCountsAndStacksOfJob function n (Ok s) None = ⊥
 AreCountsAndStacksOfJob function n (Err why) (Some both) = ⊥

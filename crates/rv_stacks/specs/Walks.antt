@@ -1,7 +1,7 @@
 -- A walk from node to node that follows calls, jumps and returns, and its nodes in preorder.
 use Rattle.std.specs.Prelude.{◌≡◌, ◌+◌, ◌<◌, ◌≤◌, ℕ, List, [], length, take, slice_index_or}
 use Rattle.std.specs.Str.{bytes_eq}
-use Rattle.rv_count_tables.specs.declared_spot.Spot.{Spot}
+use Rattle.rv_count_tables.specs.declared_spot.CallNode.{CallNode}
 use Rattle.rv_count_tables.specs.Trees as spots
 use Rattle.rv_count_tables.specs.Trees.{ends_with, last_path, address_if, HasCalls, IsTree}
 use Rattle.rv_stacks.specs.declared.preorder.PreorderBuilder.{PreorderBuilder}
@@ -50,7 +50,7 @@ pub record CountsSteps (n : ℕ) (old new : Walk) : Type 0 where
 -- ---- nodes as spots
 
 -- the nodes `ss`, which are in preorder, have the counts of `nodes`: for each path, for each function, and in total
-pub record ArePreorderOf (nodes : List WalkNode) (ss : List Spot) : Type 0 where
+pub record ArePreorderOf (nodes : List WalkNode) (ss : List CallNode) : Type 0 where
   pub tree : IsTree ss
   pub some : HasCalls ss
   pub arrivals : (path : List ℕ) → spots.calls_at path ss ≡ calls_at path nodes

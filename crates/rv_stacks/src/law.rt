@@ -13,7 +13,7 @@ ghost use Rattle.rv_counting.specs.JobTables.{IsTableOfJobsAt, SumsTo};
 ghost use Rattle.rv_count_tables.specs.Limits.{max_jobs};
 ghost use Rattle.rv_counting.specs.Plans.{PlanView};
 ghost use Rattle.rv_counting.specs.State.{State};
-ghost use Rattle.rv_count_tables.specs.declared_spot.Spot.{Spot};
+ghost use Rattle.rv_count_tables.specs.declared_spot.CallNode.{CallNode};
 ghost use Rattle.rv_count_tables.specs.Trees.{own_steps_of};
 ghost use Rattle.rv_stacks.specs.Stacks.{counts_of_function, AreStacksOf};
 ghost use Rattle.rv_stacks.specs.StackTables.{indices_of_shard, without_stacks, AreTablesWithStacksOfParts, HaveNoTableWithStacks, IsOfNamesOrMemory, IsTableWithStacks};
@@ -22,7 +22,7 @@ use rv_count_tables::trees_with_equal_counts_are_equal;
 
 /// A run has exactly one list of call-tree nodes.
 pub fn run_has_one_call_tree()
-    ensures { (function : ℕ → ℕ) (n : ℕ) (s : State) (a b : List Spot) → AreStacksOf function n s a
+    ensures { (function : ℕ → ℕ) (n : ℕ) (s : State) (a b : List CallNode) → AreStacksOf function n s a
         → AreStacksOf function n s b → a ≡ b }
 {
     trees_with_equal_counts_are_equal();
@@ -30,7 +30,7 @@ pub fn run_has_one_call_tree()
 
 /// The instructions in the call-tree nodes whose paths end with a function are as many as the counts of the function's addresses say.
 pub fn own_steps_are_the_counts_of_addresses()
-    ensures { (function : ℕ → ℕ) (f n : ℕ) (s : State) (cs : List AddressCounts) (spots : List Spot)
+    ensures { (function : ℕ → ℕ) (f n : ℕ) (s : State) (cs : List AddressCounts) (spots : List CallNode)
         → AreCountsOf n s cs → AreStacksOf function n s spots → own_steps_of f spots ≡ counts_of_function function f cs }
 {}
 

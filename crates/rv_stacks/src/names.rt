@@ -6,12 +6,12 @@ ghost use Rattle.std.specs.List.Sorted.{IsNonDecreasingBy};
 ghost use Rattle.std.specs.Str.{IsUtf8};
 ghost use Rattle.rv_count_tables.specs.Lines.{lacks};
 ghost use Rattle.rv_counting.specs.SymbolSearch.{symbol_at};
-ghost use Rattle.rv_count_tables.specs.declared_spot.Spot.{Spot as ASpot};
+ghost use Rattle.rv_count_tables.specs.declared_spot.CallNode.{CallNode as ACallNode};
 ghost use Rattle.rv_count_tables.specs.Sums.{FitsFields};
 ghost use Rattle.rv_stacks.specs.StackTables.{name_in_file, name_of_function, symbol_name, AreNamedUpTo, AreNamesBy};
 
 use crate::functions::LAST_ADDRESS;
-use rv_count_tables::{FunctionName, FunctionNames, Spot, Text};
+use rv_count_tables::{FunctionName, FunctionNames, CallNode, Text};
 use rv_counting::{CodeSymbols, shown_text};
 use std::alloc::{AllocError, Global};
 
@@ -20,7 +20,7 @@ use std::alloc::{AllocError, Global};
 pub(crate) fn names_of_functions(
     alloc: Global,
     symbols: &CodeSymbols<'_>,
-    spots: &[Spot],
+    spots: &[CallNode],
 ) -> Result<FunctionNames, AllocError>
     ensures names { IfOk result (AreNamesBy (name_of_function symbols.now.image.now symbols.now.bytes.now) spots.now) }
     ensures fits { IfOk result (λ _. AllByRecursion FitsFields spots.now) }
@@ -30,7 +30,7 @@ pub(crate) fn names_of_functions(
 }
 
 // Returns a copy of the nodes, sorted by function.
-fn by_function(alloc: Global, spots: &[Spot]) -> Result<Vec<Spot>, AllocError>
+fn by_function(alloc: Global, spots: &[CallNode]) -> Result<Vec<CallNode>, AllocError>
     ensures same { IfOk result (λ sorted. IsPermutation spots.now sorted.items) }
     ensures rising { IfOk result (λ sorted. IsNonDecreasingBy (λ s. s.function) sorted.items) }
 {
@@ -46,7 +46,7 @@ fn by_function(alloc: Global, spots: &[Spot]) -> Result<Vec<Spot>, AllocError>
 fn names_in_order(
     alloc: Global,
     symbols: &CodeSymbols<'_>,
-    spots: &[Spot],
+    spots: &[CallNode],
 ) -> Result<FunctionNames, AllocError>
     requires { IsNonDecreasingBy (λ s. s.function) spots.now }
     ensures names { IfOk result (AreNamesBy (name_of_function symbols.now.image.now symbols.now.bytes.now) spots.now) }
@@ -67,9 +67,9 @@ fn name_function_of(
     symbols: &CodeSymbols<'_>,
     names: &mut Vec<FunctionName>,
     next: u64,
-    spot: Spot,
+    spot: CallNode,
 ) -> Result<(), AllocError>
-    ensures names { (spots : List ASpot)
+    ensures names { (spots : List ACallNode)
         → AreNamedUpTo (name_of_function symbols.now.image.now symbols.now.bytes.now) spots next names.old.items
         → next ≤ spot.function + 1
         → OnOk result (AreNamedUpTo (name_of_function symbols.now.image.now symbols.now.bytes.now) (spots ++ spot ∷ [])

@@ -8,7 +8,7 @@ ghost use Rattle.rv_stacks.specs.Walks.{ArePreorderOf, ReturnsToParent, IsPreord
 
 use crate::children::Children;
 use crate::node::WalkNode;
-use rv_count_tables::{Spot, CallNodes};
+use rv_count_tables::{CallNode, CallNodes};
 use std::alloc::{AllocError, Global};
 
 /// The preorder nodes built so far, and the node up to which counts have been moved.
@@ -18,7 +18,7 @@ pub struct PreorderBuilder {
     pub path: Vec<u32>,
     /// 0, followed by the number of the node for each prefix of the path.
     pub trail: Vec<usize>,
-    pub spots: Vec<Spot>,
+    pub spots: Vec<CallNode>,
     /// The lowest function that the next child can have.
     pub from: u64,
 }
@@ -96,7 +96,7 @@ impl PreorderBuilder {
         ensures { OnOk result (MovesCounts left.old.items self.old left.new.items self.new) }
     {
         let node = left[number - 1];
-        self.spots.push(Spot {
+        self.spots.push(CallNode {
             depth: self.path.len(),
             function: node.function,
             arrivals: node.arrivals,

@@ -28,7 +28,7 @@ abbrev pub IsReadErrorStop : List ℕ → ReadError → Stop → Type 0
 IsReadErrorStop path read.OutOfMemory why = why ≡ stop.OutOfMemory
 IsReadErrorStop path (read.Line line) why =
     IsStop 2 (path_number_message path (codes ":") line (codes ": invalid line in a table of counts\n")) why
-IsReadErrorStop path read.CutOff why = IsStop 2 (path_message path (codes "the table is truncated")) why
+IsReadErrorStop path read.Truncated why = IsStop 2 (path_message path (codes "the table is truncated")) why
 
 -- the message that a count at `address` no longer fits in 64 bits if the table at the path is added; `what` names the count
 abbrev pub count_overflow_message : List ℕ → List ℕ → ℕ → List ℕ

@@ -14,7 +14,7 @@ use Rattle.rv_expect.specs.Judgement.{judge_by_rule}
 use Rattle.rv_expect.specs.declared.passing.Rule.TheVariants.{Strict}
 use Rattle.rv_files.specs.UnreadPaths.{contents_below, resolved_path}
 use Rattle.rv_files.specs.declared.recording_store.UnreadablePath.{UnreadablePath}
-use Rattle.rv_gdb.specs.Conversing.{IsEnded, IsReadWhileOpen}
+use Rattle.rv_gdb.specs.Serving.{IsEnded, IsReadWhileOpen}
 use Rattle.rv_gdb.specs.declared.conversation.SessionError.{SessionError}
 use Rattle.rv_gdb.specs.declared.conversation.SessionError.TheVariants as broken
 use Rattle.rv_gdb.specs.JobSessions.{IsSessionOf}

@@ -33,7 +33,7 @@ other_run_message parts path what = two_parts_message path what (part_path parts
 -- the message that the part at the path, which has this text, has this flaw
 abbrev pub flaw_message : List (Bor (List ℕ)) → List ℕ → List ℕ → Flaw → List ℕ
 flaw_message parts path text (flaw.Line number) = invalid_line_message expected.Part path text number
-flaw_message parts path text flaw.CutOff = path_message path (codes "the part is truncated")
+flaw_message parts path text flaw.Truncated = path_message path (codes "the part is truncated")
 flaw_message parts path text flaw.Whole = path_message path (codes "expected a part of a run, found a whole report")
 flaw_message parts path text flaw.Choice =
     path_message path (codes "expected the part of a shard, found a report of selected jobs")

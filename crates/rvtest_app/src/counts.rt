@@ -125,7 +125,7 @@ fn read_error_stop(alloc: Global, path: &str, error: ReadError) -> Stop
             let what = ": invalid line in a table of counts\n";
             Stop::rejection(path_number_message(alloc, path, ":", line, what))
         }
-        ReadError::CutOff => {
+        ReadError::Truncated => {
             Stop::rejection(path_message(alloc, path, "the table is truncated"))
         }
     }

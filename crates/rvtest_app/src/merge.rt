@@ -284,7 +284,7 @@ fn part_flaw_message(
     let Part { path, text } = part;
     match flaw {
         Flaw::Line(line) => invalid_line_message(alloc, ResultKind::Part, path, text, line),
-        Flaw::CutOff => path_message(alloc, path, "the part is truncated"),
+        Flaw::Truncated => path_message(alloc, path, "the part is truncated"),
         Flaw::Whole => path_message(
             alloc,
             path,

@@ -1,12 +1,12 @@
 -- A child's subtree is that of the spot where the one in front of it ends.
 use Rattle.std.proofs.Common.{◌+◌, ◌-◌, drop, get_or, length, arith}
-use Rattle.rv_call_tree.specs.declared.spot.Spot.{Spot}
+use Rattle.rv_call_tree.specs.declared.spot.CallNode.{CallNode}
 use Rattle.rv_call_tree.specs.declared.subtree.Subtree.{Subtree}
 use Rattle.rv_call_tree.proofs.Descended.{child_fits, child_further, child_is, child_within, one_child, one_of_all}
 use Rattle.rv_call_tree.proofs.subtree.subtree_at.Goals as goal
 
 -- what is read where there is none
-abbrev no_spot : Spot
+abbrev no_spot : CallNode
 no_spot = record { depth = 0; function = 0; arrivals = 0; steps = 0 }
 
 abbrev none : Subtree

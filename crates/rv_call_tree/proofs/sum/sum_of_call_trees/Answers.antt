@@ -2,7 +2,7 @@
 use Rattle.std.proofs.Common.{◌≡◌, ◌+◌, ◌<◌, List, length, drop, length-drop, sym, subst, arith}
 use Rattle.std.proofs.lemmas.List.{take_rest}
 use Rattle.std.proofs.lemmas.Result.{err_from_is_err_and}
-use Rattle.rv_call_tree.specs.declared.spot.Spot.{Spot}
+use Rattle.rv_call_tree.specs.declared.spot.CallNode.{CallNode}
 use Rattle.rv_call_tree.specs.declared.sum.NextNode.{NextNode}
 use Rattle.std.specs.List.{AllByRecursion}
 use Rattle.rv_call_tree.specs.Sums.{next_of, FitsFields, IsSumOfCallTrees}
@@ -14,9 +14,9 @@ pub loop-from_a-init : goal.loop-from_a-init
 loop-from_a-init c = record {
   within_a = omega arith;
   within_b = omega arith;
-  added = subst (λ (sums : List Spot). Added c.args.a.now c.args.b.now 0 0 sums) (sym c.new-sums.ensures.items)
+  added = subst (λ (sums : List CallNode). Added c.args.a.now c.args.b.now 0 0 sums) (sym c.new-sums.ensures.items)
       (none_added c.args.a.now c.args.b.now c.requires.a c.requires.b);
-  fits = subst (λ (sums : List Spot). AllByRecursion FitsFields sums) (sym c.new-sums.ensures.items) tt;
+  fits = subst (λ (sums : List CallNode). AllByRecursion FitsFields sums) (sym c.new-sums.ensures.items) tt;
 }
 
 pub loop-from_a-preserved : goal.loop-from_a-preserved
@@ -37,9 +37,9 @@ loop-from_a-preserved c =
     let few = subst (λ (n : NextNode). FewOf (drop i a) (drop j b) n) (sym is) (few_of (drop i a) (drop j b) some) in record {
       within_a = (let m = few.of_a in let w = inv.within_a in omega (arith, m, w, rest_a));
       within_b = (let m = few.of_b in let w = inv.within_b in omega (arith, m, w, rest_b));
-      added = subst (λ (sums : List Spot). Added a b (i + next.of_a) (j + next.of_b) sums) (sym c.in_ok-push_node.ensures)
+      added = subst (λ (sums : List CallNode). Added a b (i + next.of_a) (j + next.of_b) sums) (sym c.in_ok-push_node.ensures)
           (more_added a b c.loop-from_a.sums.items i j next inv.added some is);
-      fits = subst (λ (sums : List Spot). AllByRecursion FitsFields sums) (sym c.in_ok-push_node.ensures)
+      fits = subst (λ (sums : List CallNode). AllByRecursion FitsFields sums) (sym c.in_ok-push_node.ensures)
           (each_push FitsFields c.loop-from_a.sums.items next.spot inv.fits c.in_ok-next.ensures.fits);
     }
 
@@ -56,9 +56,9 @@ returns-clause-value c =
     let inv = c.loop-from_a.invariant in
     let n = c.if-from_a-a.false in
     let m = c.if-from_b-b.false in
-    subst (λ (s : List Spot). IsSumOfCallTrees c.args.a.now c.args.b.now s) (sym c.new.ensures)
+    subst (λ (s : List CallNode). IsSumOfCallTrees c.args.a.now c.args.b.now s) (sym c.new.ensures)
     (all_added c.args.a.now c.args.b.now c.loop-from_a.sums.items c.loop-from_a.from_a c.loop-from_a.from_b
     inv.added (omega (arith, n)) (omega (arith, m)))
 
 pub returns-clause-fits : goal.returns-clause-fits
-returns-clause-fits c = subst (λ (s : List Spot). AllByRecursion FitsFields s) (sym c.new.ensures) c.loop-from_a.invariant.fits
+returns-clause-fits c = subst (λ (s : List CallNode). AllByRecursion FitsFields s) (sym c.new.ensures) c.loop-from_a.invariant.fits

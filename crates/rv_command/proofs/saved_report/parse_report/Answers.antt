@@ -13,10 +13,10 @@ returns-in-Ok-clause-few c = few_rows c.in-Ok.report c.in-Ok.ensures.found.0
 pub returns-in-Err-OutOfMemory-clause-fault : goal.returns-in-Err-OutOfMemory-clause-fault
 returns-in-Err-OutOfMemory-clause-fault c = record { told = inl refl; cut = λ begins. inl refl; whole = λ report is. refl }
 
-pub returns-in-Err-CutOff-clause-fault : goal.returns-in-Err-CutOff-clause-fault
-returns-in-Err-CutOff-clause-fault c =
-    let least = rw c.in-Err-CutOff.field-0-is at c.in-Err-CutOff.ensures.least in
-    let only = rw c.in-Err-CutOff.field-0-is at c.in-Err-CutOff.ensures.only in
+pub returns-in-Err-Truncated-clause-fault : goal.returns-in-Err-Truncated-clause-fault
+returns-in-Err-Truncated-clause-fault c =
+    let least = rw c.in-Err-Truncated.field-0-is at c.in-Err-Truncated.ensures.least in
+    let only = rw c.in-Err-Truncated.field-0-is at c.in-Err-Truncated.ensures.only in
     let told = told_stop _ _ _ _ c.rejection.ensures c.path_message-told.ensures in
     record {
       told = inr (inr (least, told));

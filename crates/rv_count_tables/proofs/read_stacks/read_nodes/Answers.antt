@@ -7,11 +7,11 @@ use Rattle.rv_count_tables.specs.Table.{name_of}
 use Rattle.rv_count_tables.proofs.ReadingLines.{further_within}
 use Rattle.rv_count_tables.proofs.ReadingStacks.{SpotsSoFar, all_spots, no_spots_so_far, one_spot, spot_is_long}
 use Rattle.rv_count_tables.proofs.read_stacks.read_nodes.Goals as goal
-use Rattle.rv_call_tree.specs.declared.spot.Spot.{Spot}
+use Rattle.rv_call_tree.specs.declared.spot.CallNode.{CallNode}
 use Rattle.rv_call_tree.specs.Trees.{path_after, FollowsInPreorder}
 
 pub lines-init : goal.lines-init
-lines-init c = subst (λ (ss : List Spot). SpotsSoFar c.args.text.now ss c.new-names.result c.new-front.result.items 0) (sym c.new-spots.ensures.items)
+lines-init c = subst (λ (ss : List CallNode). SpotsSoFar c.args.text.now ss c.new-names.result c.new-front.result.items 0) (sym c.new-spots.ensures.items)
     (subst (λ (ns : List FunctionName). SpotsSoFar c.args.text.now [] ns c.new-front.result.items 0) (sym c.new-names.ensures)
     (subst (λ (path : List ℕ). SpotsSoFar c.args.text.now [] [] path 0) (sym c.new-front.ensures.items)
     (no_spots_so_far c.args.text.now)))
@@ -44,7 +44,7 @@ lines-preserved c =
     ∙ ap (λ (p : List ℕ). p ++ read.spot.function ∷ []) c.truncate.ensures.items in
     let known : c.add.new.self ≡ with_name (function_name read) names = c.in_ok-add-in-Some.ensures
     ∙ ap (λ (n : FunctionName). with_name n names) c.function_name.ensures in
-    subst (λ (ss : List Spot). SpotsSoFar text ss c.add.new.self c.push_item.new.items.items m)
+    subst (λ (ss : List CallNode). SpotsSoFar text ss c.add.new.self c.push_item.new.items.items m)
     (sym c.in_ok-push_item-in-Some-2.ensures)
     (subst (λ (ns : List FunctionName). SpotsSoFar text (c.lines.spots.items ++ read.spot ∷ []) ns c.push_item.new.items.items m)
     (sym known)

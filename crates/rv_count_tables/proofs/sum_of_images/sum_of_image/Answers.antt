@@ -6,7 +6,7 @@ use Rattle.rv_count_tables.specs.Sum.{IsSumOfNames}
 use Rattle.rv_count_tables.proofs.AddingImages.{are_spots, no_sum_of_named}
 use Rattle.rv_count_tables.proofs.SumsOfStacks.{names_of_sum}
 use Rattle.rv_count_tables.proofs.sum_of_images.sum_of_image.Goals as goal
-use Rattle.rv_call_tree.specs.declared.spot.Spot.{Spot}
+use Rattle.rv_call_tree.specs.declared.spot.CallNode.{CallNode}
 use Rattle.rv_call_tree.specs.Sums.{IsSumOfCallTrees}
 
 pub returns-clause-tree : goal.returns-clause-tree
@@ -24,8 +24,8 @@ returns-clause-of_spots c =
     (subst (λ (ns : List FunctionName). IsSumOfNames a.functions ns functions) c.as_slice-5.ensures
     (subst (λ (ns : List FunctionName). IsSumOfNames ns c.as_slice-5.result.now functions) c.as_slice-4.ensures
     c.in_ok-functions.ensures.value))
-    (subst (λ (ss : List Spot). IsSumOfCallTrees a.spots ss spots) c.as_slice-7.ensures
-    (subst (λ (ss : List Spot). IsSumOfCallTrees ss c.as_slice-7.result.now spots) c.as_slice-6.ensures
+    (subst (λ (ss : List CallNode). IsSumOfCallTrees a.spots ss spots) c.as_slice-7.ensures
+    (subst (λ (ss : List CallNode). IsSumOfCallTrees ss c.as_slice-7.result.now spots) c.as_slice-6.ensures
     c.in_ok-spots.ensures.value))
 
 pub returns-in_err-functions-clause-refused : goal.returns-in_err-functions-clause-refused

@@ -5,7 +5,7 @@ use Rattle.std.specs.List.{flat_map}
 use Rattle.rv_count_tables.specs.ParsedNodes.{line_by_index}
 use Rattle.rv_count_tables.proofs.SpotIndexes.{lines_are}
 use Rattle.rv_count_tables.proofs.text.push_nodes.Goals as goal
-use Rattle.rv_call_tree.specs.declared.spot.Spot.{Spot}
+use Rattle.rv_call_tree.specs.declared.spot.CallNode.{CallNode}
 
 pub returns : goal.returns
 returns c =
@@ -13,5 +13,5 @@ returns c =
     let index = c.in_ok-index.index in
     let old = string_bytes c.args.text.now in
     c.loop-spot.invariant
-    ∙ ap (λ (ss : List Spot). old ++ flat_map (line_by_index index) ss) (take_all c.loop-spot.spot-index spots c.loop-spot-test.false)
+    ∙ ap (λ (ss : List CallNode). old ++ flat_map (line_by_index index) ss) (take_all c.loop-spot.spot-index spots c.loop-spot-test.false)
     ∙ ap (λ (lines : List ℕ). old ++ lines) (lines_are index c.args.names.now spots c.in_ok-index.ensures)

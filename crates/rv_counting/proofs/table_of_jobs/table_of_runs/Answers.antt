@@ -1,7 +1,7 @@
 -- The one image can stand in a table.
 use Rattle.std.proofs.Common.{◌≡◌, ◌∙◌, ◌∷◌, List, [], ap, subst, sym, arith}
 use Rattle.sha2.specs.Sha256.{sha256}
-use Rattle.rv_count_tables.specs.declared_spot.Spot.{Spot}
+use Rattle.rv_count_tables.specs.declared_spot.CallNode.{CallNode}
 use Rattle.rv_count_tables.specs.declared.table.FunctionName.{FunctionName}
 use Rattle.rv_count_tables.specs.Table.{AreValidNames, AreNamesOf, AreValidNodes}
 use Rattle.rv_count_tables.specs.Printable.{printable_text}
@@ -51,7 +51,7 @@ returns-clause-table c =
       text = c.in_ok-path.ensures.text;
       counts = all_even c.into_addresses-addresses.result sorted.tallied (λ at odd. sorted.begun at ∙ c.requires.even at odd);
       names = subst (λ (ns : List FunctionName). AreValidNames ns) (sym (c.new-2.ensures ∙ c.new.ensures.items)) no_names;
-      spots = subst (λ (ss : List Spot). AreValidNodes ss) (sym (c.new-4.ensures ∙ c.new-3.ensures.items)) no_spots;
-      of_spots = subst (λ (ss : List Spot). AreNamesOf ss c.new-2.result) (sym (c.new-4.ensures ∙ c.new-3.ensures.items))
+      spots = subst (λ (ss : List CallNode). AreValidNodes ss) (sym (c.new-4.ensures ∙ c.new-3.ensures.items)) no_spots;
+      of_spots = subst (λ (ss : List CallNode). AreNamesOf ss c.new-2.result) (sym (c.new-4.ensures ∙ c.new-3.ensures.items))
           (subst (λ (ns : List FunctionName). AreNamesOf [] ns) (sym (c.new-2.ensures ∙ c.new.ensures.items)) no_owners);
     })

@@ -1,7 +1,7 @@
 use Rattle.std.proofs.Common.{◌≡◌, ◌∙◌, ◌<◌, ℕ, List, length, refl, rules, subst, sym}
 use Rattle.std.specs.Prelude.{Option}
 use Rattle.rv_session.proofs.Public.{same_run, same_run_on}
-use Rattle.rv_gdb.specs.Conversing.{IsChunkRead}
+use Rattle.rv_gdb.specs.Serving.{IsChunkRead}
 use Rattle.rv_gdb.proofs.Joining.{asked_going, chunk_moved, chunk_over, chunk_read, heard_byte, heard_byte_on, heard_none}
 use Rattle.rv_gdb.proofs.conversation.respond_to_chunk.Goals as goal
 
@@ -16,12 +16,12 @@ pub returns-then-branch-clause-answered : goal.returns-then-branch-clause-answer
 returns-then-branch-clause-answered g c =
     let end_text = g.E.EndText.end_text c.args.context.now.end.now in
     let within : c.loop-index.index < length c.args.chunk.now = search rules in
-    let waits = rw c.if-branch.true at c.in_ok-answer_byte.ensures.answered in
-    chunk_moved end_text c.args.session.now c.answer_byte.new.session c.move_while_reading.new.session c.args.chunk.now
+    let waits = rw c.if-branch.true at c.in_ok-respond_to_byte.ensures.answered in
+    chunk_moved end_text c.args.session.now c.respond_to_byte.new.session c.move_while_reading.new.session c.args.chunk.now
     c.in_ok-move_while_reading.field-0.items c.loop-index.index _ _ _ _ _ waits.0
-    (heard_byte end_text c.args.session.now c.loop-index.session c.answer_byte.new.session c.args.chunk.now c.loop-index.index 0 _ _ _
+    (heard_byte end_text c.args.session.now c.loop-index.session c.respond_to_byte.new.session c.args.chunk.now c.loop-index.index 0 _ _ _
     within c.loop-index.invariant.0 waits.1.0)
-    (asked_going c.answer_byte.new.session c.in_ok-answer_byte.ensures.not_over waits.1.1)
+    (asked_going c.respond_to_byte.new.session c.in_ok-respond_to_byte.ensures.not_over waits.1.1)
     c.in_ok-move_while_reading.ensures.moved
     (subst (λ (before : Option (List ℕ)). IsChunkRead before (g.I.Read.remaining c.move_while_reading.new.input)
     c.in_ok-move_while_reading.field-0.items) c.loop-index.invariant.1.1.0 c.in_ok-move_while_reading.ensures.read)
@@ -30,12 +30,12 @@ pub loop-index-preserved : goal.loop-index-preserved
 loop-index-preserved g c =
     let end_text = g.E.EndText.end_text c.args.context.now.end.now in
     let within : c.loop-index.index < length c.args.chunk.now = search rules in (
-      heard_byte_on end_text c.args.session.now c.loop-index.session c.answer_byte.new.session c.args.chunk.now c.loop-index.index _ _ _
-          within c.loop-index.invariant.0 (rw c.if-branch.false at c.in_ok-answer_byte.ensures.answered),
+      heard_byte_on end_text c.args.session.now c.loop-index.session c.respond_to_byte.new.session c.args.chunk.now c.loop-index.index _ _ _
+          within c.loop-index.invariant.0 (rw c.if-branch.false at c.in_ok-respond_to_byte.ensures.answered),
       (
-        same_run_on c.args.session.now c.loop-index.session c.answer_byte.new.session c.loop-index.invariant.1.0
-            c.in_ok-answer_byte.ensures.run,
-        (c.loop-index.invariant.1.1.0, c.in_ok-answer_byte.ensures.counted ∙ c.loop-index.invariant.1.1.1),
+        same_run_on c.args.session.now c.loop-index.session c.respond_to_byte.new.session c.loop-index.invariant.1.0
+            c.in_ok-respond_to_byte.ensures.run,
+        (c.loop-index.invariant.1.1.0, c.in_ok-respond_to_byte.ensures.counted ∙ c.loop-index.invariant.1.1.1),
       ),
     )
 

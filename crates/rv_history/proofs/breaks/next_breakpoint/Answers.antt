@@ -1,7 +1,7 @@
 use Rattle.std.proofs.Common.{◌∙◌, ◌+◌, ◌≤◌, arith, refl, subst, sym}
 use Rattle.rv_trace.specs.Machine.{state_of}
 use Rattle.rv_trace.specs.State.{State}
-use Rattle.rv_history.specs.Kept.{IsAt}
+use Rattle.rv_history.specs.StoredStates.{IsAt}
 use Rattle.rv_history.proofs.Between.{quiet_run}
 use Rattle.rv_history.proofs.Forward.{quiet_more}
 use Rattle.rv_history.proofs.Reaching.{next_place}

@@ -1,7 +1,7 @@
 use Rattle.std.proofs.Common.{ℕ, ◌≡◌, ◌∙◌, ◌+◌, ◌<◌, ◌≤◌, Option, ap, arith, subst, sym}
 use Rattle.rv_trace.specs.Machine.{state_of}
 use Rattle.rv_history.specs.declared.found.SearchEnd.{SearchEnd}
-use Rattle.rv_history.specs.declared.stepping.Stepped.TheVariants as stepped
+use Rattle.rv_history.specs.declared.stepping.StepResult.TheVariants as stepped
 use Rattle.rv_history.specs.LastStop.{IsLastStopIn}
 use Rattle.rv_history.specs.Places.{IsReached, last_step}
 use Rattle.rv_history.specs.Stops.{is_break}
@@ -31,7 +31,7 @@ places-preserved g c =
     × IsReached start (place + 1 + n) (state_of c.run_between.new.machine) in
     let later : (budget : ℕ) → end ≤ budget → Later budget = λ budget within.
     let far : end ≤ last_step budget start = comes_within budget end start c.requires.comes within in
-    let more = last_more stops budget begin place start s t c.places.last c.has_break-is_break.result stepped.Quiet reached
+    let more = last_more stops budget begin place start s t c.places.last c.has_break-is_break.result stepped.NotTriggered reached
     (omega (arith, far, c.places-test.true)) (c.has_break-is_break.ensures ∙ ap (is_break stops) c.pc.ensures)
     (e, is_unset stops s t none) (omega (arith, within, c.places-test.true)) (c.places.invariant.last budget within) in
     last_run stops budget begin (place + 1) n start t (state_of c.run_between.new.machine) c.last_stop_after-last.result none next

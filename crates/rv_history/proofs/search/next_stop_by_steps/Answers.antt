@@ -2,7 +2,7 @@ use Rattle.std.proofs.Common.{◌≡◌, ◌∙◌, ap, arith, refl, subst, sym}
 use Rattle.rv_trace.specs.Machine.{state_of}
 use Rattle.rv_trace.specs.Run.{run_of}
 use Rattle.rv_trace.specs.State.{State}
-use Rattle.rv_history.specs.Kept.{IsAt}
+use Rattle.rv_history.specs.StoredStates.{IsAt}
 use Rattle.rv_history.specs.Stops.{watched_bytes}
 use Rattle.rv_history.proofs.Forward.{quiet_more}
 use Rattle.rv_history.proofs.Reaching.{next_place}
@@ -46,13 +46,13 @@ returns-in-Ended-clause-stop g c =
     c.places.invariant.leg _ c.in-Ended.ending c.arrived-in-Ended.ensures refl did.1 c.places-test.true did.0
     (sym c.is_stopped.ensures ∙ c.if-is_stopped.false)
 
-pub returns-in-Changed-clause-stop : goal.returns-in-Changed-clause-stop
-returns-in-Changed-clause-stop g c =
-    let did = rw c.in-Changed.is at c.in_ok-ending.ensures.step in
+pub returns-in-WatchTriggered-clause-stop : goal.returns-in-WatchTriggered-clause-stop
+returns-in-WatchTriggered-clause-stop g c =
+    let did = rw c.in-WatchTriggered.is at c.in_ok-ending.ensures.step in
     let same = c.store_and_poll.ensures.same ∙ c.places.invariant.same in
     arrives_changed c.args.stops.now c.args.track.now c.args.leg c.places.leg _ c.places.invariant.way c.places.invariant.leg
-    c.in_ok-at-in-Changed.at (state_of c.step_with_watched_bytes.new.machine) refl (subst (λ (s : State). IsAt s c.in_ok-at-in-Changed.at) same c.in_ok-at-in-Changed.ensures.there)
-    c.in_ok-at-in-Changed.ensures.place c.places-test.true did.0 did.1 (sym c.is_stopped.ensures ∙ c.if-is_stopped.false)
+    c.in_ok-at-in-WatchTriggered.at (state_of c.step_with_watched_bytes.new.machine) refl (subst (λ (s : State). IsAt s c.in_ok-at-in-WatchTriggered.at) same c.in_ok-at-in-WatchTriggered.ensures.there)
+    c.in_ok-at-in-WatchTriggered.ensures.place c.places-test.true did.0 did.1 (sym c.is_stopped.ensures ∙ c.if-is_stopped.false)
 
 pub places-preserved : goal.places-preserved
 places-preserved g c =
@@ -64,7 +64,7 @@ places-preserved g c =
     let t = state_of c.step_with_watched_bytes.new.machine in
     let goes = c.places-test.true in
     let order = way.order in
-    let did = rw c.in-Quiet.is at c.in_ok-ending.ensures.step in record {
+    let did = rw c.in-NotTriggered.is at c.in_ok-ending.ensures.step in record {
       way = record {
         there = next_place start s t leg.at.place way.there did.0;
         order = omega (arith, order);

@@ -1,7 +1,7 @@
 use Rattle.std.proofs.Common.{◌∙◌, ◌≤◌, ap, arith, refl, subst, sym}
 use Rattle.rv_trace.specs.Machine.{state_of}
 use Rattle.rv_trace.specs.State.{State}
-use Rattle.rv_history.specs.Kept.{IsAt}
+use Rattle.rv_history.specs.StoredStates.{IsAt}
 use Rattle.rv_history.specs.declared.forward_move.ForwardMove.{ForwardMove}
 use Rattle.rv_history.proofs.Reaching.{ran_to, within_budget}
 use Rattle.rv_history.proofs.Unstopped.{ends_at, ends_before, never_halted, under_way}
@@ -35,28 +35,28 @@ returns-then-branch-clause-stop g c = λ stops none.
 pub returns-then-way-end-clause-stop : goal.returns-then-way-end-clause-stop
 returns-then-way-end-clause-stop g c = λ stops none.
     let start = c.args.track.now in
-    let at = c.go_to-ending.new.self in
-    let ran = c.go_to-ending.ensures.ran start c.places.invariant.there in
+    let at = c.run_to_step-ending.new.self in
+    let ran = c.run_to_step-ending.ensures.ran start c.places.invariant.there in
     let begun = c.places.invariant.order in
     let from = ap (λ (l : ForwardMove). l.from) c.places.invariant.way in
     let budget = ap (λ (l : ForwardMove). l.budget) c.places.invariant.way in
     let end = c.slice_end-end.ensures.within in
-    let onward : c.places.way.at.place ≤ at.place = c.go_to-ending.ensures.onward in
-    ends_before stops start c.args.leg at c.arrived-then-way-end.result c.slice_end-end.result c.go_to-ending.result none c.requires.unbounded
+    let onward : c.places.way.at.place ≤ at.place = c.run_to_step-ending.ensures.onward in
+    ends_before stops start c.args.leg at c.arrived-then-way-end.result c.slice_end-end.result c.run_to_step-ending.result none c.requires.unbounded
     (omega (arith, begun, from, onward)) c.arrived-then-way-end.ensures ran c.if-way-end.true (omega (arith, budget, end))
 
 pub places-preserved : goal.places-preserved
 places-preserved g c =
     let start = c.args.track.now in
-    let at = c.go_to-ending.new.self in
+    let at = c.run_to_step-ending.new.self in
     let end = c.slice_end-end.result in
-    let ran = c.go_to-ending.ensures.ran start c.places.invariant.there in
+    let ran = c.run_to_step-ending.ensures.ran start c.places.invariant.there in
     let begun = c.places.invariant.order in
-    let onward = c.go_to-ending.ensures.onward in
+    let onward = c.run_to_step-ending.ensures.onward in
     let count = ap (λ r. r.steps) ran in
     let few = within_budget end start in
     let within = c.slice_end-end.ensures.within in record {
-      there = ran_to start (state_of at.machine) end at.place c.go_to-ending.result ran;
+      there = ran_to start (state_of at.machine) end at.place c.run_to_step-ending.result ran;
       order = omega (arith, begun, onward);
       within = omega (arith, count, few, within);
       way = still_on c.args.leg c.places.way _ c.places.invariant.way refl;

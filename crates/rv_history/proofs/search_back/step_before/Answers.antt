@@ -11,8 +11,8 @@ returns-then-have_no_watchpoints c = λ budget within.
     step_unwatched c.args.stops.now budget (c.args.from - 1) c.args.from c.args.track.now
     (c.have_no_watchpoints.ensures.0 c.if-have_no_watchpoints.true) (omega arith)
 
-pub returns-in-Changed : goal.returns-in-Changed
-returns-in-Changed c = λ budget within.
+pub returns-in-WatchTriggered : goal.returns-in-WatchTriggered
+returns-in-WatchTriggered c = λ budget within.
     let start = c.args.track.now in
     let before = c.args.from - 1 in
     let there = completes c.args.from before start (omega (arith, c.requires)) in
@@ -20,7 +20,7 @@ returns-in-Changed c = λ budget within.
       completed = there;
       same = c.in_ok-machine.ensures;
     } in
-    let did = rw c.in-Changed.is at c.in_ok-step_watched.ensures in
+    let did = rw c.in-WatchTriggered.is at c.in_ok-step_watched.ensures in
     stays_behind_change c.args.stops.now budget before c.args.from start (state_of c.in_ok-machine.machine)
     (state_of c.step_watched.new.machine) (omega arith) (omega arith) reached did.0 did.1
 
@@ -35,7 +35,7 @@ returns c = λ budget within.
       completed = there;
       same = c.in_ok-machine.ensures;
     } in
-    elim c.in-Quiet.is [
+    elim c.in-NotTriggered.is [
       | inl quiet ↦
           let did = rw quiet at c.in_ok-step_watched.ensures in
           steps_back c.args.stops.now budget before c.args.from start s t (omega arith) reached did.0 did.1

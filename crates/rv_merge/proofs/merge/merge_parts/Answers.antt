@@ -4,7 +4,7 @@ use Rattle.std.proofs.lemmas.Bool.{eqb-true, false≢true}
 use Rattle.std.proofs.lemmas.List.{nil_from_length}
 use Rattle.rv_merge.specs.declared.error.MergeError.TheVariants as error
 use Rattle.rv_merge.specs.GatheredParts.{IsMergeStateAfter}
-use Rattle.rv_merge.specs.declared.gathered_parts.Gathered.{Gathered}
+use Rattle.rv_merge.specs.declared.gathered_parts.MergeState.{MergeState}
 use Rattle.rv_merge.specs.Parts.{AreParts, bytes_of_texts}
 use Rattle.rv_merge.specs.Refusals.{HasMergeError}
 use Rattle.rv_merge.proofs.Ends.{found_in, refused_job_count, sources_some}
@@ -35,7 +35,7 @@ some_there zero e = absurd (false≢true (sym e))
 some_there (suc n) e = omega arith
 
 -- all texts are gathered, and there are some
-all_held : (texts : List (Bor (List ℕ))) (g : Gathered) → IsMergeStateAfter (bytes_of_texts texts) (length texts) g
+all_held : (texts : List (Bor (List ℕ))) (g : MergeState) → IsMergeStateAfter (bytes_of_texts texts) (length texts) g
     → IsMergeStateAfter (bytes_of_texts texts) (length (bytes_of_texts texts)) g
 all_held texts g h = subst (λ (n : ℕ). IsMergeStateAfter (bytes_of_texts texts) n g) (sym (length-bytes_of texts)) h
 

@@ -12,11 +12,11 @@ returns-in-Err-clause-err c =
     other_at c.args.texts.now c.args.at none c.in-Ok.report c.in-Err.flaw c.requires c.in-Ok.ensures.found
     c.in-Err.ensures.other
 
-pub returns-in-Err-CutOff-clause-err : goal.returns-in-Err-CutOff-clause-err
+pub returns-in-Err-Truncated-clause-err : goal.returns-in-Err-Truncated-clause-err
 unfolding none
-returns-in-Err-CutOff-clause-err c =
-    unread_at c.args.texts.now c.args.at none c.in-Err-CutOff.field-0 read.CutOff c.requires c.in-Err-CutOff.field-0-is
-    (λ e. cc) c.in-Err-CutOff.ensures.only c.in-Err-CutOff.ensures.err c.in-Err-CutOff.ensures.place
+returns-in-Err-Truncated-clause-err c =
+    unread_at c.args.texts.now c.args.at none c.in-Err-Truncated.field-0 read.Truncated c.requires c.in-Err-Truncated.field-0-is
+    (λ e. cc) c.in-Err-Truncated.ensures.only c.in-Err-Truncated.ensures.err c.in-Err-Truncated.ensures.place
 
 pub returns-in-Err-Line-clause-err : goal.returns-in-Err-Line-clause-err
 unfolding none

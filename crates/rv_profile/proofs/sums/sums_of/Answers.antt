@@ -1,10 +1,10 @@
 use Rattle.std.proofs.Common.{◌∙◌, arith, sym}
-use Rattle.rv_count_tables.specs.declared_spot.Spot.{Spot}
+use Rattle.rv_count_tables.specs.declared_spot.CallNode.{CallNode}
 use Rattle.rv_profile.proofs.SpotSums.{all_fit, none_of_all, one_more}
 use Rattle.rv_profile.proofs.sums.sums_of.Goals as goal
 
 -- what is read where there is no spot
-abbrev no_spot : Spot
+abbrev no_spot : CallNode
 no_spot = record { depth = 0; function = 0; arrivals = 0; steps = 0 }
 
 pub returns-in_err-sums : goal.returns-in_err-sums

@@ -3,20 +3,20 @@ use Rattle.rv_report.specs.LenientReport.{lenient_report}
 use Rattle.rv_report.proofs.PartialReports.{saved_read, whole_rows}
 use Rattle.rv_report.proofs.partial.read_partial_report.Goals as goal
 
-pub returns-in_ok-report-in-Err-CutOff-clause-found : goal.returns-in_ok-report-in-Err-CutOff-clause-found
-returns-in_ok-report-in-Err-CutOff-clause-found c =
+pub returns-in_ok-report-in-Err-Truncated-clause-found : goal.returns-in_ok-report-in-Err-Truncated-clause-found
+returns-in_ok-report-in-Err-Truncated-clause-found c =
     let bytes = c.args.bytes.now in
-    let least = rw c.in-Err-CutOff.field-0-is at c.in-Err-CutOff.ensures.least in
-    let only = rw c.in-Err-CutOff.field-0-is at c.in-Err-CutOff.ensures.only in
-    let rows = c.in_ok-report-in-Err-CutOff.ensures.rows in (
+    let least = rw c.in-Err-Truncated.field-0-is at c.in-Err-Truncated.ensures.least in
+    let only = rw c.in-Err-Truncated.field-0-is at c.in-Err-Truncated.ensures.only in
+    let rows = c.in_ok-report-in-Err-Truncated.ensures.rows in (
       λ report is same. let memory = only report is same in cc,
       (lenient_report bytes, rows.0, whole_rows bytes rows.0 least (rows.2, rows.3, rows.4), rows.1),
     )
 
-pub returns-in_ok-report-in-Err-CutOff-clause-saved : goal.returns-in_ok-report-in-Err-CutOff-clause-saved
-returns-in_ok-report-in-Err-CutOff-clause-saved c =
-    let rows = c.in_ok-report-in-Err-CutOff.ensures.rows in
-    saved_read c.args.bytes.now rows.0 c.in_ok-report-in-Err-CutOff.report rows.1 rows.2
+pub returns-in_ok-report-in-Err-Truncated-clause-saved : goal.returns-in_ok-report-in-Err-Truncated-clause-saved
+returns-in_ok-report-in-Err-Truncated-clause-saved c =
+    let rows = c.in_ok-report-in-Err-Truncated.ensures.rows in
+    saved_read c.args.bytes.now rows.0 c.in_ok-report-in-Err-Truncated.report rows.1 rows.2
 
 pub returns-in-Err-Line : goal.returns-in-Err-Line
 returns-in-Err-Line c =

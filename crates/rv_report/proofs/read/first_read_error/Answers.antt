@@ -1,6 +1,6 @@
 use Rattle.std.proofs.Common.{◌≡◌, ◌∙◌, ◌+◌, ℕ, drop, get_or, sym, ap, arith}
 use Rattle.std.proofs.lemmas.List.{take_rest}
-use Rattle.rv_report.specs.declared.read.FirstWord.{FirstWord}
+use Rattle.rv_report.specs.declared.read.FirstWordState.{FirstWordState}
 use Rattle.rv_report.specs.Differences.{line_after_byte, read_error_from, read_error_at}
 use Rattle.rv_report.proofs.Loops.{difference_past, difference_here, difference_later, difference_end}
 use Rattle.rv_report.proofs.Loops.{line_fed, line_same}
@@ -40,7 +40,7 @@ loop-at-preserved c =
     ] in
     record {
       rest = ap (λ (n : ℕ). read_error_from n c.word_after_byte-met.result (drop (at + 1) text) (drop (at + 1) bytes)) next
-          ∙ ap (λ (m : FirstWord). read_error_from (line_after_byte line b) m (drop (at + 1) text) (drop (at + 1) bytes))
+          ∙ ap (λ (m : FirstWordState). read_error_from (line_after_byte line b) m (drop (at + 1) text) (drop (at + 1) bytes))
           c.word_after_byte-met.ensures ∙ sym later ∙ inv.rest;
       within = omega arith;
       small = elim c.if-b-eq10.branch [ then-b-eq10 w ↦ omega arith | else-b-eq10 w ↦ omega arith ];

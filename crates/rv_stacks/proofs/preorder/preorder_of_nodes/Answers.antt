@@ -1,6 +1,6 @@
 use Rattle.std.proofs.Common.{◌∙◌, List, sym, ap, subst}
 use Rattle.std.specs.List.{list_all}
-use Rattle.rv_count_tables.specs.declared_spot.Spot.{Spot}
+use Rattle.rv_count_tables.specs.declared_spot.CallNode.{CallNode}
 use Rattle.rv_stacks.specs.Nodes.{is_empty}
 use Rattle.rv_stacks.specs.Walks.{ArePreorderOf}
 use Rattle.rv_stacks.proofs.Flattened.{all_moved, none_moved, one_moved}
@@ -17,6 +17,6 @@ turns-preserved c = one_moved c.args.nodes.items c.turns.left.items c.visit_next
     c.turns.invariant c.in_ok-visit_next.ensures
 
 pub returns-then-are_empty : goal.returns-then-are_empty
-returns-then-are_empty c = subst (λ (ss : List Spot). ArePreorderOf c.args.nodes.items ss) (sym c.new-then-are_empty.ensures)
+returns-then-are_empty c = subst (λ (ss : List CallNode). ArePreorderOf c.args.nodes.items ss) (sym c.new-then-are_empty.ensures)
     (all_moved c.args.nodes.items c.turns.left.items c.turns.flat c.turns.invariant
     (ap (list_all is_empty) (sym c.as_slice.ensures.value) ∙ sym c.are_empty.ensures ∙ c.if-are_empty.true))

@@ -11,7 +11,7 @@ use Rattle.rv_counting.specs.declared_image.Image.{Image}
 use Rattle.rv_counting.specs.declared_job.Job.{Job}
 use Rattle.rv_counting.specs.Jobs.{single_job}
 use Rattle.rv_calls.specs.Rows.{image_if_read, start_in}
-use Rattle.rv_count_tables.specs.declared_spot.Spot.{Spot}
+use Rattle.rv_count_tables.specs.declared_spot.CallNode.{CallNode}
 use Rattle.rv_stacks.specs.Stacks.{function_at, AreCountsAndStacksOfJob}
 use Rattle.rv_stacks.specs.StackTables.{name_of_function, IsTableOfRun, IsTableWithStacks}
 use Rattle.rv_stacks.proofs.Apart.{counts_and_stacks}
@@ -80,7 +80,7 @@ returns-in-Some-3 c =
     let of_image = subst (λ (i : Image). IsTableOfRun (name_of_function i symbols.bytes.now) c.as_str.result.now symbols.bytes.now addresses spots t)
     its_image is in
     let of_file = subst (λ (b : List ℕ). IsTableOfRun (name_of_function image b) c.as_str.result.now b addresses spots t) its_bytes of_image in
-    let both = subst (λ (o : Option (List AddressCounts × List Spot)). AreCountsAndStacksOfJob (function_at symbols.image.now symbols.bytes.now) job.budget
+    let both = subst (λ (o : Option (List AddressCounts × List CallNode)). AreCountsAndStacksOfJob (function_at symbols.image.now symbols.bytes.now) job.budget
     (start_in plan.answers job) o) c.in-Some-3.is (c.in_ok-addresses.ensures.both d) in
     let by_image = subst (λ (i : Image). AreCountsAndStacksOfJob (function_at i symbols.bytes.now) job.budget (start_in plan.answers job) (Some (addresses, spots)))
     its_image both in
@@ -98,7 +98,7 @@ returns c =
     let job = job_at plan c.args.place d in
     let symbols = c.in_ok-symbols.symbols in
     let function = function_at symbols.image.now symbols.bytes.now in
-    let none = subst (λ (o : Option (List AddressCounts × List Spot)). AreCountsAndStacksOfJob function job.budget (start_in plan.answers job) o)
+    let none = subst (λ (o : Option (List AddressCounts × List CallNode)). AreCountsAndStacksOfJob function job.budget (start_in plan.answers job) o)
     c.in-None.is (c.in_ok-addresses.ensures.both d) in
     let table = c.empty_table-in-None.result in
     counts_and_stacks plan (c.args.place ∷ []) table

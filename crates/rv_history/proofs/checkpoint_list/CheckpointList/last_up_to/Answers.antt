@@ -1,6 +1,6 @@
 use Rattle.std.proofs.Common.{◌≡◌, ◌∙◌, List, get_or, subst, sym}
 use Rattle.rv_history.specs.declared.machine_at.MachineAt.{MachineAt}
-use Rattle.rv_history.specs.Kept.{AreDecreasing, IsLastUpTo}
+use Rattle.rv_history.specs.StoredStates.{AreDecreasing, IsLastUpTo}
 use Rattle.rv_history.proofs.CurrentVerdict.{last_is_first}
 use Rattle.rv_history.proofs.checkpoint_list.CheckpointList.last_up_to.Goals as goal
 

@@ -1,5 +1,5 @@
 use Rattle.std.proofs.Common.{◌-◌, ◌≡◌, ◌≤◌}
-use Rattle.rv_history.specs.Kept.{IsAt}
+use Rattle.rv_history.specs.StoredStates.{IsAt}
 use Rattle.rv_history.proofs.checkpoints.Checkpoints.reach.Given as goal
 
 abbrev pub invariant-loop-next : goal.invariant-loop-next

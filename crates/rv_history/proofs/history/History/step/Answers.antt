@@ -23,8 +23,8 @@ returns-in-Ended-clause-step c =
     let did = rw c.in-Ended.is at c.in_ok-ending.ensures in
     rw (← c.self.view_is) (step_ends c.args.stops.now here.budget here.place here.track s c.in-Ended.ending reached goes did.0)
 
-pub returns-in-Changed-clause-step : goal.returns-in-Changed-clause-step
-returns-in-Changed-clause-step c =
+pub returns-in-WatchTriggered-clause-step : goal.returns-in-WatchTriggered-clause-step
+returns-in-WatchTriggered-clause-step c =
     let here = c.self.inside in
     let within = c.self.invariant.1 in
     let goes : here.place < here.budget = omega (arith, within, c.if-self.false) in
@@ -33,12 +33,12 @@ returns-in-Changed-clause-step c =
       completed = c.self.invariant.0.completed;
       same = c.in_ok-machine.ensures ∙ c.self.invariant.0.same;
     } in
-    let did = rw c.in-Changed.is at c.in_ok-ending.ensures in
+    let did = rw c.in-WatchTriggered.is at c.in_ok-ending.ensures in
     rw (← c.self.view_is) (step_changes c.args.stops.now here.budget here.place here.track s (state_of c.step_watched.new.machine)
     reached goes did.0 did.1)
 
-pub returns-in-Quiet-clause-step : goal.returns-in-Quiet-clause-step
-returns-in-Quiet-clause-step c =
+pub returns-in-NotTriggered-clause-step : goal.returns-in-NotTriggered-clause-step
+returns-in-NotTriggered-clause-step c =
     let here = c.self.inside in
     let within = c.self.invariant.1 in
     let goes : here.place < here.budget = omega (arith, within, c.if-self.false) in
@@ -47,7 +47,7 @@ returns-in-Quiet-clause-step c =
       completed = c.self.invariant.0.completed;
       same = c.in_ok-machine.ensures ∙ c.self.invariant.0.same;
     } in
-    let did = rw c.in-Quiet.is at c.in_ok-ending.ensures in
+    let did = rw c.in-NotTriggered.is at c.in_ok-ending.ensures in
     rw (← c.self.view_is) (step_done c.args.stops.now here.budget here.place here.track s (state_of c.step_watched.new.machine)
     reached goes did.0 did.1)
 
@@ -60,7 +60,7 @@ invariant_of-self c =
       completed = c.self.invariant.0.completed;
       same = c.in_ok-machine.ensures ∙ c.self.invariant.0.same;
     } in
-    let did = rw c.in-Quiet.is at c.in_ok-ending.ensures in (
+    let did = rw c.in-NotTriggered.is at c.in_ok-ending.ensures in (
       next_place here.track s (state_of c.step_watched.new.machine) here.place reached did.0,
       omega (arith, within, c.if-self.false),
     )

@@ -6,8 +6,8 @@ use Rattle.rv_history.proofs.Backward.{back_within}
 use Rattle.rv_history.proofs.Reaching.{comes_within}
 use Rattle.rv_history.proofs.history.History.step_back.Goals as goal
 
-pub arrive-requires : goal.arrive-requires
-arrive-requires c =
+pub finish_search-requires : goal.finish_search-requires
+finish_search-requires c =
     let here = c.self.inside in
     let start = here.track in
     let near = back_within c.args.stops.now here.budget here.place c.in_ok-arrival.arrival.place start c.in_ok-arrival.arrival.found
@@ -18,6 +18,6 @@ arrive-requires c =
 
 pub returns-clause-step : goal.returns-clause-step
 returns-clause-step c =
-    arrived (IsStepBefore c.args.stops.now c.args.self.now.budget c.args.self.now.start c.args.self.now.place) c.arrive.result
-    c.in_ok-arrival.arrival.place c.in_ok-arrival.arrival.found c.args.self.now c.arrive.new.self c.arrive.ensures.found
-    c.arrive.ensures.moved (rw (← c.self.view_is) (c.in_ok-arrival.ensures c.self.inside.budget c.self.invariant.1))
+    arrived (IsStepBefore c.args.stops.now c.args.self.now.budget c.args.self.now.start c.args.self.now.place) c.finish_search.result
+    c.in_ok-arrival.arrival.place c.in_ok-arrival.arrival.found c.args.self.now c.finish_search.new.self c.finish_search.ensures.found
+    c.finish_search.ensures.moved (rw (← c.self.view_is) (c.in_ok-arrival.ensures c.self.inside.budget c.self.invariant.1))

@@ -26,20 +26,20 @@ returns-in-TooLong c = both_ok _ _ _ c.reject_long_packet.result c.reject_long_p
     (λ sent kept. these_more _ _ _ _ sent
     (not_over c.args.self.now c.reject_long_packet.new.self c.args.received.now _ c.if-self.false (rw c.in-TooLong.is (refl, kept))))
 
-pub returns-then-is_refused : goal.returns-then-is_refused
-returns-then-is_refused c =
-    let again = sym c.is_refused.ensures ∙ c.if-is_refused.true in
+pub returns-then-is_rejected : goal.returns-then-is_rejected
+returns-then-is_rejected c =
+    let again = sym c.is_rejected.ensures ∙ c.if-is_rejected.true in
     on_ok_weaker c.request_resend.result
     (λ sent. these_more _ _ _ _ sent (not_over c.args.self.now c.args.self.now c.args.received.now _
     c.if-self.false (rw c.in-Packet.is (rw again (refl, refl)))))
     c.request_resend.ensures
 
-pub returns-else-is_refused : goal.returns-else-is_refused
-returns-else-is_refused c =
-    let right = sym c.is_refused.ensures ∙ c.if-is_refused.false in
-    let takes : List ℕ → List ℕ → Type 0 = λ body out. IsPacketResponse c.args.self.now body out c.take_body.new.self in
-    on_ok_weaker c.take_body.result
+pub returns-else-is_rejected : goal.returns-else-is_rejected
+returns-else-is_rejected c =
+    let right = sym c.is_rejected.ensures ∙ c.if-is_rejected.false in
+    let takes : List ℕ → List ℕ → Type 0 = λ body out. IsPacketResponse c.args.self.now body out c.respond_to_body.new.self in
+    on_ok_weaker c.respond_to_body.result
     (named_otherwise _ _ (takes c.as_slice.result.now) _
-    (λ out took. not_over c.args.self.now c.take_body.new.self c.args.received.now out c.if-self.false
+    (λ out took. not_over c.args.self.now c.respond_to_body.new.self c.args.received.now out c.if-self.false
     (rw c.in-Packet.is (rw right (subst (λ (body : List ℕ). takes body out) c.as_slice.ensures took)))))
-    c.take_body.ensures
+    c.respond_to_body.ensures

@@ -1,7 +1,7 @@
 use Rattle.std.proofs.Common.{◌-◌, ap, arith}
 use Rattle.rv_trace.specs.Machine.{state_of}
 use Rattle.rv_history.proofs.Reaching.{run_from, within_budget}
-use Rattle.rv_history.proofs.machine_at.MachineAt.go_to.Goals as goal
+use Rattle.rv_history.proofs.machine_at.MachineAt.run_to_step.Goals as goal
 
 pub overflow_add-self : goal.overflow_add-self
 overflow_add-self c =

@@ -1,9 +1,9 @@
 use Rattle.std.proofs.Common.{◌≡◌, ◌∙◌, ◌+◌, ◌<◌, ℕ, List, ap, arith, drop, length, length-drop, sym}
 use Rattle.std.proofs.lemmas.Bool.Decides.{nat_tests}
-use Rattle.rv_report.specs.LenientReport.{gather_rows, with_unfinished_row}
+use Rattle.rv_report.specs.LenientReport.{state_after_text, with_unfinished_row}
 use Rattle.rv_report.specs.View.{reader_state_view}
 use Rattle.rv_report.proofs.FieldLoops.{said_step, said_end}
-use Rattle.rv_report.proofs.gathering.gather_rows.Goals as goal
+use Rattle.rv_report.proofs.gathering.read_rows.Goals as goal
 
 pub loop-rest-preserved : goal.loop-rest-preserved
 loop-rest-preserved c =
@@ -15,7 +15,7 @@ loop-rest-preserved c =
     ∙ c.loop-rest.invariant
 
 pub returns : goal.returns
-unfolding gather_rows
+unfolding state_after_text
 returns c =
     let rest = c.loop-rest.rest.now in
     let none : length rest ≡ 0 = grind (arith, nat_tests) in

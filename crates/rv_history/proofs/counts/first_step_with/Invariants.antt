@@ -2,7 +2,7 @@ use Rattle.rv_trace.specs.Machine.{state_of}
 use Rattle.rv_history.specs.Places.{IsReached}
 use Rattle.rv_history.specs.Starts.{start_of}
 use Rattle.rv_history.proofs.Counting.{LacksUpTo}
-use Rattle.rv_history.proofs.counts.first_with.Given as goal
+use Rattle.rv_history.proofs.counts.first_step_with.Given as goal
 
 abbrev pub invariant-loop-place : goal.invariant-loop-place
 invariant-loop-place l = record {

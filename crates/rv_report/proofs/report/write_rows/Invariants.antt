@@ -1,7 +1,7 @@
 use Rattle.std.proofs.Common.{◌≡◌, take, string_bytes}
 use Rattle.rv_report.specs.Report.{rows_text}
 use Rattle.rv_base.specs.Sinks.{IsPartlyWritten}
-use Rattle.rv_report.proofs.report.put_rows.Given as goal
+use Rattle.rv_report.proofs.report.write_rows.Given as goal
 
 abbrev pub invariant-loop-place : goal.invariant-loop-place
 invariant-loop-place g l = record {

@@ -4,7 +4,7 @@ use Rattle.rv_trace.specs.Run.{step_of}
 use Rattle.rv_history.specs.Starts.{start_of}
 use Rattle.rv_history.proofs.Counting.{result_at_budget, found_here, lacks_more, none_at_budget, none_at_end, step_ended, step_went, told_here}
 use Rattle.rv_history.proofs.Reaching.{at_start, next_place}
-use Rattle.rv_history.proofs.counts.first_with.Goals as goal
+use Rattle.rv_history.proofs.counts.first_step_with.Goals as goal
 
 pub loop-place-init : goal.loop-place-init
 loop-place-init c = record {

@@ -1,5 +1,5 @@
 use Rattle.std.proofs.Common.{inr, rules}
-use Rattle.rv_gdb.proofs.conversation.answer_byte.Goals as goal
+use Rattle.rv_gdb.proofs.conversation.respond_to_byte.Goals as goal
 
 pub returns-clause-answered : goal.returns-clause-answered
 returns-clause-answered g c = inr (record {

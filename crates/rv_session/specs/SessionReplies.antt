@@ -5,7 +5,7 @@ use Rattle.std.specs.Int.{w32, to_be_bytes}
 use Rattle.std.specs.List.{flat_map}
 use Rattle.std.specs.Str.{bytes_eq}
 use Rattle.hex.specs.Hex.{encode_lower}
-use Rattle.rv_history.specs.Counts.{IsFirstStepWith, IsFound}
+use Rattle.rv_history.specs.Counts.{IsFirstStepWith, IsFirstStepIfAny}
 use Rattle.rv_history.specs.Places.{last_step}
 use Rattle.rv_history.specs.declared.counts.Count.{Count}
 use Rattle.rv_history.specs.declared.counts.Count.TheVariants as count
@@ -25,8 +25,8 @@ use Rattle.rv_gdb_protocol.specs.declared.request.Stoppoint.{Stoppoint}
 use Rattle.rv_gdb_protocol.specs.declared.stop.Stop.TheVariants as stop
 use Rattle.rv_gdb_protocol.specs.declared.target.TheConstants.{TARGET}
 use Rattle.rv_session.specs.Memory.{bytes_from, has_bytes_at}
-use Rattle.rv_session.specs.Replies.{granted, ok_if, printing, refused, with_body, silent}
-use Rattle.rv_session.specs.Sessions.{at_place, here}
+use Rattle.rv_session.specs.Replies.{granted, ok_if, with_console, refused, with_body, empty_reply}
+use Rattle.rv_session.specs.Sessions.{at_step, here}
 use Rattle.rv_session.specs.Stoppoints.{IsStoppointAdded, without_stoppoint}
 use Rattle.rv_session.specs.declared.monitor.TheConstants.{HELP}
 use Rattle.rv_session.specs.declared.reply.Reply.{Reply}
@@ -62,8 +62,8 @@ abbrev pub memory_reply : List ℕ → Reply
 memory_reply bytes = if length bytes == 0 then refused refusal.Failed else with_body (encode_lower bytes)
 
 -- the beginning of a reply about a file: `F`, the number as eight hexadecimal digits, and `;`
-abbrev pub counted : ℕ → List ℕ
-counted number = codes "F" ++ (encode_lower (to_be_bytes w32 number) ++ codes ";")
+abbrev pub file_reply_prefix : ℕ → List ℕ
+file_reply_prefix number = codes "F" ++ (encode_lower (to_be_bytes w32 number) ++ codes ";")
 
 -- the maximum number of bytes of the image file in one reply
 abbrev pub max_file_part : ℕ
@@ -75,7 +75,7 @@ file_part image part = take (min max_file_part part.count) (drop part.offset ima
 
 -- the reply with these bytes of the image file, preceded by their number
 abbrev pub file_reply : List ℕ → Reply
-file_reply bytes = with_body (counted (length bytes) ++ bytes)
+file_reply bytes = with_body (file_reply_prefix (length bytes) ++ bytes)
 
 -- the 16 words of gdb's `struct stat` for a file of this size: the third is the mode of a readable file, the ninth the size, and the others
 -- are 0
@@ -84,29 +84,29 @@ stat_words size = 0 ∷ 0 ∷ 0x8124 ∷ 0 ∷ 0 ∷ 0 ∷ 0 ∷ 0 ∷ size ∷ 
 
 -- the reply to `vFile:fstat`, for a file of this size
 abbrev pub size_reply : ℕ → Reply
-size_reply size = with_body (counted 64 ++ flat_map (to_be_bytes w32) (stat_words (shown_count size)))
+size_reply size = with_body (file_reply_prefix 64 ++ flat_map (to_be_bytes w32) (stat_words (shown_count size)))
 
 -- the reply to a request whose reply is the same in every session; an empty reply for any other request
 abbrev pub common_reply : Request → Reply
 common_reply request = with_body (unwrap_or (fixed_reply request) [])
 
 -- the reply to a request that does not change the session
-abbrev pub shown_reply : Session → Request → Reply
-shown_reply session ask.LastStop = with_body (stop_text session.last)
-shown_reply session ask.Registers = with_body (current_registers session)
-shown_reply session (ask.Register register) = with_body (register_text (value_of session register))
-shown_reply session (ask.ReadMemory range) = memory_reply (bytes_from (here session).bus range)
-shown_reply session (ask.Description part) = with_body (part_text TARGET.now part)
-shown_reply session (ask.ImagePath part) = with_body (part_text session.program.path part)
-shown_reply session (ask.OpenFile path) =
+abbrev pub read_only_reply : Session → Request → Reply
+read_only_reply session ask.LastStop = with_body (stop_text session.last)
+read_only_reply session ask.Registers = with_body (current_registers session)
+read_only_reply session (ask.Register register) = with_body (register_text (value_of session register))
+read_only_reply session (ask.ReadMemory range) = memory_reply (bytes_from (here session).bus range)
+read_only_reply session (ask.Description part) = with_body (part_text TARGET.now part)
+read_only_reply session (ask.ImagePath part) = with_body (part_text session.program.path part)
+read_only_reply session (ask.OpenFile path) =
     if bytes_eq session.program.path path then with_body (codes "F5") else refused refusal.OtherFile
-shown_reply session ask.FileSize = size_reply (length session.program.image)
-shown_reply session (ask.ReadFile part) = file_reply (file_part session.program.image part)
-shown_reply session (ask.WriteRegisters bytes) =
+read_only_reply session ask.FileSize = size_reply (length session.program.image)
+read_only_reply session (ask.ReadFile part) = file_reply (file_part session.program.image part)
+read_only_reply session (ask.WriteRegisters bytes) =
     ok_if (bytes_eq (current_registers session) (encode_lower bytes)) refusal.WouldChange
-shown_reply session (ask.WriteMemory address bytes) =
+read_only_reply session (ask.WriteMemory address bytes) =
     ok_if (has_bytes_at (here session).bus address bytes) refusal.WouldChange
-shown_reply session request = common_reply request
+read_only_reply session request = common_reply request
 
 -- ---- commands
 
@@ -131,7 +131,7 @@ abbrev pub IsSeekResult : Bool → Session → Count → ℕ → Session → Typ
 IsSeekResult true session count value next =
     IsFirstStepWith count value session.history.budget session.history.start next.history.place
 IsSeekResult false session count value next =
-    IsFound count value session.history.budget session.history.start None × (next ≡ session)
+    IsFirstStepIfAny count value session.history.budget session.history.start None × (next ≡ session)
 
 -- a request to move to the first step at which `count` has this value: the reply is `OK` if there is such a step; otherwise it is a
 -- refusal, and the session is unchanged
@@ -139,13 +139,13 @@ pub record IsSeekHandled (session : Session) (count : Count) (value : ℕ) (repl
   pub is_granted : Bool
   pub reply_is : reply ≡ ok_if is_granted refusal.NotReached
   pub sought : IsSeekResult is_granted session count value next
-  pub run : next ≡ at_place session next.history.place
+  pub run : next ≡ at_step session next.history.place
 
 -- a request to move to the step `place`: the reply is `OK` if the run reaches it; otherwise it is a refusal, and the session is unchanged
 abbrev pub IsStepSeekHandled : Session → ℕ → Reply → Session → Type 0
 IsStepSeekHandled session place reply next =
     (reply ≡ ok_if (nat_le place (last_step session.history.budget session.history.start)) refusal.NotReached)
-    × (next ≡ (if nat_le place (last_step session.history.budget session.history.start) then at_place session place else session))
+    × (next ≡ (if nat_le place (last_step session.history.budget session.history.start) then at_step session place else session))
 
 -- a write to a register: if it is a register of the hart, the write is granted only if the value does not change; if it is a count of the
 -- run, the session moves to the first step at which the count has the value
@@ -170,27 +170,27 @@ pub record IsStoppointSet (session : Session) (place : Stoppoint) (reply : Reply
 
 -- the reply to a `monitor` command: `OK` for a reset, and otherwise its output followed by `OK`
 abbrev pub command_reply : Session → List ℕ → Reply
-command_reply session text = if is_reset text then granted else printing (command_text session text) (codes "OK")
+command_reply session text = if is_reset text then granted else with_console (command_text session text) (codes "OK")
 
 -- `reply` is the reply to the `monitor` command `text`, and `next` is the session after it: at step 0 after a reset, and unchanged
 -- otherwise
 abbrev pub IsCommandHandled : Session → List ℕ → Reply → Session → Type 0
 IsCommandHandled session text reply next =
-    (reply ≡ command_reply session text) × (next ≡ (if is_reset text then at_place session 0 else session))
+    (reply ≡ command_reply session text) × (next ≡ (if is_reset text then at_step session 0 else session))
 
 -- `reply` is the reply to the request, and `next` is the session after it; a requested move is only recorded, and its reply follows once it
 -- has been made
-abbrev pub IsAnswered : Session → Request → Reply → Session → Type 0
-IsAnswered session (ask.Move requested) reply next = (reply ≡ silent) × (next ≡ record session { requested = Some requested })
-IsAnswered session (ask.WriteRegister register value) reply next = IsRegisterWriteHandled session register value reply next
-IsAnswered session (ask.Set place) reply next = IsStoppointSet session place reply next
-IsAnswered session (ask.Clear place) reply next =
+abbrev pub IsReply : Session → Request → Reply → Session → Type 0
+IsReply session (ask.Move requested) reply next = (reply ≡ empty_reply) × (next ≡ record session { requested = Some requested })
+IsReply session (ask.WriteRegister register value) reply next = IsRegisterWriteHandled session register value reply next
+IsReply session (ask.Set place) reply next = IsStoppointSet session place reply next
+IsReply session (ask.Clear place) reply next =
     (reply ≡ granted) × (next ≡ record session { stops = without_stoppoint session.stops place })
-IsAnswered session (ask.Command text) reply next = IsCommandHandled session text reply next
-IsAnswered session ask.Restart reply next =
-    (reply ≡ with_body (stop_text stop.Trap)) × (next ≡ record (at_place session 0) { last = stop.Trap })
-IsAnswered session ask.NoAcknowledgements reply next = (reply ≡ granted) × (next ≡ record session { acknowledges = false })
-IsAnswered session ask.Detach reply next = (reply ≡ granted) × (next ≡ record session { is_over = true })
-IsAnswered session ask.Kill reply next =
-    (reply ≡ silent) × (next ≡ record session { is_over = true })
-IsAnswered session request reply next = (reply ≡ shown_reply session request) × (next ≡ session)
+IsReply session (ask.Command text) reply next = IsCommandHandled session text reply next
+IsReply session ask.Restart reply next =
+    (reply ≡ with_body (stop_text stop.Trap)) × (next ≡ record (at_step session 0) { last = stop.Trap })
+IsReply session ask.NoAcknowledgements reply next = (reply ≡ granted) × (next ≡ record session { acknowledges = false })
+IsReply session ask.Detach reply next = (reply ≡ granted) × (next ≡ record session { is_over = true })
+IsReply session ask.Kill reply next =
+    (reply ≡ empty_reply) × (next ≡ record session { is_over = true })
+IsReply session request reply next = (reply ≡ read_only_reply session request) × (next ≡ session)

@@ -2,7 +2,7 @@ use Rattle.std.proofs.Common.{◌≡◌, [], length}
 use Rattle.rv_report.specs.declared.saved.Extent.TheVariants.{Whole}
 use Rattle.rv_report.specs.LenientReport.{lines, with_lines, state_between_rows}
 use Rattle.rv_report.specs.View.{reader_state_view}
-use Rattle.rv_report.proofs.gathering.gather_rows.Given as goal
+use Rattle.rv_report.proofs.gathering.read_rows.Given as goal
 
 abbrev pub invariant-loop-rest : goal.invariant-loop-rest
 invariant-loop-rest l =

@@ -1,9 +1,9 @@
 use Rattle.std.proofs.Common.{is_ok, ltb, rules}
 use Rattle.std.proofs.lemmas.List.Elements.{All-same, All-take}
 use Rattle.rv_history.specs.declared.machine_at.MachineAt.{MachineAt}
-use Rattle.rv_history.specs.Kept.{IsAt}
+use Rattle.rv_history.specs.StoredStates.{IsAt}
 use Rattle.rv_history.proofs.CurrentVerdict.{all_filtered, all_inserted, before_place, falling_some, kept_falling}
-use Rattle.rv_history.proofs.checkpoint_list.CheckpointList.keep.Goals as goal
+use Rattle.rv_history.proofs.checkpoint_list.CheckpointList.store.Goals as goal
 
 pub returns-in_err-insert : goal.returns-in_err-insert
 returns-in_err-insert c = λ start all is.

@@ -2,7 +2,7 @@ use Rattle.std.proofs.Common.{ℕ, arith, subst}
 use Rattle.rv_trace.specs.Machine.{state_of}
 use Rattle.rv_history.specs.Places.{IsReached}
 use Rattle.rv_history.proofs.Reaching.{comes, within_budget}
-use Rattle.rv_history.proofs.history.History.arrive.Goals as goal
+use Rattle.rv_history.proofs.history.History.finish_search.Goals as goal
 
 pub machine_at_step-requires : goal.machine_at_step-requires
 machine_at_step-requires c =

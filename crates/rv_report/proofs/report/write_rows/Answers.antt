@@ -5,7 +5,7 @@ use Rattle.rv_base.proofs.Public.{beginning_of_longer, failed_under_way, more_un
 use Rattle.rv_report.proofs.RowSender.{rows_more}
 use Rattle.rv_report.proofs.RowSender.{rows_split}
 use Rattle.rv_base.proofs.Public.{stopped_under_way}
-use Rattle.rv_report.proofs.report.put_rows.Goals as goal
+use Rattle.rv_report.proofs.report.write_rows.Goals as goal
 
 pub loop-place-init : goal.loop-place-init
 unfolding rows_text
