@@ -13,10 +13,10 @@ use Rattle.rv_accept.proofs.Elements.{all_left, all_right, any_last, any_left, n
 use Rattle.rv_accept.specs.GoldenTexts.{golden_text_if_named, golden_texts_of_run, golden_texts_of_runs, text_if}
 use Rattle.rv_accept.specs.GoldenOutcomes.{outcome_of_golden_file, is_for_file}
 use Rattle.rv_accept.specs.Runs.{is_accepted_run}
-use Rattle.rv_accept.specs.Targets.{is_accepted_entry, is_target, target_of, with_target}
+use Rattle.rv_accept.specs.Targets.{is_accepted_entry, has_target, target_of, with_target}
 use Rattle.rv_accept.specs.declared.golden_texts.GoldenText.{GoldenText}
-use Rattle.rv_accept.specs.declared.golden_texts.Part.{Part}
-use Rattle.rv_accept.specs.declared.golden_texts.Part.TheVariants as part
+use Rattle.rv_accept.specs.declared.golden_texts.GoldenKind.{GoldenKind}
+use Rattle.rv_accept.specs.declared.golden_texts.GoldenKind.TheVariants as part
 use Rattle.rv_accept.specs.declared.runs.JobRun.{JobRun}
 use Rattle.rv_accept.specs.declared.targets.Target.{Target}
 
@@ -41,7 +41,7 @@ module _ (P : GoldenText → Type 0) where
       (all_right P (golden_texts_of_run from other first) (golden_texts_of_runs (from + 1) jobs runs) each) at ran)
 
   -- and of that on a file that is named
-  claim_named : (place : ℕ) (part : Part) (text : Option (List ℕ)) (named : Option (List ℕ)) (path : List ℕ)
+  claim_named : (place : ℕ) (part : GoldenKind) (text : Option (List ℕ)) (named : Option (List ℕ)) (path : List ℕ)
       → named ≡ Some path → All P (golden_text_if_named place part text named)
       → P (record { job = place; part = part; path = path; text = text })
   claim_named place part text None path is each = cc
@@ -108,16 +108,16 @@ signature_claim_among P place jobs runs job run path each at ran accepted named 
 
 -- a target stays one
 one_more_stays : (path : List ℕ) (runs : List (Option JobRun)) (claims : List GoldenText) (targets : List Target)
-    (claim : GoldenText) → is_target path targets ≡ true → is_target path (with_target runs claims targets claim) ≡ true
+    (claim : GoldenText) → has_target path targets ≡ true → has_target path (with_target runs claims targets claim) ≡ true
 one_more_stays path runs claims targets claim is =
-    go (is_accepted_entry (slice_get runs claim.job) && not (is_target claim.path targets))
+    go (is_accepted_entry (slice_get runs claim.job) && not (has_target claim.path targets))
   where
-    go : (added : Bool) → is_target path (if added then targets ++ target_of claims claim ∷ [] else targets) ≡ true
+    go : (added : Bool) → has_target path (if added then targets ++ target_of claims claim ∷ [] else targets) ≡ true
     go true = any_left (λ target. bytes_eq path target.path) targets _ is
     go false = is
 
 stays : (path : List ℕ) (runs : List (Option JobRun)) (claims rest : List GoldenText) (targets : List Target)
-    → is_target path targets ≡ true → is_target path (fold (with_target runs claims) targets rest) ≡ true
+    → has_target path targets ≡ true → has_target path (fold (with_target runs claims) targets rest) ≡ true
 stays path runs claims [] targets is = is
 stays path runs claims (claim ∷ rest) targets is = stays path runs claims rest (with_target runs claims targets claim)
     (one_more_stays path runs claims targets claim is)
@@ -133,8 +133,8 @@ both false b holds = cc
 
 -- makes its file a target
 added : (path : List ℕ) (runs : List (Option JobRun)) (claims : List GoldenText) (targets : List Target) (claim : GoldenText)
-    → is_accepted_claim runs path claim ≡ true → is_target path (with_target runs claims targets claim) ≡ true
-added path runs claims targets claim is = go (is_target claim.path targets) refl
+    → is_accepted_claim runs path claim ≡ true → has_target path (with_target runs claims targets claim) ≡ true
+added path runs claims targets claim is = go (has_target claim.path targets) refl
   where
     parts : (is_for_file path claim ≡ true) × (is_accepted_entry (slice_get runs claim.job) ≡ true)
     parts = both (is_for_file path claim) _ is
@@ -142,24 +142,24 @@ added path runs claims targets claim is = go (is_target claim.path targets) refl
     same : path ≡ claim.path
     same = (bytes_eq-Decides path claim.path).0 parts.0
 
-    go : (there : Bool) → is_target claim.path targets ≡ there
-        → is_target path (if is_accepted_entry (slice_get runs claim.job) && not there
+    go : (there : Bool) → has_target claim.path targets ≡ there
+        → has_target path (if is_accepted_entry (slice_get runs claim.job) && not there
         then targets ++ target_of claims claim ∷ [] else targets) ≡ true
     go true is = rw parts.1 (rw same is)
     go false is = rw parts.1 (any_last (λ target. bytes_eq path target.path) targets (target_of claims claim) parts.0)
 
 becomes : (path : List ℕ) (runs : List (Option JobRun)) (claims rest : List GoldenText) (targets : List Target)
     → list_any (is_accepted_claim runs path) rest ≡ true
-    → is_target path (fold (with_target runs claims) targets rest) ≡ true
+    → has_target path (fold (with_target runs claims) targets rest) ≡ true
 becomes path runs claims [] targets some = cc
 becomes path runs claims (claim ∷ rest) targets some = go (is_accepted_claim runs path claim) refl
     (becomes path runs claims rest (with_target runs claims targets claim)) some
   where
     go : (passes : Bool) → is_accepted_claim runs path claim ≡ passes
         → (list_any (is_accepted_claim runs path) rest ≡ true
-        → is_target path (fold (with_target runs claims) (with_target runs claims targets claim) rest) ≡ true)
+        → has_target path (fold (with_target runs claims) (with_target runs claims targets claim) rest) ≡ true)
         → (passes || list_any (is_accepted_claim runs path) rest) ≡ true
-        → is_target path (fold (with_target runs claims) (with_target runs claims targets claim) rest) ≡ true
+        → has_target path (fold (with_target runs claims) (with_target runs claims targets claim) rest) ≡ true
     go true is behind some =
         stays path runs claims rest (with_target runs claims targets claim) (added path runs claims targets claim is)
     go false is behind some = behind some
@@ -183,7 +183,7 @@ accepted_claim runs place run path ran accepted = rw ((bytes_eq-Decides path pat
 pub console_is_target : (place : ℕ) (jobs : List Job) (runs : List (Option JobRun)) (job : Job) (run : JobRun)
     (path : List ℕ) → slice_get jobs place ≡ Some job → slice_get runs place ≡ Some (Some run)
     → is_accepted_run run ≡ true → console_path job.expect_console ≡ Some path
-    → is_target path (fold (with_target runs (golden_texts_of_runs 0 jobs runs)) [] (golden_texts_of_runs 0 jobs runs)) ≡ true
+    → has_target path (fold (with_target runs (golden_texts_of_runs 0 jobs runs)) [] (golden_texts_of_runs 0 jobs runs)) ≡ true
 console_is_target place jobs runs job run path at ran accepted named =
     becomes path runs (golden_texts_of_runs 0 jobs runs) (golden_texts_of_runs 0 jobs runs) []
     (found (is_accepted_claim runs path) (golden_texts_of_runs 0 jobs runs) (console_claim place run path)
@@ -194,7 +194,7 @@ console_is_target place jobs runs job run path at ran accepted named =
 pub signature_is_target : (place : ℕ) (jobs : List Job) (runs : List (Option JobRun)) (job : Job) (run : JobRun)
     (path : List ℕ) → slice_get jobs place ≡ Some job → slice_get runs place ≡ Some (Some run)
     → is_accepted_run run ≡ true → job.expect_signature ≡ Some path
-    → is_target path (fold (with_target runs (golden_texts_of_runs 0 jobs runs)) [] (golden_texts_of_runs 0 jobs runs)) ≡ true
+    → has_target path (fold (with_target runs (golden_texts_of_runs 0 jobs runs)) [] (golden_texts_of_runs 0 jobs runs)) ≡ true
 signature_is_target place jobs runs job run path at ran accepted named =
     becomes path runs (golden_texts_of_runs 0 jobs runs) (golden_texts_of_runs 0 jobs runs) []
     (found (is_accepted_claim runs path) (golden_texts_of_runs 0 jobs runs) (signature_claim place run path)
@@ -210,7 +210,7 @@ HasFate claims target = target.fate ≡ outcome_of_golden_file target.path claim
 one_more_fate : (runs : List (Option JobRun)) (claims : List GoldenText) (targets : List Target) (claim : GoldenText)
     → All (HasFate claims) targets → All (HasFate claims) (with_target runs claims targets claim)
 one_more_fate runs claims targets claim each =
-    go (is_accepted_entry (slice_get runs claim.job) && not (is_target claim.path targets))
+    go (is_accepted_entry (slice_get runs claim.job) && not (has_target claim.path targets))
   where
     go : (added : Bool) → All (HasFate claims) (if added then targets ++ target_of claims claim ∷ [] else targets)
     go true = All-append (HasFate claims) targets _ each

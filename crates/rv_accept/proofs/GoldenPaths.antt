@@ -9,9 +9,9 @@ use Rattle.rv_rows.specs.Jobs.{console_path}
 use Rattle.rv_rows.specs.declared_job.Job.{Job}
 use Rattle.rv_accept.specs.GoldenTexts.{golden_text_if_named, golden_texts_of_run, golden_texts_of_runs}
 use Rattle.rv_accept.specs.Sharing.{is_same_path, names_golden_file}
-use Rattle.rv_accept.specs.Targets.{is_accepted_entry, is_target, target_of, with_target}
+use Rattle.rv_accept.specs.Targets.{is_accepted_entry, has_target, target_of, with_target}
 use Rattle.rv_accept.specs.declared.golden_texts.GoldenText.{GoldenText}
-use Rattle.rv_accept.specs.declared.golden_texts.Part.{Part}
+use Rattle.rv_accept.specs.declared.golden_texts.GoldenKind.{GoldenKind}
 use Rattle.rv_accept.specs.declared.runs.JobRun.{JobRun}
 use Rattle.rv_accept.specs.declared.targets.Target.{Target}
 
@@ -33,7 +33,7 @@ or_right false b holds = holds
 same_bytes : (bytes : List ℕ) → bytes_eq bytes bytes ≡ true
 same_bytes bytes = (bytes_eq-Decides bytes bytes).1 refl
 
-if_named : (jobs : List Job) (place : ℕ) (part : Part) (text path : Option (List ℕ))
+if_named : (jobs : List Job) (place : ℕ) (part : GoldenKind) (text path : Option (List ℕ))
     → ((named : List ℕ) → path ≡ Some named → list_any (names_golden_file named) jobs ≡ true)
     → All (OfClaim jobs) (golden_text_if_named place part text path)
 if_named jobs place part text None names = All-nil (OfClaim jobs)
@@ -67,7 +67,7 @@ one_more_target : (jobs : List Job) (runs : List (Option JobRun)) (claims : List
     (claim : GoldenText) → All (OfTarget jobs) targets → OfClaim jobs claim
     → All (OfTarget jobs) (with_target runs claims targets claim)
 one_more_target jobs runs claims targets claim each is =
-    go (is_accepted_entry (slice_get runs claim.job) && not (is_target claim.path targets))
+    go (is_accepted_entry (slice_get runs claim.job) && not (has_target claim.path targets))
   where
     go : (added : Bool) → All (OfTarget jobs) (if added then targets ++ target_of claims claim ∷ [] else targets)
     go true = All-append (OfTarget jobs) targets _ each

@@ -26,7 +26,7 @@ has_other_text path text claim = is_for_file path claim && not (is_text text cla
 -- the outcome for a golden file to which `job` gives this text: the text, or that the job of the other golden text gives it a different one
 abbrev pub outcome_unless_another : ℕ → List ℕ → Option GoldenText → GoldenFileOutcome
 outcome_unless_another job text None = fate.Agreed text
-outcome_unless_another job text (Some other) = fate.Differ job other.job
+outcome_unless_another job text (Some other) = fate.Disagree job other.job
 
 -- the outcome for the golden file at the path, to which its first job `job` gives this text: the text, or that two jobs differ, or that
 -- `job` was skipped

@@ -5,8 +5,8 @@ use Rattle.rv_rows.specs.Jobs.{console_path}
 use Rattle.rv_rows.specs.declared_row.Row.{Row}
 use Rattle.rv_rows.specs.Verdict.{lines_of_signature}
 use Rattle.rv_accept.specs.declared.golden_texts.GoldenText.{GoldenText}
-use Rattle.rv_accept.specs.declared.golden_texts.Part.{Part}
-use Rattle.rv_accept.specs.declared.golden_texts.Part.TheVariants as part
+use Rattle.rv_accept.specs.declared.golden_texts.GoldenKind.{GoldenKind}
+use Rattle.rv_accept.specs.declared.golden_texts.GoldenKind.TheVariants as part
 use Rattle.rv_accept.specs.declared.runs.JobRun.{JobRun}
 
 -- the text if the Bool is true, or else `None`
@@ -14,7 +14,7 @@ abbrev pub text_if : Bool → List ℕ → Option (List ℕ)
 text_if accepted text = if accepted then Some text else None
 
 -- the golden text of the job at index `job` for the file at this path, as a list; empty if no path is named
-abbrev pub golden_text_if_named : ℕ → Part → Option (List ℕ) → Option (List ℕ) → List GoldenText
+abbrev pub golden_text_if_named : ℕ → GoldenKind → Option (List ℕ) → Option (List ℕ) → List GoldenText
 golden_text_if_named job part text None = []
 golden_text_if_named job part text (Some path) = record { job = job; part = part; path = path; text = text } ∷ []
 

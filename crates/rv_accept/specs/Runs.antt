@@ -59,8 +59,8 @@ judged_run asked job candidate row = record {
 }
 
 -- the first row if the job is selected, or else `None`
-abbrev pub row_if : Bool → List Row → Option Row
-row_if marked rows = if marked then slice_get rows 0 else None
+abbrev pub row_if_selected : Bool → List Row → Option Row
+row_if_selected marked rows = if marked then slice_get rows 0 else None
 
 -- the rows of the jobs after this one: all but the first row if the job is selected, or else all
 abbrev pub rows_after : Bool → List Row → List Row
@@ -69,7 +69,7 @@ rows_after marked rows = if marked then drop 1 rows else rows
 -- one entry for each job: its row if it is selected, or else `None`; the second list has the rows of the selected jobs, in order
 unfoldable pub indexed_rows : List Bool → List Row → List (Option Row)
 indexed_rows [] rows = []
-indexed_rows (marked ∷ marks) rows = row_if marked rows ∷ indexed_rows marks (rows_after marked rows)
+indexed_rows (marked ∷ marks) rows = row_if_selected marked rows ∷ indexed_rows marks (rows_after marked rows)
 
 -- the row at an index, or `None` if the index is past the end or has no row
 abbrev pub row_or_none : Option (Option Row) → Option Row

@@ -14,8 +14,8 @@ is_accepted_entry (Some (Some run)) = is_accepted_run run
 is_accepted_entry _ = false
 
 -- whether the list already has the golden file at the path
-abbrev pub is_target : List ℕ → List Target → Bool
-is_target path targets = list_any (λ target. bytes_eq path target.path) targets
+abbrev pub has_target : List ℕ → List Target → Bool
+has_target path targets = list_any (λ target. bytes_eq path target.path) targets
 
 -- the golden file of a golden text, with the outcome for this file
 abbrev pub target_of : List GoldenText → GoldenText → Target
@@ -29,5 +29,5 @@ target_of claims claim = record {
 -- the list with the golden file of this golden text added, if the text's job is accepted and the list does not have the file yet
 abbrev pub with_target : List (Option JobRun) → List GoldenText → List Target → GoldenText → List Target
 with_target runs claims targets claim =
-    if is_accepted_entry (slice_get runs claim.job) && not (is_target claim.path targets)
+    if is_accepted_entry (slice_get runs claim.job) && not (has_target claim.path targets)
     then targets ++ target_of claims claim ∷ [] else targets

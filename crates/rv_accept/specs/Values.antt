@@ -21,15 +21,15 @@ value_key_name key.End = codes "expect_end"
 value_key_name key.Console = codes "expect_console"
 
 -- whether the console equals the text that the list contains; true if the list contains no text
-abbrev pub has_text : Option ExpectedConsole → List ℕ → Bool
-has_text (Some (Text bytes)) console = bytes_eq bytes console
-has_text _ console = true
+abbrev pub has_expected_text : Option ExpectedConsole → List ℕ → Bool
+has_expected_text (Some (Text bytes)) console = bytes_eq bytes console
+has_expected_text _ console = true
 
 -- whether the value of this key changes when the job is accepted with this row
 abbrev pub is_value_changed : ValueKey → Job → Row → Bool
 is_value_changed key.Exit job row = not (has_expected_exit job.expect_exit row.ending)
 is_value_changed key.End job row = not (has_expected_end job.expect_end row.ending)
-is_value_changed key.Console job row = not (has_text job.expect_console row.console)
+is_value_changed key.Console job row = not (has_expected_text job.expect_console row.console)
 
 -- the new value of this key in TOML; empty if the run has no value for it
 unfoldable pub new_value_text : ValueKey → RowEnd → List ℕ → List ℕ

@@ -16,7 +16,7 @@ pub enum GoldenFileOutcome {
     /// It is skipped, since the job at this index names it and was skipped.
     SkippedBy(usize),
     /// It is skipped, since the jobs at these two indices give it different texts.
-    Differ(usize, usize),
+    Disagree(usize, usize),
     /// It gets this text, on which all jobs that name it agree.
     Agreed(Bytes),
 }
@@ -67,7 +67,7 @@ fn outcome_of_given_text(
     };
     let text = text.as_slice();
     match first_other_text(path, text, claims) {
-        Some(other) => Ok(GoldenFileOutcome::Differ(first.job, other.job)),
+        Some(other) => Ok(GoldenFileOutcome::Disagree(first.job, other.job)),
         None => Ok(GoldenFileOutcome::Agreed(Bytes::new(text.to_vec(alloc)?))),
     }
 }

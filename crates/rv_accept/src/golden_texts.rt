@@ -13,7 +13,7 @@ use std::alloc::{AllocError, Global};
 
 /// Which result of a run a golden file contains.
 #[derive(Clone, Copy, Debug, PartialEq, Eq)]
-pub enum Part {
+pub enum GoldenKind {
     /// The console's bytes: the key `expect_console_file`.
     Console,
     /// The signature's lines: the key `expect_signature`.
@@ -25,7 +25,7 @@ pub enum Part {
 pub struct GoldenText {
     /// The index of the job in the list, counted from 0.
     pub job: usize,
-    pub part: Part,
+    pub part: GoldenKind,
     pub path: Text,
     /// `None` if the job was skipped.
     pub text: Option<Bytes>,
@@ -45,11 +45,11 @@ fn push_golden_texts(
     let (job, row) = ran;
     if let Some(path) = console_path(job) {
         let text = console_if_accepted(alloc, is_accepted, row)?;
-        push_golden_text(alloc, claims, (place, Part::Console), path, text)?;
+        push_golden_text(alloc, claims, (place, GoldenKind::Console), path, text)?;
     }
     if let Some(path) = &job.expect_signature {
         let text = signature_if_accepted(alloc, is_accepted, row)?;
-        push_golden_text(alloc, claims, (place, Part::Signature), path.as_str(), text)?;
+        push_golden_text(alloc, claims, (place, GoldenKind::Signature), path.as_str(), text)?;
     }
     Ok(())
 }
@@ -125,7 +125,7 @@ pub fn console_path(job: &Job) -> Option<&str>
 fn push_golden_text(
     alloc: Global,
     claims: &mut Vec<GoldenText>,
-    of: (usize, Part),
+    of: (usize, GoldenKind),
     path: &str,
     text: Option<Bytes>,
 ) -> Result<(), AllocError>

@@ -1,10 +1,10 @@
 //! The golden files that chosen jobs name, and the outcome for each.
 
 ghost use Rattle.std.specs.Prelude.{◌≡◌, [], IfOk, OnOk, fold, option_map, slice_get};
-ghost use Rattle.rv_accept.specs.Targets.{is_accepted_entry, is_target, target_of, with_target};
+ghost use Rattle.rv_accept.specs.Targets.{is_accepted_entry, has_target, target_of, with_target};
 
 use crate::golden_outcomes::{GoldenFileOutcome, outcome_of_golden_file};
-use crate::golden_texts::{GoldenText, Part};
+use crate::golden_texts::{GoldenText, GoldenKind};
 use crate::runs::JobRun;
 use rv_rows::Text;
 use std::alloc::{AllocError, Global};
@@ -16,7 +16,7 @@ pub struct Target {
     /// The index of the first accepted job that names it, counted from 0.
     pub job: usize,
     /// Which result of that job's run it contains.
-    pub part: Part,
+    pub part: GoldenKind,
     /// What happens to it.
     pub fate: GoldenFileOutcome,
 }
@@ -47,7 +47,7 @@ fn add_target(
     ensures { OnOk result (targets.new.items ≡ with_target runs.now claims.now targets.old.items claim.now) }
 {
     if is_accepted_entry(runs.get(claim.job))
-        && !is_target(claim.path.as_str(), targets.as_slice())
+        && !has_target(claim.path.as_str(), targets.as_slice())
     {
         targets.push(target_of(alloc, claim, claims)?)?;
     }
@@ -77,8 +77,8 @@ fn is_accepted_entry(run: Option<&Option<JobRun>>) -> bool
 }
 
 // Whether the list already has the golden file at the path.
-fn is_target(path: &str, targets: &[Target]) -> bool
-    ensures { result ≡ is_target path.now targets.now }
+fn has_target(path: &str, targets: &[Target]) -> bool
+    ensures { result ≡ has_target path.now targets.now }
 {
     targets.iter().any(|target| path == target.path.as_str())
 }

@@ -1,7 +1,7 @@
 //! The values of a list that an accepted run changes.
 
 ghost use Rattle.std.specs.Prelude.{◌≡◌, ◌++◌, OnOk};
-ghost use Rattle.rv_accept.specs.Values.{has_text, is_value_changed, new_value_text, value_key_name};
+ghost use Rattle.rv_accept.specs.Values.{has_expected_text, is_value_changed, new_value_text, value_key_name};
 
 use crate::basic_string::push_basic_string;
 use rv_rows::{
@@ -40,13 +40,13 @@ pub fn is_value_changed(key: ValueKey, job: &Job, row: &Row) -> bool
     match key {
         ValueKey::Exit => !has_expected_exit(job.expect_exit, row.ending),
         ValueKey::End => !has_expected_end(job.expect_end, row.ending),
-        ValueKey::Console => !has_text(&job.expect_console, row.console.as_slice()),
+        ValueKey::Console => !has_expected_text(&job.expect_console, row.console.as_slice()),
     }
 }
 
 // Whether the console equals the text that the list contains; true if the list contains no text.
-fn has_text(expected: &Option<ExpectedConsole>, console: &[u8]) -> bool
-    ensures { result ≡ has_text expected.now console.now }
+fn has_expected_text(expected: &Option<ExpectedConsole>, console: &[u8]) -> bool
+    ensures { result ≡ has_expected_text expected.now console.now }
 {
     match expected {
         Some(ExpectedConsole::Text(text)) => text.as_slice() == console,

@@ -4,7 +4,7 @@ use Rattle.std.specs.Prelude.{slice_get}
 use Rattle.rv_accept.specs.Runs.{is_accepted_run}
 use Rattle.rv_accept.specs.declared.runs.JobRun.{JobRun}
 use Rattle.rv_accept.specs.declared.runs.SkipReason.{SkipReason}
-use Rattle.rv_accept_text.specs.NewLists.{AreSkippedFrom, again, skipped_run, skipped_runs, once, run_or_none}
+use Rattle.rv_accept_text.specs.NewLists.{AreSkippedFrom, two_steps, skipped_run, skipped_runs, one_step, run_or_none}
 
 no : {A : Type 0} → false ≡ true → A
 no is = cc
@@ -46,6 +46,6 @@ kept_run (why ∷ whys) runs (suc place) run is accepted =
 pub accepted_from_the_first : (before after : List (Option JobRun)) (place : ℕ) (run : JobRun)
     → AreSkippedFrom before after → slice_get after place ≡ Some (Some run) → is_accepted_run run ≡ true
     → slice_get before place ≡ Some (Some run)
-accepted_from_the_first before _ place run (once whys) is accepted = kept_run whys before place run is accepted
-accepted_from_the_first before _ place run (again whys more) is accepted =
+accepted_from_the_first before _ place run (one_step whys) is accepted = kept_run whys before place run is accepted
+accepted_from_the_first before _ place run (two_steps whys more) is accepted =
     kept_run whys before place run (kept_run more (skipped_runs whys before) place run is accepted) accepted

@@ -17,7 +17,7 @@ use Rattle.rv_rows.specs.declared_row.RowEnd.TheVariants as ending
 use Rattle.rv_accept.specs.Accepted.{accepted_job, actual_console, actual_end, actual_exit}
 use Rattle.rv_accept.specs.IntendedJobs.{intended_job, intended_jobs}
 use Rattle.rv_accept.specs.Runs.{accepted_row, row_if_accepted}
-use Rattle.rv_accept.specs.Values.{has_text, is_value_changed}
+use Rattle.rv_accept.specs.Values.{has_expected_text, is_value_changed}
 use Rattle.rv_accept.specs.declared.runs.JobRun.{JobRun}
 use Rattle.rv_accept.specs.declared.runs.SkipReason.{SkipReason}
 use Rattle.rv_accept.specs.declared.values.ValueKey.TheVariants as key
@@ -41,7 +41,7 @@ same_end (Some (expected.Fault kind)) (ending.Exit met) holds = refl
 same_end (Some (expected.Fault kind)) ending.Budget holds = refl
 same_end (Some (expected.Fault kind)) (ending.Refused why) holds = refl
 
-same_console : (console : Option ExpectedConsole) (bytes : List ℕ) → has_text console bytes ≡ true
+same_console : (console : Option ExpectedConsole) (bytes : List ℕ) → has_expected_text console bytes ≡ true
     → actual_console console bytes ≡ console
 same_console None bytes holds = refl
 same_console (Some (File path)) bytes holds = refl

@@ -6,7 +6,7 @@ use Rattle.rv_rows.specs.declared_job.Job.{Job}
 use Rattle.rv_rows.specs.Words.{count_text}
 use Rattle.rv_accept.specs.declared.runs.JobRun.{JobRun}
 use Rattle.rv_accept_text.specs.FileLines.{file_line, skipped_file_line}
-use Rattle.rv_accept_text.specs.GoldenFiles.{is_left, new_text}
+use Rattle.rv_accept_text.specs.GoldenFiles.{is_skipped, new_text}
 use Rattle.rv_accept_text.specs.JobLines.{skipped_job_line, value_line}
 use Rattle.rv_accept_text.specs.declared.accepting.AcceptSummary.{AcceptSummary}
 use Rattle.rv_accept_text.specs.declared.accepting.Writing.{Writing}
@@ -62,12 +62,12 @@ is_skipped_job (Some run) = run.is_chosen && is_some run.skipped
 
 -- the number of chosen jobs that were skipped plus the number of golden files that were skipped
 abbrev pub skipped_count : AcceptSummary → ℕ
-skipped_count told = count_by is_skipped_job told.runs.now + count_by (is_left told.list) told.files.now
+skipped_count told = count_by is_skipped_job told.runs.now + count_by (is_skipped told.list) told.files.now
 
 -- ` written, ` if files were written, or else ` would be written, `
 abbrev pub writing_word : Writing → List ℕ
-writing_word writing.Done = codes " written, "
-writing_word writing.Asked = codes " would be written, "
+writing_word writing.Written = codes " written, "
+writing_word writing.CheckOnly = codes " would be written, "
 
 -- the last line of `accept`: how many files were written, or would be written, and how many jobs and files were skipped
 abbrev pub count_line : Writing → ℕ → ℕ → List ℕ

@@ -6,13 +6,13 @@ use Rattle.rv_rows.specs.Printable.{printable_text}
 use Rattle.rv_rows.specs.Words.{count_text}
 use Rattle.rv_accept.specs.GoldenOutcomes.{has_other_text, is_for_file}
 use Rattle.rv_accept.specs.declared.golden_texts.GoldenText.{GoldenText}
-use Rattle.rv_accept.specs.declared.golden_texts.Part.{Part}
-use Rattle.rv_accept.specs.declared.golden_texts.Part.TheVariants as part
+use Rattle.rv_accept.specs.declared.golden_texts.GoldenKind.{GoldenKind}
+use Rattle.rv_accept.specs.declared.golden_texts.GoldenKind.TheVariants as part
 use Rattle.rv_accept.specs.declared.golden_outcomes.GoldenFileOutcome.{GoldenFileOutcome}
 use Rattle.rv_accept.specs.declared.golden_outcomes.GoldenFileOutcome.TheVariants as fate
 use Rattle.rv_accept.specs.declared.targets.Target.{Target}
 use Rattle.rv_accept_text.specs.ChangedTexts.{byte_difference, text_change, word_change}
-use Rattle.rv_accept_text.specs.GoldenFiles.{is_left, new_text}
+use Rattle.rv_accept_text.specs.GoldenFiles.{is_skipped, new_text}
 use Rattle.rv_accept_text.specs.declared.golden_file.GoldenFile.{GoldenFile}
 use Rattle.rv_accept_text.specs.declared.golden_file.ListFile.{ListFile}
 
@@ -21,19 +21,19 @@ abbrev pub job_name : List Job → ℕ → List ℕ
 job_name jobs place = unwrap_or (option_map (λ job. job.name) (slice_get jobs place)) []
 
 -- `console of ` or `signature of `, by the kind of result that a golden file contains
-abbrev pub part_text : Part → List ℕ
-part_text part.Console = codes "console of "
-part_text part.Signature = codes "signature of "
+abbrev pub golden_kind_text : GoldenKind → List ℕ
+golden_kind_text part.Console = codes "console of "
+golden_kind_text part.Signature = codes "signature of "
 
 -- ---- written files
 
 -- the beginning of the line about a golden file: the sign, its path, and that it has the console or the signature of a job
 abbrev pub file_prefix : List ℕ → List Job → Target → List ℕ
-file_prefix sign jobs target = sign ++ printable_text target.path ++ codes ": " ++ part_text target.part
+file_prefix sign jobs target = sign ++ printable_text target.path ++ codes ": " ++ golden_kind_text target.part
     ++ printable_text (job_name jobs target.job)
 
 -- the differences between the old and the new contents of a golden file: of a console by lines or bytes, of a signature by words
-abbrev pub golden_change : Part → List ℕ → List ℕ → List ℕ → List ℕ
+abbrev pub golden_change : GoldenKind → List ℕ → List ℕ → List ℕ → List ℕ
 golden_change part.Console path old new = text_change (printable_text path) old new
 golden_change part.Signature path old new = word_change old new
 
@@ -68,8 +68,8 @@ text_or_empty text = unwrap_or text []
 
 -- the reason that two jobs give a golden file different texts, and where the texts differ
 abbrev pub disagreeing_texts : List Job → GoldenText → GoldenText → List ℕ
-disagreeing_texts jobs first other = part_text first.part ++ printable_text (job_name jobs first.job) ++ codes " and "
-    ++ part_text other.part ++ printable_text (job_name jobs other.job) ++ codes " differ"
+disagreeing_texts jobs first other = golden_kind_text first.part ++ printable_text (job_name jobs first.job) ++ codes " and "
+    ++ golden_kind_text other.part ++ printable_text (job_name jobs other.job) ++ codes " differ"
     ++ byte_difference (text_or_empty first.text) (text_or_empty other.text)
 
 -- the reason that two jobs give a golden file different texts, or only a line end if there is no second job
@@ -91,7 +91,7 @@ disagreement_text jobs claims path = first_text_reason jobs claims path (find (i
 abbrev pub file_skip_reason : List Job → List GoldenText → List ℕ → GoldenFileOutcome → List ℕ
 file_skip_reason jobs claims path (fate.SkippedBy job) = codes "job \"" ++ printable_text (job_name jobs job)
     ++ codes "\" also names this file and was skipped\n"
-file_skip_reason jobs claims path (fate.Differ job other) = disagreement_text jobs claims path
+file_skip_reason jobs claims path (fate.Disagree job other) = disagreement_text jobs claims path
 file_skip_reason jobs claims path (fate.Agreed text) = codes "the list and the images are never overwritten\n"
 file_skip_reason jobs claims path fate.Unclaimed = codes "the list and the images are never overwritten\n"
 
@@ -101,6 +101,6 @@ skipped_prefix name = codes "skipped " ++ printable_text name ++ codes ": "
 
 -- the line about a skipped golden file; empty if it is not skipped
 unfoldable pub skipped_file_line : ListFile → List GoldenText → GoldenFile → List ℕ
-skipped_file_line list claims file = if is_left list file
+skipped_file_line list claims file = if is_skipped list file
     then skipped_prefix file.target.path ++ file_skip_reason list.jobs.now claims file.target.path file.target.fate
     else []

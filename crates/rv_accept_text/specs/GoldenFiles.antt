@@ -22,8 +22,8 @@ has_protected_contents list None = false
 has_protected_contents list (Some old) = bytes_eq old list || starts_with nat_eq old elf_magic
 
 -- whether the golden file is the list or an image, by its path or by its contents: then it is never overwritten
-abbrev pub is_kept : ListFile → GoldenFile → Bool
-is_kept list file = bytes_eq file.resolved_path list.path.now
+abbrev pub is_protected : ListFile → GoldenFile → Bool
+is_protected list file = bytes_eq file.resolved_path list.path.now
     || (is_image_path file.target.path list.jobs.now || has_protected_contents list.text.now file.old)
 
 -- the text on which all jobs that name a golden file agree, or `None` if there is none or the Bool says that the file is never overwritten
@@ -33,7 +33,7 @@ agreed_text_of kept _ = None
 
 -- the text on which all jobs that name the golden file agree, or `None` if there is none, or the file is the list or an image
 abbrev pub agreed_text : ListFile → GoldenFile → Option (List ℕ)
-agreed_text list file = agreed_text_of (is_kept list file) file.target.fate
+agreed_text list file = agreed_text_of (is_protected list file) file.target.fate
 
 -- the text, or `None` if it equals the old contents of the file
 abbrev pub text_if_changed : List ℕ → Option (List ℕ) → Option (List ℕ)
@@ -48,15 +48,15 @@ new_text_of kept _ old = None
 
 -- the text to write to the golden file, or `None` if the file is skipped or already has the text
 abbrev pub new_text : ListFile → GoldenFile → Option (List ℕ)
-new_text list file = new_text_of (is_kept list file) file.target.fate file.old
+new_text list file = new_text_of (is_protected list file) file.target.fate file.old
 
 -- whether a golden file with this outcome is skipped; the Bool says that it is never overwritten
 abbrev pub is_skipped_with : Bool → GoldenFileOutcome → Bool
 is_skipped_with kept (fate.Agreed text) = kept
 is_skipped_with kept (fate.SkippedBy job) = true
-is_skipped_with kept (fate.Differ job other) = true
+is_skipped_with kept (fate.Disagree job other) = true
 is_skipped_with kept fate.Unclaimed = false
 
 -- whether the golden file is skipped: it is the list or an image, or the jobs that name it disagree or were skipped
-abbrev pub is_left : ListFile → GoldenFile → Bool
-is_left list file = is_skipped_with (is_kept list file) file.target.fate
+abbrev pub is_skipped : ListFile → GoldenFile → Bool
+is_skipped list file = is_skipped_with (is_protected list file) file.target.fate

@@ -25,8 +25,8 @@ skipped_runs (why ∷ whys) runs = option_map (skipped_run why) (run_or_none (sl
 
 -- the runs are `before`, except that some accepted runs were skipped, in one or two steps
 pub data AreSkippedFrom (before : List (Option JobRun)) : List (Option JobRun) → Type 0 where
-  once : (whys : List (Option SkipReason)) → AreSkippedFrom before (skipped_runs whys before)
-  again : (whys more : List (Option SkipReason)) → AreSkippedFrom before (skipped_runs more (skipped_runs whys before))
+  one_step : (whys : List (Option SkipReason)) → AreSkippedFrom before (skipped_runs whys before)
+  two_steps : (whys more : List (Option SkipReason)) → AreSkippedFrom before (skipped_runs more (skipped_runs whys before))
 
 -- ---- jobs with changed values, if the list is not changed
 

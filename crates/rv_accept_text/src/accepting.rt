@@ -3,7 +3,7 @@
 ghost use Rattle.std.specs.Prelude.{◌≡◌, ◌≤◌, ◌<◌, ◌+◌, ◌^◌, ◌++◌, OnOk, is_some, length, min, option_map};
 ghost use Rattle.std.specs.List.{count_by, flat_map};
 ghost use Rattle.rv_accept_text.specs.FileLines.{file_line, skipped_file_line};
-ghost use Rattle.rv_accept_text.specs.GoldenFiles.{is_left};
+ghost use Rattle.rv_accept_text.specs.GoldenFiles.{is_skipped};
 ghost use Rattle.rv_accept_text.specs.AcceptLines.{changed_count, count_line, is_changed, is_skipped_job, skipped_count, skipped_job_lines};
 ghost use Rattle.rv_accept_text.specs.AcceptLines.{address_if, accept_lines, value_line_in, value_line_of, writing_word};
 
@@ -31,9 +31,9 @@ pub struct AcceptSummary<'a> {
 #[derive(Clone, Copy, Debug, PartialEq, Eq)]
 pub enum Writing {
     /// Each file that changes was written.
-    Done,
+    Written,
     /// No file was written.
-    Asked,
+    CheckOnly,
 }
 
 impl<'a> AcceptSummary<'a> {
@@ -115,12 +115,12 @@ impl<'a> AcceptSummary<'a> {
 
     // Returns the number of golden files that were skipped.
     fn skipped_file_count(&self) -> usize
-        ensures value { result ≡ count_by (is_left self.now.list) self.now.files.now }
+        ensures value { result ≡ count_by (is_skipped self.now.list) self.now.files.now }
         ensures within { result ≤ length self.now.files.now }
     {
         let mut count = 0;
         for file in self.files {
-            if file.is_left(&self.list) {
+            if file.is_skipped(&self.list) {
                 count += 1;
             }
         }
@@ -150,8 +150,8 @@ fn writing_word(writing: Writing) -> &'static str
     ensures { result.now ≡ writing_word writing }
 {
     match writing {
-        Writing::Done => " written, ",
-        Writing::Asked => " would be written, ",
+        Writing::Written => " written, ",
+        Writing::CheckOnly => " would be written, ",
     }
 }
 

@@ -34,7 +34,7 @@ pub(crate) fn push_text_change(
 pub(crate) fn push_byte_change(out: &mut Vec<u8>, old: &[u8], new: &[u8]) -> Result<(), AllocError>
     ensures { OnOk result (out.new.items ≡ out.old.items ++ byte_change old.now new.now) }
 {
-    push_values_from(out, equal_len(old, new), old, new)
+    push_values_from(out, common_prefix_len(old, new), old, new)
 }
 
 // Appends the rest of a line that shows the offset `place`, and the old and the new text from there.
@@ -69,7 +69,7 @@ pub(crate) fn push_byte_difference(
 ) -> Result<(), AllocError>
     ensures { OnOk result (out.new.items ≡ out.old.items ++ byte_difference one.now other.now) }
 {
-    push_values_of_both(out, equal_len(one, other), one, other)
+    push_values_of_both(out, common_prefix_len(one, other), one, other)
 }
 
 // Appends the rest of a line that shows the offset `place`, and the text from there in both.
@@ -100,7 +100,7 @@ fn push_values_of_both<'x>(
 pub(crate) fn push_word_change(out: &mut Vec<u8>, old: &[u8], new: &[u8]) -> Result<(), AllocError>
     ensures { OnOk result (out.new.items ≡ out.old.items ++ word_change old.now new.now) }
 {
-    push_word_change_at(out, equal_len(old, new), old, new)
+    push_word_change_at(out, common_prefix_len(old, new), old, new)
 }
 
 // Appends the rest of a line that shows the first word in which two signatures differ, whose first `len` bytes are equal.
@@ -139,7 +139,7 @@ fn digits_at(rest: &[u8]) -> &[u8]
 }
 
 // Returns the number of equal leading bytes of two texts.
-fn equal_len(text: &[u8], other: &[u8]) -> usize
+fn common_prefix_len(text: &[u8], other: &[u8]) -> usize
     ensures { result ≡ common_prefix_len nat_eq text.now other.now }
 {
     let mut len = 0;

@@ -2,14 +2,14 @@
 
 ghost use Rattle.std.specs.Prelude.{◌≡◌, ◌++◌, OnOk, option_map};
 ghost use Rattle.rv_accept_text.specs.FileLines.{changed_file_line, disagreement_text, file_prefix, file_line, skipped_file_line, skipped_prefix};
-ghost use Rattle.rv_accept_text.specs.FileLines.{created_file_line, other_text_reason, golden_change, part_text, text_or_empty, disagreeing_texts};
+ghost use Rattle.rv_accept_text.specs.FileLines.{created_file_line, other_text_reason, golden_change, golden_kind_text, text_or_empty, disagreeing_texts};
 ghost use Rattle.rv_accept_text.specs.FileLines.{file_skip_reason, written_file_line};
 
 use crate::changed_text::{push_byte_difference, push_text_change, push_word_change};
 use crate::golden_file::{GoldenFile, ListFile};
 use crate::job_lines::job_name;
 use rv_accept::{
-    GoldenFileOutcome, GoldenText, Part, Target, first_other_text, first_text_for_file,
+    GoldenFileOutcome, GoldenText, GoldenKind, Target, first_other_text, first_text_for_file,
 };
 use rv_rows::{Bytes, Job, Span, push_spans, push_text};
 use std::alloc::AllocError;
@@ -61,7 +61,7 @@ fn push_changed_file_line(
 // Appends the differences between the old and the new contents of a golden file: of a console by lines or bytes, of a signature by words.
 fn push_golden_change(
     out: &mut Vec<u8>,
-    part: Part,
+    part: GoldenKind,
     path: &str,
     old: &[u8],
     text: &[u8],
@@ -69,8 +69,8 @@ fn push_golden_change(
     ensures { OnOk result (out.new.items ≡ out.old.items ++ golden_change part path.now old.now text.now) }
 {
     match part {
-        Part::Console => push_text_change(out, Span::Printable(path.as_bytes()), old, text),
-        Part::Signature => push_word_change(out, old, text),
+        GoldenKind::Console => push_text_change(out, Span::Printable(path.as_bytes()), old, text),
+        GoldenKind::Signature => push_word_change(out, old, text),
     }
 }
 
@@ -109,19 +109,19 @@ fn push_file_prefix<'x>(
             Span::Text(sign),
             Span::Printable(target.path.as_str().as_bytes()),
             Span::Text(": "),
-            Span::Text(part_text(target.part)),
+            Span::Text(golden_kind_text(target.part)),
             Span::Printable(job_name(jobs, target.job).as_bytes()),
         ],
     )
 }
 
 // Returns `console of ` or `signature of `, by the kind of result that a golden file contains.
-fn part_text(part: Part) -> &'static str
-    ensures { result.now ≡ part_text part }
+fn golden_kind_text(part: GoldenKind) -> &'static str
+    ensures { result.now ≡ golden_kind_text part }
 {
     match part {
-        Part::Console => "console of ",
-        Part::Signature => "signature of ",
+        GoldenKind::Console => "console of ",
+        GoldenKind::Signature => "signature of ",
     }
 }
 
@@ -135,7 +135,7 @@ pub(crate) fn push_skipped_file_line(
 ) -> Result<(), AllocError>
     ensures { OnOk result (out.new.items ≡ out.old.items ++ skipped_file_line list.now claims.now file.now) }
 {
-    if !file.is_left(list) {
+    if !file.is_skipped(list) {
         return Ok(());
     }
     push_skipped_prefix(out, file.target.path.as_str())?;
@@ -175,7 +175,7 @@ fn push_file_skip_reason(
                 Span::Text("\" also names this file and was skipped\n"),
             ],
         ),
-        GoldenFileOutcome::Differ(..) => push_disagreement(out, jobs, claims, target.path.as_str()),
+        GoldenFileOutcome::Disagree(..) => push_disagreement(out, jobs, claims, target.path.as_str()),
         GoldenFileOutcome::Agreed(_) | GoldenFileOutcome::Unclaimed => push_text(
             out,
             "the list and the images are never overwritten\n",
@@ -231,10 +231,10 @@ fn push_disagreeing_texts(
     push_spans(
         out,
         &[
-            Span::Text(part_text(first.part)),
+            Span::Text(golden_kind_text(first.part)),
             Span::Printable(job_name(jobs, first.job).as_bytes()),
             Span::Text(" and "),
-            Span::Text(part_text(other.part)),
+            Span::Text(golden_kind_text(other.part)),
             Span::Printable(job_name(jobs, other.job).as_bytes()),
             Span::Text(" differ"),
         ],

@@ -1,7 +1,7 @@
 //! A golden file, with its current contents.
 
 ghost use Rattle.std.specs.Prelude.{◌≡◌, option_map};
-ghost use Rattle.rv_accept_text.specs.GoldenFiles.{agreed_text, text_if_changed, is_image_path, is_kept, has_protected_contents, is_left, new_text};
+ghost use Rattle.rv_accept_text.specs.GoldenFiles.{agreed_text, text_if_changed, is_image_path, is_protected, has_protected_contents, is_skipped, new_text};
 
 use rv_accept::{GoldenFileOutcome, Target};
 use rv_rows::{Bytes, Job, Text};
@@ -30,7 +30,7 @@ impl GoldenFile {
         ensures { option_map (λ text. text.now) result ≡ new_text list.now self.now }
     {
         match &self.target.fate {
-            GoldenFileOutcome::Agreed(text) if !self.is_kept(list) => text_if_changed(
+            GoldenFileOutcome::Agreed(text) if !self.is_protected(list) => text_if_changed(
                 text.as_slice(),
                 &self.old,
             ),
@@ -43,25 +43,25 @@ impl GoldenFile {
         ensures { option_map (λ text. text.now) result ≡ agreed_text list.now self.now }
     {
         match &self.target.fate {
-            GoldenFileOutcome::Agreed(text) if !self.is_kept(list) => Some(text.as_slice()),
+            GoldenFileOutcome::Agreed(text) if !self.is_protected(list) => Some(text.as_slice()),
             _ => None,
         }
     }
 
     /// Whether the file is skipped: it is the list or an image, or the jobs that name it disagree or were skipped.
-    pub fn is_left(&self, list: &ListFile<'_>) -> bool
-        ensures { result ≡ is_left list.now self.now }
+    pub fn is_skipped(&self, list: &ListFile<'_>) -> bool
+        ensures { result ≡ is_skipped list.now self.now }
     {
         match &self.target.fate {
-            GoldenFileOutcome::Agreed(_) => self.is_kept(list),
-            GoldenFileOutcome::SkippedBy(_) | GoldenFileOutcome::Differ(..) => true,
+            GoldenFileOutcome::Agreed(_) => self.is_protected(list),
+            GoldenFileOutcome::SkippedBy(_) | GoldenFileOutcome::Disagree(..) => true,
             GoldenFileOutcome::Unclaimed => false,
         }
     }
 
     /// Whether the file is the list or an image, by its path or by its contents: then it is never overwritten.
-    pub fn is_kept(&self, list: &ListFile<'_>) -> bool
-        ensures { result ≡ is_kept list.now self.now }
+    pub fn is_protected(&self, list: &ListFile<'_>) -> bool
+        ensures { result ≡ is_protected list.now self.now }
     {
         self.resolved_path.as_str() == list.path
             || is_image_path(self.target.path.as_str(), list.jobs)

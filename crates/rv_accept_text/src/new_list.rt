@@ -284,7 +284,7 @@ fn uneditable_reason(
     for key in ValueKey::ALL {
         if is_value_changed(key, job, &run.row) && !is_editable(at, key, places.spans.as_slice()) {
             return Some(if places.is_made {
-                SkipReason::Made(key)
+                SkipReason::Generated(key)
             } else {
                 SkipReason::NotEditable(key)
             });

@@ -7,7 +7,7 @@ use Rattle.regex.specs.Patterns.{Re}
 use Rattle.rv_command.specs.Files.{FileContents}
 use Rattle.rv_choice.specs.Choice.{selection_by_criteria}
 use Rattle.rv_choice.specs.Choice.{remaining_selection}
-use Rattle.rv_choice.specs.Chosen.{AreChosenWithReport, IsRemainingSelection, AreRequested, IsChoice}
+use Rattle.rv_choice.specs.ChosenJobs.{AreChosenWithReport, IsRemainingSelection, AreRequested, IsChoice}
 use Rattle.rv_command.specs.declared_run.RunArgs.{RunArgs}
 use Rattle.rv_expect.specs.declared.passing.Rule.{Rule}
 use Rattle.rv_expect.specs.declared_job.Job.{Job}

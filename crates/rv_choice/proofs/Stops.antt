@@ -18,7 +18,7 @@ use Rattle.regex.specs.declared.string.regex.Regex.{Regex}
 use Rattle.rv_choice.specs.Choice.{HasDefaultOptions}
 use Rattle.rv_choice.specs.ChoiceStops.{IsChoiceStop, IsEmptiedStop, IsPatternStop, IsInvalidPatternStop, exclusion, memory, pattern, report}
 use Rattle.rv_choice.specs.ChoiceStops.{unknown}
-use Rattle.rv_choice.specs.Chosen.{AreRequested}
+use Rattle.rv_choice.specs.ChosenJobs.{AreRequested}
 use Rattle.rv_choice.specs.declared.chooser.Choice.{Choice}
 use Rattle.rv_choice.specs.UnknownName.{IsUnknownNameMessage, IsUnknownNameStop, unknown_name}
 

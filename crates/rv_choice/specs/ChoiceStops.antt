@@ -17,7 +17,7 @@ use Rattle.rv_expect.specs.declared.passing.Rule.{Rule}
 use Rattle.rv_expect.specs.declared_job.Job.{Job}
 use Rattle.rv_command.specs.Printable.{printable_text, printable_value}
 use Rattle.rv_choice.specs.Choice.{HasDefaultOptions, is_emptied, is_found_in_names, remaining_selection}
-use Rattle.rv_choice.specs.Chosen.{AreRequested}
+use Rattle.rv_choice.specs.ChosenJobs.{AreRequested}
 use Rattle.rv_choice.specs.UnknownName.{IsUnknownNameStop, unknown_name}
 
 -- the text is not a regular expression: the parser rejects it, and not because memory ran out
@@ -57,19 +57,19 @@ pub record ExcludesAll (known : Option FileContents) (words : RunArgs) (rule : R
   pub emptied : is_emptied requested (remaining_selection (regex_pattern pattern) jobs requested) ≡ true
 
 -- the message that the pattern of `--exclude` leaves no jobs of the list
-abbrev pub emptied_choice : List ℕ → List ℕ → List ℕ
-emptied_choice list text = codes "rvtest: " ++ printable_text list ++ codes ": no jobs left after --exclude \"" ++ printable_value text
+abbrev pub emptied_choice_message : List ℕ → List ℕ → List ℕ
+emptied_choice_message list text = codes "rvtest: " ++ printable_text list ++ codes ": no jobs left after --exclude \"" ++ printable_value text
     ++ codes "\"\n"
 
 -- the pattern excludes all selected jobs, and the stop reports this
 abbrev pub IsEmptiedStop : List ℕ → List Job → List Bool → Regex → Stop → Type 0
 IsEmptiedStop list jobs marks pattern stop = (is_emptied marks (remaining_selection (regex_pattern pattern) jobs marks) ≡ true)
-    × IsStop 2 (emptied_choice list (regex_source pattern)) stop
+    × IsStop 2 (emptied_choice_message list (regex_source pattern)) stop
 
 -- why a command stopped: the text of `--exclude` is not a regular expression, or it excludes all requested jobs
 abbrev pub IsExclusionStop : Option FileContents → RunArgs → Rule → List Job → List ℕ → Stop → Type 0
 IsExclusionStop known words rule jobs text stop = IsInvalidPatternStop (codes "--exclude <REGEX>") text stop
-    ⊎ (ExcludesAll known words rule jobs text × IsStop 2 (emptied_choice words.list.now text) stop)
+    ⊎ (ExcludesAll known words rule jobs text × IsStop 2 (emptied_choice_message words.list.now text) stop)
 
 -- why choosing the jobs of a list stopped: memory ran out, a name or pattern chooses or leaves no job, or a report could not be read
 pub data IsChoiceStop (known : Option FileContents) (words : RunArgs) (rule : Rule) (jobs : List Job) (stop : Stop)

@@ -1,7 +1,7 @@
 pub mod BadValues
 pub mod Choice
 pub mod ChoiceStops
-pub mod Chosen
+pub mod ChosenJobs
 pub mod FailedJobNotes
 pub mod Shard
 pub mod UnknownName

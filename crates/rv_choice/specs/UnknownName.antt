@@ -17,8 +17,8 @@ abbrev pub unknown_name : List Job → List (Bor (List ℕ)) → Option (List �
 unknown_name jobs names = option_map (λ name. name.now) (find (λ name. not (has_job_named jobs name.now)) names)
 
 -- the beginning of the message that no job of the list at `list` has this name
-abbrev pub no_such_job : List ℕ → List ℕ → List ℕ
-no_such_job list name =
+abbrev pub no_such_job_message : List ℕ → List ℕ → List ℕ
+no_such_job_message list name =
     codes "rvtest: " ++ printable_text list ++ codes ": no job named \"" ++ printable_value name
 
 -- the text before the name at index `place` in a message with `count` names
@@ -52,7 +52,7 @@ IsNameHint jobs name hint =
 -- the message says that no job of the list has this name, with a hint
 abbrev pub IsUnknownNameMessage : List ℕ → List Job → List ℕ → List ℕ → Type 0
 IsUnknownNameMessage list jobs name message =
-    (hint : List ℕ) × IsNameHint jobs name hint × (message ≡ no_such_job list name ++ hint ++ codes "\n")
+    (hint : List ℕ) × IsNameHint jobs name hint × (message ≡ no_such_job_message list name ++ hint ++ codes "\n")
 
 -- memory ran out, or the stop reports that no job of the list has this name
 abbrev pub IsUnknownNameStop : List ℕ → List Job → List ℕ → Stop → Type 0

@@ -6,9 +6,9 @@ ghost use Rattle.regex.specs.Strings.{regex_pattern, regex_source};
 ghost use Rattle.rv_choice.specs.BadValues.{IsBadPatternText, IsBadPatternStop};
 ghost use Rattle.rv_choice.specs.Choice.{HasDefaultOptions, is_emptied, borrowed_names, selection_by_criteria, failed_job_names, is_any_selected};
 ghost use Rattle.rv_choice.specs.Choice.{is_found_in_names, count_jobs_without_row, remaining_selection, optional_names, pattern_of, requested_names};
-ghost use Rattle.rv_choice.specs.ChoiceStops.{IsChoiceStop, IsEmptiedStop, IsPatternStop, IsInvalidPatternStop, emptied_choice};
+ghost use Rattle.rv_choice.specs.ChoiceStops.{IsChoiceStop, IsEmptiedStop, IsPatternStop, IsInvalidPatternStop, emptied_choice_message};
 ghost use Rattle.rv_choice.specs.ChoiceStops.{unmatched_pattern};
-ghost use Rattle.rv_choice.specs.Chosen.{AreChosenBy, AreChosenFrom, IsRemainingSelection, AreRequested, IsChoice};
+ghost use Rattle.rv_choice.specs.ChosenJobs.{AreChosenBy, AreChosenFrom, IsRemainingSelection, AreRequested, IsChoice};
 ghost use Rattle.rv_choice.specs.FailedJobNotes.{failed_job_notes};
 ghost use Rattle.rv_choice.specs.UnknownName.{IsUnknownNameStop, unknown_name};
 ghost use Rattle.rv_command.specs.RvtestArgs.{borrowed_text};
@@ -374,7 +374,7 @@ fn unmatched_pattern_message<'a>(
 
 // Returns the error that the pattern of `--exclude` leaves no jobs of the list.
 fn emptied_choice_stop(alloc: Global, list: &str, pattern: &str) -> Stop
-    ensures { IsStop 2 (emptied_choice list.now pattern.now) result }
+    ensures { IsStop 2 (emptied_choice_message list.now pattern.now) result }
 {
     Stop::rejection(emptied_choice_message(alloc, list, pattern))
 }
@@ -385,7 +385,7 @@ fn emptied_choice_message<'a>(
     list: &'a str,
     pattern: &'a str,
 ) -> Result<Vec<u8>, AllocError>
-    ensures { IfOk result (λ text. text.items ≡ emptied_choice list.now pattern.now) }
+    ensures { IfOk result (λ text. text.items ≡ emptied_choice_message list.now pattern.now) }
 {
     text_of_spans(
         alloc,

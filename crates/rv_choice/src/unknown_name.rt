@@ -1,7 +1,7 @@
 //! A name that no job of a list has.
 
 ghost use Rattle.std.specs.Prelude.{◌≡◌, ◌++◌, ◌<◌, ◌≤◌, ℕ, IfOk, List, OnOk, codes, length};
-ghost use Rattle.rv_choice.specs.UnknownName.{IsNameHint, IsUnknownNameStop, names_from, more_names_text, no_such_job, shown_names};
+ghost use Rattle.rv_choice.specs.UnknownName.{IsNameHint, IsUnknownNameStop, names_from, more_names_text, no_such_job_message, shown_names};
 ghost use Rattle.rv_choice.specs.UnknownName.{IsUnknownNameMessage, text_before_name};
 
 use rv_command::{Span, Stop, near_job, push_spans, push_text, text_of_spans};
@@ -36,7 +36,7 @@ fn no_such_job_message<'a>(
     list: &'a str,
     name: &'a str,
 ) -> Result<Vec<u8>, AllocError>
-    ensures { IfOk result (λ message. message.items ≡ no_such_job list.now name.now) }
+    ensures { IfOk result (λ message. message.items ≡ no_such_job_message list.now name.now) }
 {
     text_of_spans(
         alloc,

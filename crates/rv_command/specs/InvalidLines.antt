@@ -66,19 +66,19 @@ is_job_list text = are_job_list_errors (list_faults text)
 -- ---- the messages
 
 -- whether the line begins with this text
-abbrev begins : List ℕ → List ℕ → Bool
-begins line words = starts_with nat_eq line words
+abbrev line_starts_with : List ℕ → List ℕ → Bool
+line_starts_with line words = starts_with nat_eq line words
 
 -- what is expected in a report after this line, or at the beginning of the report if the line is empty
 unfoldable pub expected_after : List ℕ → List ℕ
 expected_after line =
-    if begins line (codes "job ") then codes "\"end\" and how the run ended"
-    else if begins line (codes "end ") then codes "\"steps\" and a number"
-    else if begins line (codes "steps ") then codes "\"console\" and hexadecimal digits or -"
-    else if begins line (codes "console ") then codes "\"signature\" and its number of words or -"
-    else if begins line (codes "signature -") then codes "\"verdict\" and none, pass or fail"
-    else if length line == 0 || begins line (codes "verdict ") then codes "\"job\" and the next number, or \"done\" or \"part\" at the end"
-    else if begins line (codes "done ") || begins line (codes "part ") then codes "the end of the file"
+    if line_starts_with line (codes "job ") then codes "\"end\" and how the run ended"
+    else if line_starts_with line (codes "end ") then codes "\"steps\" and a number"
+    else if line_starts_with line (codes "steps ") then codes "\"console\" and hexadecimal digits or -"
+    else if line_starts_with line (codes "console ") then codes "\"signature\" and its number of words or -"
+    else if line_starts_with line (codes "signature -") then codes "\"verdict\" and none, pass or fail"
+    else if length line == 0 || line_starts_with line (codes "verdict ") then codes "\"job\" and the next number, or \"done\" or \"part\" at the end"
+    else if line_starts_with line (codes "done ") || line_starts_with line (codes "part ") then codes "the end of the file"
     else codes "eight hexadecimal digits or \"verdict\""
 
 -- the noun for the expected kind, as in `invalid report line`

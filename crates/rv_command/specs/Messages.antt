@@ -37,7 +37,7 @@ truncation_note path read = if read.is_cut_off
 
 -- the message that reports this stop
 abbrev pub stop_message : Stop → List ℕ
-stop_message (stop.Told lines text) = text.items
+stop_message (stop.Message lines text) = text.items
 stop_message stop.OutOfMemory = codes "rvtest: out of memory\n"
 stop_message stop.NoWorker = codes "rvtest: no thread could be started\n"
 stop_message stop.WriteFailed = codes "rvtest: standard output: write failed\n"

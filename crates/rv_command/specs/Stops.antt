@@ -34,7 +34,7 @@ message_status lines.Failure = 3
 
 -- the exit status for a stop: 2 if the request is rejected, 3 if the system failed
 abbrev pub stop_status : Stop → ℕ
-stop_status (why.Told lines text) = message_status lines
+stop_status (why.Message lines text) = message_status lines
 stop_status why.OutOfMemory = 3
 stop_status why.NoWorker = 3
 stop_status why.WriteFailed = 3
@@ -50,7 +50,7 @@ end_status _ why = stop_status why
 
 -- the stop with these lines of this kind, or out of memory if the lines could not be made
 abbrev pub stop_with_message : Lines → Result (Vec ℕ Global) AllocError → Stop
-stop_with_message kind (Ok text) = why.Told kind text
+stop_with_message kind (Ok text) = why.Message kind text
 stop_with_message kind (Err error) = why.OutOfMemory
 
 -- the stop is out of memory, or it has this exit status and this message
@@ -69,7 +69,7 @@ IsRejectedWith text stop = (stop_status stop ≡ 2) × (stop_message stop ≡ te
 -- the stop rejects the arguments with the text of their error, or both are out of memory
 abbrev pub IsArgsRejection : ArgsError → Stop → Type 0
 IsArgsRejection error.OutOfMemory stop = stop ≡ why.OutOfMemory
-IsArgsRejection (error.Told fault text) stop = IsRejectedWith (string_bytes text) stop
+IsArgsRejection (error.Message fault text) stop = IsRejectedWith (string_bytes text) stop
 
 -- the stop is out of memory, or it rejects the arguments with the message `what` and the usage of a command
 abbrev pub IsUsageStop : List ℕ → Stop → Type 0

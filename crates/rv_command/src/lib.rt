@@ -23,7 +23,7 @@ pub use requested_report::{
     RequestedReport, parse_requested_report, read_requested_report, truncation_note,
 };
 pub use saved_report::{parse_report, read_report_file};
-pub use status::{BROKEN_PIPE, DONE, FAILED, REFUSED, SOME_FAIL};
+pub use status::{BROKEN_PIPE, DONE, FAILED, REJECTED, SOME_FAIL};
 pub use stop::{Lines, Stop};
 
 // From the crates below: what this interface names, and what its callers need with it.

@@ -7,7 +7,7 @@ ghost use Rattle.rv_files.specs.Sinks.{AppendsPrefix};
 ghost use Rattle.rv_command.specs.Stops.{end_status, message_status, stop_status};
 ghost use Rattle.rv_command.specs.Messages.{IsMessageWritten, end_message, path_message, path_number_message, stop_message};
 
-use crate::status::{BROKEN_PIPE, FAILED, REFUSED};
+use crate::status::{BROKEN_PIPE, FAILED, REJECTED};
 use crate::stop::{Lines, Stop};
 use rv_files::{Sink, put_all};
 use rv_list_errors::{Span, text_of_spans};
@@ -96,7 +96,7 @@ pub fn write_stop_message<E: Sink>(errors: &mut E, stop: Stop) -> u8
     ensures low { result ≤ 3 }
 {
     match stop {
-        Stop::Told(lines, text) => {
+        Stop::Message(lines, text) => {
             write_message(errors, text.as_slice());
             message_status(lines)
         }
@@ -114,7 +114,7 @@ fn message_status(lines: Lines) -> u8
     ensures { result ≡ message_status lines }
 {
     match lines {
-        Lines::Refusal => REFUSED,
+        Lines::Refusal => REJECTED,
         Lines::Failure => FAILED,
     }
 }

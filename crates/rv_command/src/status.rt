@@ -7,7 +7,7 @@ pub const DONE: u8 = 0;
 pub const SOME_FAIL: u8 = 1;
 
 /// The arguments, a list or a report are rejected.
-pub const REFUSED: u8 = 2;
+pub const REJECTED: u8 = 2;
 
 /// The system failed.
 pub const FAILED: u8 = 3;

@@ -10,7 +10,7 @@ use std::alloc::AllocError;
 #[derive(Drop)]
 pub enum Stop {
     /// For the reason in these lines.
-    Told(Lines, Vec<u8>),
+    Message(Lines, Vec<u8>),
     /// An allocation failed.
     OutOfMemory,
     /// A thread could not be started.
@@ -35,7 +35,7 @@ impl Stop {
     {
         match error {
             ArgsError::OutOfMemory => Stop::OutOfMemory,
-            ArgsError::Told(_, text) => Stop::Told(Lines::Refusal, text.into_bytes()),
+            ArgsError::Message(_, text) => Stop::Message(Lines::Refusal, text.into_bytes()),
         }
     }
 
@@ -58,7 +58,7 @@ impl Stop {
         ensures { result ≡ stop_with_message lines told }
     {
         match told {
-            Ok(text) => Stop::Told(lines, text),
+            Ok(text) => Stop::Message(lines, text),
             Err(error) => Stop::from(error),
         }
     }

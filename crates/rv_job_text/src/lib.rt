@@ -36,7 +36,7 @@ mod unread_files;
 mod verbosity;
 
 pub use console_lines::push_console_lines;
-pub use console_tail::{MAX_TAIL_BYTES, TAIL_LINES, push_console_tail};
+pub use console_tail::{MAX_TAIL_BYTES, MAX_TAIL_LINES, push_console_tail};
 pub use end_trace::{TraceOptions, budget_use_at};
 pub use law::{lines_are_the_text, shown_line_differs_first};
 pub use paths::{console_path, reference_path};

@@ -28,7 +28,7 @@ pub(crate) fn push_diff_line(
 {
     let feed = first_line_feed(own);
     push_text(bytes, margin)?;
-    push_shown_line(bytes, equal_len(own, other), &own[..feed])?;
+    push_shown_line(bytes, equal_prefix_len(own, other), &own[..feed])?;
     push_text(bytes, "\n")?;
     push_missing_newline_note(bytes, own, feed)
 }
@@ -118,7 +118,7 @@ fn begins_character(byte: u8) -> bool
 }
 
 // Returns the number of equal leading bytes of two texts.
-fn equal_len(own: &[u8], other: &[u8]) -> usize
+fn equal_prefix_len(own: &[u8], other: &[u8]) -> usize
     ensures { result ≡ common_prefix_len nat_eq own.now other.now }
 {
     let mut len = 0;

@@ -15,7 +15,7 @@ use Rattle.rv_job_text.specs.declared_known_jobs.KnownJobs.{KnownJobs}
 use Rattle.rv_job_text.specs.ConsoleTail.{is_line_feed}
 use Rattle.rv_job_text.specs.TotalsLine.{known_count}
 use Rattle.rv_job_text.specs.declared_xml.XmlContext.TheVariants.{Attribute, Element}
-use Rattle.rv_junit.specs.Pieces.{attribute, number_attribute}
+use Rattle.rv_junit.specs.XmlPieces.{attribute, number_attribute}
 use Rattle.rv_junit.specs.Junit.{IsWrittenRow, suite_begin_text, test_case_text, test_cases_text, suite_end_text, first_line}
 use Rattle.rv_job_text.specs.Problem.{is_error, is_failure}
 use Rattle.rv_junit.specs.Junit.{AreReasonsBytes, HasBytesAsReason, judged_text, junit_text, output_text, problem_element_name, skipped_text}

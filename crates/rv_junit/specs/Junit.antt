@@ -13,7 +13,7 @@ use Rattle.rv_job_text.specs.Problem.{is_error, is_failure}
 use Rattle.rv_job_text.specs.declared_xml.XmlContext.TheVariants.{Element}
 use Rattle.rv_job_text.specs.TextWords.{count_text}
 use Rattle.rv_job_text.specs.Xml.{xml_text}
-use Rattle.rv_junit.specs.Pieces.{attribute, number_attribute}
+use Rattle.rv_junit.specs.XmlPieces.{attribute, number_attribute}
 
 -- ---- a case
 

@@ -1,3 +1,3 @@
-pub mod Pieces
+pub mod XmlPieces
 pub mod Junit
 pub mod KnownLines

@@ -16,7 +16,7 @@ use rv_stream::{Row, Sink, WriteError, put_all};
 use std::alloc::{AllocError, Global};
 
 // The size in bytes from which the buffered text is written.
-const ENOUGH: usize = 32_768;
+const FLUSH_SIZE: usize = 32_768;
 
 /// The rows of a document, each with the index of its job, a reporter that makes the lines about a row, and the lines that are already
 /// known.
@@ -116,7 +116,7 @@ fn write_if_large<W: Sink>(text: &mut Vec<u8>, out: &mut W) -> Result<(), WriteE
     ensures failed { IfErr result
         (λ error. (error ≡ WriteError.Failed) × (W.failure_count out.new ≡ one_more (W.failure_count out.old))) }
 {
-    if text.len() < ENOUGH {
+    if text.len() < FLUSH_SIZE {
         return Ok(());
     }
     put_all(out, text.as_slice())?;

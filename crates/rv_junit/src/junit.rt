@@ -8,7 +8,7 @@ ghost use Rattle.rv_junit.specs.Junit.{suite_begin_text, test_case_text, first_l
 ghost use Rattle.rv_junit.specs.Junit.{judged_text, problem_element_name, problem_text, reason_attribute, skipped_attribute, skipped_text};
 ghost use Rattle.rv_job_text.specs.Judgement.{judgement_view, judge_view};
 
-use crate::pieces::{Piece, push_attribute, push_number_attribute, push_xml_pieces};
+use crate::xml_pieces::{XmlPiece, push_attribute, push_number_attribute, push_xml_pieces};
 use crate::suite::Suite;
 use rv_job_text::{Judge, Judgement, did_run, is_error, is_failure, known_count, push_text};
 use rv_stream::Row;
@@ -30,11 +30,11 @@ pub(crate) fn push_suite_begin(
         alloc,
         text,
         &[
-            Piece::Text("<?xml version=\"1.0\" encoding=\"UTF-8\"?>\n<testsuites>\n<testsuite"),
-            Piece::Attribute("name", suite.name),
-            Piece::NumberAttribute("tests", rows.len() as u64),
-            Piece::NumberAttribute("failures", failures as u64),
-            Piece::NumberAttribute("errors", errors as u64),
+            XmlPiece::Text("<?xml version=\"1.0\" encoding=\"UTF-8\"?>\n<testsuites>\n<testsuite"),
+            XmlPiece::Attribute("name", suite.name),
+            XmlPiece::NumberAttribute("tests", rows.len() as u64),
+            XmlPiece::NumberAttribute("failures", failures as u64),
+            XmlPiece::NumberAttribute("errors", errors as u64),
         ],
     )?;
     push_skipped_attribute(text, known_count(&suite.judge, rows))?;
@@ -86,10 +86,10 @@ fn push_steps_property(alloc: Global, text: &mut String, row: &Row) -> Result<()
         alloc,
         text,
         &[
-            Piece::Text("<property"),
-            Piece::Attribute("name", name.as_slice()),
-            Piece::NumberAttribute("value", u64::from(steps)),
-            Piece::Text("/>\n"),
+            XmlPiece::Text("<property"),
+            XmlPiece::Attribute("name", name.as_slice()),
+            XmlPiece::NumberAttribute("value", u64::from(steps)),
+            XmlPiece::Text("/>\n"),
         ],
     )
 }
@@ -133,10 +133,10 @@ pub(crate) fn push_test_case<'a>(
         alloc,
         text,
         &[
-            Piece::Text("<testcase"),
-            Piece::Attribute("classname", suite.name),
-            Piece::Attribute("name", row.name.as_str().as_bytes()),
-            Piece::Text(">\n"),
+            XmlPiece::Text("<testcase"),
+            XmlPiece::Attribute("classname", suite.name),
+            XmlPiece::Attribute("name", row.name.as_str().as_bytes()),
+            XmlPiece::Text(">\n"),
         ],
     )?;
     push_judgement(alloc, text, suite.judge.judgement(row), row, lines)?;
@@ -145,11 +145,11 @@ pub(crate) fn push_test_case<'a>(
         alloc,
         text,
         &[
-            Piece::Text("<system-out>"),
-            Piece::Count(u64::from(steps), "step"),
-            Piece::Text("\n"),
-            Piece::Element(row.console.as_slice()),
-            Piece::Text("</system-out>\n</testcase>\n"),
+            XmlPiece::Text("<system-out>"),
+            XmlPiece::Count(u64::from(steps), "step"),
+            XmlPiece::Text("\n"),
+            XmlPiece::Element(row.console.as_slice()),
+            XmlPiece::Text("</system-out>\n</testcase>\n"),
         ],
     )
 }
@@ -204,14 +204,14 @@ fn push_problem(alloc: Global, text: &mut String, row: &Row, lines: &[u8]) -> Re
         alloc,
         text,
         &[
-            Piece::Text("<"),
-            Piece::Text(name),
-            Piece::Attribute("message", first_line(lines)),
-            Piece::Text(">"),
-            Piece::Element(lines),
-            Piece::Text("</"),
-            Piece::Text(name),
-            Piece::Text(">\n"),
+            XmlPiece::Text("<"),
+            XmlPiece::Text(name),
+            XmlPiece::Attribute("message", first_line(lines)),
+            XmlPiece::Text(">"),
+            XmlPiece::Element(lines),
+            XmlPiece::Text("</"),
+            XmlPiece::Text(name),
+            XmlPiece::Text(">\n"),
         ],
     )
 }

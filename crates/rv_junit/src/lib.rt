@@ -10,7 +10,7 @@ mod failure_texts;
 mod junit;
 mod junit_writer;
 mod law;
-mod pieces;
+mod xml_pieces;
 mod suite;
 
 pub use case_writes::Cases;

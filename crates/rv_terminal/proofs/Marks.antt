@@ -4,50 +4,50 @@ use Rattle.std.proofs.Common.{true, true≢false, fold, length, take}
 use Rattle.std.specs.Prelude.{slice_index}
 use Rattle.std.proofs.Math.Seq.{take-suc}
 use Rattle.std.proofs.lemmas.Bool.{cases_lt}
-use Rattle.rv_terminal.specs.declared.place.Mark.{Mark}
-use Rattle.rv_terminal.specs.declared.place.Mark.TheVariants as mark
-use Rattle.rv_terminal.specs.declared.place.Place.{Place}
-use Rattle.rv_terminal.specs.Colors.{colored, is_nothing, mark_before, mark_text, place_after}
+use Rattle.rv_terminal.specs.declared.line_position.Mark.{Mark}
+use Rattle.rv_terminal.specs.declared.line_position.Mark.TheVariants as mark
+use Rattle.rv_terminal.specs.declared.line_position.LinePosition.{LinePosition}
+use Rattle.rv_terminal.specs.Colors.{colored, is_empty, mark_before, mark_text, position_after}
 
 -- one byte more is coloured
-colored_next : (here : Place) (text : List ℕ) (at : ℕ) → at < length text → colored here (take (suc at) text)
-    ≡ colored here (take at text) ++ (mark_text (mark_before (fold place_after here (take at text)) (slice_index text at))
+colored_next : (here : LinePosition) (text : List ℕ) (at : ℕ) → at < length text → colored here (take (suc at) text)
+    ≡ colored here (take at text) ++ (mark_text (mark_before (fold position_after here (take at text)) (slice_index text at))
     ++ slice_index text at ∷ [])
 unfolding colored
 colored_next here [] at within = absurd (omega arith)
 colored_next here (byte ∷ rest) zero within = refl
 colored_next here (byte ∷ rest) (suc at) within =
     ap (λ more. mark_text (mark_before here byte) ++ byte ∷ more)
-    (colored_next (place_after here byte) rest at (omega arith))
-    ∙ sym (append_assoc (mark_text (mark_before here byte)) (byte ∷ colored (place_after here byte) (take at rest))
-    (mark_text (mark_before (fold place_after (place_after here byte) (take at rest)) (slice_index rest at))
+    (colored_next (position_after here byte) rest at (omega arith))
+    ∙ sym (append_assoc (mark_text (mark_before here byte)) (byte ∷ colored (position_after here byte) (take at rest))
+    (mark_text (mark_before (fold position_after (position_after here byte) (take at rest)) (slice_index rest at))
     ++ slice_index rest at ∷ []))
 
-nothing_text : (here : Mark) → is_nothing here ≡ true → mark_text here ≡ []
+nothing_text : (here : Mark) → is_empty here ≡ true → mark_text here ≡ []
 nothing_text mark.Nothing is = refl
 nothing_text mark.Red is = absurd (true≢false (sym is))
 nothing_text mark.Green is = absurd (true≢false (sym is))
 nothing_text mark.End is = absurd (true≢false (sym is))
 
 -- the first bytes of a text, so many of them, have no mark before them but the first
-abbrev pub IsMarkedFirst : Place → List ℕ → ℕ → Type 0
+abbrev pub IsMarkedFirst : LinePosition → List ℕ → ℕ → Type 0
 IsMarkedFirst here text count =
     colored here (take count text) ≡ mark_text (mark_before here (slice_index text 0)) ++ take count text
 
-marked_first : (here : Place) (text : List ℕ) → 0 < length text → IsMarkedFirst here text 1
+marked_first : (here : LinePosition) (text : List ℕ) → 0 < length text → IsMarkedFirst here text 1
 unfolding colored
 marked_first here [] some = absurd (omega arith)
 marked_first here (byte ∷ rest) some = refl
 
-pub marked_one : (here : Place) (text : List ℕ) → 0 < length text → (count : ℕ) → 1 ≤ count → count ≤ 1
+pub marked_one : (here : LinePosition) (text : List ℕ) → 0 < length text → (count : ℕ) → 1 ≤ count → count ≤ 1
     → IsMarkedFirst here text count
 marked_one here text some count least most =
     let one : count ≡ 1 = omega arith in
     rw one (marked_first here text some)
 
-module _ (here : Place) (text : List ℕ) (at : ℕ) (least : 1 ≤ at) (within : at < length text)
+module _ (here : LinePosition) (text : List ℕ) (at : ℕ) (least : 1 ≤ at) (within : at < length text)
     (before : (count : ℕ) → 1 ≤ count → count ≤ at → IsMarkedFirst here text count)
-    (silent : is_nothing (mark_before (fold place_after here (take at text)) (slice_index text at)) ≡ true) where
+    (silent : is_empty (mark_before (fold position_after here (take at text)) (slice_index text at)) ≡ true) where
   marked_next : IsMarkedFirst here text (suc at)
   marked_next =
       let byte = slice_index text at in

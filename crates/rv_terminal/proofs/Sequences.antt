@@ -1,10 +1,10 @@
 -- Marks that are taken out again, and the texts of whole results.
 use Rattle.std.proofs.Common.{◌≡◌, ◌∙◌, refl, sym, ap, ℕ, List, [], ◌∷◌, ◌++◌, append_assoc, arith, fold, inl, inr, length, suc, false}
 use Rattle.std.proofs.lemmas.Bool.{cases_Bool}
-use Rattle.rv_terminal.specs.declared.place.Mark.{Mark}
-use Rattle.rv_terminal.specs.declared.place.Mark.TheVariants as mark
-use Rattle.rv_terminal.specs.declared.place.Place.{Place}
-use Rattle.rv_terminal.specs.Colors.{InText, Seat, colored, is_escape, line_mark, mark_before, mark_text, place_after}
+use Rattle.rv_terminal.specs.declared.line_position.Mark.{Mark}
+use Rattle.rv_terminal.specs.declared.line_position.Mark.TheVariants as mark
+use Rattle.rv_terminal.specs.declared.line_position.LinePosition.{LinePosition}
+use Rattle.rv_terminal.specs.Colors.{InText, ByteLocation, colored, is_escape, line_mark, mark_before, mark_text, position_after}
 use Rattle.rv_terminal.specs.Colors.{location_after, text_of_byte, uncolored}
 
 -- ---- marks out
@@ -22,7 +22,7 @@ escape_out : (byte : ℕ) (rest : List ℕ) → uncolored InText (mark_text mark
 unfolding uncolored
 escape_out byte rest = refl
 
-marked_out : (here : Place) (byte : ℕ) (rest : List ℕ)
+marked_out : (here : LinePosition) (byte : ℕ) (rest : List ℕ)
     → uncolored InText (mark_text (mark_before here byte) ++ byte ∷ rest) ≡ byte ∷ uncolored InText rest
 marked_out here byte rest = elim (cases_Bool (is_escape byte)) [
   | inl is ↦ rw is (escape_out byte rest)
@@ -30,18 +30,18 @@ marked_out here byte rest = elim (cases_Bool (is_escape byte)) [
 ]
 
 -- what stands behind a coloured text is seen as from the beginning
-pub text_out : (here : Place) (text more : List ℕ)
+pub text_out : (here : LinePosition) (text more : List ℕ)
     → uncolored InText (colored here text ++ more) ≡ text ++ uncolored InText more
 unfolding colored
 text_out here [] more = refl
 text_out here (byte ∷ rest) more =
-    let behind = colored (place_after here byte) rest in
+    let behind = colored (position_after here byte) rest in
     ap (uncolored InText) (append_assoc (mark_text (mark_before here byte)) (byte ∷ behind) more)
-    ∙ (marked_out here byte (behind ++ more) ∙ ap (λ xs. byte ∷ xs) (text_out (place_after here byte) rest more))
+    ∙ (marked_out here byte (behind ++ more) ∙ ap (λ xs. byte ∷ xs) (text_out (position_after here byte) rest more))
 
 -- ---- a mark in part
 
-parts_out : (here : Seat) (xs ys : List ℕ)
+parts_out : (here : ByteLocation) (xs ys : List ℕ)
     → uncolored here (xs ++ ys) ≡ uncolored here xs ++ uncolored (fold location_after here xs) ys
 unfolding uncolored
 parts_out here [] ys = refl
@@ -70,11 +70,11 @@ part_out here part rest whole =
 
 -- ---- texts that follow one another
 
-pub colored_append : (here : Place) (xs ys : List ℕ)
-    → colored here (xs ++ ys) ≡ colored here xs ++ colored (fold place_after here xs) ys
+pub colored_append : (here : LinePosition) (xs ys : List ℕ)
+    → colored here (xs ++ ys) ≡ colored here xs ++ colored (fold position_after here xs) ys
 unfolding colored
 colored_append here [] ys = refl
 colored_append here (x ∷ xs) ys =
-    let next = place_after here x in
+    let next = position_after here x in
     ap (λ rest. mark_text (mark_before here x) ++ x ∷ rest) (colored_append next xs ys)
-    ∙ sym (append_assoc (mark_text (mark_before here x)) (x ∷ colored next xs) (colored (fold place_after next xs) ys))
+    ∙ sym (append_assoc (mark_text (mark_before here x)) (x ∷ colored next xs) (colored (fold position_after next xs) ys))

@@ -4,13 +4,13 @@ use Rattle.std.specs.Prelude.{if◌then◌else◌}
 use Rattle.std.specs.Option.{option_map}
 use Rattle.std.specs.Io.KnownBytes.{Appends}
 use Rattle.rv_rows.specs.Counts.{one_more}
-use Rattle.rv_terminal.specs.Colors.{InText, beginning, colored, mark_text, place_after, uncolored}
+use Rattle.rv_terminal.specs.Colors.{InText, line_start, colored, mark_text, position_after, uncolored}
 use Rattle.rv_terminal.specs.declared.colors.Colors.{Colors}
 use Rattle.rv_terminal.specs.declared.colors.Colors.TheVariants as colors
 use Rattle.rv_terminal.specs.declared.output_state.OutputState.{OutputState}
 use Rattle.rv_terminal.specs.declared.output_state.OutputState.TheVariants as state
-use Rattle.rv_terminal.specs.declared.place.Mark.{Mark}
-use Rattle.rv_terminal.specs.declared.place.Place.{Place}
+use Rattle.rv_terminal.specs.declared.line_position.Mark.{Mark}
+use Rattle.rv_terminal.specs.declared.line_position.LinePosition.{LinePosition}
 
 -- ---- the coloured output
 
@@ -18,7 +18,7 @@ use Rattle.rv_terminal.specs.declared.place.Place.{Place}
 pub record IsColored (before plain out : List ℕ) : Type 0 where
   pub text : List ℕ
   pub put : plain ≡ before ++ text
-  pub shown : out ≡ before ++ colored beginning text
+  pub shown : out ≡ before ++ colored line_start text
 
 -- `part` is a prefix of an escape sequence, perhaps the whole sequence
 pub record IsMarkPrefix (part : List ℕ) : Type 0 where
@@ -33,7 +33,7 @@ pub record IsColoredPrefix (before plain out : List ℕ) : Type 0 where
   pub part : List ℕ
   pub begun : IsMarkPrefix part
   pub put : plain ≡ before ++ text
-  pub shown : out ≡ before ++ (colored beginning text ++ part)
+  pub shown : out ≡ before ++ (colored line_start text ++ part)
 
 -- both texts are present, and the relation holds between them
 abbrev pub HoldsForBoth : (List ℕ → List ℕ → Type 0) → Option (List ℕ) → Option (List ℕ) → Type 0
@@ -44,15 +44,15 @@ HoldsForBoth are (Some plain) (Some out) = are plain out
 -- without colours, `out` is `plain`; with colours, `plain` is `before` followed by some results, and `out` is `before` followed by these
 -- results in their colours; `out` may be anything if `before` is `None`
 abbrev pub IsColoredAs : Colors → Option (List ℕ) → Option (List ℕ) → Option (List ℕ) → Type 0
-IsColoredAs colors.Without before plain out = out ≡ plain
-IsColoredAs colors.With None plain out = ⊤
-IsColoredAs colors.With (Some before) plain out = HoldsForBoth (IsColored before) plain out
+IsColoredAs colors.Plain before plain out = out ≡ plain
+IsColoredAs colors.Colored None plain out = ⊤
+IsColoredAs colors.Colored (Some before) plain out = HoldsForBoth (IsColored before) plain out
 
 -- `IsColoredAs` holds, except that coloured output may also end with a prefix of an escape sequence, within which a write failed
 abbrev pub IsPartlyColoredAs : Colors → Option (List ℕ) → Option (List ℕ) → Option (List ℕ) → Type 0
-IsPartlyColoredAs colors.Without before plain out = out ≡ plain
-IsPartlyColoredAs colors.With None plain out = ⊤
-IsPartlyColoredAs colors.With (Some before) plain out = HoldsForBoth (IsColoredPrefix before) plain out
+IsPartlyColoredAs colors.Plain before plain out = out ≡ plain
+IsPartlyColoredAs colors.Colored None plain out = ⊤
+IsPartlyColoredAs colors.Colored (Some before) plain out = HoldsForBoth (IsColoredPrefix before) plain out
 
 -- ---- the state of a sink
 
@@ -64,71 +64,71 @@ pub record ColorSinkView (S : Type 0) : Type 0 where
 
 -- the results that were written, without their colours, given the bytes `before` them and what the sink below received
 abbrev pub results_of : Colors → Option (List ℕ) → Option (List ℕ) → Option (List ℕ)
-results_of colors.Without before out = out
-results_of colors.With None out = None
-results_of colors.With (Some before) out =
+results_of colors.Plain before out = out
+results_of colors.Colored None out = None
+results_of colors.Colored (Some before) out =
     option_map (λ bytes. before ++ uncolored InText (drop (length before) bytes)) out
 
 -- the state in which the output of a sink with or without colours begins
 abbrev pub first_state : Colors → OutputState
-first_state colors.Without = state.Plain
-first_state colors.With = state.Colored beginning
+first_state colors.Plain = state.Plain
+first_state colors.Colored = state.Colored line_start
 
 -- whether the output has ended because a write failed
-abbrev pub is_cut_off : OutputState → Bool
-is_cut_off state.Plain = false
-is_cut_off (state.Colored here) = false
-is_cut_off state.CutOff = true
+abbrev pub has_failed : OutputState → Bool
+has_failed state.Plain = false
+has_failed (state.Colored here) = false
+has_failed state.Failed = true
 
 -- the text was written in its colours, beginning at the position `here` in a line; the new state has the next position, or says that a
 -- write failed
-abbrev pub IsWrittenFrom : Place → OutputState → List ℕ → Option (List ℕ) → Option (List ℕ) → Type 0
+abbrev pub IsWrittenFrom : LinePosition → OutputState → List ℕ → Option (List ℕ) → Option (List ℕ) → Type 0
 IsWrittenFrom here state.Plain text old new = ⊥
-IsWrittenFrom here (state.Colored there) text old new = (there ≡ fold place_after here text) × Appends old new (colored here text)
-IsWrittenFrom here state.CutOff text old new =
+IsWrittenFrom here (state.Colored there) text old new = (there ≡ fold position_after here text) × Appends old new (colored here text)
+IsWrittenFrom here state.Failed text old new =
     (part : List ℕ) × (IsMarkPrefix part × Appends old new (colored here text ++ part))
 
 -- the text was written in the first state, and the second is the state afterwards; an empty text was written only if a write failed
 abbrev pub IsWrittenInState : OutputState → OutputState → List ℕ → Option (List ℕ) → Option (List ℕ) → Type 0
 IsWrittenInState state.Plain next text old new = (next ≡ state.Plain) × Appends old new text
 IsWrittenInState (state.Colored here) next text old new = IsWrittenFrom here next text old new
-IsWrittenInState state.CutOff next text old new = (next ≡ state.CutOff) × ((text ≡ []) × (new ≡ old))
+IsWrittenInState state.Failed next text old new = (next ≡ state.Failed) × ((text ≡ []) × (new ≡ old))
 
 -- the number of failures of the underlying sink after a write of `count` bytes between these states: `before`, unless the write failed;
 -- then one more
 abbrev pub sink_failures : OutputState → OutputState → ℕ → ℕ → ℕ
-sink_failures here next count before = if is_cut_off here then before
-    else if is_cut_off next || count == 0 then one_more before else before
+sink_failures here next count before = if has_failed here then before
+    else if has_failed next || count == 0 then one_more before else before
 
 -- the colouring sink has as many failures as the sink that it writes to; once the output is cut off, the latter has at least one
-abbrev pub IsCounted : OutputState → ℕ → ℕ → Type 0
-IsCounted state.CutOff failures below = 1 ≤ below
-IsCounted _ failures below = failures ≡ below
+abbrev pub AreFailuresCounted : OutputState → ℕ → ℕ → Type 0
+AreFailuresCounted state.Failed failures below = 1 ≤ below
+AreFailuresCounted _ failures below = failures ≡ below
 
 -- `out` is `before` followed by a text in its colours, which ends at the position `here` in a line
-pub record IsColoredUpTo (here : Place) (before out : List ℕ) : Type 0 where
+pub record IsColoredUpTo (here : LinePosition) (before out : List ℕ) : Type 0 where
   pub text : List ℕ
-  pub shown : out ≡ before ++ colored beginning text
-  pub place : here ≡ fold place_after beginning text
+  pub shown : out ≡ before ++ colored line_start text
+  pub place : here ≡ fold position_after line_start text
 
 -- `out` is `before` followed by a text in its colours and a prefix of an escape sequence
 pub record IsColoredWithPrefix (before out : List ℕ) : Type 0 where
   pub text : List ℕ
   pub part : List ℕ
   pub begun : IsMarkPrefix part
-  pub shown : out ≡ before ++ (colored beginning text ++ part)
+  pub shown : out ≡ before ++ (colored line_start text ++ part)
 
 -- the state of coloured output after `out` was written, which begins with `before`, the bytes of earlier output
 abbrev pub IsStateAfter : List ℕ → List ℕ → OutputState → Type 0
 IsStateAfter before out state.Plain = ⊥
 IsStateAfter before out (state.Colored here) = IsColoredUpTo here before out
-IsStateAfter before out state.CutOff = IsColoredWithPrefix before out
+IsStateAfter before out state.Failed = IsColoredWithPrefix before out
 
 -- the state of output with or without colours after `out` was written, which begins with `before`; any state if the bytes are not known
 abbrev pub IsOutputState : Colors → Option (List ℕ) → Option (List ℕ) → OutputState → Type 0
-IsOutputState colors.Without before out state.Plain = ⊤
-IsOutputState colors.Without before out (state.Colored here) = ⊥
-IsOutputState colors.Without before out state.CutOff = ⊥
-IsOutputState colors.With None out state = ⊤
-IsOutputState colors.With (Some before) None state = ⊥
-IsOutputState colors.With (Some before) (Some out) state = IsStateAfter before out state
+IsOutputState colors.Plain before out state.Plain = ⊤
+IsOutputState colors.Plain before out (state.Colored here) = ⊥
+IsOutputState colors.Plain before out state.Failed = ⊥
+IsOutputState colors.Colored None out state = ⊤
+IsOutputState colors.Colored (Some before) None state = ⊥
+IsOutputState colors.Colored (Some before) (Some out) state = IsStateAfter before out state

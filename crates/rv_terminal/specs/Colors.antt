@@ -1,9 +1,9 @@
 -- Which parts of results are coloured on a terminal: PASS and actual results are green, FAIL and expected results are red.
 use Rattle.std.specs.Prelude.{◌==◌, ◌||◌, ◌+◌, ℕ, Bool, true, false, List, [], ◌∷◌, ◌++◌, codes, if◌then◌else◌, nat_lt}
-use Rattle.rv_terminal.specs.declared.place.Mark.{Mark}
-use Rattle.rv_terminal.specs.declared.place.Mark.TheVariants as mark
-use Rattle.rv_terminal.specs.declared.place.Place.{Place}
-use Rattle.rv_terminal.specs.declared.place.Place.TheVariants as place
+use Rattle.rv_terminal.specs.declared.line_position.Mark.{Mark}
+use Rattle.rv_terminal.specs.declared.line_position.Mark.TheVariants as mark
+use Rattle.rv_terminal.specs.declared.line_position.LinePosition.{LinePosition}
+use Rattle.rv_terminal.specs.declared.line_position.LinePosition.TheVariants as place
 
 -- ---- marks
 
@@ -23,9 +23,9 @@ mark_text mark.Green = escape ∷ codes "[32m"
 mark_text mark.End = escape ∷ codes "[0m"
 
 -- whether a mark has no escape sequence
-abbrev pub is_nothing : Mark → Bool
-is_nothing mark.Nothing = true
-is_nothing _ = false
+abbrev pub is_empty : Mark → Bool
+is_empty mark.Nothing = true
+is_empty _ = false
 
 -- ---- positions in a line
 
@@ -72,71 +72,71 @@ word_mark byte = if begins_fail byte then mark.Red else if begins_pass byte then
 
 -- the mark before the first byte after the spaces at the beginning of a line: of a word or a sign if there are no spaces, of a sign if
 -- there are as many as `margin`, and otherwise none
-abbrev pub packet_start : ℕ → ℕ → Mark
-packet_start spaces byte =
+abbrev pub margin_mark : ℕ → ℕ → Mark
+margin_mark spaces byte =
     if spaces == 0 then word_mark byte else if spaces == margin then sign_mark byte else mark.Nothing
 
 -- the mark before a byte that does not begin an escape sequence: a word's colour ends before a space, and every colour before a line feed
-abbrev pub line_mark : Place → ℕ → Mark
-line_mark (place.Margin spaces) byte = packet_start spaces byte
+abbrev pub line_mark : LinePosition → ℕ → Mark
+line_mark (place.Margin spaces) byte = margin_mark spaces byte
 line_mark place.Word byte = if is_space byte || is_line_feed byte then mark.End else mark.Nothing
 line_mark place.Line byte = if is_line_feed byte then mark.End else mark.Nothing
 line_mark place.Rest byte = mark.Nothing
 
 -- the mark before a byte; also a byte of the text that begins an escape sequence has a mark before it, which distinguishes this sequence
 -- from the marks
-abbrev pub mark_before : Place → ℕ → Mark
+abbrev pub mark_before : LinePosition → ℕ → Mark
 mark_before here byte = if is_escape byte then mark.End else line_mark here byte
 
 -- the position after the first byte of a line that is not a space, given how many spaces are before it
-abbrev pub position_after_first : ℕ → ℕ → Place
-position_after_first spaces byte = if is_nothing (packet_start spaces byte) then place.Rest
+abbrev pub position_after_first : ℕ → ℕ → LinePosition
+position_after_first spaces byte = if is_empty (margin_mark spaces byte) then place.Rest
     else if is_minus byte || is_plus byte then place.Line else place.Word
 
 -- the position after a byte of a line that is neither a line feed nor an escape
-abbrev pub position_in_line : Place → ℕ → Place
+abbrev pub position_in_line : LinePosition → ℕ → LinePosition
 position_in_line (place.Margin spaces) byte = if is_space byte
     then (if nat_lt spaces margin then place.Margin (spaces + 1) else place.Rest) else position_after_first spaces byte
 position_in_line place.Word byte = if is_space byte then place.Rest else place.Word
 position_in_line here byte = here
 
 -- the position after a byte: a line feed begins a new line, and after an escape sequence of the text the rest of the line is not coloured
-abbrev pub place_after : Place → ℕ → Place
-place_after here byte = if is_line_feed byte then place.Margin 0
+abbrev pub position_after : LinePosition → ℕ → LinePosition
+position_after here byte = if is_line_feed byte then place.Margin 0
     else if is_escape byte then place.Rest else position_in_line here byte
 
 -- ---- coloured texts
 
 -- a text with its marks, given the position in a line at which the text begins
-unfoldable pub colored : Place → List ℕ → List ℕ
+unfoldable pub colored : LinePosition → List ℕ → List ℕ
 colored here [] = []
-colored here (byte ∷ rest) = mark_text (mark_before here byte) ++ byte ∷ colored (place_after here byte) rest
+colored here (byte ∷ rest) = mark_text (mark_before here byte) ++ byte ∷ colored (position_after here byte) rest
 
 -- the position at which a text begins: the start of a line
-abbrev pub beginning : Place
-beginning = place.Margin 0
+abbrev pub line_start : LinePosition
+line_start = place.Margin 0
 
 -- ---- removing the colours
 
 -- where a byte of a coloured text is: in the text, in a mark, or immediately after a mark
-pub data Seat : Type 0 where
-  InText : Seat
-  InMark : Seat
-  AfterMark : Seat
+pub data ByteLocation : Type 0 where
+  InText : ByteLocation
+  InMark : ByteLocation
+  AfterMark : ByteLocation
 
 -- where the next byte is, given where this byte is; the byte immediately after a mark always belongs to the text
-abbrev pub location_after : Seat → ℕ → Seat
+abbrev pub location_after : ByteLocation → ℕ → ByteLocation
 location_after InText byte = if is_escape byte then InMark else InText
 location_after InMark byte = if byte == mark_terminator then AfterMark else InMark
 location_after AfterMark byte = InText
 
 -- the part of the plain text that a byte of a coloured text stands for: the byte itself, or nothing if it belongs to a mark
-abbrev pub text_of_byte : Seat → ℕ → List ℕ
+abbrev pub text_of_byte : ByteLocation → ℕ → List ℕ
 text_of_byte InText byte = if is_escape byte then [] else byte ∷ []
 text_of_byte InMark byte = []
 text_of_byte AfterMark byte = byte ∷ []
 
 -- a coloured text without its marks, given where its first byte is
-unfoldable pub uncolored : Seat → List ℕ → List ℕ
+unfoldable pub uncolored : ByteLocation → List ℕ → List ℕ
 uncolored here [] = []
 uncolored here (byte ∷ rest) = text_of_byte here byte ++ uncolored (location_after here byte) rest

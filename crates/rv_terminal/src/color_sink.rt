@@ -1,7 +1,7 @@
 //! A sink that colours results.
 
 ghost use Rattle.std.specs.Prelude.{◌≡◌, ◌≤◌, IfErr, OnOk, is_err};
-ghost use Rattle.rv_terminal.specs.ColorSinks.{IsColoredAs, IsPartlyColoredAs, first_state, is_cut_off, results_of};
+ghost use Rattle.rv_terminal.specs.ColorSinks.{IsColoredAs, IsPartlyColoredAs, first_state, has_failed, results_of};
 
 use crate::colors::Colors;
 use crate::output_state::{OutputState, write_in_state};
@@ -9,7 +9,7 @@ use rv_rows::{Sink, SinkFailed};
 use std::marker::{Brand, Model, PhantomData};
 
 /// Whether results are coloured, and what the sink had received before them. Each command has its own implementation.
-pub trait Results {
+pub trait ColorSpec {
     ghost use Rattle.std.specs.Prelude.{ℕ, List, Option};
     ghost use Rattle.rv_terminal.specs.declared.colors.Colors.{Colors};
 
@@ -18,11 +18,11 @@ pub trait Results {
     ghost before: { Option (List ℕ) };
 }
 
-impl Results for Brand {
+impl ColorSpec for Brand {
     ghost use Rattle.std.specs.Prelude.{None};
-    ghost use Rattle.rv_terminal.specs.declared.colors.Colors.TheVariants.{Without};
+    ghost use Rattle.rv_terminal.specs.declared.colors.Colors.TheVariants.{Plain};
 
-    ghost colors = { Without };
+    ghost colors = { Plain };
 
     ghost before = { None };
 }
@@ -30,25 +30,25 @@ impl Results for Brand {
 /// A sink that passes results on to another sink, coloured or as they are. Contracts describe the uncoloured output. After a failed write
 /// with colours, each further write fails, because part of an escape sequence may have been written.
 #[derive(Drop)]
-pub struct ColorSink<J: Results, S: Sink + Drop> {
+pub struct ColorSink<J: ColorSpec, S: Sink + Drop> {
     sink: S,
     state: OutputState,
     failures: u64,
     of: PhantomData<J>,
 }
 
-impl<J: Results, S: Sink + Drop> Model for ColorSink<J, S> {
-    ghost use Rattle.rv_terminal.specs.ColorSinks.{ColorSinkView, IsCounted, IsOutputState};
+impl<J: ColorSpec, S: Sink + Drop> Model for ColorSink<J, S> {
+    ghost use Rattle.rv_terminal.specs.ColorSinks.{ColorSinkView, AreFailuresCounted, IsOutputState};
 
     ghost Value = { ColorSinkView S };
 
     ghost view = { λ s. record { sink = s.sink; failures = s.failures; state = s.state } };
 
     ghost invariant = { λ s. IsOutputState J.colors J.before (S.accepted s.sink) s.state
-        × IsCounted s.state s.failures (S.failure_count s.sink) };
+        × AreFailuresCounted s.state s.failures (S.failure_count s.sink) };
 }
 
-impl<J: Results, S: Sink + Drop> ColorSink<J, S> {
+impl<J: ColorSpec, S: Sink + Drop> ColorSink<J, S> {
     /// Creates a sink over another sink, at the start of a line.
     pub fn new(sink: S, colors: Colors) -> ColorSink<J, S>
         requires colors { colors ≡ J.colors }
@@ -70,7 +70,7 @@ impl<J: Results, S: Sink + Drop> ColorSink<J, S> {
     /// completely.
     pub fn finish(self) -> (S, Result<(), SinkFailed>)
         ensures sink { result.0 ≡ self.sink }
-        ensures told { is_err result.1 ≡ is_cut_off self.state }
+        ensures told { is_err result.1 ≡ has_failed self.state }
         ensures failed { IfErr result.1 (λ _. 1 ≤ S.failure_count self.sink) }
         ensures whole { OnOk result.1 (IsColoredAs J.colors J.before (results_of J.colors J.before (S.accepted self.sink))
             (S.accepted self.sink)) }
@@ -82,7 +82,7 @@ impl<J: Results, S: Sink + Drop> ColorSink<J, S> {
             failures: _,
             of: _,
         } = self;
-        let whole = if state.is_cut_off() {
+        let whole = if state.has_failed() {
             Err(SinkFailed)
         } else {
             Ok(())
@@ -91,7 +91,7 @@ impl<J: Results, S: Sink + Drop> ColorSink<J, S> {
     }
 }
 
-impl<J: Results, S: Sink + Drop> Sink for ColorSink<J, S> {
+impl<J: ColorSpec, S: Sink + Drop> Sink for ColorSink<J, S> {
     ghost use Rattle.rv_terminal.specs.ColorSinks.{results_of};
 
     ghost accepted = { λ s. results_of J.colors J.before (S.accepted s.sink) };

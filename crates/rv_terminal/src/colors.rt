@@ -3,6 +3,6 @@
 /// Whether results are coloured.
 #[derive(Clone, Copy, Debug, PartialEq, Eq)]
 pub enum Colors {
-    Without,
-    With,
+    Plain,
+    Colored,
 }

@@ -2,10 +2,10 @@
 
 ghost use Rattle.std.specs.Prelude.{◌≡◌, ℕ, List};
 ghost use Rattle.rv_terminal.specs.Colors.{InText, colored, uncolored};
-ghost use Rattle.rv_terminal.specs.declared.place.Place.{Place};
+ghost use Rattle.rv_terminal.specs.declared.line_position.LinePosition.{LinePosition};
 
 /// Removing the marks from a coloured text returns the plain text, whatever the position in a line at which the text begins. So two
 /// different texts are also different with their colours.
 pub fn colors_can_be_taken_out()
-    ensures { (place : Place) (text : List ℕ) → uncolored InText (colored place text) ≡ text }
+    ensures { (place : LinePosition) (text : List ℕ) → uncolored InText (colored place text) ≡ text }
 {}

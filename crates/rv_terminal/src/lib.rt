@@ -11,7 +11,7 @@ mod color_sink;
 mod colors;
 mod law;
 mod output_state;
-mod place;
+mod line_position;
 mod progress;
 mod progress_reporter;
 mod tally;
@@ -19,7 +19,7 @@ mod tally_value;
 mod terminal_line;
 mod terminal_sink;
 
-pub use color_sink::{ColorSink, Results};
+pub use color_sink::{ColorSink, ColorSpec};
 pub use colors::Colors;
 pub use law::colors_can_be_taken_out;
 pub use progress::Progress;

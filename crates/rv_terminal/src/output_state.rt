@@ -5,11 +5,11 @@ ghost use Rattle.std.specs.Io.KnownBytes.{Appends};
 ghost use Rattle.rv_rows.specs.Counts.{one_more};
 ghost use Rattle.rv_rows.specs.Sinks.{AppendsPrefix};
 ghost use Rattle.rv_terminal.specs.Colors.{colored, mark_before, mark_text};
-ghost use Rattle.rv_terminal.specs.ColorSinks.{IsWrittenInState, IsWrittenFrom, sink_failures, first_state, is_cut_off};
+ghost use Rattle.rv_terminal.specs.ColorSinks.{IsWrittenInState, IsWrittenFrom, sink_failures, first_state, has_failed};
 ghost use Rattle.rv_terminal.specs.declared.output_state.OutputState.TheVariants as state;
 
 use crate::colors::Colors;
-use crate::place::Place;
+use crate::line_position::LinePosition;
 use rv_rows::{Sink, SinkFailed, put_all};
 
 /// How the output continues.
@@ -18,9 +18,9 @@ pub(crate) enum OutputState {
     /// Without colours.
     Plain,
     /// With colours, from this position in a line on.
-    Colored(Place),
+    Colored(LinePosition),
     /// Not at all: a write failed, and part of an escape sequence may have been written.
-    CutOff,
+    Failed,
 }
 
 impl OutputState {
@@ -29,16 +29,16 @@ impl OutputState {
         ensures { result ≡ first_state colors }
     {
         match colors {
-            Colors::Without => OutputState::Plain,
-            Colors::With => OutputState::Colored(Place::Margin(0)),
+            Colors::Plain => OutputState::Plain,
+            Colors::Colored => OutputState::Colored(LinePosition::Margin(0)),
         }
     }
 
     /// Whether the output has ended because a write failed.
-    pub(crate) fn is_cut_off(self) -> bool
-        ensures { result ≡ is_cut_off self }
+    pub(crate) fn has_failed(self) -> bool
+        ensures { result ≡ has_failed self }
     {
-        matches!(self, OutputState::CutOff)
+        matches!(self, OutputState::Failed)
     }
 }
 
@@ -60,13 +60,13 @@ pub(crate) fn write_in_state<S: Sink>(
             Err(_) => (0, OutputState::Plain),
         },
         OutputState::Colored(place) => write_colored(sink, place, bytes),
-        OutputState::CutOff => (0, OutputState::CutOff),
+        OutputState::Failed => (0, OutputState::Failed),
     }
 }
 
 // Writes the bytes with their marks, piece by piece, until all are written or a write fails. Returns how many were written, and the new
 // state of the output.
-fn write_colored<S: Sink>(sink: &mut S, place: Place, bytes: &[u8]) -> (usize, OutputState)
+fn write_colored<S: Sink>(sink: &mut S, place: LinePosition, bytes: &[u8]) -> (usize, OutputState)
     requires { 0 < length bytes.now }
     ensures within { result.0 ≤ length bytes.now }
     ensures put { IsWrittenFrom place result.1 (take result.0 bytes.now) (S.accepted sink.old) (S.accepted sink.new) }
@@ -81,14 +81,14 @@ fn write_colored<S: Sink>(sink: &mut S, place: Place, bytes: &[u8]) -> (usize, O
                 here = here.after_bytes(&rest[..count]);
                 at += count;
             }
-            Err(_) => return (at, OutputState::CutOff),
+            Err(_) => return (at, OutputState::Failed),
         }
     }
     (at, OutputState::Colored(here))
 }
 
 // Writes the mark before the first byte, and then leading bytes up to the next mark. Returns how many bytes were written.
-fn write_span<S: Sink>(sink: &mut S, place: Place, bytes: &[u8]) -> Result<usize, SinkFailed>
+fn write_span<S: Sink>(sink: &mut S, place: LinePosition, bytes: &[u8]) -> Result<usize, SinkFailed>
     requires { 0 < length bytes.now }
     ensures within { IfOk result (λ count. (1 ≤ count) × (count ≤ length bytes.now)) }
     ensures colored { IfOk result (λ count. Appends (S.accepted sink.old) (S.accepted sink.new) (colored place (take count bytes.now))) }
@@ -103,7 +103,7 @@ fn write_span<S: Sink>(sink: &mut S, place: Place, bytes: &[u8]) -> Result<usize
 }
 
 // Returns the number of leading bytes that have no mark between them. There may be a mark before the first byte.
-fn span_len(place: Place, bytes: &[u8]) -> usize
+fn span_len(place: LinePosition, bytes: &[u8]) -> usize
     requires { 0 < length bytes.now }
     ensures within { (1 ≤ result) × (result ≤ length bytes.now) }
     ensures marked { (count : ℕ) → 1 ≤ count → count ≤ result
@@ -111,7 +111,7 @@ fn span_len(place: Place, bytes: &[u8]) -> usize
 {
     let mut at = 1;
     let mut here = place.behind(bytes[0]);
-    while at < bytes.len() && here.mark_before(bytes[at]).is_nothing() {
+    while at < bytes.len() && here.mark_before(bytes[at]).is_empty() {
         here = here.behind(bytes[at]);
         at += 1;
     }

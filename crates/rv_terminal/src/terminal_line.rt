@@ -48,7 +48,7 @@ impl<W: Write + Drop> Line<W> {
             (Appends (W.contents self.out) (W.contents result.0) (erasing_text self.is_shown)) }
     {
         let mut line = self;
-        let erased = line.take_away();
+        let erased = line.remove();
         (line.out, erased)
     }
 
@@ -79,7 +79,7 @@ impl<W: Write + Drop> Line<W> {
     }
 
     /// Removes the line if it is shown; returns an error if the terminal did not accept all bytes.
-    pub(crate) fn take_away(&mut self) -> Result<(), WriteError>
+    pub(crate) fn remove(&mut self) -> Result<(), WriteError>
         ensures away { self.new.is_shown ≡ false }
         ensures held { self.new.is_held ≡ self.old.is_held }
         ensures written { OnOk result

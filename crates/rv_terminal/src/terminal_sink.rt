@@ -142,7 +142,7 @@ fn write_beside_line<S: Sink, W: Write + Drop>(
         let put = write_and_record(line, sink, bytes);
         return BesideLineResult { put, line: Ok(()) };
     }
-    let erased = line.take_away();
+    let erased = line.remove();
     let put = write_and_record(line, sink, bytes);
     let shown = line.show_counts(alloc, counts);
     match erased {

@@ -120,7 +120,7 @@ impl<'a> Streams<'a> {
         line: &str,
         store: &mut S,
     ) -> Result<u8, AllocError> {
-        let words = words_of(alloc, line)?;
+        let words = args_of(alloc, line)?;
         let (input, out, errors) = (&mut self.input, &mut self.out, &mut self.errors);
         Ok(run_words(rt, alloc, &words, store, input, out, errors, &FreeGate))
     }
@@ -145,7 +145,7 @@ impl<'a> Streams<'a> {
 }
 
 // Returns the words of a command line, which single spaces separate.
-fn words_of(alloc: Global, line: &str) -> Result<Vec<&str>, AllocError> {
+fn args_of(alloc: Global, line: &str) -> Result<Vec<&str>, AllocError> {
     let mut words = Vec::new(alloc);
     for word in line.split(' ') {
         words.push(word)?;

@@ -5,7 +5,7 @@ use Rattle.rv_command.specs.Texts.{optional_text}
 use Rattle.rv_files.specs.CommittedFiles.{CommittedFile}
 use Rattle.rv_rows.specs.declared_job.Job.{Job}
 use Rattle.rvtest_cli.specs.declared.accept.AcceptArgs.{AcceptArgs}
-use Rattle.rvtest_app.specs.Overwrites.{AreAcceptFilesNoInputs, IsUnread, golden_paths_of_selected, inputs_of_accept, is_golden_input, is_read, input_paths}
+use Rattle.rvtest_app.specs.Overwrites.{AreAcceptFilesNoInputs, IsNoInput, golden_paths_of_selected, inputs_of_accept, is_golden_input, is_read, input_paths}
 use Rattle.rvtest_app.specs.declared.input_file.InputPath.{InputPath}
 
 -- files are read if their paths are
@@ -19,7 +19,7 @@ pub accept_apart : (placed : Option (List CommittedFile)) (words : AcceptArgs) (
     → input_paths files ≡ golden_paths_of_selected (optional_text words.run.root) jobs marks
     → IfSome placed (λ _. list ≡ words.run.list.now ∷ [])
     → IfSome placed (λ _. inputs ≡ inputs_of_accept words jobs)
-    → IfSome placed (λ _. IsUnread (inputs_of_accept words jobs) words.run.list.now)
+    → IfSome placed (λ _. IsNoInput (inputs_of_accept words jobs) words.run.list.now)
     → IfSome placed (λ _. list_any (is_golden_input list) files ≡ false)
     → IfSome placed (λ _. list_any (is_golden_input inputs) files ≡ false)
     → IfSome placed (λ _. AreAcceptFilesNoInputs words jobs marks)

@@ -16,14 +16,14 @@ use Rattle.rv_accept.specs.IntendedJobs.{intended_job, intended_jobs}
 use Rattle.rv_accept.specs.Passing.{AreFilesUpdated, is_pass_or_none, outcome_of_row}
 use Rattle.rv_accept.specs.Runs.{accepted_row, is_accepted_run}
 use Rattle.rv_accept.specs.Sharing.{is_same_path, jobs_to_run, names_golden_file}
-use Rattle.rv_accept.specs.Targets.{is_accepted_entry, is_target, with_target}
+use Rattle.rv_accept.specs.Targets.{is_accepted_entry, has_target, with_target}
 use Rattle.rv_accept.specs.declared.golden_texts.GoldenText.{GoldenText}
 use Rattle.rv_accept.specs.declared.golden_outcomes.GoldenFileOutcome.{GoldenFileOutcome}
 use Rattle.rv_accept.specs.declared.golden_outcomes.GoldenFileOutcome.TheVariants as fate
 use Rattle.rv_accept.specs.declared.runs.JobRun.{JobRun}
 use Rattle.rv_accept.specs.declared.targets.Target.{Target}
 use Rattle.rv_accept_text.proofs.Public.{accepted_from_the_first, list_is_no_image}
-use Rattle.rv_accept_text.specs.GoldenFiles.{elf_magic, is_kept, is_left, is_skipped_with}
+use Rattle.rv_accept_text.specs.GoldenFiles.{elf_magic, is_kept, is_skipped, is_skipped_with}
 use Rattle.rv_accept_text.specs.declared.accepting.AcceptSummary.{AcceptSummary}
 use Rattle.rv_accept_text.specs.declared.golden_file.GoldenFile.{GoldenFile}
 use Rattle.rv_files.specs.Files.{FileContents}
@@ -126,15 +126,15 @@ match_machine before root claims (target ∷ targets) (file ∷ files) are fates
 
 -- where a file is a target, it is told
 is_told : (before : FileContents) (root : Option (List ℕ)) (path : List ℕ) (targets : List Target)
-    (files : List GoldenFile) → AreGoldenFiles (Some before) root targets files → is_target path targets ≡ true
+    (files : List GoldenFile) → AreGoldenFiles (Some before) root targets files → has_target path targets ≡ true
     → list_any (λ (file : GoldenFile). bytes_eq path file.target.path) files ≡ true
 is_told before root path [] files are is = cc
 is_told before root path (target ∷ targets) [] are is = absurd are
 is_told before root path (target ∷ targets) (file ∷ files) are is =
     rw are.0.of (go (bytes_eq path target.path) is (is_told before root path targets files are.1))
   where
-    go : (same : Bool) → (same || is_target path targets) ≡ true
-        → (is_target path targets ≡ true → list_any (λ (file : GoldenFile). bytes_eq path file.target.path) files ≡ true)
+    go : (same : Bool) → (same || has_target path targets) ≡ true
+        → (has_target path targets ≡ true → list_any (λ (file : GoldenFile). bytes_eq path file.target.path) files ≡ true)
         → (same || list_any (λ (file : GoldenFile). bytes_eq path file.target.path) files) ≡ true
     go true is behind = refl
     go false is behind = behind is
@@ -146,7 +146,7 @@ agreed_fate : (text : List ℕ) (what : GoldenFileOutcome) (kept : Bool) → is_
 agreed_fate text fate.Unclaimed kept left none same = none refl
 agreed_fate text (fate.Agreed other) kept left none same = ap fate.Agreed (same other refl)
 agreed_fate text (fate.SkippedBy job) kept left none same = cc
-agreed_fate text (fate.Differ job other) kept left none same = cc
+agreed_fate text (fate.Disagree job other) kept left none same = cc
 
 same_bytes : (bytes : List ℕ) → bytes_eq bytes bytes ≡ true
 same_bytes bytes = (bytes_eq-Decides bytes bytes).1 refl
@@ -231,10 +231,10 @@ module _ (words : AcceptArgs) (before after : FileContents) (bytes : List ℕ) (
           (ap job_list_of same ∙ (rw is at outcome.intended))
 
   -- a golden file that an accepted job names, and that is not left, holds what the job gives it
-  golden_text : (job : Job) (path text : List ℕ) → names_golden_file path job ≡ true → is_target path targets ≡ true
+  golden_text : (job : Job) (path text : List ℕ) → names_golden_file path job ≡ true → has_target path targets ≡ true
       → (outcome_of_golden_file path claims ≡ fate.Unclaimed → outcome_of_golden_file path claims ≡ fate.Agreed text)
       → ((other : List ℕ) → outcome_of_golden_file path claims ≡ fate.Agreed other → other ≡ text)
-      → All (λ (file : GoldenFile). names_golden_file file.target.path job ≡ true → is_left told.list file ≡ false)
+      → All (λ (file : GoldenFile). names_golden_file file.target.path job ≡ true → is_skipped told.list file ≡ false)
       told.files.now → after (resolved_path root path) ≡ Some text
   golden_text job path text names target unclaimed_is agreed_is left =
       any_elim (λ (file : GoldenFile). bytes_eq path file.target.path ≡ true) told.files.now each
@@ -259,7 +259,7 @@ module _ (words : AcceptArgs) (before after : FileContents) (bytes : List ℕ) (
 
   module _ (place : ℕ) (job : Job) (run : JobRun) (at : slice_get jobs place ≡ Some job)
       (ran : slice_get told.runs.now place ≡ Some (Some run)) (accepted : is_accepted_run run ≡ true)
-      (left : All (λ (file : GoldenFile). names_golden_file file.target.path job ≡ true → is_left told.list file ≡ false)
+      (left : All (λ (file : GoldenFile). names_golden_file file.target.path job ≡ true → is_skipped told.list file ≡ false)
       told.files.now) where
     console_there : (path : List ℕ) → console_path job.expect_console ≡ Some path
         → after (resolved_path root path) ≡ Some run.row.console

@@ -10,7 +10,7 @@ use Rattle.rv_accept.proofs.Public.{all_left, all_right}
 use Rattle.rv_accept.specs.declared.golden_outcomes.GoldenFileOutcome.{GoldenFileOutcome}
 use Rattle.rv_accept.specs.declared.golden_outcomes.GoldenFileOutcome.TheVariants as fate
 use Rattle.rv_accept.specs.declared.targets.Target.{Target}
-use Rattle.rv_accept_text.specs.GoldenFiles.{text_if_changed, elf_magic, is_image_path, is_kept, is_left, is_skipped_with, new_text, new_text_of}
+use Rattle.rv_accept_text.specs.GoldenFiles.{text_if_changed, elf_magic, is_image_path, is_kept, is_skipped, is_skipped_with, new_text, new_text_of}
 use Rattle.rv_accept_text.specs.declared.accepting.AcceptSummary.{AcceptSummary}
 use Rattle.rv_accept_text.specs.declared.golden_file.GoldenFile.{GoldenFile}
 use Rattle.rv_accept_text.specs.declared.golden_file.ListFile.{ListFile}
@@ -97,7 +97,7 @@ kept_is_not_written {A} list file old text is keeps written =
     no_text : (what : GoldenFileOutcome) (old : Option (List ℕ)) → new_text_of true what old ≡ Some text → A
     no_text (fate.Agreed other) old none = cc
     no_text (fate.SkippedBy job) old none = cc
-    no_text (fate.Differ job other) old none = cc
+    no_text (fate.Disagree job other) old none = cc
     no_text fate.Unclaimed old none = cc
 
     go : (is_list is_image : Bool) → new_text_of (is_list || (is_image || true)) file.target.fate (Some old) ≡ Some text
@@ -269,6 +269,6 @@ module _ (told : AcceptSummary) (before after : FileContents) (store : IsStoreAf
           told golden no_list) some
 
   pub golden_files_there : All (λ (file : GoldenFile). (text : List ℕ) → file.target.fate ≡ fate.Agreed text
-      → is_left told.list file ≡ false → after file.resolved_path ≡ Some text) told.files.now
+      → is_skipped told.list file ≡ false → after file.resolved_path ≡ Some text) told.files.now
   golden_files_there k d below text agreed left = golden_there k d below text agreed
       (kept_of (is_kept told.list (get_or told.files.now k d)) (get_or told.files.now k d).target.fate text agreed left) _ refl

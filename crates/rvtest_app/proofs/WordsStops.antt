@@ -11,7 +11,7 @@ use Rattle.rvtest_cli.specs.declared.args_error.ArgsError.TheVariants as error
 use Rattle.rv_command.specs.Stops.{IsUsageStop}
 use Rattle.rv_command.specs.declared.stop.Stop.{Stop}
 use Rattle.rv_command.specs.declared.stop.Stop.TheVariants as stop
-use Rattle.rvtest_app.specs.Answers.{RequestHelp, IsAnswered}
+use Rattle.rvtest_app.specs.Responses.{RequestHelp, IsCarriedOut}
 use Rattle.rvtest_app.specs.CommandOutputs.{CommandOutputs}
 use Rattle.rvtest_app.specs.CommandStops.{IsProgramStop}
 use Rattle.rvtest_app.specs.ReportedStops.{IsHelpRequested, IsHelpStop, IsHelpWritten, IsArgsErrorStop}
@@ -38,12 +38,12 @@ stop_of_error : (known : Option FileContents) (is_terminal : Bool) (words : List
     → (args_errors words ≡ [] → IsMisuseReported (args_misuse words) told)
     → IsArgsErrorStop told before after why → IsProgramStop known is_terminal words why
 stop_of_error known is_terminal words error.OutOfMemory before after why among misused is = inr (inl is)
-stop_of_error known is_terminal words (error.Told fault text) before after why among misused is =
+stop_of_error known is_terminal words (error.Message fault text) before after why among misused is =
     ⊎_elim (λ help. help_stop known is_terminal words before after why (ask_for_help words fault among help.0) help.1)
     (λ other. inr (inr (inr (record {
       faulty = (fault, (among, other.0));
       refused = inr other.1.0;
-      misused = λ none. by_option (λ o. IsMisuseReported o (error.Told fault text)) (why ≡ stop.OutOfMemory)
+      misused = λ none. by_option (λ o. IsMisuseReported o (error.Message fault text)) (why ≡ stop.OutOfMemory)
           (λ misuse. IsUsageStop (misuse_text misuse) why) (λ told. absurd told)
           (λ misuse told. inr (other.1.0, (told.1.0, other.1.1 ∙ told.1.1))) (args_misuse words) (misused none);
     })))) is
@@ -60,13 +60,13 @@ words_stop known is_terminal words told (Err why) before after among misused is 
 help_requested : (words : List (List ℕ)) (told : ArgsError) (before after : Option (List ℕ)) → IsErrorOfKinds (args_error_kinds words) told
     → IsHelpWritten told before after → RequestHelp words
 help_requested words error.OutOfMemory before after among written = absurd written
-help_requested words (error.Told fault text) before after among written = ask_for_help words fault among written.0
+help_requested words (error.Message fault text) before after among written = ask_for_help words fault among written.0
 
 pub words_answered : (known : Option FileContents) (input : Option (List ℕ)) (is_terminal is_colored : Bool) (words : List (List ℕ))
     (told : ArgsError) (answer : Result ℕ Stop) (before after : CommandOutputs) → IsErrorOfKinds (args_error_kinds words) told
     → IfOk answer (λ status. status ≡ 0) → OnOk answer (IsHelpWritten told before.out after.out)
     → (after.errors ≡ before.errors) × (after.failures ≡ before.failures) × (after.placed ≡ before.placed)
-    → IfOk answer (λ status. IsAnswered known input is_terminal is_colored words status before after)
+    → IfOk answer (λ status. IsCarriedOut known input is_terminal is_colored words status before after)
 words_answered known input is_terminal is_colored words told (Ok status) before after among zero written same =
     inr (inr (help_requested words told before.out after.out among written, zero), same.0, same.1, same.2)
 words_answered known input is_terminal is_colored words told (Err why) before after among zero written same = tt

@@ -3,7 +3,7 @@ use Rattle.std.specs.Prelude.{◌≡◌, ◌⊎◌, ℕ, Bool, true, false, IfSo
 use Rattle.std.specs.List.{All, Any}
 use Rattle.rv_accept.specs.Sharing.{names_golden_file}
 use Rattle.rv_accept.specs.Targets.{is_accepted_entry}
-use Rattle.rv_accept_text.specs.GoldenFiles.{is_left}
+use Rattle.rv_accept_text.specs.GoldenFiles.{is_skipped}
 use Rattle.rv_accept_text.specs.declared.accepting.AcceptSummary.{AcceptSummary}
 use Rattle.rv_accept_text.specs.declared.golden_file.GoldenFile.{GoldenFile}
 use Rattle.rv_files.specs.Files.{FileContents}
@@ -52,7 +52,7 @@ pub record IsFullyAccepted (told : AcceptSummary) (place : ℕ) (job : Job) : Ty
   pub at_index : slice_get told.list.jobs.now place ≡ Some job
   pub accepted : IsTrue (is_accepted_entry (slice_get told.runs.now place))
   pub files : All (λ (file : GoldenFile). IsTrue (names_golden_file file.target.path job)
-      → IsFalse (is_left told.list file)) told.files.now
+      → IsFalse (is_skipped told.list file)) told.files.now
   pub alone : job.same_as ≡ None
 
 -- ---- the run

@@ -24,7 +24,7 @@ use Rattle.rv_accept_text.specs.declared.golden_file.GoldenFile.{GoldenFile}
 use Rattle.rv_accept_text.specs.declared.golden_file.ListFile.{ListFile}
 use Rattle.rv_accept_text.specs.declared.new_list.NewList.{NewList}
 use Rattle.rv_files.specs.Files.{FileContents}
-use Rattle.rv_choice.specs.Chosen.{IsChoice}
+use Rattle.rv_choice.specs.ChosenJobs.{IsChoice}
 use Rattle.rvtest_cli.specs.declared.accept.AcceptArgs.{AcceptArgs}
 use Rattle.rv_command.specs.Texts.{IsTextAt, optional_text}
 use Rattle.rv_files.specs.CommittedFiles.{CommittedFile, committed_file}
@@ -137,10 +137,10 @@ pub record IsAcceptOutcome (known : Option FileContents) (words : AcceptArgs) (b
 abbrev pub IsAcceptanceWritten : Bool → AcceptSummary → ℕ → CommandOutputs → CommandOutputs → Type 0
 IsAcceptanceWritten true told status before after =
     (status ≡ accept_status (skipped_count told) (changed_count told))
-    × IsOnlyStandardOutput (accept_lines told ++ count_line writing.Asked (changed_count told) (skipped_count told)) before after
+    × IsOnlyStandardOutput (accept_lines told ++ count_line writing.CheckOnly (changed_count told) (skipped_count told)) before after
 IsAcceptanceWritten false told status before after =
     (status ≡ accept_status (skipped_count told) 0)
-    × Appends before.out after.out (accept_lines told ++ count_line writing.Done (changed_count told) (skipped_count told))
+    × Appends before.out after.out (accept_lines told ++ count_line writing.Written (changed_count told) (skipped_count told))
     × (after.errors ≡ before.errors) × (after.failures ≡ before.failures)
     × AreFilesCommitted before.placed after.placed (Some (written_files told))
 

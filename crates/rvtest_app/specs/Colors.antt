@@ -13,17 +13,17 @@ use Rattle.rvtest_app.specs.CommandOutputs.{CommandOutputs}
 
 -- the colours without `--color`: coloured results on a terminal, plain results otherwise
 abbrev pub terminal_colors : Bool → Colors
-terminal_colors is_terminal = if is_terminal then colors.With else colors.Without
+terminal_colors is_terminal = if is_terminal then colors.Colored else colors.Plain
 
 -- the colours that the value of `--color` requests: `always`, `never`, or otherwise coloured results only on a terminal
 abbrev pub colors_of_value : Option (List ℕ) → Bool → Colors
-colors_of_value (Some word) is_terminal = if bytes_eq word (codes "always") then colors.With
-    else if bytes_eq word (codes "never") then colors.Without else terminal_colors is_terminal
+colors_of_value (Some word) is_terminal = if bytes_eq word (codes "always") then colors.Colored
+    else if bytes_eq word (codes "never") then colors.Plain else terminal_colors is_terminal
 colors_of_value None is_terminal = terminal_colors is_terminal
 
 -- plain results if the Bool is true, because an output file goes to standard output; otherwise the given colours
 abbrev pub colors_unless_stdout_used : Bool → Colors → Colors
-colors_unless_stdout_used uses_stdout args = if uses_stdout then colors.Without else args
+colors_unless_stdout_used uses_stdout args = if uses_stdout then colors.Plain else args
 
 -- the colours of a request's results, given whether standard output is a terminal that supports them; only the results of `run`, `explain`,
 -- `diff` and `show` are ever coloured
@@ -34,7 +34,7 @@ requested_colors (request.Explain words) is_terminal = colors_of_value (optional
 requested_colors (request.Diff words) is_terminal = colors_of_value (optional_text words.color) is_terminal
 requested_colors (request.Show words) is_terminal =
     colors_unless_stdout_used (is_stdout_at (optional_text words.junit)) (colors_of_value (optional_text words.color) is_terminal)
-requested_colors _ is_terminal = colors.Without
+requested_colors _ is_terminal = colors.Plain
 
 -- the outputs `after` are the outputs `plain` with the results on standard output coloured, and nothing else changed
 pub record IsColoredOutput (colors : Colors) (before plain after : CommandOutputs) : Type 0 where

@@ -25,7 +25,7 @@ use Rattle.rv_rows.specs.JobList.{job_list_of}
 use Rattle.rv_rows.specs.declared_job.Job.{Job}
 use Rattle.rv_rows.specs.declared_partial.PartialReport.{PartialReport}
 use Rattle.rvtest_app.specs.AcceptStops.{IsUnacceptedStop}
-use Rattle.rvtest_app.specs.Answers.{RequestHelp}
+use Rattle.rvtest_app.specs.Responses.{RequestHelp}
 use Rattle.rvtest_app.specs.Commands.{failure_rule}
 use Rattle.rvtest_app.specs.CountStops.{IsCountsStop}
 use Rattle.rvtest_app.specs.CoverStops.{IsCoverStop}

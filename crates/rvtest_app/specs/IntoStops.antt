@@ -26,8 +26,8 @@ abbrev pub expected_whole_report : List ℕ
 expected_whole_report = codes ": --into expects a report of the whole list\n"
 
 -- the message that the report at the path has only `rows` rows of a list with `jobs` jobs
-abbrev pub part_refusal : List ℕ → ℕ → ℕ → List ℕ
-part_refusal path rows jobs = codes "rvtest: " ++ printable_text path ++ codes ": a partial report (" ++ decimal rows
+abbrev pub partial_report_message : List ℕ → ℕ → ℕ → List ℕ
+partial_report_message path rows jobs = codes "rvtest: " ++ printable_text path ++ codes ": a partial report (" ++ decimal rows
     ++ codes " of " ++ count_text jobs (codes "job") ++ codes ")" ++ expected_whole_report
 
 -- the message that the report at `path` has `rows` rows, but the list at `list` has `jobs` jobs
@@ -43,7 +43,7 @@ name_mismatch_message path list number name wanted = codes "rvtest: " ++ printab
 
 -- the message that the report at `path` is not a report of all jobs of the list at `list`, with the reason
 abbrev pub not_whole_message : List ℕ → List ℕ → NotWholeReason → List ℕ
-not_whole_message path list (other.Part rows jobs) = part_refusal path rows jobs
+not_whole_message path list (other.Part rows jobs) = partial_report_message path rows jobs
 not_whole_message path list (other.Count rows jobs) = row_count_message path list rows jobs
 not_whole_message path list (other.Name name) = name_mismatch_message path list name.number name.in_report.now name.listed.now
 

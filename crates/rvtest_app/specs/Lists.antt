@@ -2,7 +2,7 @@
 use Rattle.std.specs.Prelude.{◌≡◌, ℕ, Bool, List, [], Option, Some, None, Ok, slice_index_or}
 use Rattle.std.specs.List.{flat_map}
 use Rattle.rv_files.specs.Files.{FileContents}
-use Rattle.rv_choice.specs.Chosen.{IsChoice}
+use Rattle.rv_choice.specs.ChosenJobs.{IsChoice}
 use Rattle.rvtest_cli.specs.declared.run.RunArgs.{RunArgs}
 use Rattle.rv_command.specs.Texts.{IsTextAt}
 use Rattle.rv_rows.specs.Jobs.{single_job}

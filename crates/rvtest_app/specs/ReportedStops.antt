@@ -50,13 +50,13 @@ IsHelpStop failures_before failures_after why = (why ≡ stop.OutOfMemory)
 -- the help or the version was requested, and its text was written to standard output
 abbrev pub IsHelpWritten : ArgsError → Option (List ℕ) → Option (List ℕ) → Type 0
 IsHelpWritten error.OutOfMemory before after = ⊥
-IsHelpWritten (error.Told fault text) before after = IsHelpRequested fault × Appends before after (string_bytes text)
+IsHelpWritten (error.Message fault text) before after = IsHelpRequested fault × Appends before after (string_bytes text)
 
 -- why the program stopped, given an error of its arguments: memory ran out, the requested help could not be written, or the arguments are
 -- rejected with the error's message
 abbrev pub IsArgsErrorStop : ArgsError → ℕ → ℕ → Stop → Type 0
 IsArgsErrorStop error.OutOfMemory failures_before failures_after why = why ≡ stop.OutOfMemory
-IsArgsErrorStop (error.Told fault text) failures_before failures_after why =
+IsArgsErrorStop (error.Message fault text) failures_before failures_after why =
     (IsHelpRequested fault × IsHelpStop failures_before failures_after why)
     ⊎ ((IsHelpRequested fault → ⊥) × IsRejectedWith (string_bytes text) why)
 

@@ -1,7 +1,7 @@
 -- The rows of a run of some jobs of a list, and its status.
 use Rattle.std.specs.Prelude.{◌≡◌, ◌⊎◌, ◌++◌, ℕ, Bool, true, false, List, [], Ok, Option, Some, None, IfSome, is_some, length, take}
 use Rattle.rv_files.specs.Files.{FileContents}
-use Rattle.rv_choice.specs.Chosen.{IsChoice}
+use Rattle.rv_choice.specs.ChosenJobs.{IsChoice}
 use Rattle.rv_choice.specs.Shard.{IsShardOf, stamp_for}
 use Rattle.rvtest_cli.specs.declared.run.RunArgs.{RunArgs}
 use Rattle.rv_command.specs.Texts.{IsTextAt, optional_text}

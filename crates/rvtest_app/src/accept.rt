@@ -11,7 +11,7 @@ ghost use Rattle.rv_accept.specs.Sharing.{jobs_to_run};
 ghost use Rattle.rv_accept.specs.Targets.{with_target};
 ghost use Rattle.rv_accept_text.specs.NewLists.{AreSkippedFrom};
 ghost use Rattle.rv_accept_text.specs.AcceptLines.{changed_count, count_line, skipped_count, accept_lines};
-ghost use Rattle.rv_choice.specs.Chosen.{IsChoice};
+ghost use Rattle.rv_choice.specs.ChosenJobs.{IsChoice};
 ghost use Rattle.rv_command.specs.Texts.{IsTextAt, optional_text};
 ghost use Rattle.rv_rows.specs.JobList.{job_list_of};
 ghost use Rattle.rv_rows.specs.Jobs.{without_expectations};
@@ -352,13 +352,13 @@ fn write_accepted<'x, R, D: Inputs, F: Outputs + Drop, O: Sink + Drop, E: Sink +
     };
     write_lines(host.alloc, &accepting, &mut to.out)?;
     if args.check {
-        write_count_line(host.alloc, &accepting, Writing::Asked, &mut to.out)?;
+        write_count_line(host.alloc, &accepting, Writing::CheckOnly, &mut to.out)?;
         return Ok(accept_status(accepting.skipped_count(), accepting.changed_count()));
     }
     check_unchanged_files(host.inputs, host.alloc, &accepting)?;
     write_accepted_files(&mut to.files, host.alloc, &accepting)?;
     check_written_files(host.inputs, host.alloc, &accepting)?;
-    write_count_line(host.alloc, &accepting, Writing::Done, &mut to.out)?;
+    write_count_line(host.alloc, &accepting, Writing::Written, &mut to.out)?;
     Ok(accept_status(accepting.skipped_count(), 0))
 }
 

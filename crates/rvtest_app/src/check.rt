@@ -11,10 +11,10 @@ ghost use Rattle.rv_command.specs.Texts.{optional_text};
 ghost use Rattle.rvtest_app.specs.CommandStops.{IsCheckStop};
 
 use crate::check_text::{CheckedList, push_job_counts_line};
-use crate::command_result::Found;
+use crate::command_result::CommandResult;
 use crate::missing_images::push_missing_images_line;
 use rv_accept_text::job_line_numbers;
-use rv_command::{DONE, REFUSED, Stop, all_faults_text, parse_list, read_list_text};
+use rv_command::{DONE, REJECTED, Stop, all_faults_text, parse_list, read_list_text};
 use rv_files::{Inputs, RecordingStore, UnreadablePath};
 use rv_rows::{Plan, gather, read_faults};
 use rvtest_cli::CheckArgs;
@@ -25,7 +25,7 @@ pub(crate) fn check_list<D: Inputs>(
     inputs: &D,
     alloc: Global,
     args: CheckArgs<'_>,
-) -> Result<Found, Stop>
+) -> Result<CommandResult, Stop>
     ensures checked { IfOk result (λ found. IsCheckOutputAt (D.contents inputs.now) args.entry
         found.text.items found.status) }
     ensures low { IfOk result (λ found. found.status ≤ 2) }
@@ -41,7 +41,7 @@ fn check_list_text<D: Inputs>(
     alloc: Global,
     args: CheckArgs<'_>,
     text: &[u8],
-) -> Result<Found, Stop>
+) -> Result<CommandResult, Stop>
     ensures check { IfOk result (λ found. IsCheckOutputOf
         (contents_below (optional_text args.entry.root) (D.contents inputs.now))
         (optional_text args.entry.root) (list_faults text.now)
@@ -54,9 +54,9 @@ fn check_list_text<D: Inputs>(
         return check_files(inputs, alloc, args, text);
     }
     let text = all_faults_text(alloc, args.list, text, faults.as_slice())?;
-    Ok(Found {
+    Ok(CommandResult {
         text,
-        status: REFUSED,
+        status: REJECTED,
     })
 }
 
@@ -66,7 +66,7 @@ fn check_files<D: Inputs>(
     alloc: Global,
     args: CheckArgs<'_>,
     text: &[u8],
-) -> Result<Found, Stop>
+) -> Result<CommandResult, Stop>
     ensures plan { IfOk result (λ found. IsPlanCheckOf
         (contents_below (optional_text args.entry.root) (D.contents inputs.now))
         (optional_text args.entry.root) args.entry.list.now text.now found.text.items found.status) }
@@ -87,7 +87,7 @@ fn check_plan(
     text: &[u8],
     plan: &Plan,
     unread: &[UnreadablePath],
-) -> Result<Found, Stop>
+) -> Result<CommandResult, Stop>
     ensures low { IfOk result (λ found. found.status ≤ 2) }
     ensures text { IfOk result (λ found. found.text.items
         ≡ check_text args.entry.list.now text.now (optional_text args.entry.root) plan.now unread.now) }
@@ -107,7 +107,7 @@ fn check_plan(
     let warned = list.push_warned_jobs(&mut text)?;
     push_missing_images_line(&mut text, plan, unread, args.root)?;
     push_job_counts_line(&mut text, jobs, refused, warned)?;
-    Ok(Found {
+    Ok(CommandResult {
         text,
         status: check_status(refused),
     })
@@ -118,7 +118,7 @@ fn check_status(refused: usize) -> u8
     ensures value { result ≡ check_status refused }
     ensures low { result ≤ 2 }
 {
-    if refused == 0 { DONE } else { REFUSED }
+    if refused == 0 { DONE } else { REJECTED }
 }
 
 // Returns the number of the line on which each job begins; an empty list if the text is not UTF-8.

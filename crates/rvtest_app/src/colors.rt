@@ -35,15 +35,15 @@ pub(crate) fn requested_colors(request: &Request<'_>, is_terminal: bool) -> Colo
         | Request::Counts(_)
         | Request::Cover(_)
         | Request::Profile(_)
-        | Request::Help(_) => Colors::Without,
+        | Request::Help(_) => Colors::Plain,
     }
 }
 
-// Returns plain results (`Colors::Without`) if an output file goes to standard output, and the given colours otherwise.
+// Returns plain results (`Colors::Plain`) if an output file goes to standard output, and the given colours otherwise.
 fn colors_unless_stdout_used(uses_stdout: bool, colors: Colors) -> Colors
     ensures { result ≡ colors_unless_stdout_used uses_stdout colors }
 {
-    if uses_stdout { Colors::Without } else { colors }
+    if uses_stdout { Colors::Plain } else { colors }
 }
 
 // Returns the colours that the value of `--color` requests: `always`, `never`, or otherwise coloured results only on a terminal.
@@ -51,8 +51,8 @@ fn colors_of_value(word: Option<&str>, is_terminal: bool) -> Colors
     ensures { result ≡ colors_of_value (optional_text word.entry) is_terminal }
 {
     match word {
-        Some("always") => Colors::With,
-        Some("never") => Colors::Without,
+        Some("always") => Colors::Colored,
+        Some("never") => Colors::Plain,
         _ => terminal_colors(is_terminal),
     }
 }
@@ -62,8 +62,8 @@ fn terminal_colors(is_terminal: bool) -> Colors
     ensures { result ≡ terminal_colors is_terminal }
 {
     if is_terminal {
-        Colors::With
+        Colors::Colored
     } else {
-        Colors::Without
+        Colors::Plain
     }
 }

@@ -10,7 +10,7 @@ use rv_files::Sink;
 
 /// The output of a command for standard output, and its exit status.
 #[derive(Drop)]
-pub(crate) struct Found {
+pub(crate) struct CommandResult {
     pub(crate) text: Vec<u8>,
     pub(crate) status: u8,
 }
@@ -18,7 +18,7 @@ pub(crate) struct Found {
 /// Writes the output of a command to standard output, and returns its exit status.
 pub(crate) fn write_command_result<O: Sink>(
     out: &mut O,
-    found: Result<Found, Stop>,
+    found: Result<CommandResult, Stop>,
 ) -> Result<u8, Stop>
     ensures put { IfOk result (λ status. MatchResult found (λ found. (status ≡ found.status)
         × Appends (O.accepted out.old) (O.accepted out.new) found.text.items) (λ stop. ⊥)) }
@@ -30,7 +30,7 @@ pub(crate) fn write_command_result<O: Sink>(
         (λ _. O.failure_count out.new ≡ one_more (O.failure_count out.old)) (λ _. O.failure_count out.new ≡ O.failure_count out.old)) }
     ensures stopped { IfErr result (λ why. MatchResult found (λ _. why ≡ Stop.WriteFailed) (λ stop. why ≡ stop)) }
 {
-    let Found { text, status } = found?;
+    let CommandResult { text, status } = found?;
     write_results(out, text.as_slice())?;
     Ok(status)
 }

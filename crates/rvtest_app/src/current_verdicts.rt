@@ -45,7 +45,7 @@ impl<'x, D: Inputs> CurrentFiles<'x, D> {
         for job in jobs {
             let place = candidates.len();
             let candidate = self.candidate_at(place, job, chosen)?;
-            add_candidate(&mut candidates, candidate)?;
+            push_candidate(&mut candidates, candidate)?;
         }
         Ok(candidates)
     }
@@ -161,7 +161,7 @@ impl<'x, D: Inputs> CurrentFiles<'x, D> {
 }
 
 // Appends a candidate.
-fn add_candidate(candidates: &mut Vec<Candidate>, candidate: Candidate) -> Result<(), AllocError>
+fn push_candidate(candidates: &mut Vec<Candidate>, candidate: Candidate) -> Result<(), AllocError>
     ensures { OnOk result (candidates.new.items ≡ candidates.old.items ++ candidate ∷ []) }
 {
     candidates.push(candidate)?;

@@ -11,7 +11,7 @@ ghost use Rattle.rvtest_app.specs.ReportedStops.{IsDiffStop};
 ghost use Rattle.rv_command.specs.declared.stop.Stop.TheVariants.{OutOfMemory, WriteFailed};
 ghost use Rattle.rv_diff.specs.Diff.{diff_text, difference_counts};
 
-use crate::command_result::Found;
+use crate::command_result::CommandResult;
 use crate::destinations::Destinations;
 use rv_command::{
     DONE, RequestedReport, SOME_FAIL, Stop, parse_requested_report, read_result_file,
@@ -26,7 +26,7 @@ use std::alloc::{AllocError, Global};
 // The differences of two reports with the exit status, and the notes about truncated reports.
 #[derive(Drop)]
 struct NotedDiff {
-    found: Found,
+    found: CommandResult,
     notes: Vec<u8>,
 }
 
@@ -125,7 +125,7 @@ fn diff_saved_reports(
     compare: Compare,
     old: SavedReport,
     new: SavedReport,
-) -> Result<Found, Stop>
+) -> Result<CommandResult, Stop>
     requires old { length old.rows < 2 ^ 32 }
     requires new { length new.rows < 2 ^ 32 }
     ensures low { IfOk result (λ found. found.status ≤ 1) }
@@ -193,7 +193,7 @@ fn requested_comparison(steps: bool, slower: Option<u32>) -> Compare
 }
 
 // Returns the differences between the rows, with the exit status.
-fn diff_rows(alloc: Global, compare: Compare, compared: ComparedReports<'_>) -> Result<Found, Stop>
+fn diff_rows(alloc: Global, compare: Compare, compared: ComparedReports<'_>) -> Result<CommandResult, Stop>
     requires old { length compared.old.now < 2 ^ 32 }
     requires new { length compared.new.now < 2 ^ 32 }
     ensures low { IfOk result (λ found. found.status ≤ 1) }
@@ -205,7 +205,7 @@ fn diff_rows(alloc: Global, compare: Compare, compared: ComparedReports<'_>) -> 
 {
     let mut text = Vec::new(alloc);
     let counts = push_diff(alloc, &mut text, compare, compared)?;
-    Ok(Found {
+    Ok(CommandResult {
         text,
         status: diff_status(counts),
     })

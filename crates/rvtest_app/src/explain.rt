@@ -12,7 +12,7 @@ ghost use Rattle.rvtest_app.specs.Reports.{IsExplanationAt, IsExplanationOf, IsJ
 ghost use Rattle.rv_command.specs.Texts.{optional_text};
 ghost use Rattle.rvtest_app.specs.CommandStops.{IsExplainStop, IsNoJobStop};
 
-use crate::command_result::Found;
+use crate::command_result::CommandResult;
 use crate::named_job::{NamedJob, find_named_job};
 use crate::rules::passing_status;
 use rv_command::{Stop, read_list_text};
@@ -28,7 +28,7 @@ pub(crate) fn explain_named_job<D: Inputs>(
     inputs: &D,
     alloc: Global,
     args: ExplainArgs<'_>,
-) -> Result<Found, Stop>
+) -> Result<CommandResult, Stop>
     ensures explained { IfOk result (λ found. IsExplanationAt (D.contents inputs.now) args.entry
         found.text.items found.status) }
     ensures low { IfOk result (λ found. found.status ≤ 1) }
@@ -44,7 +44,7 @@ fn explain_job_of_text<D: Inputs>(
     alloc: Global,
     args: ExplainArgs<'_>,
     text: &[u8],
-) -> Result<Found, Stop>
+) -> Result<CommandResult, Stop>
     ensures explanation { IfOk result (λ found. IsExplanationOf (D.contents inputs.now) args.entry text.now
         found.text.items found.status) }
     ensures low { IfOk result (λ found. found.status ≤ 1) }
@@ -61,7 +61,7 @@ fn explain_job_at<D: Inputs>(
     args: ExplainArgs<'_>,
     jobs: JobList,
     place: usize,
-) -> Result<Found, Stop>
+) -> Result<CommandResult, Stop>
     requires { place < length jobs }
     ensures explained { IfOk result (λ found.
         IsJobExplained (contents_below (optional_text args.entry.root) (D.contents inputs.now))
@@ -83,7 +83,7 @@ fn explain_planned_job(
     unread: &[UnreadablePath],
     place: usize,
     last: u32,
-) -> Result<Found, Stop>
+) -> Result<CommandResult, Stop>
     requires { place < length plan.now.jobs }
     ensures text { IfOk result (λ found. IsTextExplaining plan.now unread.now place last found.text.items) }
     ensures status { IfOk result (λ found. (d : AJob) → found.status
@@ -105,5 +105,5 @@ fn explain_planned_job(
     let mut text = Vec::new(alloc);
     reporter.push_job_explanation(alloc, place, &row, &way, &mut text)?;
     let status = passing_status(has_passed(Rule::Strict, &row));
-    Ok(Found { text, status })
+    Ok(CommandResult { text, status })
 }

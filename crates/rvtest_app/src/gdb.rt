@@ -35,7 +35,7 @@ use std::thread::Threads;
 
 /// A debugging session of a job's run, and the job.
 #[derive(Drop)]
-struct Opened {
+struct JobSession {
     session: Session,
     job: PlannedJob,
     ghost same_run: { job_start_state job.plan job.place ≡ session.history.start } by { Coded-set state_code (job_start_state job.plan job.place) session.history.start },
@@ -71,7 +71,7 @@ pub(crate) fn show_job_to_gdb<
         return Err(no_gdb_stop(alloc));
     }
     let opened = session_of_named_job(host.inputs, alloc, args)?;
-    let Opened { mut session, job } = opened;
+    let JobSession { mut session, job } = opened;
     limit_memory(alloc, &mut session, args.memory);
     let means = SessionContext {
         rt: host.rt,
@@ -120,7 +120,7 @@ fn session_of_named_job<D: Inputs>(
     inputs: &D,
     alloc: Global,
     args: GdbArgs<'_>,
-) -> Result<Opened, Stop>
+) -> Result<JobSession, Stop>
     ensures opened { IfOk result (λ opened. IsSessionOpenedAt (D.contents inputs.now) args.entry
         (job_end_text opened.job.plan opened.job.unread.items opened.job.place) opened.session) }
     ensures stopped { IfErr result (IsUnopenedSessionStop (D.contents inputs.now) args.entry) }
@@ -135,7 +135,7 @@ fn session_of_text<D: Inputs>(
     alloc: Global,
     args: GdbArgs<'_>,
     text: &[u8],
-) -> Result<Opened, Stop>
+) -> Result<JobSession, Stop>
     ensures opened { IfOk result (λ opened. IsSessionOpenedOf (D.contents inputs.now) args.entry text.now
         (job_end_text opened.job.plan opened.job.unread.items opened.job.place) opened.session) }
     ensures stopped { IfErr result (λ why. IsNoJobStop args.entry.list.now text.now args.entry.name.now why
@@ -151,7 +151,7 @@ fn session_of_job<D: Inputs>(
     alloc: Global,
     args: GdbArgs<'_>,
     named: NamedJob,
-) -> Result<Opened, Stop>
+) -> Result<JobSession, Stop>
     requires { named.place < length named.jobs }
     ensures opened { IfOk result (λ opened. IsJobOpened
         (contents_below (optional_text args.entry.root) (D.contents inputs.now)) (optional_text args.entry.root) named.jobs
@@ -171,7 +171,7 @@ fn session_of_job<D: Inputs>(
                 unread,
                 place,
             };
-            Ok(Opened { session, job })
+            Ok(JobSession { session, job })
         }
         None => Err(refused_job_stop(alloc, &plan, store.unreadable_paths(), place)),
     }

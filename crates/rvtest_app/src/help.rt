@@ -19,7 +19,7 @@ pub(crate) fn respond_to_args_error<O: Sink>(out: &mut O, error: ArgsError) -> R
     ensures stopped { IfErr result (IsArgsErrorStop error (O.failure_count out.old) (O.failure_count out.new)) }
 {
     match error {
-        ArgsError::Told(ErrorKind::DisplayHelp | ErrorKind::DisplayVersion, text) => {
+        ArgsError::Message(ErrorKind::DisplayHelp | ErrorKind::DisplayVersion, text) => {
             write_help(out, text.as_str())
         }
         error => Err(Stop::of_args_error(error)),

@@ -4,7 +4,7 @@ ghost use Rattle.std.specs.Prelude.{◌≡◌, IfErr, IfOk};
 ghost use Rattle.rv_command.specs.Stops.{IsStop};
 ghost use Rattle.rvtest_app.specs.HelpTopics.{IsNoTopicStop, IsTopicPrinted, no_topic_message};
 
-use crate::command_result::Found;
+use crate::command_result::CommandResult;
 use crate::list_keys::LIST_KEYS;
 use rv_command::{DONE, Stop};
 use rv_job_text::{Span, push_text, text_of_spans};
@@ -12,7 +12,7 @@ use rvtest_cli::HelpArgs;
 use std::alloc::{AllocError, Global};
 
 /// Returns the help about the keys of a job list if the topic is `keys`, and an error for any other topic.
-pub(crate) fn topic_help(alloc: Global, args: HelpArgs<'_>) -> Result<Found, Stop>
+pub(crate) fn topic_help(alloc: Global, args: HelpArgs<'_>) -> Result<CommandResult, Stop>
     ensures told { IfOk result (λ found. IsTopicPrinted args.entry.topic.now found.text.items found.status) }
     ensures stopped { IfErr result (IsNoTopicStop args.entry.topic.now) }
 {
@@ -21,7 +21,7 @@ pub(crate) fn topic_help(alloc: Global, args: HelpArgs<'_>) -> Result<Found, Sto
     }
     let mut text = Vec::new(alloc);
     push_text(&mut text, LIST_KEYS)?;
-    Ok(Found { text, status: DONE })
+    Ok(CommandResult { text, status: DONE })
 }
 
 // Returns the error that the topic is unknown.

@@ -4,7 +4,7 @@ ghost use Rattle.std.specs.Prelude.{◌≡◌, ◌⊎◌, ◌≤◌, ℕ, List, 
 ghost use Rattle.std.specs.IoError.{error_kind};
 ghost use Rattle.rv_command.specs.Messages.{IsMessageWritten};
 ghost use Rattle.rv_terminal.specs.ColorSinks.{IsPartlyColoredAs};
-ghost use Rattle.rvtest_app.specs.Answers.{IsAnswered, IsCommandDone, IsDoneInColors};
+ghost use Rattle.rvtest_app.specs.Responses.{IsCarriedOut, IsCommandDone, IsDoneInColors};
 ghost use Rattle.rvtest_app.specs.Colors.{requested_colors};
 ghost use Rattle.rvtest_app.specs.CommandStops.{IsCommandStop, IsProgramStop};
 ghost use Rattle.rvtest_app.specs.CommandOutputs.{outputs_of};
@@ -30,9 +30,9 @@ use crate::profile::profile_requested_jobs;
 use crate::run::run_requested_jobs;
 use crate::show::show_report;
 use crate::terminals::Terminals;
-use rv_command::{REFUSED, Stop, put_end_message, write_message, write_stop_message};
+use rv_command::{REJECTED, Stop, put_end_message, write_message, write_stop_message};
 use rv_files::{Closable, Inputs, Outputs, Sink, SinkFailed};
-use rv_terminal::{ColorSink, Results};
+use rv_terminal::{ColorSink, ColorSpec};
 use rvtest_cli::{Request, read_words};
 use std::convert::AsStr;
 use std::io::{self, ErrorKind, Read, Write};
@@ -63,12 +63,12 @@ where
     F::File: Send,
     ensures low { O.closed result.0.out ≡ false → result.1 ≤ 3 }
     // A status of 0 or 1 means that everything was written, to standard output in the requested colours.
-    ensures answered { result.1 ≤ 1 → IsAnswered (D.contents host.now.inputs.now) (I.remaining input.old)
+    ensures answered { result.1 ≤ 1 → IsCarriedOut (D.contents host.now.inputs.now) (I.remaining input.old)
         terminals.is_out_terminal terminals.is_out_colored (map T.text words.entry.now) result.1
         (outputs_of F.placed O.accepted E.accepted E.failure_count to) (outputs_of F.placed O.accepted E.accepted E.failure_count result.0) }
     // Any other status means that the command stopped before its work was done and that its last output says so, except when the reader
     // closed standard output.
-    ensures ended { IsAnswered (D.contents host.now.inputs.now) (I.remaining input.old)
+    ensures ended { IsCarriedOut (D.contents host.now.inputs.now) (I.remaining input.old)
         terminals.is_out_terminal terminals.is_out_colored (map T.text words.entry.now) result.1
         (outputs_of F.placed O.accepted E.accepted E.failure_count to) (outputs_of F.placed O.accepted E.accepted E.failure_count result.0)
         ⊎ IsStopReported (O.closed result.0.out)
@@ -79,7 +79,7 @@ where
         Ok(Some(request)) => {
             run_in_colors::<Brand, R, D, F, O, E, P, I>(host, request, to, terminals, input)
         }
-        Ok(None) => (to, Ok(REFUSED)),
+        Ok(None) => (to, Ok(REJECTED)),
         Err(error) => {
             let mut to = to;
             let answer = respond_to_args_error(&mut to.out, error);
@@ -98,7 +98,7 @@ where
 
 // Runs the requested command, with its results on standard output coloured as requested.
 fn run_in_colors<
-    J: Results + Send + Sync,
+    J: ColorSpec + Send + Sync,
     R: Threads + Wait + Sync + Clock,
     D: Inputs,
     F: Outputs + Drop,
@@ -213,7 +213,7 @@ pub fn reject_unreadable_args<E: Sink>(error: &io::Error, errors: &mut E) -> u8
         ErrorKind::OutOfMemory => write_stop_message(errors, Stop::OutOfMemory),
         _ => {
             write_message(errors, b"rvtest: an argument is not valid UTF-8\n");
-            REFUSED
+            REJECTED
         }
     }
 }

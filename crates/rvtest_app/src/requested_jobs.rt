@@ -3,7 +3,7 @@
 ghost use Rattle.std.specs.Prelude.{◌≡◌, ◌≤◌, ◌<◌, [], None, Option, Some, IfErr, IfOk, length, option_map};
 ghost use Rattle.std.specs.Option.{ForSome};
 ghost use Rattle.rv_choice.specs.ChoiceStops.{IsChoiceStop};
-ghost use Rattle.rv_choice.specs.Chosen.{IsChoice};
+ghost use Rattle.rv_choice.specs.ChosenJobs.{IsChoice};
 ghost use Rattle.rv_merge.specs.Shards.{shard_selection};
 ghost use Rattle.rvtest_app.specs.Commands.{failure_rule};
 ghost use Rattle.rvtest_app.specs.IntoReports.{AreOldRows};

@@ -5,7 +5,7 @@ ghost use Rattle.rv_files.specs.Limits.{max_jobs};
 ghost use Rattle.rv_rows.specs.Saved.{row_names};
 ghost use Rattle.rvtest_app.specs.IntoReports.{IsWholeReport, IsWholeReportAt, job_names};
 ghost use Rattle.rvtest_app.specs.IntoStops.{IsFirstNameMismatch, IsNotWholeReportStop, IsNotWholeBecause, row_count_message};
-ghost use Rattle.rvtest_app.specs.IntoStops.{jobs_of_partial_report, name_mismatch_message, not_whole_message, part_refusal};
+ghost use Rattle.rvtest_app.specs.IntoStops.{jobs_of_partial_report, name_mismatch_message, not_whole_message, partial_report_message};
 
 use rv_command::{Stop, read_report_file};
 use rv_files::Inputs;
@@ -112,20 +112,20 @@ fn not_whole_message<'a>(
     ensures { IfOk result (λ text. text.items ≡ not_whole_message path.now list.now other.entry) }
 {
     match other {
-        NotWholeReason::Part(rows, jobs) => part_refusal(alloc, path, rows, jobs),
+        NotWholeReason::Part(rows, jobs) => partial_report_message(alloc, path, rows, jobs),
         NotWholeReason::Count(rows, jobs) => row_count_message(alloc, path, list, rows, jobs),
         NotWholeReason::Name(name) => name_mismatch_message(alloc, path, list, name),
     }
 }
 
 // Returns the message that the report at the path has only `rows` rows of a list with `jobs` jobs.
-fn part_refusal<'a>(
+fn partial_report_message<'a>(
     alloc: Global,
     path: &'a str,
     rows: usize,
     jobs: u32,
 ) -> Result<Vec<u8>, AllocError>
-    ensures { IfOk result (λ text. text.items ≡ part_refusal path.now rows jobs) }
+    ensures { IfOk result (λ text. text.items ≡ partial_report_message path.now rows jobs) }
 {
     text_of_spans(
         alloc,

@@ -22,7 +22,7 @@ use Rattle.rvtest_cli.specs.RvtestArgs.{FailsByMisuse, IsRequestInRange, IsMisus
 use Rattle.rvtest_cli.specs.RvtestArgs.{matched_misuse, matched_request, misuse_kinds, plain_error_kinds, plain_misuse, args_error_kinds, args_errors}
 use Rattle.rvtest_cli.specs.RvtestArgs.{args_misuse, request_of_args}
 use Rattle.rvtest_cli.specs.ArgsErrors.{FailsByKinds, IsErrorOfKinds, IsErrorOfKind}
-use Rattle.rvtest_cli.specs.declared.refusals.Misuse.{Misuse}
+use Rattle.rvtest_cli.specs.declared.misuse.Misuse.{Misuse}
 use Rattle.rvtest_cli.specs.declared.requests.Request.{Request}
 use Rattle.rvtest_cli.specs.declared.args_error.ArgsError.{ArgsError}
 use Rattle.rvtest_cli.specs.declared.args_error.ArgsError.TheVariants as error
@@ -59,13 +59,13 @@ refused app words error is has =
 pub plan_text : (kinds : Kinds) (met : ErrorKind) (told : ArgsError) → (met ≡ OutOfMemory) ⊎ IsAmong met kinds
     → IsErrorOfKind met told → IsErrorOfKinds kinds told
 plan_text kinds met error.OutOfMemory has is = tt
-plan_text kinds met (error.Told fault text) has is =
+plan_text kinds met (error.Message fault text) has is =
     ⊎_elim (λ memory. absurd (is.1 memory)) (λ among. subst (λ k. IsAmong k kinds) (sym is.0) among) has
 
 -- where there is none of any kind, memory was wanting
 pub none_told : (misuse : Option Misuse) (told : ArgsError) → IsErrorOfKinds [] told → IsMisuseReported misuse told
 none_told misuse error.OutOfMemory is = tt
-none_told misuse (error.Told fault text) is = absurd is
+none_told misuse (error.Message fault text) is = absurd is
 
 -- want of memory is no fault of words
 pub of_memory : {T : Type 0} (r : Result T ArgsError) (kinds : Kinds) → IsErrAnd r (λ e. e ≡ error.OutOfMemory)
@@ -83,8 +83,8 @@ pub kinds_of_misuse : {T : Type 0} (misuse : Option Misuse) (r : Result T ArgsEr
     → FailsByKinds (misuse_kinds misuse) r
 kinds_of_misuse misuse (Ok x) fails = ap misuse_kinds fails
 kinds_of_misuse misuse (Err error.OutOfMemory) fails = tt
-kinds_of_misuse None (Err (error.Told fault text)) fails = absurd fails
-kinds_of_misuse (Some misuse) (Err (error.Told fault text)) fails = subst (IsAmong fault) (sym fails.0) (inl refl)
+kinds_of_misuse None (Err (error.Message fault text)) fails = absurd fails
+kinds_of_misuse (Some misuse) (Err (error.Message fault text)) fails = subst (IsAmong fault) (sym fails.0) (inl refl)
 
 pub told_where_failed : {T : Type 0} (misuse : Option Misuse) (r : Result T ArgsError) → FailsByMisuse misuse r
     → IfErr r (IsMisuseReported misuse)

@@ -10,7 +10,7 @@ use Rattle.rvtest_cli.specs.declared.args_error.ArgsError.TheVariants as error
 -- the error says that memory ran out, or its kind is one of `kinds`
 abbrev pub IsErrorOfKinds : Kinds → ArgsError → Type 0
 IsErrorOfKinds kinds error.OutOfMemory = Unit {0}
-IsErrorOfKinds kinds (error.Told fault text) = IsAmong fault kinds
+IsErrorOfKinds kinds (error.Message fault text) = IsAmong fault kinds
 
 -- if the result is no error, `kinds` is empty; if it is an error, memory ran out, or its kind is one of `kinds`
 abbrev pub FailsByKinds : {T : Type 0} → Kinds → Result T ArgsError → Type 0
@@ -19,7 +19,7 @@ FailsByKinds kinds result = MatchResult result (λ _. kinds ≡ []) (IsErrorOfKi
 -- the error says that memory ran out, or its kind is `error_kind`, which is then not `OutOfMemory`
 abbrev pub IsErrorOfKind : ErrorKind → ArgsError → Type 0
 IsErrorOfKind error_kind error.OutOfMemory = Unit {0}
-IsErrorOfKind error_kind (error.Told fault text) = (fault ≡ error_kind) × (error_kind ≡ kind.OutOfMemory → ⊥)
+IsErrorOfKind error_kind (error.Message fault text) = (fault ≡ error_kind) × (error_kind ≡ kind.OutOfMemory → ⊥)
 
 -- the text of an error: the message `what`, the usage of a command, and the hint to try `--help`
 abbrev pub usage_error_text : Text → Text → Text
@@ -33,4 +33,4 @@ IsUsageText what text = (usage : Text) × (text ≡ usage_error_text what usage)
 -- the error says that memory ran out, or it has the kind `error_kind` and a text with the message `what` and some usage
 abbrev pub IsUsageError : ErrorKind → Text → ArgsError → Type 0
 IsUsageError error_kind what error.OutOfMemory = Unit {0}
-IsUsageError error_kind what (error.Told fault text) = (fault ≡ error_kind) × IsUsageText what (string_bytes text)
+IsUsageError error_kind what (error.Message fault text) = (fault ≡ error_kind) × IsUsageText what (string_bytes text)

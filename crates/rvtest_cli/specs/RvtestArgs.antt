@@ -10,8 +10,8 @@ use Rattle.clap.specs.Words.{Kinds, Row, Text, fault_of, first_of, subcommand_of
 use Rattle.clap.specs.declared.error.kind.ErrorKind.TheVariants as kind
 use Rattle.rv_cli.specs.Limits.{max_budget, max_group, max_jobs, max_workers}
 use Rattle.rvtest_cli.specs.RvtestCommand.{max_functions, max_last_instructions, max_slower, rvtest_full_app}
-use Rattle.rvtest_cli.specs.declared.refusals.Misuse.{Misuse}
-use Rattle.rvtest_cli.specs.declared.refusals.Misuse.TheVariants as misuse
+use Rattle.rvtest_cli.specs.declared.misuse.Misuse.{Misuse}
+use Rattle.rvtest_cli.specs.declared.misuse.Misuse.TheVariants as misuse
 use Rattle.rvtest_cli.specs.ArgsErrors.{IsUsageText}
 use Rattle.rvtest_cli.specs.declared.args_error.ArgsError.{ArgsError}
 use Rattle.rvtest_cli.specs.declared.args_error.ArgsError.TheVariants as error
@@ -179,8 +179,8 @@ requested_budget rows = number_value (codes "budget") 1 max_budget rows
 
 -- the arguments of a command that runs jobs of `list` in chunks of `group` jobs, taken from the matches of `clap`; an option that is not
 -- given, or that the command does not have, is unset
-unfoldable pub run_words : Text → ℕ → List Row → RunOptions
-run_words list group rows = record {
+unfoldable pub run_options : Text → ℕ → List Row → RunOptions
+run_options list group rows = record {
   list = list;
   only = argument_values (codes "only") rows;
   pattern = first_of (codes "match") rows;
@@ -210,12 +210,12 @@ run_words list group rows = record {
 
 -- the request of `run` with these matches of `clap`; `None` without a list or a valid chunk size
 abbrev pub rvtest_run_request : List Row → Option Words
-rvtest_run_request rows = option_and_then (λ list. option_map (λ group. run (run_words list group rows))
+rvtest_run_request rows = option_and_then (λ list. option_map (λ group. run (run_options list group rows))
     (number_value (codes "group") 1 max_group rows)) (first_of (codes "list") rows)
 
 -- the request of `list` with these matches of `clap`; `None` without a list
 abbrev pub list_request : List Row → Option Words
-list_request rows = option_map (λ list. names (run_words list 1 rows)) (first_of (codes "list") rows)
+list_request rows = option_map (λ list. names (run_options list 1 rows)) (first_of (codes "list") rows)
 
 -- the request of `explain` for the job `name` of `list`, showing its `last` last instructions; its other options are taken from the matches
 -- of `clap`
@@ -254,7 +254,7 @@ check_request rows = option_map (λ list. check list (first_of (codes "root") ro
 -- the request of `accept` for `list`, in chunks of `group` jobs; its options are taken from the matches of `clap`
 abbrev pub accept_request_of : Text → List Row → ℕ → Words
 accept_request_of list rows group = accept (record {
-  run = run_words list group rows;
+  run = run_options list group rows;
   ends = is_flag_set (codes "ends") rows;
   check = is_flag_set (codes "check") rows;
   outside = is_flag_set (codes "outside") rows;
@@ -315,7 +315,7 @@ counts_request rows = counts (record {
 
 -- the request of `cover` for `list`, in chunks of `group` jobs; its options are taken from the matches of `clap`
 abbrev pub cover_request_of : Text → List Row → ℕ → Words
-cover_request_of list rows group = cover (record { run = run_words list group rows; csv = is_flag_set (codes "csv") rows })
+cover_request_of list rows group = cover (record { run = run_options list group rows; csv = is_flag_set (codes "csv") rows })
 
 -- the request of `cover` with these matches of `clap`; none without a list or a valid chunk size
 abbrev pub cover_request : List Row → Option Words
@@ -326,9 +326,9 @@ cover_request rows = option_and_then (λ list. option_map (cover_request_of list
 abbrev pub chosen_names : List Row → List Text
 chosen_names rows = if is_option_given (codes "name") rows then argument_values (codes "name") rows else argument_values (codes "only") rows
 
--- the arguments that `run_words` returns, but with the argument NAME as the only chosen name if NAME is given
+-- the arguments that `run_options` returns, but with the argument NAME as the only chosen name if NAME is given
 abbrev pub named_run_options : Text → ℕ → List Row → RunOptions
-named_run_options list group rows = record (run_words list group rows) { only = chosen_names rows }
+named_run_options list group rows = record (run_options list group rows) { only = chosen_names rows }
 
 -- the request of `profile` for `list`, in chunks of `group` jobs; its options are taken from the matches of `clap`
 abbrev pub profile_request_of : Text → List Row → ℕ → Words
@@ -621,8 +621,8 @@ args_error_kinds words = or_else (args_errors words) (misuse_kinds (args_misuse 
 -- the error says that memory ran out, or it reports the given misuse, with its kind and its message; without a misuse, memory ran out
 abbrev pub IsMisuseReported : Option Misuse → ArgsError → Type 0
 IsMisuseReported misuse error.OutOfMemory = Unit {0}
-IsMisuseReported None (error.Told fault text) = ⊥
-IsMisuseReported (Some misuse) (error.Told fault text) =
+IsMisuseReported None (error.Message fault text) = ⊥
+IsMisuseReported (Some misuse) (error.Message fault text) =
     (misuse_kinds (Some misuse) ≡ fault ∷ []) × IsUsageText (misuse_text misuse) (string_bytes text)
 
 -- if the result is no error, there is no misuse; if it is an error, it reports the misuse, or memory ran out

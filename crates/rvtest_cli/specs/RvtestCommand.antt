@@ -64,7 +64,7 @@ argument_rule (argument.OptionalPositional name value help) = optional_positiona
 argument_rule (argument.Words name value help) = repeated_rule (positional_rule name.now)
 argument_rule (argument.Option name value help) = option_rule name.now
 argument_rule (argument.File name help) = file_rule name.now
-argument_rule (argument.Again name value help) = repeated_rule (option_rule name.now)
+argument_rule (argument.RepeatableOption name value help) = repeated_rule (option_rule name.now)
 argument_rule (argument.Flag name letter help) = with_letter (flag_rule name.now) letter
 argument_rule (argument.Number name letter help bounds defaults) =
     with_letter (number_rule name.now bounds.least bounds.most defaults.now) letter

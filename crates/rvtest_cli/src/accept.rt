@@ -6,7 +6,7 @@ ghost use Rattle.rvtest_cli.specs.RvtestArgs.{IsRequestRead, accept_request, cho
 
 use crate::args_error::ArgsError;
 use crate::command::accept_command;
-use crate::refusals::choice_misuse;
+use crate::misuse::choice_misuse;
 use crate::requests::Request;
 use crate::run::{RunArgs, run_args};
 use clap::ArgMatches;

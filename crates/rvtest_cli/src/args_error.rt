@@ -4,7 +4,7 @@ ghost use Rattle.std.specs.Prelude.{◌≡◌, IfOk, string_bytes};
 ghost use Rattle.clap.specs.Words.{kind_of};
 ghost use Rattle.rvtest_cli.specs.ArgsErrors.{IsErrorOfKind, IsUsageError, IsUsageText, usage_error_text};
 
-use crate::tips::{FirstWord, error_text};
+use crate::tips::{FirstArgument, error_text};
 use clap::error::ErrorKind;
 use clap::{Command, Error};
 use std::alloc::{AllocError, Global};
@@ -15,18 +15,18 @@ pub enum ArgsError {
     /// Memory ran out.
     OutOfMemory,
     /// An error of this kind, or the help or the version, with the text to show.
-    Told(ErrorKind, String),
+    Message(ErrorKind, String),
 }
 
 impl ArgsError {
     /// Returns the error for an error of `clap`, with the text of `clap` and better tips. No contract of `clap` describes its texts.
-    pub(crate) fn from_clap(alloc: Global, error: &Error, first: FirstWord) -> ArgsError
+    pub(crate) fn from_clap(alloc: Global, error: &Error, first: FirstArgument) -> ArgsError
         ensures { IsErrorOfKind (kind_of error.now) result }
     {
         match error.kind() {
             ErrorKind::OutOfMemory => ArgsError::OutOfMemory,
             kind => match error_text(alloc, error, first) {
-                Ok(text) => ArgsError::Told(kind, text),
+                Ok(text) => ArgsError::Message(kind, text),
                 Err(error) => ArgsError::from(error),
             },
         }
@@ -55,7 +55,7 @@ pub fn usage_error(
     ensures { IsUsageError kind what.now result }
 {
     match text_with_usage(alloc, command, what) {
-        Ok(text) => ArgsError::Told(kind, text),
+        Ok(text) => ArgsError::Message(kind, text),
         Err(error) => ArgsError::from(error),
     }
 }

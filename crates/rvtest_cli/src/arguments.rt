@@ -14,7 +14,7 @@ use std::alloc::Global;
 
 /// The least and the greatest number that an option accepts.
 #[derive(Clone, Copy)]
-pub(crate) struct Bounds {
+pub(crate) struct NumberRange {
     pub(crate) least: i64,
     pub(crate) most: i64,
 }
@@ -33,11 +33,11 @@ pub(crate) enum Argument<'a> {
     /// An option with the path of a file, which is not empty.
     File(&'a str, &'a str),
     /// A repeatable option with a value.
-    Again(&'a str, &'a str, &'a str),
+    RepeatableOption(&'a str, &'a str, &'a str),
     /// An option without a value: its name, the letter of its short option, if it has one, and its help.
     Flag(&'a str, Option<char>, &'a str),
     /// An option with a number: its name, the letter of its short option, if it has one, its help, its range, and its default, if any.
-    Number(&'a str, Option<char>, &'a str, Bounds, &'a [&'a str]),
+    Number(&'a str, Option<char>, &'a str, NumberRange, &'a [&'a str]),
     /// The option `--group`: the number of jobs in a chunk, which a thread takes at a time.
     Group,
 }
@@ -57,7 +57,7 @@ impl<'a> Argument<'a> {
             }
             Argument::Option(name, value, help) => option_argument(alloc, name, value, help),
             Argument::File(name, help) => file_argument(alloc, name, help),
-            Argument::Again(name, value, help) => {
+            Argument::RepeatableOption(name, value, help) => {
                 option_argument(alloc, name, value, help).action(ArgAction::Append)
             }
             Argument::Flag(name, letter, help) => {
@@ -132,7 +132,7 @@ fn number_argument<'a>(
     alloc: Global,
     name: &'a str,
     help: &'a str,
-    bounds: Bounds,
+    bounds: NumberRange,
     defaults: &'a [&'a str],
 ) -> Arg<'a>
     ensures { (rule_of result ≡ number_rule name.entry.now bounds.least bounds.most defaults.entry.now)

@@ -6,7 +6,7 @@ ghost use Rattle.rvtest_cli.specs.RvtestArgs.{IsRequestRead, cover_misuse, cover
 
 use crate::args_error::ArgsError;
 use crate::command::cover_command;
-use crate::refusals::{Misuse, choice_misuse};
+use crate::misuse::{Misuse, choice_misuse};
 use crate::requests::Request;
 use crate::run::{RunArgs, is_choice_given, run_args};
 use clap::ArgMatches;

@@ -6,7 +6,7 @@ ghost use Rattle.rvtest_cli.specs.RvtestArgs.{IsRequestFor, IsRequestRead, diff_
 
 use crate::args_error::ArgsError;
 use crate::command::diff_command;
-use crate::refusals::{Misuse, color_misuse};
+use crate::misuse::{Misuse, color_misuse};
 use crate::requests::Request;
 use clap::ArgMatches;
 use rv_cli::values::{is_flag_set, is_option_given, number_value, text_value};

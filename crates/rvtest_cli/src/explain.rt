@@ -5,7 +5,7 @@ ghost use Rattle.rvtest_cli.specs.RvtestArgs.{IsRequestFor, IsRequestRead, color
 
 use crate::args_error::ArgsError;
 use crate::command::explain_command;
-use crate::refusals::color_misuse;
+use crate::misuse::color_misuse;
 use crate::requests::Request;
 use clap::ArgMatches;
 use rv_cli::limits::MAX_BUDGET;

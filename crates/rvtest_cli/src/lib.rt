@@ -20,7 +20,7 @@ mod help;
 mod list;
 mod merge;
 mod profile;
-mod refusals;
+mod misuse;
 mod requests;
 mod run;
 mod show;

@@ -6,7 +6,7 @@ ghost use Rattle.rvtest_cli.specs.RvtestArgs.{IsRequestRead, choice_misuse, list
 
 use crate::args_error::ArgsError;
 use crate::command::list_command;
-use crate::refusals::choice_misuse;
+use crate::misuse::choice_misuse;
 use crate::requests::Request;
 use crate::run::run_args;
 use clap::ArgMatches;

@@ -6,7 +6,7 @@ ghost use Rattle.rvtest_cli.specs.RvtestArgs.{IsRequestRead, merge_request, file
 
 use crate::args_error::ArgsError;
 use crate::command::merge_command;
-use crate::refusals::files_misuse;
+use crate::misuse::files_misuse;
 use crate::requests::Request;
 use clap::ArgMatches;
 use rv_cli::values::{argument_values, is_flag_set, text_value};

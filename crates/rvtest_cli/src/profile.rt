@@ -9,7 +9,7 @@ ghost use Rattle.rvtest_cli.specs.RvtestArgs.{profile_misuse, profile_request, r
 use crate::args_error::ArgsError;
 use crate::command::profile_command;
 use crate::cover::cover_misuse;
-use crate::refusals::Misuse;
+use crate::misuse::Misuse;
 use crate::requests::Request;
 use crate::run::{RunArgs, is_choice_given, run_args};
 use clap::ArgMatches;

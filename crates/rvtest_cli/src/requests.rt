@@ -24,7 +24,7 @@ use crate::merge::{MergeArgs, merge_request};
 use crate::profile::{ProfileArgs, profile_request};
 use crate::run::{RunArgs, rvtest_run_request};
 use crate::show::{ShowArgs, show_request};
-use crate::tips::FirstWord;
+use crate::tips::FirstArgument;
 use clap::ArgMatches;
 use std::alloc::Global;
 use std::convert::AsStr;
@@ -113,7 +113,7 @@ fn command_help<'a, T: AsStr>(alloc: Global, words: &[T]) -> Result<Option<Reque
     let command = rvtest_command(alloc)?;
     match command.try_get_matches_from(words) {
         Ok(_) => Ok(None),
-        Err(error) => Err(ArgsError::from_clap(alloc, &error, FirstWord::Topic)),
+        Err(error) => Err(ArgsError::from_clap(alloc, &error, FirstArgument::Topic)),
     }
 }
 
@@ -132,7 +132,7 @@ fn read_request<'a, T: AsStr>(
     let command = rvtest_command(alloc)?;
     match command.try_get_matches_from(words) {
         Ok(matches) => matched_request(alloc, &matches),
-        Err(error) => Err(ArgsError::from_clap(alloc, &error, FirstWord::Command)),
+        Err(error) => Err(ArgsError::from_clap(alloc, &error, FirstArgument::Command)),
     }
 }
 

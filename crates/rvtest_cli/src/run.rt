@@ -4,11 +4,11 @@ ghost use Rattle.std.specs.Prelude.{◌≡◌, ◌≤◌, IfOk, None};
 ghost use Rattle.clap.specs.Words.{found_of, rows_of};
 ghost use Rattle.rv_cli.specs.Limits.{max_group};
 ghost use Rattle.rvtest_cli.specs.RvtestArgs.{AreRunArgsInRange, IsRequestRead, are_counts_overwriting, are_rows_saved, are_rows_written_twice, are_stacks_alone, is_choice_given, is_failed_report_overwritten, is_report_given, is_into_stdout, run_options_of_args};
-ghost use Rattle.rvtest_cli.specs.RvtestArgs.{run_misuse, rvtest_run_request, run_words};
+ghost use Rattle.rvtest_cli.specs.RvtestArgs.{run_misuse, rvtest_run_request, run_options};
 
 use crate::args_error::ArgsError;
 use crate::command::run_command;
-use crate::refusals::{
+use crate::misuse::{
     Misuse, files_misuse, is_color_unknown, is_failed_path, is_into_path, is_junit_path,
     is_partial_alone, is_report_path,
 };
@@ -104,7 +104,7 @@ fn valid_run_request<'a>(
 }
 
 /// Returns the arguments of a command that runs jobs of `list` in chunks of `group` jobs, with its options taken from `values`.
-#[tactic(auto, unfolding(crate::specs::RvtestArgs::run_words))]
+#[tactic(auto, unfolding(crate::specs::RvtestArgs::run_options))]
 pub(crate) fn run_args<'a>(
     alloc: Global,
     values: &ArgMatches<'a>,
@@ -112,7 +112,7 @@ pub(crate) fn run_args<'a>(
     group: u32,
 ) -> Result<RunArgs<'a>, AllocError>
     requires { (1 ≤ group) × (group ≤ max_group) }
-    ensures { IfOk result (λ request. (run_options_of_args request ≡ run_words list.entry.now group (rows_of (found_of values.now)))
+    ensures { IfOk result (λ request. (run_options_of_args request ≡ run_options list.entry.now group (rows_of (found_of values.now)))
         × AreRunArgsInRange request) }
 {
     Ok(RunArgs {

@@ -5,7 +5,7 @@ ghost use Rattle.rvtest_cli.specs.RvtestArgs.{IsRequestFor, IsRequestRead, show_
 
 use crate::args_error::ArgsError;
 use crate::command::show_command;
-use crate::refusals::show_misuse;
+use crate::misuse::show_misuse;
 use crate::requests::Request;
 use clap::ArgMatches;
 use rv_cli::values::{is_flag_set, text_value};

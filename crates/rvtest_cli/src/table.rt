@@ -1,6 +1,6 @@
 //! The command line of `rvtest` as a table: its commands, each with its arguments and their help.
 
-use crate::arguments::{Argument, Bounds};
+use crate::arguments::{Argument, NumberRange};
 use crate::command::Subcommand;
 use crate::examples;
 use crate::profile::MAX_FUNCTIONS;
@@ -13,7 +13,7 @@ pub(crate) const COMMANDS: [Subcommand<'static>; 14] = [
 ];
 
 /// Returns the range of the numbers that the option `name` accepts; `None` if its value is not a number.
-pub(crate) fn number_range(name: &str) -> Option<Bounds> {
+pub(crate) fn number_range(name: &str) -> Option<NumberRange> {
     if name == "group" {
         return Some(GROUP_BOUNDS);
     }
@@ -34,7 +34,7 @@ pub(crate) const RUN: Subcommand<'static> = Subcommand {
     after: examples::RUN,
     arguments: &[
         Argument::Word("list", "LIST", LIST_PATH),
-        Argument::Again("only", "NAME", ONLY),
+        Argument::RepeatableOption("only", "NAME", ONLY),
         Argument::Option("match", "REGEX", MATCH),
         Argument::Option("exclude", "REGEX", EXCLUDE),
         Argument::Option("failed", "REPORT", FAILED),
@@ -79,7 +79,7 @@ pub(crate) const LIST: Subcommand<'static> = Subcommand {
     after: examples::LIST,
     arguments: &[
         Argument::Word("list", "LIST", LIST_PATH),
-        Argument::Again("only", "NAME", ONLY),
+        Argument::RepeatableOption("only", "NAME", ONLY),
         Argument::Option("match", "REGEX", MATCH),
         Argument::Option("exclude", "REGEX", EXCLUDE),
         Argument::Option("failed", "REPORT", FAILED),
@@ -141,7 +141,7 @@ pub(crate) const ACCEPT: Subcommand<'static> = Subcommand {
     after: examples::ACCEPT,
     arguments: &[
         Argument::Word("list", "LIST", LIST_PATH),
-        Argument::Again("only", "NAME", ONLY),
+        Argument::RepeatableOption("only", "NAME", ONLY),
         Argument::Option("match", "REGEX", MATCH),
         Argument::Option("exclude", "REGEX", EXCLUDE),
         Argument::Option("failed", "REPORT", FAILED),
@@ -241,7 +241,7 @@ pub(crate) const COVER: Subcommand<'static> = Subcommand {
     after: examples::COVER,
     arguments: &[
         Argument::Word("list", "LIST", LIST_PATH),
-        Argument::Again("only", "NAME", ONLY),
+        Argument::RepeatableOption("only", "NAME", ONLY),
         Argument::Option("match", "REGEX", MATCH),
         Argument::Option("exclude", "REGEX", EXCLUDE),
         Argument::Option("failed", "REPORT", FAILED),
@@ -267,7 +267,7 @@ pub(crate) const PROFILE: Subcommand<'static> = Subcommand {
             "NAME",
             "Name of the job [default: all selected jobs]",
         ),
-        Argument::Again("only", "NAME", ONLY),
+        Argument::RepeatableOption("only", "NAME", ONLY),
         Argument::Option("match", "REGEX", MATCH),
         Argument::Option("exclude", "REGEX", EXCLUDE),
         Argument::Option("failed", "REPORT", FAILED),
@@ -343,46 +343,46 @@ const RUN_LAST: &str = "Show the last N instructions of each failed job, from 0 
 
 const BUDGET: &str = "Override every job's step budget, from 1 to 1000000000";
 
-const GROUP_BOUNDS: Bounds = Bounds {
+const GROUP_BOUNDS: NumberRange = NumberRange {
     least: 1,
     most: MAX_GROUP as i64,
 };
 
-const BUDGET_BOUNDS: Bounds = Bounds {
+const BUDGET_BOUNDS: NumberRange = NumberRange {
     least: 1,
     most: MAX_BUDGET as i64,
 };
 
-const WORKERS_RANGE: Bounds = Bounds {
+const WORKERS_RANGE: NumberRange = NumberRange {
     least: 1,
     most: MAX_WORKERS as i64,
 };
 
-const SLOWER_RANGE: Bounds = Bounds {
+const SLOWER_RANGE: NumberRange = NumberRange {
     least: 0,
     most: 1_000,
 };
 
-const STOP_AFTER_BOUNDS: Bounds = Bounds {
+const STOP_AFTER_BOUNDS: NumberRange = NumberRange {
     least: 1,
     most: MAX_JOBS as i64,
 };
 
 const TOP: &str = "Show only the first N functions of each image";
 
-const TOP_BOUNDS: Bounds = Bounds {
+const TOP_BOUNDS: NumberRange = NumberRange {
     least: 1,
     most: MAX_FUNCTIONS as i64,
 };
 
 const MEMORY: &str = "Use at most N megabytes, from 64 to 4096 [default: 256]";
 
-const MEMORY_BOUNDS: Bounds = Bounds {
+const MEMORY_BOUNDS: NumberRange = NumberRange {
     least: 64,
     most: 4_096,
 };
 
-const LAST_BOUNDS: Bounds = Bounds {
+const LAST_BOUNDS: NumberRange = NumberRange {
     least: 0,
     most: 100_000,
 };

@@ -3,7 +3,7 @@
 //! `clap` explains how an unknown word is passed as a value, which no command accepts, and suggests an option that is only slightly similar
 //! when another was meant. Of a value that is not a number, it does not say which numbers are accepted.
 
-use crate::arguments::Bounds;
+use crate::arguments::NumberRange;
 use crate::table::number_range;
 use clap::Error;
 use rv_cli::is_name;
@@ -13,7 +13,7 @@ use strsim::levenshtein;
 
 /// What the first word after the program's name should be.
 #[derive(Clone, Copy)]
-pub(crate) enum FirstWord {
+pub(crate) enum FirstArgument {
     Command,
     /// A topic of `help`.
     Topic,
@@ -24,7 +24,7 @@ pub(crate) enum FirstWord {
 pub(crate) fn error_text(
     alloc: Global,
     error: &Error,
-    first: FirstWord,
+    first: FirstArgument,
 ) -> Result<String, AllocError> {
     let told = error.to_string(alloc)?;
     if error.use_stderr() {
@@ -36,7 +36,7 @@ pub(crate) fn error_text(
 
 // Returns the text of an error without misleading tips. Since the words that it quotes may contain any characters, each line is made
 // printable.
-fn text_with_tips(alloc: Global, told: &str, first: FirstWord) -> Result<String, AllocError> {
+fn text_with_tips(alloc: Global, told: &str, first: FirstArgument) -> Result<String, AllocError> {
     let written = unknown_option(told);
     let mut text = Vec::new(alloc);
     let mut is_behind_empty = false;
@@ -76,7 +76,7 @@ fn push_line(text: &mut Vec<u8>, line: &str) -> Result<(), AllocError> {
 
 // If a line rejects a number, returns the line up to the rejected value, the option, and the range of numbers that the option accepts;
 // otherwise `None`.
-fn rejected_number(line: &str) -> Option<(&str, &str, Bounds)> {
+fn rejected_number(line: &str) -> Option<(&str, &str, NumberRange)> {
     let (front, behind) = line.rsplit_once("' for '--")?;
     let (option, _) = behind.split_once(" <N>': ")?;
     let bounds = number_range(option)?;
@@ -93,7 +93,7 @@ fn push_tip(
     text: &mut Vec<u8>,
     told: &str,
     usage: &str,
-    first: FirstWord,
+    first: FirstArgument,
 ) -> Result<(), AllocError> {
     let argument = text_between(told, "error: unexpected argument '", "' found\n");
     if usage.starts_with("Usage: rvtest run ") && is_job_name(argument) {
@@ -107,7 +107,7 @@ fn push_tip(
         );
     }
     let topic = text_between(told, "error: unrecognized subcommand '", "'\n");
-    if matches!(first, FirstWord::Topic) && levenshtein(alloc, topic, "keys")? == 1 {
+    if matches!(first, FirstArgument::Topic) && levenshtein(alloc, topic, "keys")? == 1 {
         push_spans(
             text,
             &[Span::Text("  tip: a similar topic exists: 'keys'\n\n")],

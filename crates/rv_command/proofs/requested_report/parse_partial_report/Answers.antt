@@ -12,5 +12,5 @@ returns-in-Err-Line-clause-fault c =
     let refused = rw c.in-Err-Line.field-0-is at c.in-Err-Line.ensures.refused in
     let beginning = rw c.in-Err-Line.field-0-is at c.in-Err-Line.ensures.beginning in record {
       told = inr (line, told_line line c.args.text.now refused, c.report_line_stop.ensures);
-      beginning = λ begins. not_short_of_memory line (beginning begins);
+      beginning = λ line_starts_with. not_short_of_memory line (beginning line_starts_with);
     }

@@ -11,7 +11,7 @@ pub returns-in-Ok-clause-few : goal.returns-in-Ok-clause-few
 returns-in-Ok-clause-few c = few_rows c.in-Ok.report c.in-Ok.ensures.found.0
 
 pub returns-in-Err-OutOfMemory-clause-fault : goal.returns-in-Err-OutOfMemory-clause-fault
-returns-in-Err-OutOfMemory-clause-fault c = record { told = inl refl; cut = λ begins. inl refl; whole = λ report is. refl }
+returns-in-Err-OutOfMemory-clause-fault c = record { told = inl refl; cut = λ line_starts_with. inl refl; whole = λ report is. refl }
 
 pub returns-in-Err-Truncated-clause-fault : goal.returns-in-Err-Truncated-clause-fault
 returns-in-Err-Truncated-clause-fault c =
@@ -20,7 +20,7 @@ returns-in-Err-Truncated-clause-fault c =
     let told = told_stop _ _ _ _ c.rejection.ensures c.path_message-told.ensures in
     record {
       told = inr (inr (least, told));
-      cut = λ begins. told;
+      cut = λ line_starts_with. told;
       whole = λ report is. let memory = only report is.saved is.text in cc;
     }
 
@@ -31,6 +31,6 @@ returns-in-Err-Line-clause-fault c =
     let only = rw c.in-Err-Line.field-0-is at c.in-Err-Line.ensures.only in
     record {
       told = inr (inl (c.in-Err-Line.line, least, c.report_line_stop.ensures));
-      cut = λ begins. let other = cut begins in cc;
+      cut = λ line_starts_with. let other = cut line_starts_with in cc;
       whole = λ report is. let memory = only report is.saved is.text in cc;
     }

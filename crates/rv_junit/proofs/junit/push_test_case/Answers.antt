@@ -4,7 +4,7 @@ use Rattle.rv_job_text.specs.TextWords.{count_text}
 use Rattle.rv_job_text.specs.Xml.{xml_text}
 use Rattle.rv_job_text.specs.Judgement.{judgement, judge_view}
 use Rattle.rv_junit.specs.Junit.{judged_text}
-use Rattle.rv_junit.specs.Pieces.{attribute}
+use Rattle.rv_junit.specs.XmlPieces.{attribute}
 use Rattle.rv_junit.proofs.CaseTexts.{case_whole}
 use Rattle.rv_job_text.proofs.Public.{ended, more, told}
 use Rattle.rv_junit.proofs.junit.push_test_case.Goals as goal

@@ -1,6 +1,6 @@
 use Rattle.std.proofs.Common.{◌∙◌, sym, ap, arith}
 use Rattle.std.proofs.lemmas.List.Sums.{fold_more}
-use Rattle.rv_terminal.specs.Colors.{is_nothing, mark_before, place_after}
+use Rattle.rv_terminal.specs.Colors.{is_empty, mark_before, position_after}
 use Rattle.std.specs.Prelude.{slice_index}
 use Rattle.rv_terminal.proofs.Marks.{marked_more, marked_one}
 use Rattle.rv_terminal.proofs.output_state.span_len.Goals as goal
@@ -9,7 +9,7 @@ pub loop-at-init : goal.loop-at-init
 loop-at-init c = record {
   least = omega arith;
   within = omega (arith, c.requires);
-  here = c.behind-here.ensures ∙ sym (fold_more place_after c.args.place c.args.bytes.now 0 0 c.requires);
+  here = c.behind-here.ensures ∙ sym (fold_more position_after c.args.place c.args.bytes.now 0 0 c.requires);
   marked = marked_one c.args.place c.args.bytes.now c.requires;
 }
 
@@ -21,10 +21,10 @@ loop-at-preserved c =
     record {
       least = omega arith;
       within = omega (arith, c.loop-at-test.true);
-      here = c.behind-here-in-loop-at.ensures ∙ ap (λ place. place_after place (slice_index bytes at)) here
-          ∙ sym (fold_more place_after c.args.place bytes at 0 c.loop-at-test.true);
+      here = c.behind-here-in-loop-at.ensures ∙ ap (λ place. position_after place (slice_index bytes at)) here
+          ∙ sym (fold_more position_after c.args.place bytes at 0 c.loop-at-test.true);
       marked = marked_more c.args.place bytes at c.loop-at.invariant.least c.loop-at-test.true
           c.loop-at.invariant.marked
-          (sym (ap (λ place. is_nothing (mark_before place (slice_index bytes at))) here)
-          ∙ sym (c.is_nothing.ensures ∙ ap is_nothing c.mark_before.ensures) ∙ c.if-is_nothing.true);
+          (sym (ap (λ place. is_empty (mark_before place (slice_index bytes at))) here)
+          ∙ sym (c.is_empty.ensures ∙ ap is_empty c.mark_before.ensures) ∙ c.if-is_empty.true);
     }

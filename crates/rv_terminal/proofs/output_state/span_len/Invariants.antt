@@ -1,13 +1,13 @@
 use Rattle.std.proofs.Common.{◌≡◌, ◌≤◌, ◌-◌, ◌++◌, ℕ, fold, length, take}
 use Rattle.std.specs.Prelude.{slice_index}
-use Rattle.rv_terminal.specs.Colors.{colored, mark_before, mark_text, place_after}
+use Rattle.rv_terminal.specs.Colors.{colored, mark_before, mark_text, position_after}
 use Rattle.rv_terminal.proofs.output_state.span_len.Given as goal
 
 abbrev pub invariant-loop-at : goal.invariant-loop-at
 invariant-loop-at l = record {
   least : 1 ≤ l.at;
   within : l.at ≤ length l.bytes;
-  here : l.here ≡ fold place_after l.fn.place (take l.at l.bytes);
+  here : l.here ≡ fold position_after l.fn.place (take l.at l.bytes);
   marked : (count : ℕ) → 1 ≤ count → count ≤ l.at → colored l.fn.place (take count l.bytes)
       ≡ mark_text (mark_before l.fn.place (slice_index l.bytes 0)) ++ take count l.bytes;
 }

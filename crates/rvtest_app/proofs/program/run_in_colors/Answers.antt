@@ -9,8 +9,8 @@ use Rattle.rvtest_app.proofs.program.run_in_colors.Goals as goal
 
 -- results are not cut off where nothing was put
 begins_whole : (colors : Colors) → is_cut_off (first_state colors) ≡ false
-begins_whole colors.Without = refl
-begins_whole colors.With = refl
+begins_whole colors.Plain = refl
+begins_whole colors.Colored = refl
 
 -- an answer that is an error where results went out in part; where nothing was put they are whole
 stop_of_whole : {W E : Type 0} (answer : Result ℕ Stop) (whole : Result W E) (result : Result ℕ Stop) (Untouched : Type 0)

@@ -1,6 +1,6 @@
 use Rattle.std.proofs.Common.{inl, inr, map, refl, sym, IfErr}
 use Rattle.std.specs.Prelude.{IfOk}
-use Rattle.rvtest_app.specs.Answers.{IsAnswered}
+use Rattle.rvtest_app.specs.Responses.{IsCarriedOut}
 use Rattle.rvtest_app.specs.CommandOutputs.{outputs_of}
 use Rattle.rvtest_app.specs.CommandStops.{IsProgramStop}
 use Rattle.rvtest_app.proofs.Results.{IfOk-map}
@@ -10,7 +10,7 @@ use Rattle.rvtest_app.proofs.program.run_rvtest.Given.{Over}
 use Rattle.rvtest_app.proofs.program.run_rvtest.Goals as goal
 use Rattle.rvtest_app.proofs.program.run_rvtest.Goals.{in-Ok-Some, in-Ok-None, in-Err}
 
-answered : (g : Over) (c : goal.Joined-drop g) → IsAnswered (g.D.Inputs.contents c.args.host.now.inputs.now)
+answered : (g : Over) (c : goal.Joined-drop g) → IsCarriedOut (g.D.Inputs.contents c.args.host.now.inputs.now)
     (g.I.Read.remaining c.args.input.now) c.args.terminals.is_out_terminal c.args.terminals.is_out_colored
     (map g.T.AsStr.text c.args.words.now) c.in-Ok.status
     (outputs_of g.F.Outputs.placed g.O.Sink.accepted g.E.Sink.accepted g.E.Sink.failure_count c.args.to)
@@ -23,7 +23,7 @@ answered g c =
     let words = map g.T.AsStr.text c.args.words.now in
     let before = outputs_of g.F.Outputs.placed g.O.Sink.accepted g.E.Sink.accepted g.E.Sink.failure_count c.args.to in
     let after = outputs_of g.F.Outputs.placed g.O.Sink.accepted g.E.Sink.accepted g.E.Sink.failure_count c.match-read_words.to.0 in
-    let all : IfOk c.match-read_words.to.1 (λ status. IsAnswered known rest is_terminal is_colored words status before after) =
+    let all : IfOk c.match-read_words.to.1 (λ status. IsCarriedOut known rest is_terminal is_colored words status before after) =
     elim c.match-read_words.branch [
       | in-Ok-Some w ↦
           (let request = rw w.in-Ok-Some.field-0-is at w.in-Ok-Some.ensures.value in

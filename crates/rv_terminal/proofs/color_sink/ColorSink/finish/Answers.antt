@@ -1,19 +1,19 @@
 use Rattle.std.proofs.Common.{◌∙◌, sym}
 use Rattle.rv_terminal.proofs.Courses.{out_in_part, out_whole}
 use Rattle.rv_terminal.proofs.color_sink.ColorSink.finish.Goals as goal
-use Rattle.rv_terminal.proofs.color_sink.ColorSink.finish.Goals.{then-is_cut_off, else-is_cut_off}
+use Rattle.rv_terminal.proofs.color_sink.ColorSink.finish.Goals.{then-has_failed, else-has_failed}
 
 pub returns-clause-whole : goal.returns-clause-whole
-returns-clause-whole g c = elim c.if-is_cut_off.branch [
-  | then-is_cut_off w ↦ rw w.whole-is tt
-  | else-is_cut_off w ↦
+returns-clause-whole g c = elim c.if-has_failed.branch [
+  | then-has_failed w ↦ rw w.whole-is tt
+  | else-has_failed w ↦
       rw (w.whole-is, ← c.self.view_is)
-      (out_whole g.J.Results.colors g.J.Results.before (g.S.Sink.accepted c.self.inside.sink) c.self.inside.state
-      c.self.invariant.0 (sym c.is_cut_off.ensures ∙ w.if-is_cut_off.false))
+      (out_whole g.J.ColorSpec.colors g.J.ColorSpec.before (g.S.Sink.accepted c.self.inside.sink) c.self.inside.state
+      c.self.invariant.0 (sym c.has_failed.ensures ∙ w.if-has_failed.false))
 ]
 
 pub returns-clause-part : goal.returns-clause-part
 returns-clause-part g c =
     rw (← c.self.view_is)
-    (out_in_part g.J.Results.colors g.J.Results.before (g.S.Sink.accepted c.self.inside.sink) c.self.inside.state
+    (out_in_part g.J.ColorSpec.colors g.J.ColorSpec.before (g.S.Sink.accepted c.self.inside.sink) c.self.inside.state
     c.self.invariant.0)

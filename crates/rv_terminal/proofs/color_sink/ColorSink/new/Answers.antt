@@ -4,9 +4,9 @@ use Rattle.rv_terminal.proofs.color_sink.ColorSink.new.Goals as goal
 
 pub invariant_of-result : goal.invariant_of-result
 invariant_of-result g c = (
-  rw (c.first.ensures, c.requires.colors, c.requires.before) (course_begun g.J.Results.colors g.J.Results.before),
+  rw (c.first.ensures, c.requires.colors, c.requires.before) (course_begun g.J.ColorSpec.colors g.J.ColorSpec.before),
   rw (c.first.ensures, c.failures-failures.ensures) (counted_first c.args.colors (g.S.Sink.failure_count c.args.sink)),
 )
 
 pub returns-clause-taken : goal.returns-clause-taken
-returns-clause-taken g c = rw c.requires.before (results_begun g.J.Results.colors g.J.Results.before)
+returns-clause-taken g c = rw c.requires.before (results_begun g.J.ColorSpec.colors g.J.ColorSpec.before)

@@ -6,7 +6,7 @@ use Rattle.rv_terminal.proofs.color_sink.ColorSinkSink.put.Goals as goal
 
 pub invariant_of-self : goal.invariant_of-self
 invariant_of-self g c = (
-  course_kept g.J.Results.colors g.J.Results.before (g.S.Sink.accepted c.self.inside.sink)
+  course_kept g.J.ColorSpec.colors g.J.ColorSpec.before (g.S.Sink.accepted c.self.inside.sink)
       (g.S.Sink.accepted c.write_in_state-count.new.sink) c.self.inside.state c.write_in_state-count.result.1
       (take c.write_in_state-count.result.0 c.args.bytes.now) c.self.invariant.0 c.write_in_state-count.ensures.put,
   rw (c.write_in_state-count.ensures.counted, c.saturating_add-self-inside.ensures, c.if-count-eq0.true)
@@ -19,7 +19,7 @@ invariant_of-self g c = (
 pub invariant_of-self-else-count-eq0 : goal.invariant_of-self-else-count-eq0
 invariant_of-self-else-count-eq0 g c =
     let some : 1 ≤ c.write_in_state-count.result.0 = omega (arith, c.if-count-eq0.false) in (
-      course_kept g.J.Results.colors g.J.Results.before (g.S.Sink.accepted c.self.inside.sink)
+      course_kept g.J.ColorSpec.colors g.J.ColorSpec.before (g.S.Sink.accepted c.self.inside.sink)
           (g.S.Sink.accepted c.write_in_state-count.new.sink) c.self.inside.state c.write_in_state-count.result.1
           (take c.write_in_state-count.result.0 c.args.bytes.now) c.self.invariant.0 c.write_in_state-count.ensures.put,
       rw c.write_in_state-count.ensures.counted
@@ -35,14 +35,14 @@ returns-then-count-eq0-clause-kept g c =
     let new = g.S.Sink.accepted c.write_in_state-count.new.sink in
     let state = c.write_in_state-count.result.1 in
     rw (← c.self.view_is)
-    (nothing_taken (results_of g.J.Results.colors g.J.Results.before old)
-    (results_of g.J.Results.colors g.J.Results.before new)
-    (results_taken g.J.Results.colors g.J.Results.before old new c.self.inside.state state [] c.self.invariant.0
+    (nothing_taken (results_of g.J.ColorSpec.colors g.J.ColorSpec.before old)
+    (results_of g.J.ColorSpec.colors g.J.ColorSpec.before new)
+    (results_taken g.J.ColorSpec.colors g.J.ColorSpec.before old new c.self.inside.state state [] c.self.invariant.0
     (rw c.if-count-eq0.true at c.write_in_state-count.ensures.put)))
 
 pub returns-clause-taken : goal.returns-clause-taken
 returns-clause-taken g c =
     rw (← c.self.view_is)
-    (results_taken g.J.Results.colors g.J.Results.before (g.S.Sink.accepted c.self.inside.sink)
+    (results_taken g.J.ColorSpec.colors g.J.ColorSpec.before (g.S.Sink.accepted c.self.inside.sink)
     (g.S.Sink.accepted c.write_in_state-count.new.sink) c.self.inside.state c.write_in_state-count.result.1
     (take c.write_in_state-count.result.0 c.args.bytes.now) c.self.invariant.0 c.write_in_state-count.ensures.put)

@@ -5,7 +5,7 @@ use Rattle.rv_job_text.specs.Printable.{printable_text}
 use Rattle.rv_job_text.specs.TextWords.{count_text}
 use Rattle.rvtest_app.specs.IntoStops.{expected_whole_report}
 use Rattle.rvtest_app.proofs.Results.{IfOk-map}
-use Rattle.rvtest_app.proofs.whole_report.part_refusal.Goals as goal
+use Rattle.rvtest_app.proofs.whole_report.partial_report_message.Goals as goal
 
 eight_told : (a1 a2 a3 a4 a5 a6 a7 a8 : List ℕ)
     → a1 ++ (a2 ++ (a3 ++ (a4 ++ (a5 ++ (a6 ++ (a7 ++ (a8 ++ [])))))))

@@ -1,6 +1,6 @@
 use Rattle.std.proofs.Common.{◌≡◌, ◌+◌, ◌-◌, ◌≤◌, drop, length, nat_eq}
 use Rattle.std.specs.List.{common_prefix_len}
-use Rattle.rv_job_text.proofs.shown_line.equal_len.Given as goal
+use Rattle.rv_job_text.proofs.shown_line.equal_prefix_len.Given as goal
 
 abbrev pub invariant-loop-len : goal.invariant-loop-len
 invariant-loop-len l = record {

@@ -75,8 +75,8 @@ IsOnlyUsageOrHelp words status =
     ((request_of_args words ≡ None) × (status ≡ 2)) ⊎ (RequestHelp words × (status ≡ 0))
 
 -- the program responded to its arguments: it did what they request, or it only printed the usage, the help or the version
-abbrev pub IsAnswered : Option FileContents → Option (List ℕ) → Bool → Bool → List (List ℕ) → ℕ → CommandOutputs → CommandOutputs → Type 0
-IsAnswered known input is_terminal is_colored words status before after =
+abbrev pub IsCarriedOut : Option FileContents → Option (List ℕ) → Bool → Bool → List (List ℕ) → ℕ → CommandOutputs → CommandOutputs → Type 0
+IsCarriedOut known input is_terminal is_colored words status before after =
     ((args : Request) × ((request_of_args words ≡ Some (value_of_request args))
     × IsDoneInColors known input is_terminal is_colored args status before after))
     ⊎ (IsOnlyUsageOrHelp words status × (after.errors ≡ before.errors) × (after.failures ≡ before.failures)

@@ -1,7 +1,7 @@
 //! Where colours begin and end in the lines of results.
 
 ghost use Rattle.std.specs.Prelude.{◌≡◌, fold};
-ghost use Rattle.rv_terminal.specs.Colors.{packet_start, position_after_first, is_nothing, line_mark, mark_before, mark_text, place_after};
+ghost use Rattle.rv_terminal.specs.Colors.{margin_mark, position_after_first, is_empty, line_mark, mark_before, mark_text, position_after};
 ghost use Rattle.rv_terminal.specs.Colors.{position_in_line, sign_mark, word_mark};
 
 /// The escape sequence that is sent to a terminal before a byte, if any.
@@ -16,7 +16,7 @@ pub(crate) enum Mark {
 
 /// The position of a byte of results in its line.
 #[derive(Clone, Copy)]
-pub(crate) enum Place {
+pub(crate) enum LinePosition {
     /// After this many spaces at the start of the line: at most five.
     Margin(u8),
     /// In the first word, which is coloured.
@@ -47,14 +47,14 @@ impl Mark {
     }
 
     /// Whether the mark has no escape sequence.
-    pub(crate) fn is_nothing(self) -> bool
-        ensures { result ≡ is_nothing self }
+    pub(crate) fn is_empty(self) -> bool
+        ensures { result ≡ is_empty self }
     {
         matches!(self, Mark::Nothing)
     }
 }
 
-impl Place {
+impl LinePosition {
     /// Returns the mark before a byte at this position.
     pub(crate) fn mark_before(self, byte: u8) -> Mark
         ensures { result ≡ mark_before self byte }
@@ -71,45 +71,45 @@ impl Place {
         ensures { result ≡ line_mark self byte }
     {
         match self {
-            Place::Margin(spaces) => packet_start(spaces, byte),
-            Place::Word if byte == b' ' => Mark::End,
-            Place::Word | Place::Line if byte == b'\n' => Mark::End,
+            LinePosition::Margin(spaces) => margin_mark(spaces, byte),
+            LinePosition::Word if byte == b' ' => Mark::End,
+            LinePosition::Word | LinePosition::Line if byte == b'\n' => Mark::End,
             _ => Mark::Nothing,
         }
     }
 
     /// Returns the position after a byte at this position.
-    pub(crate) fn behind(self, byte: u8) -> Place
-        ensures { result ≡ place_after self byte }
+    pub(crate) fn behind(self, byte: u8) -> LinePosition
+        ensures { result ≡ position_after self byte }
     {
         match byte {
-            b'\n' => Place::Margin(0),
-            ESCAPE => Place::Rest,
+            b'\n' => LinePosition::Margin(0),
+            ESCAPE => LinePosition::Rest,
             _ => self.position_in_line(byte),
         }
     }
 
     // Returns the position after a byte that is neither a line feed nor the start of an escape sequence.
-    fn position_in_line(self, byte: u8) -> Place
+    fn position_in_line(self, byte: u8) -> LinePosition
         ensures { result ≡ position_in_line self byte }
     {
         match self {
-            Place::Margin(spaces) if byte == b' ' => {
+            LinePosition::Margin(spaces) if byte == b' ' => {
                 if spaces < MARGIN {
-                    Place::Margin(spaces + 1)
+                    LinePosition::Margin(spaces + 1)
                 } else {
-                    Place::Rest
+                    LinePosition::Rest
                 }
             }
-            Place::Margin(spaces) => position_after_first(spaces, byte),
-            Place::Word if byte == b' ' => Place::Rest,
+            LinePosition::Margin(spaces) => position_after_first(spaces, byte),
+            LinePosition::Word if byte == b' ' => LinePosition::Rest,
             place => place,
         }
     }
 
     /// Returns the position after these bytes, the first of which is at this position.
-    pub(crate) fn after_bytes(self, bytes: &[u8]) -> Place
-        ensures { result ≡ fold place_after self bytes.now }
+    pub(crate) fn after_bytes(self, bytes: &[u8]) -> LinePosition
+        ensures { result ≡ fold position_after self bytes.now }
     {
         let mut place = self;
         for byte in bytes {
@@ -120,8 +120,8 @@ impl Place {
 }
 
 // Returns the mark before the first byte after the spaces at the beginning of a line, given how many spaces there are.
-fn packet_start(spaces: u8, byte: u8) -> Mark
-    ensures { result ≡ packet_start spaces byte }
+fn margin_mark(spaces: u8, byte: u8) -> Mark
+    ensures { result ≡ margin_mark spaces byte }
 {
     if spaces == 0 {
         word_mark(byte)
@@ -155,14 +155,14 @@ fn sign_mark(byte: u8) -> Mark
 }
 
 // Returns the position after the first byte of a line that is not a space, given how many spaces are before it.
-fn position_after_first(spaces: u8, byte: u8) -> Place
+fn position_after_first(spaces: u8, byte: u8) -> LinePosition
     ensures { result ≡ position_after_first spaces byte }
 {
-    if packet_start(spaces, byte).is_nothing() {
-        Place::Rest
+    if margin_mark(spaces, byte).is_empty() {
+        LinePosition::Rest
     } else if byte == b'-' || byte == b'+' {
-        Place::Line
+        LinePosition::Line
     } else {
-        Place::Word
+        LinePosition::Word
     }
 }

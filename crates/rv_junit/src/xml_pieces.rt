@@ -2,7 +2,7 @@
 
 ghost use Rattle.std.specs.Prelude.{◌≡◌, ◌++◌, OnOk, string_bytes};
 ghost use Rattle.std.specs.List.{flat_map};
-ghost use Rattle.rv_junit.specs.Pieces.{attribute, number_attribute, piece_text};
+ghost use Rattle.rv_junit.specs.XmlPieces.{attribute, number_attribute, piece_text};
 ghost use Rattle.rv_job_text.specs.TextWords.{count_text};
 
 use rv_job_text::{XmlContext, push_xml_text};
@@ -11,7 +11,7 @@ use std::fmt::Write;
 
 /// A piece of a document.
 #[derive(Clone, Copy)]
-pub(crate) enum Piece<'a> {
+pub(crate) enum XmlPiece<'a> {
     /// Text as it is, including markup.
     Text(&'a str),
     /// A number and a noun, which is given in the singular: `1 step`, but `2 steps`.
@@ -28,28 +28,28 @@ pub(crate) enum Piece<'a> {
 pub(crate) fn push_xml_pieces(
     alloc: Global,
     text: &mut String,
-    pieces: &[Piece<'_>],
+    pieces: &[XmlPiece<'_>],
 ) -> Result<(), AllocError>
     ensures { OnOk result (string_bytes text.new
         ≡ string_bytes text.old ++ flat_map piece_text pieces.now) }
 {
     for piece in pieces {
-        push_piece(alloc, text, *piece)?;
+        push_xml_piece(alloc, text, *piece)?;
     }
     Ok(())
 }
 
 // Appends a piece of a document: a text, a count with its noun, an attribute, or an escaped text.
-fn push_piece(alloc: Global, text: &mut String, piece: Piece<'_>) -> Result<(), AllocError>
+fn push_xml_piece(alloc: Global, text: &mut String, piece: XmlPiece<'_>) -> Result<(), AllocError>
     ensures { OnOk result (string_bytes text.new
         ≡ string_bytes text.old ++ piece_text piece.entry) }
 {
     match piece {
-        Piece::Text(words) => text.push_str(words),
-        Piece::Count(number, noun) => push_file_reply_prefix(text, number, noun),
-        Piece::Attribute(name, value) => push_attribute(alloc, text, name, value),
-        Piece::NumberAttribute(name, number) => push_number_attribute(text, name, number),
-        Piece::Element(bytes) => push_xml_text(alloc, text, XmlContext::Element, bytes),
+        XmlPiece::Text(words) => text.push_str(words),
+        XmlPiece::Count(number, noun) => push_file_reply_prefix(text, number, noun),
+        XmlPiece::Attribute(name, value) => push_attribute(alloc, text, name, value),
+        XmlPiece::NumberAttribute(name, number) => push_number_attribute(text, name, number),
+        XmlPiece::Element(bytes) => push_xml_text(alloc, text, XmlContext::Element, bytes),
     }
 }
 
@@ -63,7 +63,7 @@ fn push_file_reply_prefix(text: &mut String, number: u64, noun: &str) -> Result<
 }
 
 /// Appends an XML attribute with a name and a text as its value, which is escaped.
-#[tactic(auto, unfolding(crate::specs::Pieces::attribute))]
+#[tactic(auto, unfolding(crate::specs::XmlPieces::attribute))]
 pub(crate) fn push_attribute(
     alloc: Global,
     text: &mut String,
@@ -79,7 +79,7 @@ pub(crate) fn push_attribute(
 }
 
 /// Appends an XML attribute with a name and a number as its value.
-#[tactic(auto, unfolding(crate::specs::Pieces::number_attribute))]
+#[tactic(auto, unfolding(crate::specs::XmlPieces::number_attribute))]
 pub(crate) fn push_number_attribute(
     text: &mut String,
     name: &str,

@@ -1,8 +1,8 @@
 -- Documents assembled from parts.
 use Rattle.std.specs.Prelude.{ℕ, List, ◌++◌, codes}
 use Rattle.std.specs.Fmt.{decimal}
-use Rattle.rv_junit.specs.declared.pieces.Piece.{Piece}
-use Rattle.rv_junit.specs.declared.pieces.Piece.TheVariants as piece
+use Rattle.rv_junit.specs.declared.xml_pieces.XmlPiece.{XmlPiece}
+use Rattle.rv_junit.specs.declared.xml_pieces.XmlPiece.TheVariants as piece
 use Rattle.rv_job_text.specs.declared_xml.XmlContext.TheVariants.{Attribute, Element}
 use Rattle.rv_job_text.specs.TextWords.{count_text}
 use Rattle.rv_job_text.specs.Xml.{xml_text}
@@ -16,7 +16,7 @@ unfoldable pub number_attribute : List ℕ → ℕ → List ℕ
 number_attribute name number = codes " " ++ name ++ codes "=\"" ++ decimal number ++ codes "\""
 
 -- a piece of a document, as it is written
-abbrev pub piece_text : Piece → List ℕ
+abbrev pub piece_text : XmlPiece → List ℕ
 piece_text (piece.Text text) = text.now
 piece_text (piece.Count number noun) = count_text number noun.now
 piece_text (piece.Attribute name value) = attribute name.now value.now
