@@ -10,7 +10,7 @@ use Rattle.rv_call_tree.specs.declared.spot.CallNode.{CallNode}
 use Rattle.rv_call_tree.specs.declared.sum.NextNode.{NextNode}
 use Rattle.rv_call_tree.specs.declared.sum.CallTreeSumError.{CallTreeSumError}
 use Rattle.rv_call_tree.specs.declared.sum.CallTreeSumError.TheVariants.{OutOfMemory, Count}
-use Rattle.rv_call_tree.specs.Sums.{sum_of_nodes, comes_first, next_of, next_of_nodes, node_of_first, node_of_second, IsSumOfCallTrees, Overflows, IsOverflowOfFirstNodes, CountsOverflow}
+use Rattle.rv_call_tree.specs.Sums.{sum_of_nodes, comes_first, next_of, next_of_nodes, node_of_first, node_of_second, IsSumOfCallTrees, IsOverflowOfTrees, IsOverflowOfFirstNodes, CountsOverflow}
 use Rattle.rv_call_tree.specs.Trees.{path_after, last_path, calls_of_node, steps_of, sum_over_path, ends_with, HasCalls, IsTree, FollowsInPreorder, FollowInPreorder}
 use Rattle.rv_call_tree.proofs.Fronts.{StandsAlike, behind_other}
 use Rattle.rv_call_tree.proofs.Tests.{equal_by, equal_test, less_by, not_less_by}
@@ -301,7 +301,7 @@ counted_here count path xs ss s is =
 
 too_great_of : (xs ss ys ts sums : List CallNode) (s t : CallNode) → SoFar xs (s ∷ ss) ys (t ∷ ts) sums → comes_first s t ≡ false
     → comes_first t s ≡ false → (function : ℕ) → function ≡ s.function → CountsOverflow s t
-    → Overflows (Count function) (xs ++ s ∷ ss) (ys ++ t ∷ ts)
+    → IsOverflowOfTrees (Count function) (xs ++ s ∷ ss) (ys ++ t ∷ ts)
 too_great_of xs ss ys ts sums s t h one other function is great =
     let same = same_order s t one other in
     let path = path_after (last_path [] sums) s in
@@ -319,7 +319,7 @@ too_great_of xs ss ys ts sums s t h one other function is great =
     )
 
 too_great_there : (xs ms ys bs sums : List CallNode) (error : CallTreeSumError) → SoFar xs ms ys bs sums
-    → IsOverflowOfFirstNodes error ms bs → Overflows error (xs ++ ms) (ys ++ bs)
+    → IsOverflowOfFirstNodes error ms bs → IsOverflowOfTrees error (xs ++ ms) (ys ++ bs)
 too_great_there xs ms ys bs sums OutOfMemory h great = tt
 too_great_there xs [] ys bs sums (Count function) h great = absurd great
 too_great_there xs (s ∷ ss) ys [] sums (Count function) h great = absurd great
@@ -327,10 +327,10 @@ too_great_there xs (s ∷ ss) ys (t ∷ ts) sums (Count function) h great =
     too_great_of xs ss ys ts sums s t h great.0 great.1 function great.2 great.3
 
 pub too_great : (a b sums : List CallNode) (i j : ℕ) (error : CallTreeSumError) → Added a b i j sums
-    → IsOverflowOfFirstNodes error (drop i a) (drop j b) → Overflows error a b
+    → IsOverflowOfFirstNodes error (drop i a) (drop j b) → IsOverflowOfTrees error a b
 too_great a b sums i j error h great =
-    subst (λ (zs : List CallNode). Overflows error a zs) (take-append-drop j b)
-    (subst (λ (zs : List CallNode). Overflows error zs (take j b ++ drop j b)) (take-append-drop i a)
+    subst (λ (zs : List CallNode). IsOverflowOfTrees error a zs) (take-append-drop j b)
+    (subst (λ (zs : List CallNode). IsOverflowOfTrees error zs (take j b ++ drop j b)) (take-append-drop i a)
     (too_great_there (take i a) (drop i a) (take j b) (drop j b) sums error h great))
 
 -- ---- how many of each

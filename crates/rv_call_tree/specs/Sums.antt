@@ -22,9 +22,9 @@ pub record FitsFields (s : CallNode) : Type 0 where
 
 -- the error of adding `a` and `b` is true: the calls or the steps of some path that ends in the reported function add up to 2^64 or more;
 -- `OutOfMemory` is always true
-abbrev pub Overflows : CallTreeSumError → List CallNode → List CallNode → Type 0
-Overflows OutOfMemory a b = Unit {0}
-Overflows (Count function) a b = (path : List ℕ) × (ends_with function path ≡ true)
+abbrev pub IsOverflowOfTrees : CallTreeSumError → List CallNode → List CallNode → Type 0
+IsOverflowOfTrees OutOfMemory a b = Unit {0}
+IsOverflowOfTrees (Count function) a b = (path : List ℕ) × (ends_with function path ≡ true)
     × ((2 ^ 64 ≤ calls_at path a + calls_at path b) ⊎ (2 ^ 64 ≤ steps_at path a + steps_at path b))
 
 -- ---- the sum from the front

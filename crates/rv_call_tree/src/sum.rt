@@ -2,7 +2,7 @@
 
 ghost use Rattle.std.specs.Prelude.{◌≡◌, ◌+◌, ◌<◌, ◌++◌, ◌∷◌, [], IfOk, IfErr, OnOk, length};
 ghost use Rattle.std.specs.List.{AllByRecursion};
-ghost use Rattle.rv_call_tree.specs.Sums.{sum_of_nodes, comes_first, next_of, node_of_first, node_of_second, FitsFields, Overflows, IsOverflowOfFirstNodes, IsOverflowOfNodes, IsSumOfCallTrees};
+ghost use Rattle.rv_call_tree.specs.Sums.{sum_of_nodes, comes_first, next_of, node_of_first, node_of_second, FitsFields, IsOverflowOfTrees, IsOverflowOfFirstNodes, IsOverflowOfNodes, IsSumOfCallTrees};
 ghost use Rattle.rv_call_tree.specs.Trees.{IsTree};
 ghost use Rattle.rv_call_tree.specs.declared.sum.CallTreeSumError.TheVariants.{OutOfMemory};
 
@@ -34,7 +34,7 @@ pub fn sum_of_call_trees(alloc: Global, a: &[CallNode], b: &[CallNode]) -> Resul
     requires b { IsTree b.now }
     ensures value { IfOk result (λ sum. IsSumOfCallTrees a.now b.now sum) }
     ensures fits { IfOk result (λ sum. AllByRecursion FitsFields sum) }
-    ensures refused { IfErr result (λ error. Overflows error a.now b.now) }
+    ensures refused { IfErr result (λ error. IsOverflowOfTrees error a.now b.now) }
 {
     let mut sums = Vec::new(alloc);
     let mut from_a = 0;

@@ -6,7 +6,7 @@ use Rattle.rv_trace.specs.declared_job.Job.{Job}
 use Rattle.rv_trace.specs.declared_ending.Ending.{Ending}
 use Rattle.rv_trace.specs.Run.{step_of}
 use Rattle.rv_trace.specs.State.{State, register}
-use Rattle.rv_trace.specs.Rows.{start_in}
+use Rattle.rv_trace.specs.Rows.{start_state_in}
 use Rattle.rv_trace.specs.declared.code.Code.{Code}
 use Rattle.rv_trace.specs.Code.{code_at, instr_of, size_of_code}
 use Rattle.rv_trace.specs.Trace.{state_after}
@@ -64,4 +64,4 @@ calls_of_run n s = record { pc = (state_after n s).pc; frames = frames_of_run n 
 
 -- the pc and the call stack at the end of the run of a plan's job within its budget, or `None` if the job is refused
 unfoldable pub calls_in : PlanView → Job → Option Calls
-calls_in plan job = option_map (calls_of_run job.budget) (result_ok (start_in plan.answers job))
+calls_in plan job = option_map (calls_of_run job.budget) (result_ok (start_state_in plan.answers job))

@@ -14,7 +14,7 @@ use Rattle.rv_claims.specs.declared.view.Entry.{Entry}
 use Rattle.rv_claims.specs.declared.view.View.{View}
 use Rattle.rv_claims.specs.Draws.{total, times, IsIn, Within, IsHistory, past_last_count, entry, entry_count, numbers, HaveSameDraws}
 use Rattle.rv_claims.specs.Draws.{view, first_view, new_seat_view, note_of, joined_view, empty_view, Fits, Runs}
-use Rattle.rv_claims.specs.Draws.{Sitting, first_pass_index, IsDraw, IsSeatRequest, IsLook}
+use Rattle.rv_claims.specs.Draws.{SeatState, first_pass_index, IsDraw, IsSeatRequest, IsLook}
 use Rattle.rv_claims.proofs.Sums.{snoc_at, at_lt, in_append, in_left, in_right, in_one, in_none, total-append}
 use Rattle.rv_claims.proofs.Sums.{total-set, term_le, terms_le, some_term, only_term, total_le, total-map, places_few}
 use Rattle.rv_claims.proofs.Sums.{past_no, past_le, history_past, history-snoc, counted_in, weighs_same, views_weigh}
@@ -109,7 +109,7 @@ opens pieces ws wide zeroth first others = record {
 }
 
 -- a draw
-pub draws : (pieces slots id : ℕ) (m : Sitting) → pieces ≤ 4096 → past_last_count pieces m.0.draws ≡ 0
+pub draws : (pieces slots id : ℕ) (m : SeatState) → pieces ≤ 4096 → past_last_count pieces m.0.draws ≡ 0
     → 0 < length m.0.places
     → Allows (Runs pieces) slots id m 0 (λ n. (n + 1) % 2 ^ 64) (IsDraw (step slots 0 1 0 none) m)
 draws pieces slots id m most going sits s r _ at small =
@@ -175,14 +175,14 @@ draws pieces slots id m most going sits s r _ at small =
     first_in (p ∷ ps) h = (0, refl)
 
 -- a step that leaves the words and this view as they were
-unmoved : (pieces : ℕ) (s : St) (r : Runs pieces s) (i id : ℕ) (m : Sitting) → get_elem? s.views id ≡ some m.0
+unmoved : (pieces : ℕ) (s : St) (r : Runs pieces s) (i id : ℕ) (m : SeatState) → get_elem? s.views id ≡ some m.0
     → Runs pieces (stepped s i (get_or s.words i 0) id m.1 m.0 keeps)
 unmoved pieces s r i id m at =
     subst (λ (t : List ℕ × List View). Runs pieces (state t.0 s.homes t.1))
     (λ k. (sym (set-get_or s.words i 0) k, sym (set_again s.views id m.0 at) k)) r
 
 -- a look
-pub looks : (pieces slots id : ℕ) (m : Sitting)
+pub looks : (pieces slots id : ℕ) (m : SeatState)
     → Allows (Runs pieces) slots id m 0 (λ n. n) (IsLook (step slots 0 0 0 none) m)
 looks pieces slots id m s r _ at small = (
   m.0,
@@ -214,7 +214,7 @@ looks pieces slots id m s r _ at small = (
             omega (arith, one_at-other p q (h q (0, refl)), none_at qs p (λ x i. h x (suc i.0, i.1)))
 
 -- sitting
-pub sits : (pieces slots id : ℕ) (m : Sitting) (p k : ℕ) → p < 64 → k ≡ p + 1
+pub sits : (pieces slots id : ℕ) (m : SeatState) (p k : ℕ) → p < 64 → k ≡ p + 1
     → Allows (Runs pieces) slots id m k (λ _. 1) (IsSeatRequest (step slots k 1 0 none) m)
 sits pieces slots id m p k low is s r _ at small =
     let v = m.0 in

@@ -18,7 +18,7 @@ use Rattle.atomic_table.specs.Seated.{TableId}
 use Rattle.atomic_table.specs.Table.{Step, opening, Final, Seen}
 use Rattle.rv_claims.specs.declared.view.Entry.{Entry}
 use Rattle.rv_claims.specs.Draws.{times, joined_view, IsIn, IsHistory, Within, past_last_count, entry, numbers, first_pass_index}
-use Rattle.rv_claims.specs.Draws.{view, Sitting, IsDraw, IsSeatRequest, first_view, Runs}
+use Rattle.rv_claims.specs.Draws.{view, SeatState, IsDraw, IsSeatRequest, first_view, Runs}
 use Rattle.rv_claims.specs.Passes.{pass_of, with_draw, piece_of, IsValidPass, pass_view, opening_row, IsWholeHistory}
 use Rattle.rv_claims.proofs.Keeps.{opens, whole, each_once}
 use Rattle.rv_claims.proofs.Sums.{in_append, in_one, in_left, in_right, in_none, total-append, term_le, one_at}
@@ -32,14 +32,14 @@ first_in [] h = absurd (omega arith)
 first_in (p ∷ ps) h = (0, refl)
 
 -- the places of a pass that drew are as they were
-pub drew_pass : {st : Step (Unit {0})} (m m' : Sitting) (n bits : ℕ) (ended now : Bool) → IsValidPass m bits ended
+pub drew_pass : {st : Step (Unit {0})} (m m' : SeatState) (n bits : ℕ) (ended now : Bool) → IsValidPass m bits ended
     → IsDraw st m n m' → now ≡ nat_lt 0 (past_last_count m.0.pieces (m.0.draws ++ entry (first_pass_index m.0.places) n ∷ []))
     → IsValidPass m' bits now
 drew_pass m m' n bits ended now p d stop =
     let e = entry (first_pass_index m.0.places) n in
     let w = view m.0.pieces m.0.places (m.0.draws ++ e ∷ []) m.0.noted in
     let is : m' ≡ (w, m.1) = λ i. (d.drawn i, d.slots i) in
-    subst (λ (x : Sitting). IsValidPass x bits now) (sym is) (record {
+    subst (λ (x : SeatState). IsValidPass x bits now) (sym is) (record {
       no_slot = p.no_slot;
       sits = p.sits;
       low = p.low;
@@ -68,7 +68,7 @@ ends_now pieces ds e high =
     sym (lt-ltb 0 (past_last_count pieces (ds ++ e ∷ []))
     (omega (arith, total-append (one_past pieces) ds (e ∷ []), past_yes pieces e high)))
 
-pub seen_drew : {st : Step (Unit {0})} (t t' : TableId) (m m' : Sitting) (n : ℕ) → t' ≡ t → IsDraw st m n m'
+pub seen_drew : {st : Step (Unit {0})} (t t' : TableId) (m m' : SeatState) (n : ℕ) → t' ≡ t → IsDraw st m n m'
     → pass_view t' m' ≡ with_draw (pass_view t m) n
 seen_drew t t' m m' n same d =
     let v = d.drawn in λ i. pass_of (record { table = same i; pieces = (v i).pieces }) (v i).places (v i).draws
@@ -95,8 +95,8 @@ opening_free zero h l = absurd (omega arith)
 opening_free (suc zero) h l = absurd (omega arith)
 opening_free (suc (suc p)) h l = row_at 63 p
 
-pub opened_pass : (pieces : ℕ) (m : Sitting) → m ≡ (first_view pieces, []) → IsValidPass m 1 false
-opened_pass pieces m e = subst (λ (x : Sitting). IsValidPass x 1 false) (sym e) (record {
+pub opened_pass : (pieces : ℕ) (m : SeatState) → m ≡ (first_view pieces, []) → IsValidPass m 1 false
+opened_pass pieces m e = subst (λ (x : SeatState). IsValidPass x 1 false) (sym e) (record {
   no_slot = refl;
   sits = omega arith;
   low = λ p i. let z = in_one 0 p i in omega arith;
@@ -116,12 +116,12 @@ some_past zero m = ap (nat_lt 0) (zero-add m)
 some_past (suc n) m = lt-ltb 0 (suc n + m) (omega arith)
     ∙ sym (ap (λ (b : Bool). b || nat_lt 0 m) (lt-ltb 0 (suc n) (omega arith)))
 
-pub joined_pass : (m n m' : Sitting) (bits more : ℕ) (e f now : Bool) → IsValidPass m bits e → IsValidPass n more f
+pub joined_pass : (m n m' : SeatState) (bits more : ℕ) (e f now : Bool) → IsValidPass m bits e → IsValidPass n more f
     → m.0.pieces ≡ n.0.pieces → m' ≡ (joined_view m.0 n.0, m.1) → now ≡ (e || f) → IsValidPass m' (bit_or bits more) now
 joined_pass m n m' bits more e f now p q same is stop =
     let ps = m.0.places in
     let qs = n.0.places in
-    subst (λ (x : Sitting). IsValidPass x (bit_or bits more) now) (sym is) (record {
+    subst (λ (x : SeatState). IsValidPass x (bit_or bits more) now) (sym is) (record {
       no_slot = p.no_slot;
       sits = omega (arith, length-append ps qs, p.sits);
       low = λ x i. ⊎_elim (λ (t : IsIn x ps). p.low x t) (λ (t : IsIn x qs). q.low x t) (in_append ps qs x i);
@@ -143,7 +143,7 @@ joined_pass m n m' bits more e f now p q same is stop =
     ends = q.stopped ∙ ap (λ (k : ℕ). nat_lt 0 (past_last_count k n.0.draws)) (sym same)
 
 -- what was noted is no part of the pass
-pub noted_pass : (m m' : Sitting) (bits : ℕ) (ended : Bool) → IsValidPass m bits ended → m'.1 ≡ m.1
+pub noted_pass : (m m' : SeatState) (bits : ℕ) (ended : Bool) → IsValidPass m bits ended → m'.1 ≡ m.1
     → m'.0.pieces ≡ m.0.pieces → m'.0.places ≡ m.0.places → m'.0.draws ≡ m.0.draws → IsValidPass m' bits ended
 noted_pass m m' bits ended p slots pieces places draws = record {
   no_slot = slots ∙ p.no_slot;
@@ -161,17 +161,17 @@ small_power place low = let h : 2 ^ place < 2 ^ 64 = pow-lt low in
     let k : 2 ^ 64 ≡ 18446744073709551616 = refl in omega arith
 
 -- a seat that sat
-pub sat_there : {st : Step (Unit {0})} (m m' : Sitting) (pieces place n : ℕ) → st.word ≡ place + 1
+pub sat_there : {st : Step (Unit {0})} (m m' : SeatState) (pieces place n : ℕ) → st.word ≡ place + 1
     → m ≡ (view pieces [] [] [], []) → n ≡ 0 → IsSeatRequest st m n m' → m' ≡ (view pieces (place ∷ []) [] [], [])
 sat_there {st} m m' pieces place n word blank free sat = let k : st.word - 1 ≡ place = omega arith in
     (λ i. (sat.free free i, sat.slots i))
     ∙ (λ i. (view (blank i).0.pieces (k i ∷ (blank i).0.places) (blank i).0.draws (blank i).0.noted, (blank i).1))
 
-pub seated_pass : (m : Sitting) (pieces place bits : ℕ) → place < 64 → bits ≡ 1 * 2 ^ place % 18446744073709551616
+pub seated_pass : (m : SeatState) (pieces place bits : ℕ) → place < 64 → bits ≡ 1 * 2 ^ place % 18446744073709551616
     → m ≡ (view pieces (place ∷ []) [] [], []) → IsValidPass m bits false
 seated_pass m pieces place bits low was e =
     let is : bits ≡ 2 ^ place = was ∙ small_power place low in
-    subst (λ (t : Sitting × ℕ). IsValidPass t.0 t.1 false) (λ i. (sym e i, sym is i)) (record {
+    subst (λ (t : SeatState × ℕ). IsValidPass t.0 t.1 false) (λ i. (sym e i, sym is i)) (record {
       no_slot = refl;
       sits = omega arith;
       low = λ p i. let z = in_one place p i in omega arith;
@@ -200,7 +200,7 @@ in_twice xs ys p i j = omega (
   one_at-same p,
 )
 
-pub overlap : (m n : Sitting) (a b : ℕ) (e f : Bool) → a < 2 ^ 64 → b < 2 ^ 64 → IsValidPass m a e → IsValidPass n b f
+pub overlap : (m n : SeatState) (a b : ℕ) (e f : Bool) → a < 2 ^ 64 → b < 2 ^ 64 → IsValidPass m a e → IsValidPass n b f
     → bit_and a b ≢ 0 → ((p : ℕ) → times p (m.0.places ++ n.0.places) ≤ 1) → ⊥
 overlap m n a b e f la lb p q ne once =
     let t = meets a b la lb ne in
@@ -212,7 +212,7 @@ number_in n (d ∷ ds) (zero, e) = (d, (0, refl), some-injective d.number n e)
 number_in n (d ∷ ds) (suc k, e) = let t = number_in n ds (k, e) in (t.0, (suc t.1.0, t.1.1), t.2)
 
 -- passes with no place in common have no number in common
-pub apart : (m n : Sitting) (a b : ℕ) (e f : Bool) → IsValidPass m a e → IsValidPass n b f → bit_and a b ≡ 0
+pub apart : (m n : SeatState) (a b : ℕ) (e f : Bool) → IsValidPass m a e → IsValidPass n b f → bit_and a b ≡ 0
     → (history : List Entry) → IsHistory history → Within m.0.draws history → Within n.0.draws history → (k : ℕ)
     → IsIn k (numbers m.0.draws) → IsIn k (numbers n.0.draws) → ⊥
 apart m n a b e f p q no_common history is hm hn k i j =
@@ -242,7 +242,7 @@ read_one (x ∷ xs) zero e = ap some e
 read_one (x ∷ xs) (suc i) e = read_one xs i e
 
 -- a pass with every place that was given has all draws
-pub ends_whole : (pieces : ℕ) (ws : List ℕ) (xs : List (Unit {0})) (id : ℕ) (m : Sitting) (bits : ℕ) (ended : Bool)
+pub ends_whole : (pieces : ℕ) (ws : List ℕ) (xs : List (Unit {0})) (id : ℕ) (m : SeatState) (bits : ℕ) (ended : Bool)
     → IsValidPass m bits ended → Final (Seen (Runs pieces) id m.0) ws xs
     → ((p : ℕ) → p < 64 → get_elem? ws (p + 1) ≡ some 1 → bit_at bits p ≡ 1) → IsWholeHistory m.0.draws
 ends_whole pieces ws xs id m bits ended pass final all =

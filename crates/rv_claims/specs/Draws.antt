@@ -121,15 +121,15 @@ pub record Runs (pieces : ℕ) (s : State (Unit {0}) View) : Type 0 where
 -- ---- what a seat learns from a step
 
 -- the state of a seat: its view, and the slots that it took
-abbrev pub Sitting : Type 0
-Sitting = Me (Unit {0}) View
+abbrev pub SeatState : Type 0
+SeatState = Me (Unit {0}) View
 
 -- the view of a seat
-abbrev pub view_of : Sitting → View
+abbrev pub view_of : SeatState → View
 view_of me = me.0
 
 -- the slots that a seat took, which is always an empty list, since the table of a counter has no slots
-abbrev pub slots_of : Sitting → List (ℕ × Unit {0})
+abbrev pub slots_of : SeatState → List (ℕ × Unit {0})
 slots_of me = me.1
 
 -- the first of a seat's pass indices, which it uses for its draws; 0 if it has none, but then it does not draw
@@ -146,20 +146,20 @@ abbrev pub view_with_index : View → ℕ → View
 view_with_index v place = view v.pieces (place ∷ v.places) v.draws v.noted
 
 -- the step draws a number: afterwards the seat also has the draw of the number `n`, which is greater than all numbers that it had drawn
-pub record IsDraw (st : Step (Unit {0})) (me : Sitting) (n : ℕ) (after : Sitting) : Type 0 where
+pub record IsDraw (st : Step (Unit {0})) (me : SeatState) (n : ℕ) (after : SeatState) : Type 0 where
   pub drawn : view_of after ≡ view_with_draw (view_of me) n
   pub slots : slots_of after ≡ slots_of me
   pub above : (e : Entry) → IsIn e (view_of me).draws → e.number < n
 
 -- the step requests the pass index `st.word` - 1: if its word was 0, the seat gets the index; otherwise another seat has it already
-pub record IsSeatRequest (st : Step (Unit {0})) (me : Sitting) (n : ℕ) (after : Sitting) : Type 0 where
+pub record IsSeatRequest (st : Step (Unit {0})) (me : SeatState) (n : ℕ) (after : SeatState) : Type 0 where
   pub slots : slots_of after ≡ slots_of me
   pub free : n ≡ 0 → view_of after ≡ view_with_index (view_of me) (st.word - 1)
   pub taken : n ≢ 0 → view_of after ≡ view_of me
 
 -- the step reads word 0 and changes nothing: the draws of the seat and the draws that it has noted are in one history, and no pass index
 -- occurs twice in its view
-pub record IsLook (st : Step (Unit {0})) (me : Sitting) (n : ℕ) (after : Sitting) : Type 0 where
+pub record IsLook (st : Step (Unit {0})) (me : SeatState) (n : ℕ) (after : SeatState) : Type 0 where
   pub same : after ≡ me
   pub history : List Entry
   pub numbered : IsHistory history

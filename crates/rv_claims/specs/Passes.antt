@@ -4,7 +4,7 @@ use Rattle.std.specs.Prelude.{replicate, Option, Some, None}
 use Rattle.std.specs.Int.{bit_at}
 use Rattle.atomic_table.specs.Seated.{TableId}
 use Rattle.rv_claims.specs.declared.view.Entry.{Entry}
-use Rattle.rv_claims.specs.Draws.{IsIn, past_last_count, entry, first_pass_index, Sitting, view_of, slots_of}
+use Rattle.rv_claims.specs.Draws.{IsIn, past_last_count, entry, first_pass_index, SeatState, view_of, slots_of}
 use Rattle.rv_claims.specs.Draws.{IsHistory, Within, HaveSameDraws}
 
 -- a shared counter: its identity, and the number of its chunks
@@ -53,7 +53,7 @@ IsWholeHistory draws = (history : List Entry) × IsHistory history × HaveSameDr
 
 -- the invariant of the fields of a pass: a bit is set for each of its pass indices, of which there is at least one, and `ended` is
 -- whether it drew a number past the last chunk
-pub record IsValidPass (me : Sitting) (bits : ℕ) (ended : Bool) : Type 0 where
+pub record IsValidPass (me : SeatState) (bits : ℕ) (ended : Bool) : Type 0 where
   pub no_slot : slots_of me ≡ []
   pub sits : 0 < length (view_of me).places
   pub low : (p : ℕ) → IsIn p (view_of me).places → p < 64
@@ -63,7 +63,7 @@ pub record IsValidPass (me : Sitting) (bits : ℕ) (ended : Bool) : Type 0 where
   pub stopped : ended ≡ nat_lt 0 (past_last_count (view_of me).pieces (view_of me).draws)
 
 -- the pass that a seat of the table `table` represents, as contracts see it
-abbrev pub pass_view : TableId → Sitting → PassView
+abbrev pub pass_view : TableId → SeatState → PassView
 pass_view table me = let v = view_of me in
     pass_of (record { table = table; pieces = v.pieces }) v.places v.draws
 

@@ -10,7 +10,7 @@ ghost use Rattle.rv_claims.specs.Passes.{IsWholeHistory, opening_row, IsNewPass}
 ghost use Rattle.rv_claims.specs.Split.{pass_of_error};
 
 use crate::pass::{Pass, SplitError};
-use crate::rule::{Both, Draw, Fresh, Look, Note, Running, Sit};
+use crate::rule::{JoinedSeat, Draw, NewSeat, Look, Note, CounterRule, Sit};
 use crate::view::View;
 use atomic_table::{Closed, Seat, Table};
 use std::alloc::{AllocError, Global};
@@ -23,7 +23,7 @@ use std::marker::Model;
 #[derive(Drop)]
 pub struct Claims {
     // Word 0 counts the draws; word p + 1 is 1 if pass index p was assigned.
-    table: Table<(), View, u64, Running, Global>,
+    table: Table<(), View, u64, CounterRule, Global>,
     pieces: u64,
 }
 
@@ -88,7 +88,7 @@ impl Claims {
             × (t.1 ≡ pass_of self.now (p ∷ []) []))) }
         ensures full { IfErr result (λ e. pass_of_error e ≡ pass) }
     {
-        let seat = self.table.shared.split_seat::<Fresh>(&mut pass.seat);
+        let seat = self.table.shared.split_seat::<NewSeat>(&mut pass.seat);
         match self.take_seat(seat, pass.bits) {
             Some(new) => Ok((pass, new)),
             None => Err(SplitError::Full(pass)),
@@ -104,7 +104,7 @@ impl Claims {
             ≡ pass_of self.now (first.places ++ second.places) (first.draws ++ second.draws) }
     {
         let Pass { seat, bits, ended } = second;
-        self.table.shared.join_seat::<Both>(&mut first.seat, seat);
+        self.table.shared.join_seat::<JoinedSeat>(&mut first.seat, seat);
         first.bits |= bits;
         first.ended |= ended;
         first
@@ -126,7 +126,7 @@ impl Claims {
             unreachable!()
         }
         let note = self.table.shared.split_seat::<Note>(&mut first.seat);
-        self.table.shared.join_seat::<Both>(&mut second.seat, note);
+        self.table.shared.join_seat::<JoinedSeat>(&mut second.seat, note);
         self.table.shared.load::<Look>(&mut second.seat, 0);
         (first, second)
     }

@@ -6,9 +6,9 @@ use crate::view::View;
 use atomic_table::{Join, Play, Split, TableRule};
 
 /// The invariant: the words and what the seats hold agree on one history of draws, whose j-th number is j.
-pub(crate) struct Running;
+pub(crate) struct CounterRule;
 
-impl TableRule<(), View, u64> for Running {
+impl TableRule<(), View, u64> for CounterRule {
     ghost use Rattle.rv_claims.specs.Draws.{Runs, first_view};
 
     ghost holds = { Runs };
@@ -44,9 +44,9 @@ impl Play<(), View> for Look {
 }
 
 /// A new seat, without an index and without draws.
-pub(crate) struct Fresh;
+pub(crate) struct NewSeat;
 
-impl Split<View> for Fresh {
+impl Split<View> for NewSeat {
     ghost use Rattle.rv_claims.specs.Draws.{new_seat_view};
 
     ghost left = { λ v. v };
@@ -66,9 +66,9 @@ impl Split<View> for Note {
 }
 
 /// One seat with what two seats hold; the other is left empty.
-pub(crate) struct Both;
+pub(crate) struct JoinedSeat;
 
-impl Join<View> for Both {
+impl Join<View> for JoinedSeat {
     ghost use Rattle.rv_claims.specs.Draws.{joined_view, empty_view};
 
     ghost both = { joined_view };

@@ -8,7 +8,7 @@ use Rattle.std.specs.List.{AllByRecursion}
 use Rattle.rv_count_tables.specs.declared.table.AddressCounts.{AddressCounts}
 use Rattle.rv_count_tables.specs.declared.sum.SumError.{SumError}
 use Rattle.rv_count_tables.specs.declared.sum.SumError.TheVariants.{OutOfMemory, Count, Spot, Runs, Names}
-use Rattle.rv_count_tables.specs.Table.{executed_at, taken_at, increase_from, IsCounted, AreValidCounts}
+use Rattle.rv_count_tables.specs.Table.{executed_at, taken_at, increase_from, IsValidCount, AreValidCounts}
 use Rattle.rv_count_tables.specs.Sum.{IsSumOfCounts, CountsHaveNoSum}
 use Rattle.rv_count_tables.specs.SumSteps.{CountsAddUp, IsNextCount}
 use Rattle.rv_count_tables.proofs.Told.{low, behind}
@@ -33,7 +33,7 @@ unfolding increase_from
 none_rises n = refl
 
 -- an address of the first list alone
-pub first_ahead : (c : AddressCounts) (cs b others : List AddressCounts) → IsCounted c
+pub first_ahead : (c : AddressCounts) (cs b others : List AddressCounts) → IsValidCount c
     → ((lowest : ℕ) → increase_from lowest b ≡ true → increase_from (c.address + 1) b ≡ true)
     → CountsAddUp cs b others → CountsAddUp (c ∷ cs) b (c ∷ others)
 first_ahead c cs b others counted above h = record {
@@ -45,7 +45,7 @@ first_ahead c cs b others counted above h = record {
 }
 
 -- an address of the second list alone
-pub second_ahead : (c : AddressCounts) (a cs others : List AddressCounts) → IsCounted c
+pub second_ahead : (c : AddressCounts) (a cs others : List AddressCounts) → IsValidCount c
     → ((lowest : ℕ) → increase_from lowest a ≡ true → increase_from (c.address + 1) a ≡ true)
     → CountsAddUp a cs others → CountsAddUp a (c ∷ cs) (c ∷ others)
 second_ahead c a cs others counted above h = record {
@@ -65,7 +65,7 @@ parts s false x y z p q r e f g = (ap (λ (u : Bool). cond u z 0 + r) e) ∙ (le
     ∙ sym (ap (λ (u : Bool). (cond u x 0 + p) + (0 + q)) e)
 
 -- an address of both lists
-pub both_ahead : (c d sum : AddressCounts) (cs ds others : List AddressCounts) → IsCounted c → IsCounted d
+pub both_ahead : (c d sum : AddressCounts) (cs ds others : List AddressCounts) → IsValidCount c → IsValidCount d
     → c.address ≡ d.address → sum.address ≡ c.address → sum.begun ≡ c.begun + d.begun
     → sum.taken ≡ c.taken + d.taken → sum.begun < 2 ^ 64
     → CountsAddUp cs ds others → CountsAddUp (c ∷ cs) (d ∷ ds) (sum ∷ others)
@@ -94,7 +94,7 @@ both_ahead c d sum cs ds others counted also one at begun taken fits h = record 
 
 -- ---- the first of a sum in each case of `next_count`
 
-pub of_first_alone : (a b : List AddressCounts) (d : AddressCounts) → AllByRecursion IsCounted a → 0 < length a
+pub of_first_alone : (a b : List AddressCounts) (d : AddressCounts) → AllByRecursion IsValidCount a → 0 < length a
     → length b ≡ 0 → IsNextCount a b (record { sum = get_or a 0 d; of_a = 1; of_b = 0 })
 of_first_alone [] b d each some none = absurd (omega arith)
 of_first_alone (x ∷ xs) (y ∷ ys) d each some none = absurd (omega arith)
@@ -105,7 +105,7 @@ of_first_alone (x ∷ xs) [] d each some none = record {
   ahead = λ others h. first_ahead x xs [] others each.0 (λ n p. none_rises (x.address + 1)) h;
 }
 
-pub of_second_alone : (a b : List AddressCounts) (d : AddressCounts) → AllByRecursion IsCounted b → 0 < length b
+pub of_second_alone : (a b : List AddressCounts) (d : AddressCounts) → AllByRecursion IsValidCount b → 0 < length b
     → length a ≡ 0 → IsNextCount a b (record { sum = get_or b 0 d; of_a = 0; of_b = 1 })
 of_second_alone a [] d each some none = absurd (omega arith)
 of_second_alone (x ∷ xs) (y ∷ ys) d each some none = absurd (omega arith)
@@ -116,7 +116,7 @@ of_second_alone [] (y ∷ ys) d each some none = record {
   ahead = λ others h. second_ahead y [] ys others each.0 (λ n p. none_rises (y.address + 1)) h;
 }
 
-pub node_of_first : (a b : List AddressCounts) (d : AddressCounts) → AllByRecursion IsCounted a → 0 < length a
+pub node_of_first : (a b : List AddressCounts) (d : AddressCounts) → AllByRecursion IsValidCount a → 0 < length a
     → 0 < length b → (get_or a 0 d).address < (get_or b 0 d).address
     → IsNextCount a b (record { sum = get_or a 0 d; of_a = 1; of_b = 0 })
 node_of_first [] b d each some other less = absurd (omega arith)
@@ -128,7 +128,7 @@ node_of_first (x ∷ xs) (y ∷ ys) d each some other less = record {
   ahead = λ others h. first_ahead x xs (y ∷ ys) others each.0 (λ n p. raised n (x.address + 1) y ys p (omega arith)) h;
 }
 
-pub node_of_second : (a b : List AddressCounts) (d : AddressCounts) → AllByRecursion IsCounted b → 0 < length a
+pub node_of_second : (a b : List AddressCounts) (d : AddressCounts) → AllByRecursion IsValidCount b → 0 < length a
     → 0 < length b → (get_or b 0 d).address < (get_or a 0 d).address
     → IsNextCount a b (record { sum = get_or b 0 d; of_a = 0; of_b = 1 })
 node_of_second [] b d each some other less = absurd (omega arith)
@@ -140,7 +140,7 @@ node_of_second (x ∷ xs) (y ∷ ys) d each some other less = record {
   ahead = λ others h. second_ahead y (x ∷ xs) ys others each.0 (λ n p. raised n (y.address + 1) x xs p (omega arith)) h;
 }
 
-pub of_both : (a b : List AddressCounts) (d sum : AddressCounts) → AllByRecursion IsCounted a → AllByRecursion IsCounted b
+pub of_both : (a b : List AddressCounts) (d sum : AddressCounts) → AllByRecursion IsValidCount a → AllByRecursion IsValidCount b
     → 0 < length a → 0 < length b → (get_or a 0 d).address ≡ (get_or b 0 d).address
     → sum.address ≡ (get_or a 0 d).address → sum.begun ≡ (get_or a 0 d).begun + (get_or b 0 d).begun
     → sum.taken ≡ (get_or a 0 d).taken + (get_or b 0 d).taken → sum.begun < 2 ^ 64
@@ -156,7 +156,7 @@ of_both (x ∷ xs) (y ∷ ys) d sum each also some other same address begun take
 
 -- ---- the loop: what both lists have ahead
 
-pub all_behind : (n : ℕ) (cs : List AddressCounts) → AllByRecursion IsCounted cs → AllByRecursion IsCounted (drop n cs)
+pub all_behind : (n : ℕ) (cs : List AddressCounts) → AllByRecursion IsValidCount cs → AllByRecursion IsValidCount (drop n cs)
 all_behind zero cs h = h
 all_behind (suc n) [] h = h
 all_behind (suc n) (c ∷ cs) h = all_behind n cs h.1

@@ -13,13 +13,13 @@ use Rattle.rv_count_tables.specs.declared.sum.SumError.TheVariants.{OutOfMemory,
 use Rattle.rv_count_tables.specs.declared.sum_of_images.NextImage.{NextImage}
 use Rattle.rv_count_tables.specs.Lines.{lacks}
 use Rattle.rv_count_tables.specs.Table.{executed_at, taken_at, name_at, executed_in, taken_in, next_path, truncated_name, arrivals_in, steps_in, min_text, min_text_of}
-use Rattle.rv_count_tables.specs.Table.{is_before, is_greater_than_last, digests_increase_from, AreNamesOf, AreValidNodes, IsValidImage, IsValidNode, IsTable}
-use Rattle.rv_count_tables.specs.Sum.{sum_error_of, Agree, HasName, HasNameIn, IsSumOfTables, IsSumOfCounts, IsSumOfNames, CountsHaveNoSum, NamesHaveNoSum}
+use Rattle.rv_count_tables.specs.Table.{is_before, is_greater_than_last, digests_increase_from, AreNamesOf, AreValidNodes, IsValidImage, IsValidNode, IsValidTable}
+use Rattle.rv_count_tables.specs.Sum.{sum_error_of, NamesAgree, HasName, HasNameIn, IsSumOfTables, IsSumOfCounts, IsSumOfNames, CountsHaveNoSum, NamesHaveNoSum}
 use Rattle.rv_count_tables.specs.SumSteps.{ImagesAddUp, IsNextImage, ImagesHaveNoSum, ImageHasNoSum}
 use Rattle.rv_call_tree.specs.declared.sum.CallTreeSumError.{CallTreeSumError}
 use Rattle.rv_call_tree.specs.declared.sum.CallTreeSumError.TheVariants as spots
 use Rattle.rv_call_tree.specs.declared.spot.CallNode.{CallNode as ACallNode}
-use Rattle.rv_call_tree.specs.Sums.{FitsFields, IsSumOfCallTrees, Overflows}
+use Rattle.rv_call_tree.specs.Sums.{FitsFields, IsSumOfCallTrees, IsOverflowOfTrees}
 use Rattle.rv_call_tree.specs.Trees.{calls_at, steps_at, HasCalls}
 use Rattle.rv_count_tables.proofs.Adding.{parts}
 use Rattle.rv_count_tables.proofs.Paths.{any_first, before_both, by_two, none_before_itself, none_behind, same_place, second_first}
@@ -79,7 +79,7 @@ none_named (i ∷ is) last digest f h up =
 
 -- ---- names in which both lists agree
 
-pub agree_with_none : (o : Option (List ℕ)) → Agree o None
+pub agree_with_none : (o : Option (List ℕ)) → NamesAgree o None
 agree_with_none None = tt
 agree_with_none (Some name) = tt
 
@@ -101,30 +101,30 @@ its_names x xs d f h t =
     ∙ ap (min_text_of (name_at f x.functions)) (none_further x xs d f h t) ∙ none_behind (name_at f x.functions)
 
 first_agrees : (x : ImageCounts) (xs b : List ImageCounts) (d : List ℕ) (f : ℕ) → digests_increase_from (Some x.digest) b ≡ true
-    → Agree (truncated_name d f xs) (truncated_name d f b) → Agree (truncated_name d f (x ∷ xs)) (truncated_name d f b)
+    → NamesAgree (truncated_name d f xs) (truncated_name d f b) → NamesAgree (truncated_name d f (x ∷ xs)) (truncated_name d f b)
 first_agrees x xs b d f h k = elim (cases_Bool (bytes_eq x.digest d)) [
-  | inl t ↦ subst (Agree (truncated_name d f (x ∷ xs))) (sym (none_further x b d f h t)) (agree_with_none (truncated_name d f (x ∷ xs)))
-  | inr t ↦ subst (λ (o : Option (List ℕ)). Agree o (truncated_name d f b)) (sym (passed_image x xs d f t)) k
+  | inl t ↦ subst (NamesAgree (truncated_name d f (x ∷ xs))) (sym (none_further x b d f h t)) (agree_with_none (truncated_name d f (x ∷ xs)))
+  | inr t ↦ subst (λ (o : Option (List ℕ)). NamesAgree o (truncated_name d f b)) (sym (passed_image x xs d f t)) k
 ]
 
 second_agrees : (y : ImageCounts) (a ys : List ImageCounts) (d : List ℕ) (f : ℕ) → digests_increase_from (Some y.digest) a ≡ true
-    → Agree (truncated_name d f a) (truncated_name d f ys) → Agree (truncated_name d f a) (truncated_name d f (y ∷ ys))
+    → NamesAgree (truncated_name d f a) (truncated_name d f ys) → NamesAgree (truncated_name d f a) (truncated_name d f (y ∷ ys))
 second_agrees y a ys d f h k = elim (cases_Bool (bytes_eq y.digest d)) [
-  | inl t ↦ subst (λ (o : Option (List ℕ)). Agree o (truncated_name d f (y ∷ ys))) (sym (none_further y a d f h t)) tt
-  | inr t ↦ subst (Agree (truncated_name d f a)) (sym (passed_image y ys d f t)) k
+  | inl t ↦ subst (λ (o : Option (List ℕ)). NamesAgree o (truncated_name d f (y ∷ ys))) (sym (none_further y a d f h t)) tt
+  | inr t ↦ subst (NamesAgree (truncated_name d f a)) (sym (passed_image y ys d f t)) k
 ]
 
 both_agree : (x y : ImageCounts) (xs ys : List ImageCounts) (d : List ℕ) (f : ℕ) → x.digest ≡ y.digest
-    → Agree (name_at f x.functions) (name_at f y.functions) → digests_increase_from (Some x.digest) xs ≡ true
-    → digests_increase_from (Some y.digest) ys ≡ true → Agree (truncated_name d f xs) (truncated_name d f ys)
-    → Agree (truncated_name d f (x ∷ xs)) (truncated_name d f (y ∷ ys))
+    → NamesAgree (name_at f x.functions) (name_at f y.functions) → digests_increase_from (Some x.digest) xs ≡ true
+    → digests_increase_from (Some y.digest) ys ≡ true → NamesAgree (truncated_name d f xs) (truncated_name d f ys)
+    → NamesAgree (truncated_name d f (x ∷ xs)) (truncated_name d f (y ∷ ys))
 both_agree x y xs ys d f one names h k others = elim (cases_Bool (bytes_eq x.digest d)) [
   | inl t ↦
-      subst (λ (o : Option (List ℕ)). Agree o (truncated_name d f (y ∷ ys))) (sym (its_names x xs d f h t))
-      (subst (Agree (name_at f x.functions)) (sym (its_names y ys d f k (ap (λ (s : List ℕ). bytes_eq s d) (sym one) ∙ t))) names)
+      subst (λ (o : Option (List ℕ)). NamesAgree o (truncated_name d f (y ∷ ys))) (sym (its_names x xs d f h t))
+      (subst (NamesAgree (name_at f x.functions)) (sym (its_names y ys d f k (ap (λ (s : List ℕ). bytes_eq s d) (sym one) ∙ t))) names)
   | inr t ↦
-      subst (λ (o : Option (List ℕ)). Agree o (truncated_name d f (y ∷ ys))) (sym (passed_image x xs d f t))
-      (subst (Agree (truncated_name d f xs)) (sym (passed_image y ys d f (ap (λ (s : List ℕ). bytes_eq s d) (sym one) ∙ t))) others)
+      subst (λ (o : Option (List ℕ)). NamesAgree o (truncated_name d f (y ∷ ys))) (sym (passed_image x xs d f t))
+      (subst (NamesAgree (truncated_name d f xs)) (sym (passed_image y ys d f (ap (λ (s : List ℕ). bytes_eq s d) (sym one) ∙ t))) others)
 ]
 
 -- ---- an image ahead of the others
@@ -401,7 +401,7 @@ no_sum_of_named error a b ns ms p q h = no_sum_of_names error a b
     (subst (λ (xs : List FunctionName). NamesHaveNoSum error a.functions xs) q
     (subst (λ (xs : List FunctionName). NamesHaveNoSum error xs ms) p h))
 
-pub no_sum_of_spots : (why : CallTreeSumError) (a b : ImageCounts) → Overflows why a.spots b.spots
+pub no_sum_of_spots : (why : CallTreeSumError) (a b : ImageCounts) → IsOverflowOfTrees why a.spots b.spots
     → ImageHasNoSum (sum_error_of why) a b
 no_sum_of_spots spots.OutOfMemory a b h = tt
 no_sum_of_spots (spots.Count f) a b h = h
@@ -516,7 +516,7 @@ images_summed a b sums n m p q ahead =
     subst (λ (s : List ImageCounts). ImagesAddUp a b s) (append-nil sums) (ahead [] none)
 
 -- tables add up as their images do
-pub tables_add_up : (a b sum : CountTable) → IsTable a → IsTable b → ImagesAddUp a.images b.images sum.images
+pub tables_add_up : (a b sum : CountTable) → IsValidTable a → IsValidTable b → ImagesAddUp a.images b.images sum.images
     → length sum.images < 2 ^ 64 → sum.runs < 2 ^ 64 → sum.runs ≡ a.runs + b.runs → IsSumOfTables a b sum
 tables_add_up a b sum first second up few fits runs = record {
   table = record { images = up.each; rising = up.rising None first.rising second.rising; few = few; runs = fits };

@@ -8,7 +8,7 @@ use Rattle.std.specs.List.{AllByRecursion}
 use Rattle.rv_count_tables.specs.declared.table.FunctionName.{FunctionName}
 use Rattle.rv_count_tables.specs.declared.sum_of_names.NextName.{NextName}
 use Rattle.rv_count_tables.specs.Table.{name_at, functions_increase_from, min_text_of, AreValidNames, IsValidName}
-use Rattle.rv_count_tables.specs.Sum.{Agree, HasName, IsSumOfNames, NamesHaveNoSum}
+use Rattle.rv_count_tables.specs.Sum.{NamesAgree, HasName, IsSumOfNames, NamesHaveNoSum}
 use Rattle.rv_count_tables.specs.declared.sum.SumError.{SumError}
 use Rattle.rv_count_tables.specs.declared.sum.SumError.TheVariants.{OutOfMemory, Count, Spot, Names, Runs}
 use Rattle.rv_count_tables.specs.SumSteps.{NamesAddUp, IsNextName}
@@ -62,33 +62,33 @@ its_name x xs f h t =
     ∙ ap (min_text_of (Some x.name)) (none_below xs (x.function + 1) f h (omega (arith, e)))
 
 first_agrees : (x : FunctionName) (xs b : List FunctionName) (f : ℕ) → functions_increase_from (x.function + 1) b ≡ true
-    → Agree (name_at f xs) (name_at f b) → Agree (name_at f (x ∷ xs)) (name_at f b)
+    → NamesAgree (name_at f xs) (name_at f b) → NamesAgree (name_at f (x ∷ xs)) (name_at f b)
 first_agrees x xs b f h k = elim (cases_Bool (x.function == f)) [
   | inl t ↦
       let e = eqb-true x.function f t in
-      subst (Agree (name_at f (x ∷ xs))) (sym (none_below b (x.function + 1) f h (omega (arith, e)))) (agree_with_none (name_at f (x ∷ xs)))
-  | inr t ↦ subst (λ (o : Option (List ℕ)). Agree o (name_at f b)) (sym (passed_name x xs f t)) k
+      subst (NamesAgree (name_at f (x ∷ xs))) (sym (none_below b (x.function + 1) f h (omega (arith, e)))) (agree_with_none (name_at f (x ∷ xs)))
+  | inr t ↦ subst (λ (o : Option (List ℕ)). NamesAgree o (name_at f b)) (sym (passed_name x xs f t)) k
 ]
 
 second_agrees : (y : FunctionName) (a ys : List FunctionName) (f : ℕ) → functions_increase_from (y.function + 1) a ≡ true
-    → Agree (name_at f a) (name_at f ys) → Agree (name_at f a) (name_at f (y ∷ ys))
+    → NamesAgree (name_at f a) (name_at f ys) → NamesAgree (name_at f a) (name_at f (y ∷ ys))
 second_agrees y a ys f h k = elim (cases_Bool (y.function == f)) [
   | inl t ↦
       let e = eqb-true y.function f t in
-      subst (λ (o : Option (List ℕ)). Agree o (name_at f (y ∷ ys))) (sym (none_below a (y.function + 1) f h (omega (arith, e)))) tt
-  | inr t ↦ subst (Agree (name_at f a)) (sym (passed_name y ys f t)) k
+      subst (λ (o : Option (List ℕ)). NamesAgree o (name_at f (y ∷ ys))) (sym (none_below a (y.function + 1) f h (omega (arith, e)))) tt
+  | inr t ↦ subst (NamesAgree (name_at f a)) (sym (passed_name y ys f t)) k
 ]
 
 both_agree : (x y : FunctionName) (xs ys : List FunctionName) (f : ℕ) → x.function ≡ y.function → x.name ≡ y.name
-    → functions_increase_from (x.function + 1) xs ≡ true → functions_increase_from (y.function + 1) ys ≡ true → Agree (name_at f xs) (name_at f ys)
-    → Agree (name_at f (x ∷ xs)) (name_at f (y ∷ ys))
+    → functions_increase_from (x.function + 1) xs ≡ true → functions_increase_from (y.function + 1) ys ≡ true → NamesAgree (name_at f xs) (name_at f ys)
+    → NamesAgree (name_at f (x ∷ xs)) (name_at f (y ∷ ys))
 both_agree x y xs ys f one name h k others = elim (cases_Bool (x.function == f)) [
   | inl t ↦
-      subst (λ (o : Option (List ℕ)). Agree o (name_at f (y ∷ ys))) (sym (its_name x xs f h t))
-      (subst (Agree (Some x.name)) (sym (its_name y ys f k (ap (λ (n : ℕ). n == f) (sym one) ∙ t))) name)
+      subst (λ (o : Option (List ℕ)). NamesAgree o (name_at f (y ∷ ys))) (sym (its_name x xs f h t))
+      (subst (NamesAgree (Some x.name)) (sym (its_name y ys f k (ap (λ (n : ℕ). n == f) (sym one) ∙ t))) name)
   | inr t ↦
-      subst (λ (o : Option (List ℕ)). Agree o (name_at f (y ∷ ys))) (sym (passed_name x xs f t))
-      (subst (Agree (name_at f xs)) (sym (passed_name y ys f (ap (λ (n : ℕ). n == f) (sym one) ∙ t))) others)
+      subst (λ (o : Option (List ℕ)). NamesAgree o (name_at f (y ∷ ys))) (sym (passed_name x xs f t))
+      (subst (NamesAgree (name_at f xs)) (sym (passed_name y ys f (ap (λ (n : ℕ). n == f) (sym one) ∙ t))) others)
 ]
 
 -- ---- a name ahead of the others

@@ -4,7 +4,7 @@ use Rattle.std.specs.List.{AllByRecursion, flat_map}
 use Rattle.rv_count_tables.specs.declared.table.ImageCounts.{ImageCounts}
 use Rattle.rv_count_tables.specs.declared.table.CountTable.{CountTable}
 use Rattle.rv_count_tables.specs.Lines.{lacks}
-use Rattle.rv_count_tables.specs.Table.{is_greater_than_last, digests_increase_from, IsValidImage, IsTable}
+use Rattle.rv_count_tables.specs.Table.{is_greater_than_last, digests_increase_from, IsValidImage, IsValidTable}
 use Rattle.rv_count_tables.specs.Text.{line, image_line, image_text, last_line}
 use Rattle.rv_count_tables.specs.ReadSteps.{Entry, IsValidEntry, entry_line, entries_of, NextLines, after_image_line, before_first_image, after_entry, after_entries, place_in, last_digest, CanComeNext, IsNotAnEntry, IsNotAnImage}
 use Rattle.rv_count_tables.proofs.Pieces.{same_cut}
@@ -151,7 +151,7 @@ behind_images (i ∷ is) n last place s h r =
     (sym (one_behind n (length is))) others
 
 -- the whole text of a table, behind its first line
-pub rest_of_table : (t : CountTable) → IsTable t
+pub rest_of_table : (t : CountTable) → IsValidTable t
     → IsRest 0 None before_first_image (flat_map image_text t.images ++ last_line (length t.images) t.runs)
 rest_of_table t h =
     let e : 0 + length t.images ≡ length t.images = omega arith in

@@ -7,7 +7,7 @@ use Rattle.rv_count_tables.specs.declared.table.AddressCounts.{AddressCounts}
 use Rattle.rv_count_tables.specs.declared.table.FunctionName.{FunctionName}
 use Rattle.rv_count_tables.specs.declared.table.ImageCounts.{ImageCounts}
 use Rattle.rv_count_tables.specs.declared.table.NamedCallNode.{NamedCallNode}
-use Rattle.rv_count_tables.specs.Table.{has_name, name_of, increase_from, AreNamesOf, IsCounted, IsValidImage, IsValidName, IsValidNode}
+use Rattle.rv_count_tables.specs.Table.{has_name, name_of, increase_from, AreNamesOf, IsValidCount, IsValidImage, IsValidName, IsValidNode}
 use Rattle.rv_count_tables.specs.Text.{address_line, image_line, image_text, line_of_node, named}
 use Rattle.rv_count_tables.specs.ReadSteps.{Entry, Address, Node, IsValidEntry, entry_line, entry_of_node, entries_of, NextLines, after_image_line, before_first_image, after_entry, after_entries, can_be_next_address, AgreesWithName, CanComeNext, IsNotAnEntry, IsNotAnAddress, IsNotANode, function_name, lowest_after, with_name, with_names}
 use Rattle.rv_count_tables.proofs.NamesOfSpots.{agree_more, first_is_last, further, named_fits, one_list_of_first_names, AgreeWithAll}
@@ -125,7 +125,7 @@ fit_spots ns (s ∷ ss) h k have = (
   fit_spots ns ss h k.1 (λ f some. have f (further f s ss some)),
 )
 
-fit_all : (cs : List AddressCounts) (ns : List FunctionName) (ss : List CallNode) → AllByRecursion IsCounted cs
+fit_all : (cs : List AddressCounts) (ns : List FunctionName) (ss : List CallNode) → AllByRecursion IsValidCount cs
     → AllByRecursion IsValidEntry (map (entry_of_node ns) ss) → AllByRecursion IsValidEntry (all_entries cs ns ss)
 fit_all [] ns ss h k = k
 fit_all (c ∷ cs) ns ss h k = (h.0, fit_all cs ns ss h.1 k)
@@ -174,7 +174,7 @@ nothing_nowhere line (Address c) h may e = false≢true may
 nothing_nowhere line (Node n) h may e = may.0
 
 no_address_here : (cs : List AddressCounts) (first second : List ℕ) → IsNotAnAddress (lowest_after 0 cs) first → (ss : List CallNode)
-    → (ss ≡ [] → first ≡ second) → (c : AddressCounts) → IsCounted c
+    → (ss ≡ [] → first ≡ second) → (c : AddressCounts) → IsValidCount c
     → can_be_next_address (if_none ss (Some (lowest_after 0 cs))) c.address ≡ true → second ≡ address_line c → ⊥
 no_address_here cs first second no_address [] one c h may e = no_address c h may (one refl ∙ e)
 no_address_here cs first second no_address (s ∷ ss) one c h may e = false≢true may

@@ -1,28 +1,28 @@
 -- Steps of the loops over a line.
 use Rattle.std.proofs.Common.{◌≡◌, ◌∙◌, ◌==◌, ◌+◌, ◌-◌, ◌<◌, ◌≤◌, ◌^◌, ℕ, Bool, true, false, cond, List, length, drop, get_or, ap, arith}
 use Rattle.std.proofs.lemmas.List.{at_drop_more, at_drop_all}
-use Rattle.rv_count_tables.specs.Lines.{place_of_byte, hex_digit_value}
+use Rattle.rv_count_tables.specs.Lines.{index_of_byte, hex_digit_value}
 use Rattle.rv_count_tables.proofs.Words.{with_digit, decimal_number_from, hex_number}
 
 place_step : (byte : ℕ) (xs : List ℕ) (i : ℕ) → i < length xs
-    → place_of_byte byte (drop i xs) ≡ cond (get_or xs i 0 == byte) 0 (place_of_byte byte (drop (i + 1) xs) + 1)
-unfolding place_of_byte
-place_step byte xs i h = at_drop_more (place_of_byte byte) xs i 0 h
+    → index_of_byte byte (drop i xs) ≡ cond (get_or xs i 0 == byte) 0 (index_of_byte byte (drop (i + 1) xs) + 1)
+unfolding index_of_byte
+place_step byte xs i h = at_drop_more (index_of_byte byte) xs i 0 h
 
-pub place_end : (byte : ℕ) (xs : List ℕ) (i : ℕ) → length xs ≤ i → place_of_byte byte (drop i xs) ≡ 0
-unfolding place_of_byte
-place_end byte xs i h = at_drop_all (place_of_byte byte) xs i h
+pub place_end : (byte : ℕ) (xs : List ℕ) (i : ℕ) → length xs ≤ i → index_of_byte byte (drop i xs) ≡ 0
+unfolding index_of_byte
+place_end byte xs i h = at_drop_all (index_of_byte byte) xs i h
 
-pub place_here : (byte : ℕ) (xs : List ℕ) (i : ℕ) → i < length xs → get_or xs i 0 ≡ byte → place_of_byte byte (drop i xs) ≡ 0
+pub place_here : (byte : ℕ) (xs : List ℕ) (i : ℕ) → i < length xs → get_or xs i 0 ≡ byte → index_of_byte byte (drop i xs) ≡ 0
 place_here byte xs i h is =
     let e : (get_or xs i 0 == byte) ≡ true = grind arith in
-    place_step byte xs i h ∙ ap (λ (t : Bool). cond t 0 (place_of_byte byte (drop (i + 1) xs) + 1)) e
+    place_step byte xs i h ∙ ap (λ (t : Bool). cond t 0 (index_of_byte byte (drop (i + 1) xs) + 1)) e
 
 pub place_later : (byte : ℕ) (xs : List ℕ) (i : ℕ) → i < length xs → (get_or xs i 0 ≡ byte → ⊥)
-    → place_of_byte byte (drop i xs) ≡ place_of_byte byte (drop (i + 1) xs) + 1
+    → index_of_byte byte (drop i xs) ≡ index_of_byte byte (drop (i + 1) xs) + 1
 place_later byte xs i h other =
     let e : (get_or xs i 0 == byte) ≡ false = grind arith in
-    place_step byte xs i h ∙ ap (λ (t : Bool). cond t 0 (place_of_byte byte (drop (i + 1) xs) + 1)) e
+    place_step byte xs i h ∙ ap (λ (t : Bool). cond t 0 (index_of_byte byte (drop (i + 1) xs) + 1)) e
 
 pub number_step : (value : ℕ) (xs : List ℕ) (i : ℕ) → i < length xs
     → decimal_number_from value (drop i xs)

@@ -12,7 +12,7 @@ use Rattle.rv_count_tables.specs.declared.table.ImageCounts.{ImageCounts}
 use Rattle.rv_count_tables.specs.declared.table.NamedCallNode.{NamedCallNode}
 use Rattle.rv_count_tables.specs.Lines.{lacks, text_before_byte, text_after_byte, hex_bytes}
 use Rattle.rv_count_tables.specs.ReadSteps.{Entry, Address, Node, IsValidEntry, entry_line}
-use Rattle.rv_count_tables.specs.Table.{IsCounted, IsValidImage, IsValidNamedNode, IsValidNode}
+use Rattle.rv_count_tables.specs.Table.{IsValidCount, IsValidImage, IsValidNamedNode, IsValidNode}
 use Rattle.rv_count_tables.specs.Text.{line, address_line, image_line, last_line, node_line, fields_of_node}
 use Rattle.rv_call_tree.specs.declared.spot.CallNode.{CallNode}
 use Rattle.rv_count_tables.proofs.Pieces.{lacks-append, before_at, after_at}
@@ -31,7 +31,7 @@ pub address_is_line : (c : AddressCounts) → address_line c ≡ line (address_w
 unfolding address_line
 address_is_line c = refl
 
-pub lacks-address : (c : AddressCounts) → IsCounted c → lacks 10 (address_words c) ≡ true
+pub lacks-address : (c : AddressCounts) → IsValidCount c → lacks 10 (address_words c) ≡ true
 lacks-address c h =
     let taken = h.taken in
     let fits = h.fits in
@@ -60,11 +60,11 @@ address_numbers c =
     ap (drop 9) (address_parts c)
     ∙ drop_at (word_digits c.address ++ codes " ") (numbers_of c) 9 (m ∙ ap (λ (k : ℕ). k + 1) n)
 
-pub begun_digits : (c : AddressCounts) → IsCounted c → text_before_byte 32 (drop 9 (address_line c)) ≡ decimal c.begun
+pub begun_digits : (c : AddressCounts) → IsValidCount c → text_before_byte 32 (drop 9 (address_line c)) ≡ decimal c.begun
 begun_digits c h = ap (text_before_byte 32) (address_numbers c)
     ∙ before_at 32 (decimal c.begun) (decimal c.taken ++ 10 ∷ []) (lacks-decimal 32 c.begun (omega arith) h.fits)
 
-pub taken_digits : (c : AddressCounts) → IsCounted c
+pub taken_digits : (c : AddressCounts) → IsValidCount c
     → text_before_byte 10 (text_after_byte 32 (drop 9 (address_line c))) ≡ decimal c.taken
 taken_digits c h =
     let taken = h.taken in
@@ -82,7 +82,7 @@ counts_in text = record {
   taken = decimal_number_from 0 (text_before_byte 10 (text_after_byte 32 (drop 9 text)));
 }
 
-counts_in_line : (c : AddressCounts) → IsCounted c → counts_in (address_line c) ≡ c
+counts_in_line : (c : AddressCounts) → IsValidCount c → counts_in (address_line c) ≡ c
 unfolding counts_in
 counts_in_line c h =
     let taken = h.taken in
@@ -91,7 +91,7 @@ counts_in_line c h =
     (ap (decimal_number_from 0) (begun_digits c h) ∙ number_of-decimal c.begun h.fits)
     (ap (decimal_number_from 0) (taken_digits c h) ∙ number_of-decimal c.taken (omega (arith, taken, fits)))
 
-pub same_address : (c d : AddressCounts) → IsCounted c → IsCounted d → address_line c ≡ address_line d → c ≡ d
+pub same_address : (c d : AddressCounts) → IsValidCount c → IsValidCount d → address_line c ≡ address_line d → c ≡ d
 same_address c d h k e = sym (counts_in_line c h) ∙ ap counts_in e ∙ counts_in_line d k
 
 -- ---- the line of an image

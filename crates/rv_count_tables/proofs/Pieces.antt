@@ -3,7 +3,7 @@ use Rattle.std.proofs.Common.{◌≡◌, ◌∙◌, ◌==◌, ◌+◌, ℕ, suc,
 use Rattle.std.proofs.Common.{length, take, drop, refl, sym, ap, arith, add-one, append_assoc, length-append, ◌⊎◌, inl, inr}
 use Rattle.std.proofs.lemmas.Bool.{and_parts, and_from, not-true, cases_Bool, eqb-true}
 use Rattle.std.proofs.lemmas.List.{take_at}
-use Rattle.rv_count_tables.specs.Lines.{lacks, place_of_byte, text_before_byte, text_after_byte, whole_line}
+use Rattle.rv_count_tables.specs.Lines.{lacks, index_of_byte, text_before_byte, text_after_byte, whole_line}
 
 pub lacks-append : (byte : ℕ) (xs ys : List ℕ) → lacks byte xs ≡ true → lacks byte ys ≡ true
     → lacks byte (xs ++ ys) ≡ true
@@ -15,17 +15,17 @@ lacks-append byte (b ∷ bs) ys h k =
 same_byte : (b : ℕ) → (b == b) ≡ true
 same_byte b = grind arith
 
-pub place_of_at : (byte : ℕ) (xs rest : List ℕ) → lacks byte xs ≡ true → place_of_byte byte (xs ++ byte ∷ rest) ≡ length xs
-unfolding place_of_byte
-place_of_at byte [] rest h = ap (λ (t : Bool). cond t 0 (place_of_byte byte rest + 1)) (same_byte byte)
+pub place_of_at : (byte : ℕ) (xs rest : List ℕ) → lacks byte xs ≡ true → index_of_byte byte (xs ++ byte ∷ rest) ≡ length xs
+unfolding index_of_byte
+place_of_at byte [] rest h = ap (λ (t : Bool). cond t 0 (index_of_byte byte rest + 1)) (same_byte byte)
 place_of_at byte (b ∷ bs) rest h =
     let parts = and_parts (not (b == byte)) (lacks byte bs) h in
     let other : (b == byte) ≡ false = not-true (b == byte) parts.0 in
-    ap (λ (t : Bool). cond t 0 (place_of_byte byte (bs ++ byte ∷ rest) + 1)) other
+    ap (λ (t : Bool). cond t 0 (index_of_byte byte (bs ++ byte ∷ rest) + 1)) other
     ∙ ap (λ (n : ℕ). n + 1) (place_of_at byte bs rest parts.1) ∙ add-one (length bs)
 
 pub before_at : (byte : ℕ) (xs rest : List ℕ) → lacks byte xs ≡ true → text_before_byte byte (xs ++ byte ∷ rest) ≡ xs
-before_at byte xs rest h = take_at xs (byte ∷ rest) (place_of_byte byte (xs ++ byte ∷ rest))
+before_at byte xs rest h = take_at xs (byte ∷ rest) (index_of_byte byte (xs ++ byte ∷ rest))
     (sym (place_of_at byte xs rest h))
 
 past_one : (xs rest : List ℕ) (byte : ℕ) → drop (suc (length xs)) (xs ++ byte ∷ rest) ≡ rest
@@ -56,9 +56,9 @@ unfolding whole_line
 line_at xs rest h =
     let at = place_of_at 10 xs rest h in
     let long : length (xs ++ 10 ∷ rest) ≡ length xs + suc (length rest) = length-append xs (10 ∷ rest) in
-    let t : (place_of_byte 10 (xs ++ 10 ∷ rest) == length (xs ++ 10 ∷ rest)) ≡ false =
+    let t : (index_of_byte 10 (xs ++ 10 ∷ rest) == length (xs ++ 10 ∷ rest)) ≡ false =
     (λ i. at i == long i) ∙ not_length (length xs) (length rest) in
-    ap (λ (b : Bool). cond b [] (take (place_of_byte 10 (xs ++ 10 ∷ rest) + 1) (xs ++ 10 ∷ rest))) t
+    ap (λ (b : Bool). cond b [] (take (index_of_byte 10 (xs ++ 10 ∷ rest) + 1) (xs ++ 10 ∷ rest))) t
     ∙ ap (λ (n : ℕ). take (n + 1) (xs ++ 10 ∷ rest)) at
     ∙ ap (λ (s : List ℕ). take (length xs + 1) s) (sym (append_assoc xs (10 ∷ []) rest))
     ∙ take_at (xs ++ 10 ∷ []) rest (length xs + 1) (length-append xs (10 ∷ []))
@@ -66,13 +66,13 @@ line_at xs rest h =
 same_number : (n : ℕ) → (n == n) ≡ true
 same_number n = grind arith
 
-lacking_place : (byte : ℕ) (xs : List ℕ) → lacks byte xs ≡ true → place_of_byte byte xs ≡ length xs
-unfolding place_of_byte
+lacking_place : (byte : ℕ) (xs : List ℕ) → lacks byte xs ≡ true → index_of_byte byte xs ≡ length xs
+unfolding index_of_byte
 lacking_place byte [] h = refl
 lacking_place byte (b ∷ bs) h =
     let parts = and_parts (not (b == byte)) (lacks byte bs) h in
     let other : (b == byte) ≡ false = not-true (b == byte) parts.0 in
-    ap (λ (t : Bool). cond t 0 (place_of_byte byte bs + 1)) other
+    ap (λ (t : Bool). cond t 0 (index_of_byte byte bs + 1)) other
     ∙ ap (λ (n : ℕ). n + 1) (lacking_place byte bs parts.1) ∙ add-one (length bs)
 
 -- a text is without a line feed, or it is a line and what stands behind it
@@ -100,6 +100,6 @@ cases_line (b ∷ bs) = elim (cases_Bool (b == 10)) [
 pub no_line : (text : List ℕ) → lacks 10 text ≡ true → whole_line text ≡ []
 unfolding whole_line
 no_line text h =
-    let t : (place_of_byte 10 text == length text) ≡ true =
+    let t : (index_of_byte 10 text == length text) ≡ true =
     ap (λ (n : ℕ). n == length text) (lacking_place 10 text h) ∙ same_number (length text) in
-    ap (λ (b : Bool). cond b [] (take (place_of_byte 10 text + 1) text)) t
+    ap (λ (b : Bool). cond b [] (take (index_of_byte 10 text + 1) text)) t

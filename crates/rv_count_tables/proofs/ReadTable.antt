@@ -11,7 +11,7 @@ use Rattle.rv_count_tables.specs.declared.read_lines.ParsedImages.{ParsedImages}
 use Rattle.rv_count_tables.specs.declared.read.ReadError.{ReadError}
 use Rattle.rv_count_tables.specs.declared.read.ReadError.TheVariants.{Line, Truncated}
 use Rattle.rv_count_tables.specs.Lines.{lacks, line_feed_count, whole_line}
-use Rattle.rv_count_tables.specs.Table.{IsTable}
+use Rattle.rv_count_tables.specs.Table.{IsValidTable}
 use Rattle.rv_count_tables.specs.Text.{line, first_line, image_text, last_line, table_text}
 use Rattle.rv_count_tables.specs.ReadSteps.{before_first_image, place_in, last_digest, IsNotAnEntry, IsNotAnImage, AreParsedImages}
 use Rattle.rv_count_tables.specs.Read.{IsFirstError, IsFirstInvalidLine, read_error_at}
@@ -135,7 +135,7 @@ least_behind bytes images place h no_last = elim (cases_line (drop place bytes))
 
 pub no_table_behind : (bytes : List ℕ) (images : List ImageCounts) (place : ℕ) → IsBehind bytes images place
     → ((r : ℕ) → r < 2 ^ 64 → whole_line (drop place bytes) ≡ last_line (length images) r → ⊥)
-    → (t : CountTable) → IsTable t → table_text t ≡ bytes → ⊥
+    → (t : CountTable) → IsValidTable t → table_text t ≡ bytes → ⊥
 no_table_behind bytes images place h no_last t is e = elim (cases_line (drop place bytes)) [
   | inl cut ↦ no_table_cut images (drop place bytes) bytes h.are cut h.all t is e
   | inr l ↦ no_table_refused (line_feed_count (take place bytes) + 1) bytes
@@ -156,7 +156,7 @@ least_first bytes other = elim (cases_line bytes) [
       (first_told bytes l.front l.rest other l.plain l.all)
 ]
 
-pub no_table_first : (bytes : List ℕ) → (whole_line bytes ≡ first_line → ⊥) → (t : CountTable) → IsTable t
+pub no_table_first : (bytes : List ℕ) → (whole_line bytes ≡ first_line → ⊥) → (t : CountTable) → IsValidTable t
     → table_text t ≡ bytes → ⊥
 no_table_first bytes other t is e = elim (cases_line bytes) [
   | inl cut ↦ no_table_cut_first bytes cut t e

@@ -5,7 +5,7 @@ use Rattle.std.specs.List.{AllByRecursion, flat_map}
 use Rattle.rv_count_tables.specs.declared.table.ImageCounts.{ImageCounts}
 use Rattle.rv_count_tables.specs.declared.table.CountTable.{CountTable}
 use Rattle.rv_count_tables.specs.Lines.{lacks, line_feed_count, first_lines}
-use Rattle.rv_count_tables.specs.Table.{IsValidImage, IsTable}
+use Rattle.rv_count_tables.specs.Table.{IsValidImage, IsValidTable}
 use Rattle.rv_count_tables.specs.Text.{image_line, image_text, last_line, table_text}
 use Rattle.rv_count_tables.specs.ReadSteps.{Entry, IsValidEntry, entry_line, entries_of}
 use Rattle.rv_count_tables.proofs.Entries.{entries_fit, same_parts, AreSame}
@@ -178,7 +178,7 @@ behind_first : (t : CountTable) → drop 11 (table_text t) ≡ flat_map image_te
 unfolding table_text
 behind_first t = refl
 
-pub one_table : (t u : CountTable) → IsTable t → IsTable u → table_text t ≡ table_text u → t ≡ u
+pub one_table : (t u : CountTable) → IsValidTable t → IsValidTable u → table_text t ≡ table_text u → t ≡ u
 one_table t u h k e =
     let same = same_images t.images u.images (length t.images) (length u.images) t.runs u.runs h.images k.images
     (sym (behind_first t) ∙ ap (drop 11) e ∙ behind_first u) in

@@ -16,7 +16,7 @@ use Rattle.rv_count_tables.specs.declared.read_lines.ParsedImage.{ParsedImage}
 use Rattle.rv_count_tables.specs.declared.read_stacks.ParsedNodes.{ParsedNodes}
 use Rattle.rv_count_tables.specs.declared.table.FunctionName.{FunctionName}
 use Rattle.rv_count_tables.specs.Lines.{lacks, whole_line}
-use Rattle.rv_count_tables.specs.Table.{is_before, is_greater_than_last, digests_increase_from, increase_from, IsCounted, IsValidImage}
+use Rattle.rv_count_tables.specs.Table.{is_before, is_greater_than_last, digests_increase_from, increase_from, IsValidCount, IsValidImage}
 use Rattle.rv_count_tables.specs.Text.{line, address_line, image_line, image_text, line_of_node}
 use Rattle.rv_count_tables.specs.ReadSteps.{lowest_after, last_digest, before_first_image, after_image_line, place_in, after_entries, entries_of, NextLines, IsNotAnAddress, IsNotAnEntry, IsNotAnImage, AreParsedAddresses, AreParsedImages, AreParsedNodes, IsParsedImage}
 use Rattle.rv_call_tree.specs.declared.spot.CallNode.{CallNode}
@@ -126,7 +126,7 @@ none_last last (j ∷ (k ∷ ks)) h =
 pub record AreSoFar (text : List ℕ) (cs : List AddressCounts) (from n : ℕ) : Type 0 where
   pub within : n ≤ length text
   pub lines : text ≡ flat_map address_line cs ++ drop n text
-  pub each : AllByRecursion IsCounted cs
+  pub each : AllByRecursion IsValidCount cs
   pub rising : increase_from 0 cs ≡ true
   pub lowest : from ≡ lowest_after 0 cs
 
@@ -141,7 +141,7 @@ further_within text n h =
     omega (arith, w, l)
 
 pub one_so_far : (text : List ℕ) (cs : List AddressCounts) (lowest n m : ℕ) (c : AddressCounts) → AreSoFar text cs lowest n
-    → IsCounted c → lowest ≤ c.address → whole_line (drop n text) ≡ address_line c → m ≡ n + length (whole_line (drop n text))
+    → IsValidCount c → lowest ≤ c.address → whole_line (drop n text) ≡ address_line c → m ≡ n + length (whole_line (drop n text))
     → AreSoFar text (cs ++ c ∷ []) (c.address + 1) m
 one_so_far text cs lowest n m c h counted under is e =
     let low = h.lowest in
@@ -152,7 +152,7 @@ one_so_far text cs lowest n m c h counted under is e =
       lines = lines_push address_line cs c text (drop n text) (drop m text) h.lines
           (whole_split (drop n text) ∙ ap (λ (s : List ℕ). s ++ drop (length (whole_line (drop n text))) (drop n text)) is
           ∙ ap (λ (s : List ℕ). address_line c ++ s) rest);
-      each = each_push IsCounted cs c h.each counted;
+      each = each_push IsValidCount cs c h.each counted;
       rising = rise_push 0 cs c h.rising (omega (arith, low, under));
       lowest = sym (lowest_push 0 cs c);
     }

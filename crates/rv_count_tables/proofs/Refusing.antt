@@ -6,7 +6,7 @@ use Rattle.std.specs.List.{AllByRecursion, flat_map}
 use Rattle.rv_count_tables.specs.declared.table.ImageCounts.{ImageCounts}
 use Rattle.rv_count_tables.specs.declared.table.CountTable.{CountTable}
 use Rattle.rv_count_tables.specs.Lines.{lacks, line_feed_count, first_lines}
-use Rattle.rv_count_tables.specs.Table.{digests_increase_from, IsValidImage, IsTable}
+use Rattle.rv_count_tables.specs.Table.{digests_increase_from, IsValidImage, IsValidTable}
 use Rattle.rv_count_tables.specs.Text.{line, first_line, image_line, image_text, last_line, table_text}
 use Rattle.rv_count_tables.specs.ReadSteps.{Entry, entry_line, entries_of, before_first_image, place_in, last_digest, IsNotAnEntry, IsNotAnImage}
 use Rattle.rv_count_tables.proofs.Entries.{image_entries}
@@ -97,7 +97,7 @@ pub record AreImages (images : List ImageCounts) : Type 0 where
   pub few : length images < 2 ^ 64
 
 pub is_table : (images : List ImageCounts) (runs : ℕ) → AreImages images → runs < 2 ^ 64
-    → IsTable (record { images = images; runs = runs })
+    → IsValidTable (record { images = images; runs = runs })
 is_table images runs h fits = record { images = h.each; rising = h.rising; few = h.few; runs = fits }
 
 pub text_of : (images : List ImageCounts) (runs : ℕ)
@@ -122,7 +122,7 @@ begins_nothing = (
 )
 
 -- what a table has behind these images
-behind_so_far : (t : CountTable) (images : List ImageCounts) (s : List ℕ) → IsTable t → AreImages images
+behind_so_far : (t : CountTable) (images : List ImageCounts) (s : List ℕ) → IsValidTable t → AreImages images
     → table_text t ≡ text_so_far images ++ s
     → IsRest (0 + length images) (last_digest None images) (place_in before_first_image images) s
 unfolding table_text
@@ -243,7 +243,7 @@ cut_behind images rest bytes h plain is =
 
 -- ---- what is refused is no table's text
 
-pub no_table_refused : (n : ℕ) (bytes : List ℕ) → IsFirstInvalidLine n bytes → (t : CountTable) → IsTable t
+pub no_table_refused : (n : ℕ) (bytes : List ℕ) → IsFirstInvalidLine n bytes → (t : CountTable) → IsValidTable t
     → table_text t ≡ bytes → ⊥
 no_table_refused n bytes h t is e = let k = lines_begin bytes n in h.refused (t, k.0, is, e ∙ k.1)
 
@@ -255,7 +255,7 @@ line_has_feed : (xs : List ℕ) → lacks 10 (line xs) ≡ true → ⊥
 line_has_feed xs h = false≢true (lacks_behind xs (10 ∷ []) h)
 
 pub no_table_cut : (images : List ImageCounts) (rest bytes : List ℕ) → AreImages images → lacks 10 rest ≡ true
-    → bytes ≡ text_so_far images ++ rest → (t : CountTable) → IsTable t → table_text t ≡ bytes → ⊥
+    → bytes ≡ text_so_far images ++ rest → (t : CountTable) → IsValidTable t → table_text t ≡ bytes → ⊥
 no_table_cut images rest bytes h plain is t ok e =
     let r = behind_so_far t images rest ok h (e ∙ is) in
     let end = last_line (0 + length images + length r.more) r.runs in

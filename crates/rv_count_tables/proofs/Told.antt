@@ -5,7 +5,7 @@ use Rattle.std.proofs.lemmas.Bool.Decides.{nat_tests}
 use Rattle.std.specs.Prelude.{◌&&◌, nat_le}
 use Rattle.std.specs.List.{AllByRecursion}
 use Rattle.rv_count_tables.specs.declared.table.AddressCounts.{AddressCounts}
-use Rattle.rv_count_tables.specs.Table.{executed_at, taken_at, increase_from, IsCounted, AreValidCounts}
+use Rattle.rv_count_tables.specs.Table.{executed_at, taken_at, increase_from, IsValidCount, AreValidCounts}
 use Rattle.rv_count_tables.specs.Sum.{IsSumOfCounts}
 
 pub here : (a : ℕ) → (a == a) ≡ true
@@ -94,7 +94,7 @@ pub left_over : (n m p q : ℕ) → n ≡ m → n + p ≡ m + q → p ≡ q
 left_over n m p q e h = omega arith
 
 -- lists with the same numbers at each address are one
-pub one_list : (xs ys : List AddressCounts) (l m : ℕ) → AllByRecursion IsCounted xs → AllByRecursion IsCounted ys
+pub one_list : (xs ys : List AddressCounts) (l m : ℕ) → AllByRecursion IsValidCount xs → AllByRecursion IsValidCount ys
     → increase_from l xs ≡ true → increase_from m ys ≡ true
     → ((address : ℕ) → executed_at address xs ≡ executed_at address ys)
     → ((address : ℕ) → taken_at address xs ≡ taken_at address ys) → xs ≡ ys

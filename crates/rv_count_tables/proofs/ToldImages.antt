@@ -6,7 +6,7 @@ use Rattle.std.specs.List.{AllByRecursion}
 use Rattle.std.specs.Str.{bytes_eq}
 use Rattle.rv_count_tables.specs.declared.table.ImageCounts.{ImageCounts}
 use Rattle.rv_count_tables.specs.declared.table.CountTable.{CountTable}
-use Rattle.rv_count_tables.specs.Table.{executed_at, taken_at, name_at, executed_in, taken_in, next_path, truncated_name, arrivals_in, steps_in, min_text_of, is_before, digests_increase_from, IsValidImage, IsTable}
+use Rattle.rv_count_tables.specs.Table.{executed_at, taken_at, name_at, executed_in, taken_in, next_path, truncated_name, arrivals_in, steps_in, min_text_of, is_before, digests_increase_from, IsValidImage, IsValidTable}
 use Rattle.rv_call_tree.specs.Trees.{calls_at, steps_at}
 use Rattle.rv_call_tree.proofs.Public.{one_tree_of_counts}
 use Rattle.rv_count_tables.proofs.AddingNames.{one_list_of_names}
@@ -207,7 +207,7 @@ one_list (i ∷ is) (j ∷ js) l m p q h k alike =
     (others_alike l m i j is js h k one alike) in
     λ x. one x ∷ others x
 
-pub one_table_of : (t u : CountTable) → IsTable t → IsTable u
+pub one_table_of : (t u : CountTable) → IsValidTable t → IsValidTable u
     → ((digest : List ℕ) (n : ℕ) → executed_in digest n t.images ≡ executed_in digest n u.images)
     → ((digest : List ℕ) (n : ℕ) → taken_in digest n t.images ≡ taken_in digest n u.images)
     → ((digest : List ℕ) → next_path digest t.images ≡ next_path digest u.images)

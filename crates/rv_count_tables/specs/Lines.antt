@@ -9,21 +9,21 @@ lacks byte [] = true
 lacks byte (b ∷ bs) = not (b == byte) && lacks byte bs
 
 -- the index of the first occurrence of a byte in a text, or the length of the text if the byte does not occur
-unfoldable pub place_of_byte : ℕ → List ℕ → ℕ
-place_of_byte byte [] = 0
-place_of_byte byte (b ∷ bs) = if b == byte then 0 else place_of_byte byte bs + 1
+unfoldable pub index_of_byte : ℕ → List ℕ → ℕ
+index_of_byte byte [] = 0
+index_of_byte byte (b ∷ bs) = if b == byte then 0 else index_of_byte byte bs + 1
 
 -- the text before the first occurrence of a byte, or the whole text if the byte does not occur
 abbrev pub text_before_byte : ℕ → List ℕ → List ℕ
-text_before_byte byte text = take (place_of_byte byte text) text
+text_before_byte byte text = take (index_of_byte byte text) text
 
 -- the text after the first occurrence of a byte, or an empty text if the byte does not occur
 abbrev pub text_after_byte : ℕ → List ℕ → List ℕ
-text_after_byte byte text = drop (place_of_byte byte text + 1) text
+text_after_byte byte text = drop (index_of_byte byte text + 1) text
 
 -- the first line of a text with its line feed, or nothing if the text has no line feed
 unfoldable pub whole_line : List ℕ → List ℕ
-whole_line text = if place_of_byte 10 text == length text then [] else take (place_of_byte 10 text + 1) text
+whole_line text = if index_of_byte 10 text == length text then [] else take (index_of_byte 10 text + 1) text
 
 -- the number of line feeds in a text
 abbrev pub line_feed_count : List ℕ → ℕ

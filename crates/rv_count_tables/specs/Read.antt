@@ -4,12 +4,12 @@ use Rattle.rv_count_tables.specs.declared.table.CountTable.{CountTable}
 use Rattle.rv_count_tables.specs.declared.read.ReadError.{ReadError}
 use Rattle.rv_count_tables.specs.declared.read.ReadError.TheVariants.{OutOfMemory, Line, Truncated}
 use Rattle.rv_count_tables.specs.Lines.{line_feed_count, first_lines, whole_line}
-use Rattle.rv_count_tables.specs.Table.{IsTable}
+use Rattle.rv_count_tables.specs.Table.{IsValidTable}
 use Rattle.rv_count_tables.specs.Text.{table_text}
 
 -- the text of some table begins with these bytes
 abbrev pub IsTablePrefix : List ℕ → Type 0
-IsTablePrefix bytes = (table : CountTable) × (rest : List ℕ) × IsTable table × (table_text table ≡ bytes ++ rest)
+IsTablePrefix bytes = (table : CountTable) × (rest : List ℕ) × IsValidTable table × (table_text table ≡ bytes ++ rest)
 
 -- some table begins with the first `line - 1` lines of the bytes, and no table begins with the first `line` lines
 pub record IsFirstInvalidLine (line : ℕ) (bytes : List ℕ) : Type 0 where

@@ -10,7 +10,7 @@ use Rattle.rv_count_tables.specs.declared.read_lines.ParsedImages.{ParsedImages}
 use Rattle.rv_count_tables.specs.declared.read_lines.ParsedImage.{ParsedImage}
 use Rattle.rv_count_tables.specs.declared.read_stacks.ParsedNodes.{ParsedNodes}
 use Rattle.rv_count_tables.specs.Lines.{whole_line}
-use Rattle.rv_count_tables.specs.Table.{has_name, is_greater_than_last, name_of, digests_increase_from, IsCounted, IsValidImage, IsValidNamedNode, AreValidCounts, AreValidNames, AreNamesOf, AreValidNodes}
+use Rattle.rv_count_tables.specs.Table.{has_name, is_greater_than_last, name_of, digests_increase_from, IsValidCount, IsValidImage, IsValidNamedNode, AreValidCounts, AreValidNames, AreNamesOf, AreValidNodes}
 use Rattle.rv_count_tables.specs.Text.{address_line, image_line, image_text, line_of_node, named, node_line}
 use Rattle.rv_call_tree.specs.declared.spot.CallNode.{CallNode}
 use Rattle.rv_call_tree.specs.Trees.{last_path, path_after, FollowsInPreorder}
@@ -48,7 +48,7 @@ pub data Entry : Type 0 where
 
 -- the counts or the node are valid
 abbrev pub IsValidEntry : Entry → Type 0
-IsValidEntry (Address c) = IsCounted c
+IsValidEntry (Address c) = IsValidCount c
 IsValidEntry (Node n) = IsValidNamedNode n
 
 -- the line of an address or a node
@@ -136,7 +136,7 @@ last_digest last (i ∷ is) = last_digest (Some i.digest) is
 
 -- the line is not the line of an address at or above `lowest`
 abbrev pub IsNotAnAddress : ℕ → List ℕ → Type 0
-IsNotAnAddress lowest line = (c : AddressCounts) → IsCounted c → nat_le lowest c.address ≡ true → line ≡ address_line c → ⊥
+IsNotAnAddress lowest line = (c : AddressCounts) → IsValidCount c → nat_le lowest c.address ≡ true → line ≡ address_line c → ⊥
 
 -- no node that may follow the path `front` and whose name agrees with `names` has this line
 abbrev pub IsNotANode : List FunctionName → List ℕ → List ℕ → Type 0

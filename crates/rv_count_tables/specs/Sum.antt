@@ -7,7 +7,7 @@ use Rattle.rv_count_tables.specs.declared.table.ImageCounts.{ImageCounts}
 use Rattle.rv_count_tables.specs.declared.table.CountTable.{CountTable}
 use Rattle.rv_count_tables.specs.declared.sum.SumError.{SumError}
 use Rattle.rv_count_tables.specs.declared.sum.SumError.TheVariants.{OutOfMemory, Count, Spot, Names, Runs}
-use Rattle.rv_count_tables.specs.Table.{executed_at, taken_at, name_at, executed_in, taken_in, next_path, truncated_name, arrivals_in, steps_in, min_text_of, AreValidCounts, AreValidNames, IsTable}
+use Rattle.rv_count_tables.specs.Table.{executed_at, taken_at, name_at, executed_in, taken_in, next_path, truncated_name, arrivals_in, steps_in, min_text_of, AreValidCounts, AreValidNames, IsValidTable}
 use Rattle.rv_call_tree.specs.Trees.{ends_with}
 use Rattle.rv_call_tree.specs.declared.sum.CallTreeSumError.{CallTreeSumError}
 use Rattle.rv_call_tree.specs.declared.sum.CallTreeSumError.TheVariants as spots
@@ -19,22 +19,22 @@ pub record IsSumOfCounts (a b sum : List AddressCounts) : Type 0 where
   pub taken : (address : ℕ) → taken_at address sum ≡ taken_at address a + taken_at address b
 
 -- two names of a function are equal, or one is missing
-abbrev pub Agree : Option (List ℕ) → Option (List ℕ) → Type 0
-Agree None other = Unit {0}
-Agree (Some name) None = Unit {0}
-Agree (Some name) (Some other) = name ≡ other
+abbrev pub NamesAgree : Option (List ℕ) → Option (List ℕ) → Type 0
+NamesAgree None other = Unit {0}
+NamesAgree (Some name) None = Unit {0}
+NamesAgree (Some name) (Some other) = name ≡ other
 
 -- no function has different names in the lists `a` and `b`, and `sum` has the name of each function of either list
 pub record IsSumOfNames (a b sum : List FunctionName) : Type 0 where
   pub names : AreValidNames sum
-  pub agree : (function : ℕ) → Agree (name_at function a) (name_at function b)
+  pub agree : (function : ℕ) → NamesAgree (name_at function a) (name_at function b)
   pub each : (function : ℕ) → name_at function sum ≡ min_text_of (name_at function a) (name_at function b)
 
 -- `sum` is a valid table: for each image, the counts at each address and of each call path are the sums of the counts in `a` and `b`, the
 -- path is the first of both in byte order, and each function has its name in `a` or `b`, which never differ; the number of runs is the sum
 -- of both
 pub record IsSumOfTables (a b sum : CountTable) : Type 0 where
-  pub table : IsTable sum
+  pub table : IsValidTable sum
   pub begun : (digest : List ℕ) → (address : ℕ)
       → executed_in digest address sum.images ≡ executed_in digest address a.images + executed_in digest address b.images
   pub taken : (digest : List ℕ) → (address : ℕ)
@@ -42,7 +42,7 @@ pub record IsSumOfTables (a b sum : CountTable) : Type 0 where
   pub paths : (digest : List ℕ)
       → next_path digest sum.images ≡ min_text_of (next_path digest a.images) (next_path digest b.images)
   pub agree : (digest : List ℕ) → (function : ℕ)
-      → Agree (truncated_name digest function a.images) (truncated_name digest function b.images)
+      → NamesAgree (truncated_name digest function a.images) (truncated_name digest function b.images)
   pub names : (digest : List ℕ) → (function : ℕ)
       → truncated_name digest function sum.images ≡ min_text_of (truncated_name digest function a.images) (truncated_name digest function b.images)
   pub arrivals : (digest path : List ℕ)

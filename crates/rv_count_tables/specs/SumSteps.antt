@@ -9,15 +9,15 @@ use Rattle.rv_count_tables.specs.declared.sum.SumError.TheVariants.{OutOfMemory,
 use Rattle.rv_count_tables.specs.declared.sum_of_counts.NextCount.{NextCount}
 use Rattle.rv_count_tables.specs.declared.sum_of_images.NextImage.{NextImage}
 use Rattle.rv_count_tables.specs.declared.sum_of_names.NextName.{NextName}
-use Rattle.rv_count_tables.specs.Sum.{Agree, CountsHaveNoSum, HasNameIn, NamesHaveNoSum}
+use Rattle.rv_count_tables.specs.Sum.{NamesAgree, CountsHaveNoSum, HasNameIn, NamesHaveNoSum}
 use Rattle.rv_count_tables.specs.Table.{executed_at, taken_at, name_at, executed_in, taken_in, next_path, truncated_name, arrivals_in, steps_in, min_text_of}
-use Rattle.rv_count_tables.specs.Table.{increase_from, functions_increase_from, digests_increase_from, IsCounted, IsValidImage, IsValidName}
+use Rattle.rv_count_tables.specs.Table.{increase_from, functions_increase_from, digests_increase_from, IsValidCount, IsValidImage, IsValidName}
 use Rattle.rv_call_tree.specs.Trees.{calls_at, ends_with, steps_at}
 
 -- the counts at each address in `sum` are the sums of the counts in `a` and `b`; the addresses in `sum` increase if those in `a` and in `b`
 -- do
 pub record CountsAddUp (a b sum : List AddressCounts) : Type 0 where
-  pub each : AllByRecursion IsCounted sum
+  pub each : AllByRecursion IsValidCount sum
   pub rising : (lowest : ℕ) → increase_from lowest a ≡ true → increase_from lowest b ≡ true → increase_from lowest sum ≡ true
   pub begun : (address : ℕ) → executed_at address sum ≡ executed_at address a + executed_at address b
   pub taken : (address : ℕ) → taken_at address sum ≡ taken_at address a + taken_at address b
@@ -37,7 +37,7 @@ pub record NamesAddUp (a b sum : List FunctionName) : Type 0 where
   pub each : AllByRecursion IsValidName sum
   pub rising : (lowest : ℕ) → functions_increase_from lowest a ≡ true → functions_increase_from lowest b ≡ true → functions_increase_from lowest sum ≡ true
   pub agree : (lowest : ℕ) → functions_increase_from lowest a ≡ true → functions_increase_from lowest b ≡ true
-      → (function : ℕ) → Agree (name_at function a) (name_at function b)
+      → (function : ℕ) → NamesAgree (name_at function a) (name_at function b)
   pub names : (function : ℕ) → name_at function sum ≡ min_text_of (name_at function a) (name_at function b)
 
 -- `next` has the name of the lowest function in a sum, and how many names of each list it comes from; followed by the sum of the remaining
@@ -61,7 +61,7 @@ pub record ImagesAddUp (a b sum : List ImageCounts) : Type 0 where
       → taken_in digest address sum ≡ taken_in digest address a + taken_in digest address b
   pub paths : (digest : List ℕ) → next_path digest sum ≡ min_text_of (next_path digest a) (next_path digest b)
   pub agree : (last : Option (List ℕ)) → digests_increase_from last a ≡ true → digests_increase_from last b ≡ true
-      → (digest : List ℕ) (function : ℕ) → Agree (truncated_name digest function a) (truncated_name digest function b)
+      → (digest : List ℕ) (function : ℕ) → NamesAgree (truncated_name digest function a) (truncated_name digest function b)
   pub names : (digest : List ℕ) (function : ℕ)
       → truncated_name digest function sum ≡ min_text_of (truncated_name digest function a) (truncated_name digest function b)
   pub arrivals : (digest path : List ℕ)

@@ -86,7 +86,7 @@ steps_in digest path (i ∷ is) =
 
 -- the counts of an address are valid: the address is even, its instruction was executed at least once, and it was a taken branch at most as
 -- often
-pub record IsCounted (c : AddressCounts) : Type 0 where
+pub record IsValidCount (c : AddressCounts) : Type 0 where
   pub address : c.address < 2 ^ 32
   pub even : c.address % 2 ≡ 0
   pub begun : 0 < c.begun
@@ -100,7 +100,7 @@ increase_from lowest (c ∷ cs) = nat_le lowest c.address && increase_from (c.ad
 
 -- the counts are valid, and each address occurs once, in increasing order
 pub record AreValidCounts (cs : List AddressCounts) : Type 0 where
-  pub each : AllByRecursion IsCounted cs
+  pub each : AllByRecursion IsValidCount cs
   pub rising : increase_from 0 cs ≡ true
 
 -- the name of a function is valid: it is UTF-8 without line feeds, since the line ends there
@@ -174,7 +174,7 @@ digests_increase_from last [] = true
 digests_increase_from last (i ∷ is) = is_greater_than_last last i.digest && digests_increase_from (Some i.digest) is
 
 -- the table is valid: its images are valid and sorted by digest, and its numbers fit in 64 bits
-pub record IsTable (t : CountTable) : Type 0 where
+pub record IsValidTable (t : CountTable) : Type 0 where
   pub images : AllByRecursion IsValidImage t.images
   pub rising : digests_increase_from None t.images ≡ true
   pub few : length t.images < 2 ^ 64

@@ -3,7 +3,7 @@
 ghost use Rattle.std.specs.Prelude.{◌≡◌, ℕ, List};
 ghost use Rattle.rv_count_tables.specs.declared.table.AddressCounts.{AddressCounts};
 ghost use Rattle.rv_count_tables.specs.declared.table.CountTable.{CountTable};
-ghost use Rattle.rv_count_tables.specs.Table.{AreValidCounts, IsTable, executed_at, taken_at, executed_in, taken_in, next_path, truncated_name, arrivals_in, steps_in};
+ghost use Rattle.rv_count_tables.specs.Table.{AreValidCounts, IsValidTable, executed_at, taken_at, executed_in, taken_in, next_path, truncated_name, arrivals_in, steps_in};
 ghost use Rattle.rv_count_tables.specs.Text.{table_text};
 ghost use Rattle.rv_count_tables.specs.Sum.{IsSumOfCounts, IsSumOfTables, no_counts};
 
@@ -28,7 +28,7 @@ pub fn sums_of_counts_associate()
 /// Proves that two tables are equal if they have equally many runs and the same images, and each image has the same path and function
 /// names, and equal counts at each address and of each call path.
 pub fn tables_with_equal_counts_are_equal()
-    ensures { (t u : CountTable) → IsTable t → IsTable u
+    ensures { (t u : CountTable) → IsValidTable t → IsValidTable u
         → ((digest : List ℕ) (address : ℕ) → executed_in digest address t.images ≡ executed_in digest address u.images)
         → ((digest : List ℕ) (address : ℕ) → taken_in digest address t.images ≡ taken_in digest address u.images)
         → ((digest : List ℕ) → next_path digest t.images ≡ next_path digest u.images)
@@ -48,10 +48,10 @@ pub fn sums_of_tables_commute_and_associate()
 
 /// Proves that two tables with equal texts are equal.
 pub fn tables_with_equal_texts_are_equal()
-    ensures { (t u : CountTable) → IsTable t → IsTable u → table_text t ≡ table_text u → t ≡ u }
+    ensures { (t u : CountTable) → IsValidTable t → IsValidTable u → table_text t ≡ table_text u → t ≡ u }
 {}
 
 /// Proves that adding the table of no runs changes nothing.
 pub fn empty_table_adds_nothing()
-    ensures { (t : CountTable) → IsTable t → IsSumOfTables no_counts t t }
+    ensures { (t : CountTable) → IsValidTable t → IsSumOfTables no_counts t t }
 {}

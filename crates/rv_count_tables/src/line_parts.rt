@@ -3,7 +3,7 @@
 ghost use Rattle.std.specs.Prelude.{◌≡◌, ◌≤◌, ◌<◌, ◌^◌, ℕ, IfOk, take, length};
 ghost use Rattle.std.specs.Fmt.{decimal};
 ghost use Rattle.rv_text.specs.Words.{word_digits};
-ghost use Rattle.rv_count_tables.specs.Lines.{place_of_byte, text_before_byte, text_after_byte, whole_line, hex_digit_value, hex_bytes};
+ghost use Rattle.rv_count_tables.specs.Lines.{index_of_byte, text_before_byte, text_after_byte, whole_line, hex_digit_value, hex_bytes};
 
 use hex::FromHexError;
 use rv_text::tail_from;
@@ -21,8 +21,8 @@ pub(crate) fn leading_bytes(text: &[u8], count: usize) -> &[u8]
 }
 
 /// Returns the index of the first occurrence of a byte, or the length of the text if it does not occur.
-pub(crate) fn place_of_byte(byte: u8, text: &[u8]) -> usize
-    ensures place { result ≡ place_of_byte byte text.now }
+pub(crate) fn index_of_byte(byte: u8, text: &[u8]) -> usize
+    ensures place { result ≡ index_of_byte byte text.now }
     ensures within { result ≤ length text.now }
 {
     for (place, b) in text.iter().enumerate() {
@@ -37,14 +37,14 @@ pub(crate) fn place_of_byte(byte: u8, text: &[u8]) -> usize
 pub(crate) fn text_before_byte(byte: u8, text: &[u8]) -> &[u8]
     ensures { result.now ≡ text_before_byte byte text.now }
 {
-    leading_bytes(text, place_of_byte(byte, text))
+    leading_bytes(text, index_of_byte(byte, text))
 }
 
 /// Returns the text after the first occurrence of a byte, or an empty text if it does not occur.
 pub(crate) fn text_after_byte(byte: u8, text: &[u8]) -> &[u8]
     ensures { result.now ≡ text_after_byte byte text.now }
 {
-    tail_from(text, place_of_byte(byte, text) + 1)
+    tail_from(text, index_of_byte(byte, text) + 1)
 }
 
 /// Returns the first line of a text with its line feed, or nothing if the text has no line feed.
@@ -52,7 +52,7 @@ pub(crate) fn text_after_byte(byte: u8, text: &[u8]) -> &[u8]
 pub(crate) fn whole_line(text: &[u8]) -> &[u8]
     ensures { result.now ≡ whole_line text.now }
 {
-    let place = place_of_byte(b'\n', text);
+    let place = index_of_byte(b'\n', text);
     if place == text.len() {
         &[]
     } else {

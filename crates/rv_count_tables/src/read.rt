@@ -3,7 +3,7 @@
 ghost use Rattle.std.specs.Prelude.{◌≡◌, ◌+◌, ◌≤◌, IfOk, IfErr, length, take, drop};
 ghost use Rattle.rv_count_tables.specs.declared.table.CountTable.{CountTable as Counted};
 ghost use Rattle.rv_count_tables.specs.Lines.{line_feed_count, whole_line};
-ghost use Rattle.rv_count_tables.specs.Table.{IsTable};
+ghost use Rattle.rv_count_tables.specs.Table.{IsValidTable};
 ghost use Rattle.rv_count_tables.specs.Text.{table_text};
 ghost use Rattle.rv_count_tables.specs.Read.{IsOkOrOutOfMemory, IsFirstError, read_error_at};
 ghost use Rattle.rv_count_tables.specs.declared.read.ReadError.TheVariants.{OutOfMemory, Truncated};
@@ -41,10 +41,10 @@ impl From<AllocError> for ReadError {
 /// Parses the text of a table, or returns the error of its first invalid line. Allocates the table, and one line at a time.
 pub fn read_table(alloc: Global, bytes: &[u8]) -> Result<CountTable, ReadError>
     // The result is a valid table with this text.
-    ensures found { IfOk result (λ table. IsTable table) }
+    ensures found { IfOk result (λ table. IsValidTable table) }
     ensures text { IfOk result (λ table. table_text table ≡ bytes.now) }
     // Every valid table with this text is the result.
-    ensures only { (table : Counted) → IsTable table → table_text table ≡ bytes.now
+    ensures only { (table : Counted) → IsValidTable table → table_text table ≡ bytes.now
         → IsOkOrOutOfMemory table result }
     // Some table begins with the lines before the reported one, and none with those lines and the reported one.
     ensures least { IfErr result (λ error. IsFirstError error bytes.now) }

@@ -7,7 +7,7 @@ ghost use Rattle.std.specs.Str.{bytes_eq, IsUtf8};
 ghost use Rattle.rv_count_tables.specs.declared.table.AddressCounts.{AddressCounts as Counts};
 ghost use Rattle.rv_count_tables.specs.declared.table.ImageCounts.{ImageCounts as Image};
 ghost use Rattle.rv_count_tables.specs.Lines.{whole_line};
-ghost use Rattle.rv_count_tables.specs.Table.{IsCounted, IsValidImage, is_greater_than_last};
+ghost use Rattle.rv_count_tables.specs.Table.{IsValidCount, IsValidImage, is_greater_than_last};
 ghost use Rattle.rv_count_tables.specs.Text.{address_line, image_line, last_line};
 ghost use Rattle.rv_count_tables.specs.ReadSteps.{AreParsedAddresses, AreParsedImages, IsParsedImage, IsNotAnAddress, IsNotAnImage, last_digest};
 
@@ -138,7 +138,7 @@ fn parse_address_line(
     line: &[u8],
     lowest: u64,
 ) -> Result<Option<AddressCounts>, AllocError>
-    ensures counted { IfOk result (λ read. IfSome read IsCounted) }
+    ensures counted { IfOk result (λ read. IfSome read IsValidCount) }
     ensures low { IfOk result (λ read. IfSome read (λ c. lowest ≤ c.address)) }
     ensures line { IfOk result (λ read. IfSome read (λ c. line.now ≡ address_line c)) }
     ensures none { IfOk result (λ read. IfNone read (IsNotAnAddress lowest line.now)) }
@@ -153,7 +153,7 @@ fn parse_address_line(
 
 // Whether these counts are valid and their address is not below `lowest`.
 fn can_come_next(counts: AddressCounts, lowest: u64) -> bool
-    ensures { IsTrue result ↔ (IsCounted counts × (lowest ≤ counts.address)) }
+    ensures { IsTrue result ↔ (IsValidCount counts × (lowest ≤ counts.address)) }
 {
     counts.address % 2 == 0
         && 0 < counts.begun
@@ -163,7 +163,7 @@ fn can_come_next(counts: AddressCounts, lowest: u64) -> bool
 
 // Returns the counts in a line `ADDRESS BEGUN TAKEN`. For any other line, the result is arbitrary.
 fn counts_of_line(line: &[u8]) -> AddressCounts
-    ensures { (c : Counts) → IsCounted c → line.now ≡ address_line c → result ≡ c }
+    ensures { (c : Counts) → IsValidCount c → line.now ≡ address_line c → result ≡ c }
 {
     let numbers = tail_from(line, 9);
     AddressCounts {

@@ -2,7 +2,7 @@
 
 ghost use Rattle.std.specs.Prelude.{◌≡◌, IfOk, IfErr};
 ghost use Rattle.rv_count_tables.specs.Sum.{IsSumOfTables, HaveNoSum, sum_error_of};
-ghost use Rattle.rv_count_tables.specs.Table.{IsTable};
+ghost use Rattle.rv_count_tables.specs.Table.{IsValidTable};
 ghost use Rattle.rv_count_tables.specs.declared.sum.SumError.TheVariants.{OutOfMemory};
 
 use crate::sum_of_images::{add_images, sum_of_images};
@@ -55,8 +55,8 @@ impl From<CallTreeSumError> for SumError {
 /// Returns the sum of two tables, or why there is none. Images are identified by their digests, and their counts are added. Allocates only
 /// the sum.
 pub fn sum_of_tables(alloc: Global, a: &CountTable, b: &CountTable) -> Result<CountTable, SumError>
-    requires a { IsTable a.now }
-    requires b { IsTable b.now }
+    requires a { IsValidTable a.now }
+    requires b { IsValidTable b.now }
     ensures value { IfOk result (λ sum. IsSumOfTables a.now b.now sum) }
     ensures refused { IfErr result (λ error. HaveNoSum error a.now b.now) }
 {
@@ -68,8 +68,8 @@ pub fn sum_of_tables(alloc: Global, a: &CountTable, b: &CountTable) -> Result<Co
 /// Returns the sum of two tables, as [`sum_of_tables`] does, but takes them by value: if one table has no images, the images of the other
 /// are moved, not copied.
 pub fn add_table(alloc: Global, sum: CountTable, table: CountTable) -> Result<CountTable, SumError>
-    requires sum { IsTable sum }
-    requires table { IsTable table }
+    requires sum { IsValidTable sum }
+    requires table { IsValidTable table }
     ensures value { IfOk result (λ total. IsSumOfTables sum table total) }
     ensures refused { IfErr result (λ error. HaveNoSum error sum table) }
 {

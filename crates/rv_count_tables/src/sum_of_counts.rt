@@ -4,7 +4,7 @@ ghost use Rattle.std.specs.Prelude.{◌≡◌, ◌+◌, ◌^◌, ◌≤◌, ◌<
 ghost use Rattle.std.specs.List.{AllByRecursion};
 ghost use Rattle.rv_count_tables.specs.Sum.{IsSumOfCounts, CountsHaveNoSum};
 ghost use Rattle.rv_count_tables.specs.SumSteps.{IsNextCount};
-ghost use Rattle.rv_count_tables.specs.Table.{AreValidCounts, IsCounted};
+ghost use Rattle.rv_count_tables.specs.Table.{AreValidCounts, IsValidCount};
 ghost use Rattle.rv_count_tables.specs.declared.sum.SumError.TheVariants.{Count};
 
 use crate::growth::push_item;
@@ -46,8 +46,8 @@ pub(crate) struct NextCount {
 
 // Returns the counts of the lowest address in the sum of two lists, and how many counts of each list they are made of.
 fn next_count(a: &[AddressCounts], b: &[AddressCounts]) -> Result<NextCount, SumError>
-    requires a { AllByRecursion IsCounted a.now }
-    requires b { AllByRecursion IsCounted b.now }
+    requires a { AllByRecursion IsValidCount a.now }
+    requires b { AllByRecursion IsValidCount b.now }
     requires some { 0 < length a.now + length b.now }
     ensures value { IfOk result (λ next. IsNextCount a.now b.now next) }
     ensures refused { IfErr result (λ error. CountsHaveNoSum error a.now b.now) }
@@ -96,8 +96,8 @@ fn count_of_second(sum: AddressCounts) -> NextCount
 
 // Returns the sum of two counts of one address, or an error if a number would not fit in 64 bits.
 fn sum_at_address(a: AddressCounts, b: AddressCounts) -> Result<AddressCounts, SumError>
-    requires a { IsCounted a }
-    requires b { IsCounted b }
+    requires a { IsValidCount a }
+    requires b { IsValidCount b }
     ensures address { IfOk result (λ sum. sum.address ≡ a.address) }
     ensures begun { IfOk result (λ sum. sum.begun ≡ a.begun + b.begun) }
     ensures taken { IfOk result (λ sum. sum.taken ≡ a.taken + b.taken) }

@@ -9,7 +9,7 @@ use Rattle.rv_trace.specs.Fetch.{FetchResult}
 use Rattle.rv_trace.specs.Run.{after_fetch, step_of}
 use Rattle.rv_trace.specs.State.{State}
 use Rattle.rv_count_tables.specs.declared.table.AddressCounts.{AddressCounts}
-use Rattle.rv_count_tables.specs.Table.{executed_at, AreValidCounts, IsCounted}
+use Rattle.rv_count_tables.specs.Table.{executed_at, AreValidCounts, IsValidCount}
 use Rattle.rv_counting.specs.Coverage.{fetch_at, is_executed, address_if, behind, executed_in_run, IsConsistentCount, AreCountsOf, AreSortedCounts}
 
 -- ---- a step
@@ -99,7 +99,7 @@ even_if_begun c cs h none = elim (even_or_odd c.address) [
 ]
 
 each_even : (cs : List AddressCounts) → AllByRecursion IsConsistentCount cs → ((at : ℕ) → at % 2 ≡ 1 → executed_at at cs ≡ 0)
-    → AllByRecursion IsCounted cs
+    → AllByRecursion IsValidCount cs
 each_even [] h none = tt
 each_even (c ∷ cs) h none = (
   record {

@@ -12,7 +12,7 @@ use Rattle.rv_trace.specs.declared_job.Job.{Job}
 use Rattle.rv_trace.specs.State.{State}
 use Rattle.rv_fleet.specs.declared_row.Refusal.{Refusal}
 use Rattle.rv_trace.specs.Outcome.{range_start}
-use Rattle.rv_trace.specs.Rows.{content_if_read, start_in}
+use Rattle.rv_trace.specs.Rows.{content_if_read, start_state_in}
 use Rattle.rv_trace.specs.Wholes.{HaveSameResults}
 use Rattle.rv_count_tables.specs.Printable.{printable_text}
 use Rattle.rv_counting.specs.Coverage.{address_if}
@@ -27,7 +27,7 @@ same_sum f g P (j ∷ js) same all =
     omega (arith, one, rest, sum_by-cons f j js, sum_by-cons g j js)
 
 module _ (some others : List PathResult) where
-  same_start : (job : Job) → HaveSameResults some others job → start_in some job ≡ start_in others job
+  same_start : (job : Job) → HaveSameResults some others job → start_state_in some job ≡ start_state_in others job
   same_start job h = λ i. range_start job (h.image i) (h.reference i) (h.console i)
 
   same_over : (digest : List ℕ) (job : Job) → HaveSameResults some others job

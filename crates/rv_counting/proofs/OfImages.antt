@@ -12,14 +12,14 @@ use Rattle.rv_count_tables.proofs.Public.{none_behind}
 use Rattle.rv_count_tables.specs.declared.table.AddressCounts.{AddressCounts}
 use Rattle.rv_count_tables.specs.declared.table.CountTable.{CountTable}
 use Rattle.rv_count_tables.specs.Sum.{no_counts}
-use Rattle.rv_count_tables.specs.Table.{executed_at, is_before, min_text, min_text_of, IsTable}
+use Rattle.rv_count_tables.specs.Table.{executed_at, is_before, min_text, min_text_of, IsValidTable}
 use Rattle.rv_trace.specs.declared_answers.PathResult.{PathResult}
 use Rattle.rv_trace.specs.declared_job.Job.{Job}
 use Rattle.rv_trace.specs.Jobs.{single_job}
 use Rattle.rv_trace.specs.Plans.{result_or_unreadable, PlanView}
 use Rattle.rv_trace.specs.State.{State}
 use Rattle.rv_fleet.specs.declared_row.Refusal.{Refusal}
-use Rattle.rv_trace.specs.Rows.{content_if_read, start_in}
+use Rattle.rv_trace.specs.Rows.{content_if_read, start_state_in}
 use Rattle.rv_count_tables.specs.Printable.{printable_text}
 use Rattle.rv_trace.specs.Trace.{image_bytes, job_at}
 use Rattle.rv_counting.proofs.OfJobs.{no_counts_are_few, no_counts_have_none, no_counts_is_table, none_if_no_ok, not_ok_if_none, not_over, run_has_none}
@@ -45,8 +45,8 @@ module _ (answers : List PathResult) where
   -- ---- jobs that are refused
 
   module _ (j : Job) (none : runs_by answers j ≡ 0) where
-    nothing_begins : result_ok (start_in answers j) ≡ None
-    nothing_begins = none_if_not_ok (start_in answers j) (not_ok_if_no_run (start_in answers j) none)
+    nothing_begins : result_ok (start_state_in answers j) ≡ None
+    nothing_begins = none_if_not_ok (start_state_in answers j) (not_ok_if_no_run (start_state_in answers j) none)
 
     none_begun : (digest : List ℕ) (at : ℕ) → executed_by answers digest at j ≡ 0
     none_begun digest at = ap (executed_from at j.budget) (not_over answers j digest nothing_begins)
@@ -91,9 +91,9 @@ module _ (answers : List PathResult) where
       pub image : j.image ≡ path
 
     over_file : (digest : List ℕ) (j : Job) → IsOver j
-        → start_state_of_image answers digest j ≡ cond (bytes_eq (sha256 file) digest) (result_ok (start_in answers j)) None
+        → start_state_of_image answers digest j ≡ cond (bytes_eq (sha256 file) digest) (result_ok (start_state_in answers j)) None
     unfolding start_state_of_image
-    over_file digest j h = λ i. cond (has_digest digest (h.bytes i)) (result_ok (start_in answers j)) None
+    over_file digest j h = λ i. cond (has_digest digest (h.bytes i)) (result_ok (start_state_in answers j)) None
 
     picked : (b : Bool) (f : Option State → ℕ) (o : Option State) → f None ≡ 0 → f (cond b o None) ≡ cond b (f o) 0
     picked true f o none = refl
@@ -140,7 +140,7 @@ module _ (answers : List PathResult) where
         let runs = sum_by-cons (runs_by answers) j js in
         (λ i. min_text_of (option_map (λ (s : State). printable_text (over.0.image i)) (over_file digest j over.0 i))
         (first_path answers digest js))
-        ∙ first_is_path (bytes_eq (sha256 file) digest) (start_in answers j) (first_path answers digest js) (sum_by (runs_by answers) js)
+        ∙ first_is_path (bytes_eq (sha256 file) digest) (start_state_in answers j) (first_path answers digest js) (sum_by (runs_by answers) js)
         (no_first_path digest js, path_first digest js over.1) (omega (arith, some, runs))
 
     picked_few : (b : Bool) (n m : ℕ) → n ≤ m → cond b n 0 ≤ m
@@ -150,22 +150,22 @@ module _ (answers : List PathResult) where
     -- jobs of which some ran
     module _ (js : List Job) (over : AllByRecursion IsOver js) (c : RunsCounter) (cs : List AddressCounts) (h : HasCountedJobs answers js c)
         (sorted : IsSorted (counts_of c.counter) cs) (t : CountTable) (is : t ≡ table_of_runs c.runs path file cs) where
-      pub some_ran : 0 < c.runs → IsTable t → IsTableOfJobs answers js t
+      pub some_ran : 0 < c.runs → IsValidTable t → IsTableOfJobs answers js t
       some_ran some table = subst (IsTableOfJobs answers js) (sym is) (
           record {
-            table = subst IsTable is table;
+            table = subst IsValidTable is table;
             begun = λ digest at.
                 let b = bytes_eq (sha256 file) digest in
                 let e = sums_to b (executed_by answers digest at) (executed_of answers at)
                 (λ j o. ap (executed_from at j.budget) (over_file digest j o)
-                ∙ picked b (executed_from at j.budget) (result_ok (start_in answers j)) refl) js over in
+                ∙ picked b (executed_from at j.budget) (result_ok (start_state_in answers j)) refl) js over in
                 let k = ap (λ (n : ℕ). cond b n 0) (sorted.begun at ∙ h.begun at) in
                 omega (arith, e, k);
             taken = λ digest at.
                 let b = bytes_eq (sha256 file) digest in
                 let e = sums_to b (taken_by answers digest at) (taken_of answers at)
                 (λ j o. ap (taken_from at j.budget) (over_file digest j o)
-                ∙ picked b (taken_from at j.budget) (result_ok (start_in answers j)) refl) js over in
+                ∙ picked b (taken_from at j.budget) (result_ok (start_state_in answers j)) refl) js over in
                 let k = ap (λ (n : ℕ). cond b n 0) (sorted.taken at ∙ h.taken at) in
                 omega (arith, e, k);
             paths = λ digest.
@@ -227,7 +227,7 @@ module _ (plan : PlanView) (places : List ℕ) where
 
     no_run : image_bytes plan.answers (job 0) ≡ None → (k : ℕ) → k < length places → runs_by plan.answers (job k) ≡ 0
     no_run none k lt =
-        let start = start_in plan.answers (job k) in
+        let start = start_state_in plan.answers (job k) in
         ap address_if (not_ok_if_none start (none_if_no_ok start (λ s is. no_bytes (job k) s plan.answers (same_bytes k lt ∙ none) is)))
 
     pub no_image_ran : (t : CountTable) → t ≡ no_counts → image_bytes plan.answers (job 0) ≡ None → IsTableOfRange plan places t
@@ -237,7 +237,7 @@ module _ (plan : PlanView) (places : List ℕ) where
     pub image_ran : (file path : List ℕ) (c : RunsCounter) (cs : List AddressCounts) (t : CountTable)
         → image_bytes plan.answers (job 0) ≡ Some file → (job 0).image ≡ path
         → HasCountedJobs plan.answers (jobs_at plan places) c → 0 < c.runs → IsSorted (counts_of c.counter) cs
-        → t ≡ table_of_runs c.runs path file cs → IsTable t → IsTableOfRange plan places t
+        → t ≡ table_of_runs c.runs path file cs → IsValidTable t → IsTableOfRange plan places t
     image_ran file path c cs t bytes image h some sorted is table =
         let over = each_of (IsOver plan.answers file path) places
         (λ k lt. record { bytes = same_bytes k lt ∙ bytes; image = same k no_job lt ∙ image }) in

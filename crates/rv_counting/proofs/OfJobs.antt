@@ -15,12 +15,12 @@ use Rattle.rv_count_tables.specs.declared.table.FunctionName.{FunctionName}
 use Rattle.rv_count_tables.specs.declared.table.ImageCounts.{ImageCounts}
 use Rattle.rv_count_tables.specs.declared.sum.SumError.TheVariants.{Names}
 use Rattle.rv_count_tables.specs.Sum.{HasName, HasNameIn, HaveNoSum, IsSumOfTables, no_counts}
-use Rattle.rv_count_tables.specs.Table.{name_at, truncated_name, min_text, min_text_of, digests_increase_from, functions_increase_from, AreValidNames, AreNamesOf, AreValidNodes, IsValidImage, IsTable}
+use Rattle.rv_count_tables.specs.Table.{name_at, truncated_name, min_text, min_text_of, digests_increase_from, functions_increase_from, AreValidNames, AreNamesOf, AreValidNodes, IsValidImage, IsValidTable}
 use Rattle.rv_trace.specs.declared_answers.PathResult.{PathResult}
 use Rattle.rv_trace.specs.declared_job.Job.{Job}
 use Rattle.rv_trace.specs.State.{State}
 use Rattle.rv_fleet.specs.declared_row.Refusal.{Refusal}
-use Rattle.rv_trace.specs.Rows.{start_in}
+use Rattle.rv_trace.specs.Rows.{start_state_in}
 use Rattle.rv_counting.specs.Coverage.{executed_in_run, taken_in_run}
 use Rattle.rv_counting.specs.JobTables.{has_digest, start_state_of_image, executed_from, taken_from, executed_by, taken_by, path_by, runs_by, first_path, table_of_runs, HasNoStacks, IsTableOfFew, IsTableOfJobs}
 use Rattle.rv_trace.specs.Trace.{image_bytes}
@@ -43,13 +43,13 @@ pub one_rises : (i : ImageCounts) → digests_increase_from None (i ∷ []) ≡ 
 unfolding digests_increase_from
 one_rises i = refl
 
-pub no_counts_is_table : IsTable no_counts
+pub no_counts_is_table : IsValidTable no_counts
 no_counts_is_table = record { images = tt; rising = none_rise; few = omega arith; runs = omega arith }
 
 -- the table of one image, in some runs
 pub one_image_is_table : (i : ImageCounts) (runs : ℕ) (t : CountTable) → t ≡ record { images = i ∷ []; runs = runs } → runs < 2 ^ 64
-    → IsValidImage i → IsTable t
-one_image_is_table i runs t is few h = subst IsTable (sym is) (
+    → IsValidImage i → IsValidTable t
+one_image_is_table i runs t is few h = subst IsValidTable (sym is) (
     record {
       images = (h, tt);
       rising = one_rises i;
@@ -182,11 +182,11 @@ picked_path true path s = refl
 picked_path false path s = refl
 
 module _ (answers : List PathResult) (job : Job) where
-  pub not_over : (digest : List ℕ) → result_ok (start_in answers job) ≡ None → start_state_of_image answers digest job ≡ None
+  pub not_over : (digest : List ℕ) → result_ok (start_state_in answers job) ≡ None → start_state_of_image answers digest job ≡ None
   unfolding start_state_of_image
-  not_over digest none = picked_none (has_digest digest (image_bytes answers job)) (result_ok (start_in answers job)) none
+  not_over digest none = picked_none (has_digest digest (image_bytes answers job)) (result_ok (start_state_in answers job)) none
 
-  pub over : (digest file : List ℕ) (s : State) → image_bytes answers job ≡ Some file → start_in answers job ≡ Ok s
+  pub over : (digest file : List ℕ) (s : State) → image_bytes answers job ≡ Some file → start_state_in answers job ≡ Ok s
       → start_state_of_image answers digest job ≡ cond (bytes_eq (sha256 file) digest) (Some s) None
   unfolding start_state_of_image
   over digest file s bytes start = λ i. cond (has_digest digest (bytes i)) (result_ok (start i)) None

@@ -13,7 +13,7 @@ use Rattle.rv_trace.specs.Jobs.{single_job}
 use Rattle.rv_trace.specs.Plans.{PlanView}
 use Rattle.rv_trace.specs.State.{State}
 use Rattle.rv_fleet.specs.declared_row.Refusal.{Refusal}
-use Rattle.rv_trace.specs.Rows.{start_in}
+use Rattle.rv_trace.specs.Rows.{start_state_in}
 use Rattle.rv_trace.specs.Trace.{job_at}
 use Rattle.rv_counting.proofs.Evens.{few_begin, none_at_odd}
 use Rattle.rv_counting.proofs.OfJobs.{none_if_no_ok}
@@ -37,16 +37,16 @@ adds_none budget start c h none = subst (λ (o : Option State). AddsRun budget o
     )
 
 -- a refused job has no run
-pub refused_job : (answers : List PathResult) (job : Job) (c : RunsCounter) → CanCountRuns c → ((s : State) → start_in answers job ≡ Ok s → ⊥)
+pub refused_job : (answers : List PathResult) (job : Job) (c : RunsCounter) → CanCountRuns c → ((s : State) → start_state_in answers job ≡ Ok s → ⊥)
     → AddsJob answers job c c
 refused_job answers job c h none =
-    adds_none job.budget (result_ok (start_in answers job)) c h (none_if_no_ok (start_in answers job) none)
+    adds_none job.budget (result_ok (start_state_in answers job)) c h (none_if_no_ok (start_state_in answers job) none)
 
-pub refused_as : (answers : List PathResult) (job : Job) (why : Refusal) (c : RunsCounter) → CanCountRuns c → start_in answers job ≡ Err why
+pub refused_as : (answers : List PathResult) (job : Job) (why : Refusal) (c : RunsCounter) → CanCountRuns c → start_state_in answers job ≡ Err why
     → AddsJob answers job c c
-refused_as answers job why c h is = adds_none job.budget (result_ok (start_in answers job)) c h (ap result_ok is)
+refused_as answers job why c h is = adds_none job.budget (result_ok (start_state_in answers job)) c h (ap result_ok is)
 
-pub ran_job : (answers : List PathResult) (job : Job) (s : State) (old new : RunsCounter) → start_in answers job ≡ Ok s
+pub ran_job : (answers : List PathResult) (job : Job) (s : State) (old new : RunsCounter) → start_state_in answers job ≡ Ok s
     → AddsRun job.budget (Some s) old new → AddsJob answers job old new
 ran_job answers job s old new start adds =
     subst (λ (r : Result State Refusal). AddsRun job.budget (result_ok r) old new) (sym start) adds
@@ -87,7 +87,7 @@ one_job_more answers js j old new h adds = record {
   ready = adds.ready;
   runs = (let a = adds.runs in
       let r = h.runs in
-      let o = ok_is_some (start_in answers j) in
+      let o = ok_is_some (start_state_in answers j) in
       let e = sum_by_push (runs_by answers) js j in
       omega (arith, a, r, o, e));
   begun = λ at.
@@ -121,16 +121,16 @@ at_most_one (Err why) = omega arith
 pub few_runs : (answers : List PathResult) (js : List Job) → sum_by (runs_by answers) js ≤ length js
 few_runs answers [] = omega arith
 few_runs answers (j ∷ js) =
-    let first = at_most_one (start_in answers j) in
+    let first = at_most_one (start_state_in answers j) in
     let rest = few_runs answers js in
     omega (arith, first, rest, sum_by-cons (runs_by answers) j js)
 
 -- no run executes an instruction at an odd address
 module _ (answers : List PathResult) (at : ℕ) (odd : at % 2 ≡ 1) where
   none_of_job : (j : Job) → executed_of answers at j ≡ 0
-  none_of_job j = by (start_in answers j) refl
+  none_of_job j = by (start_state_in answers j) refl
     where
-      by : (r : Result State Refusal) → start_in answers j ≡ r → executed_from at j.budget (result_ok r) ≡ 0
+      by : (r : Result State Refusal) → start_state_in answers j ≡ r → executed_from at j.budget (result_ok r) ≡ 0
       by (Ok s) start = none_at_odd j.budget at s (start_even j s answers start) odd
       by (Err why) start = refl
 

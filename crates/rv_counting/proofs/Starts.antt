@@ -17,7 +17,7 @@ use Rattle.rv_trace.specs.State.{State}
 use Rattle.rv_trace.specs.declared_outcome.LoadableImage.{LoadableImage}
 use Rattle.rv_fleet.specs.declared_row.Refusal.{Refusal}
 use Rattle.rv_trace.specs.Outcome.{image_file_or_refusal, loadable_image, loaded_state, range_if_requested, reference_or_refusal, start_if_loadable, start_if_readable, range_start}
-use Rattle.rv_trace.specs.Rows.{content_if_read, start_in}
+use Rattle.rv_trace.specs.Rows.{content_if_read, start_state_in}
 use Rattle.rv_trace.specs.Trace.{image_bytes}
 
 -- the bytes of the image were read, and the run begins at its entry
@@ -76,21 +76,21 @@ module _ (job : Job) (s : State) where
   started_of kept.Unreadable reference console e = cc
   started_of kept.TooLong reference console e = cc
 
-  pub started : (answers : List PathResult) → start_in answers job ≡ Ok s → IsStart job (image_bytes answers job) s
+  pub started : (answers : List PathResult) → start_state_in answers job ≡ Ok s → IsStart job (image_bytes answers job) s
   started answers e = started_of (result_or_unreadable answers job.image) (option_map (result_or_unreadable answers) job.expect_signature)
       (option_map (result_or_unreadable answers) (console_path job.expect_console)) e
 
-  pub start_even : (answers : List PathResult) → start_in answers job ≡ Ok s → s.pc % 2 ≡ 0
+  pub start_even : (answers : List PathResult) → start_state_in answers job ≡ Ok s → s.pc % 2 ≡ 0
   start_even answers e =
       let start = started answers e in
       ap (λ (n : ℕ). n % 2) start.entry ∙ entry_even job.isa start.file start.image start.read
 
   -- a job without an image has no run
-  pub no_bytes : (answers : List PathResult) → image_bytes answers job ≡ None → start_in answers job ≡ Ok s → ⊥
+  pub no_bytes : (answers : List PathResult) → image_bytes answers job ≡ None → start_state_in answers job ≡ Ok s → ⊥
   no_bytes answers none e = let there = (started answers e).there in cc
 
   pub no_image : (answers : List PathResult) (file : List ℕ) → image_bytes answers job ≡ Some file
-      → result_ok (image_of job.isa file) ≡ None → start_in answers job ≡ Ok s → ⊥
+      → result_ok (image_of job.isa file) ≡ None → start_state_in answers job ≡ Ok s → ⊥
   no_image answers file bytes none e =
       let start = started answers e in
       let there = start.there in

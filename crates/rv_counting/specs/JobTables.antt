@@ -8,13 +8,13 @@ use Rattle.sha2.specs.Sha256.{sha256}
 use Rattle.rv_count_tables.specs.declared.table.AddressCounts.{AddressCounts}
 use Rattle.rv_count_tables.specs.declared.table.CountTable.{CountTable}
 use Rattle.rv_count_tables.specs.Sum.{IsSumOfTables}
-use Rattle.rv_count_tables.specs.Table.{executed_in, taken_in, next_path, truncated_name, arrivals_in, steps_in, min_text_of, IsTable}
+use Rattle.rv_count_tables.specs.Table.{executed_in, taken_in, next_path, truncated_name, arrivals_in, steps_in, min_text_of, IsValidTable}
 use Rattle.rv_trace.specs.declared_answers.PathResult.{PathResult}
 use Rattle.rv_trace.specs.declared_job.Job.{Job}
 use Rattle.rv_trace.specs.Jobs.{single_job}
 use Rattle.rv_trace.specs.Plans.{PlanView}
 use Rattle.rv_trace.specs.State.{State}
-use Rattle.rv_trace.specs.Rows.{start_in}
+use Rattle.rv_trace.specs.Rows.{start_state_in}
 use Rattle.rv_count_tables.specs.Printable.{printable_text}
 use Rattle.rv_trace.specs.Trace.{image_bytes}
 use Rattle.rv_counting.specs.Coverage.{address_if, executed_in_run, taken_in_run}
@@ -27,7 +27,7 @@ has_digest digest (Some bytes) = bytes_eq (sha256 bytes) digest
 -- the state in which a job's run begins, or `None` if the job is refused or its image does not have this digest
 unfoldable pub start_state_of_image : List PathResult → List ℕ → Job → Option State
 start_state_of_image answers digest job =
-    if has_digest digest (image_bytes answers job) then result_ok (start_in answers job) else None
+    if has_digest digest (image_bytes answers job) then result_ok (start_state_in answers job) else None
 
 -- how often a run from this state executes the instruction at an address, within a budget of `n` steps; 0 if there is no state
 abbrev pub executed_from : ℕ → ℕ → Option State → ℕ
@@ -53,7 +53,7 @@ path_by answers digest job = option_map (λ s. printable_text job.image) (start_
 
 -- 1 for a job that runs, 0 for a refused one
 abbrev pub runs_by : List PathResult → Job → ℕ
-runs_by answers job = address_if (is_ok (start_in answers job))
+runs_by answers job = address_if (is_ok (start_state_in answers job))
 
 -- the first path in byte order by which the jobs that run the image with this digest name it, or `None` if none runs it
 abbrev pub first_path : List PathResult → List ℕ → List Job → Option (List ℕ)
@@ -81,7 +81,7 @@ pub record HasNoStacks (t : CountTable) : Type 0 where
 
 -- `t` is the table of the jobs: each of its numbers is the sum of the jobs' numbers
 pub record IsTableOfJobs (answers : List PathResult) (jobs : List Job) (t : CountTable) : Type 0 where
-  pub table : IsTable t
+  pub table : IsValidTable t
   pub begun : (digest : List ℕ) (address : ℕ)
       → executed_in digest address t.images ≡ sum_by (executed_by answers digest address) jobs
   pub taken : (digest : List ℕ) (address : ℕ)

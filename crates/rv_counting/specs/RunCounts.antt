@@ -6,7 +6,7 @@ use Rattle.rv_count_tables.specs.Table.{executed_at, taken_at}
 use Rattle.rv_trace.specs.declared_answers.PathResult.{PathResult}
 use Rattle.rv_trace.specs.declared_job.Job.{Job}
 use Rattle.rv_trace.specs.State.{State}
-use Rattle.rv_trace.specs.Rows.{start_in}
+use Rattle.rv_trace.specs.Rows.{start_state_in}
 use Rattle.rv_counting.specs.declared.runs_counter.RunsCounter.{RunsCounter}
 use Rattle.rv_counting.specs.Blocks.{HasAllEntries}
 use Rattle.rv_counting.specs.Counters.{counts_of}
@@ -31,15 +31,15 @@ pub record AddsRun (budget : ℕ) (start : Option State) (old new : RunsCounter)
 
 -- the run of a job was counted in addition to the others, unless the job is refused
 abbrev pub AddsJob : List PathResult → Job → RunsCounter → RunsCounter → Type 0
-AddsJob answers job old new = AddsRun job.budget (result_ok (start_in answers job)) old new
+AddsJob answers job old new = AddsRun job.budget (result_ok (start_state_in answers job)) old new
 
 -- how often a job's run executes the instruction at an address; 0 if the job is refused
 abbrev pub executed_of : List PathResult → ℕ → Job → ℕ
-executed_of answers at job = executed_from at job.budget (result_ok (start_in answers job))
+executed_of answers at job = executed_from at job.budget (result_ok (start_state_in answers job))
 
 -- how often a job's run takes the branch at an address; 0 if the job is refused
 abbrev pub taken_of : List PathResult → ℕ → Job → ℕ
-taken_of answers at job = taken_from at job.budget (result_ok (start_in answers job))
+taken_of answers at job = taken_from at job.budget (result_ok (start_state_in answers job))
 
 -- the counter has the counts of the runs of these jobs, and can count another run
 pub record HasCountedJobs (answers : List PathResult) (jobs : List Job) (c : RunsCounter) : Type 0 where

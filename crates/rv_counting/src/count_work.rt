@@ -1,7 +1,7 @@
 //! The tables of the pieces of a batch.
 
 ghost use Rattle.std.specs.Prelude.{◌≡◌};
-ghost use Rattle.rv_count_tables.specs.Table.{IsTable};
+ghost use Rattle.rv_count_tables.specs.Table.{IsValidTable};
 ghost use Rattle.rv_counting.specs.BatchRanges.{AreIndexRanges};
 
 use crate::index_ranges::IndexRange;
@@ -19,20 +19,20 @@ pub struct JobsTable {
 }
 
 impl Model for JobsTable {
-    ghost use Rattle.rv_count_tables.specs.Table.{IsTable};
+    ghost use Rattle.rv_count_tables.specs.Table.{IsValidTable};
     ghost use Rattle.rv_count_tables.specs.declared.table.CountTable.{CountTable as Counted};
 
     ghost Value = { Counted };
 
     ghost view = { λ s. s.table };
 
-    ghost invariant = { λ s. IsTable s.table };
+    ghost invariant = { λ s. IsValidTable s.table };
 }
 
 impl JobsTable {
     /// Returns the result of a job that has this table of counts.
     pub fn new(table: CountTable) -> JobsTable
-        requires { IsTable table }
+        requires { IsValidTable table }
         ensures { result ≡ table }
     {
         JobsTable { table }

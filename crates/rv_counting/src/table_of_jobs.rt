@@ -7,7 +7,7 @@ ghost use Rattle.sha2.specs.Sha256.{sha256};
 ghost use Rattle.rv_count_tables.specs.declared.table.AddressCounts.{AddressCounts};
 ghost use Rattle.rv_count_tables.specs.Lines.{lacks};
 ghost use Rattle.rv_count_tables.specs.Sum.{no_counts};
-ghost use Rattle.rv_count_tables.specs.Table.{executed_at, IsTable};
+ghost use Rattle.rv_count_tables.specs.Table.{executed_at, IsValidTable};
 ghost use Rattle.rv_fleet.specs.Choices.{AreJobIndices};
 ghost use Rattle.rv_trace.specs.declared_job.Job.{Job as AJob};
 ghost use Rattle.rv_count_tables.specs.Limits.{max_jobs};
@@ -105,7 +105,7 @@ fn table_of_runs(
     requires few { counter.runs ≤ max_jobs }
     ensures value { IfOk result (λ table. (addresses : List AddressCounts) × IsSorted (counts_of counter.counter) addresses
         × (table ≡ table_of_runs counter.runs path.now bytes.now addresses)) }
-    ensures table { IfOk result IsTable }
+    ensures table { IfOk result IsValidTable }
 {
     let RunsCounter { counter, runs } = counter;
     let addresses = counter.tally.into_addresses();

@@ -13,7 +13,7 @@ use std::marker::Model;
 /// A result that has a table of counts.
 pub trait HasProgramHeaders {
     ghost use Rattle.std.specs.Prelude.{◌≡◌};
-    ghost use Rattle.rv_count_tables.specs.Table.{IsTable};
+    ghost use Rattle.rv_count_tables.specs.Table.{IsValidTable};
     ghost use Rattle.rv_count_tables.specs.declared.table.CountTable.{CountTable as Counted};
 
     ghost table: { Self → Counted };
@@ -21,7 +21,7 @@ pub trait HasProgramHeaders {
     // Returns the table of counts.
     fn table(&self) -> &CountTable
         ensures value { result.now ≡ table self.now }
-        ensures sound { IsTable (table self.now) };
+        ensures sound { IsValidTable (table self.now) };
 }
 
 /// A listener that adds the tables of the results which it receives, up to the first that has no sum with those before it.
@@ -33,14 +33,14 @@ pub struct TableSum {
 }
 
 impl Model for TableSum {
-    ghost use Rattle.rv_count_tables.specs.Table.{IsTable};
+    ghost use Rattle.rv_count_tables.specs.Table.{IsValidTable};
     ghost use Rattle.rv_counting.specs.TableSums.{TableSumView};
 
     ghost Value = { TableSumView };
 
     ghost view = { λ s. record { sum = s.sum; failed = s.failed } };
 
-    ghost invariant = { λ s. IsTable s.sum };
+    ghost invariant = { λ s. IsValidTable s.sum };
 }
 
 impl TableSum {

@@ -3,7 +3,7 @@ use Rattle.std.proofs.Common.{◌≡◌, ◌==◌, ◌+◌, ◌<◌, ◌≤◌, 
 use Rattle.std.specs.List.{AllByRecursion, list_any}
 use Rattle.std.proofs.lemmas.Bool.Decides.{nat_tests}
 use Rattle.rv_count_tables.specs.declared.table.AddressCounts.{AddressCounts}
-use Rattle.rv_count_tables.specs.Table.{AreValidCounts, IsCounted, executed_at}
+use Rattle.rv_count_tables.specs.Table.{AreValidCounts, IsValidCount, executed_at}
 use Rattle.rv_elf.specs.Functions.{FunctionView}
 use Rattle.rv_cover_view.specs.Cover.{WasNotExecuted, has_run, never_run}
 use Rattle.rv_cover_view.specs.Functions.{address_of, bytes_of}
@@ -30,7 +30,7 @@ none_first : (from behind at begun rest : ℕ) (any : Bool) → 0 < begun → an
     → (from ≤ at → at < behind → cond (at == at) begun 0 + rest ≡ 0) → (leb from at && ltb at behind) || any ≡ false
 none_first from behind at begun rest any l e h = grind (arith, nat_tests)
 
-pub none_within : (from behind : ℕ) (cs : List AddressCounts) → AllByRecursion IsCounted cs
+pub none_within : (from behind : ℕ) (cs : List AddressCounts) → AllByRecursion IsValidCount cs
     → ((address : ℕ) → from ≤ address → address < behind → executed_at address cs ≡ 0) → list_any (is_within from behind) cs ≡ false
 none_within from behind [] each h = refl
 none_within from behind (c ∷ cs) each h =

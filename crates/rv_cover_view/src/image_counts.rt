@@ -4,7 +4,7 @@ ghost use Rattle.std.specs.Prelude.{◌≡◌, IfOk, option_map, true};
 ghost use Rattle.std.specs.List.{list_any};
 ghost use Rattle.std.specs.Str.{bytes_eq};
 ghost use Rattle.sha2.specs.Sha256.{sha256};
-ghost use Rattle.rv_count_tables.specs.Table.{IsTable, increase_from};
+ghost use Rattle.rv_count_tables.specs.Table.{IsValidTable, increase_from};
 ghost use Rattle.rv_cover_view.specs.ImageCounts.{entry_of_image, counts_of, is_of_digest, is_other_image, other_image};
 ghost use Rattle.rv_cover_view.specs.JobImages.{image_of_file, images_of_files};
 
@@ -67,7 +67,7 @@ fn has_path(table: &CountTable, path: &[u8]) -> bool
 
 /// Returns a table's counts of the image with these bytes, which the digest identifies, or no counts if it does not have the image.
 pub(crate) fn counts_of<'t>(table: &'t CountTable, bytes: &[u8]) -> &'t [AddressCounts]
-    requires { IsTable table.now }
+    requires { IsValidTable table.now }
     ensures counts { result.now ≡ counts_of table.now bytes.now }
     ensures rising { increase_from 0 result.now ≡ true }
 {

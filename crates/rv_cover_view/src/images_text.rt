@@ -1,7 +1,7 @@
 //! The coverage report of images, from a table's counts.
 
 ghost use Rattle.std.specs.Prelude.{◌≡◌, ◌++◌, IfOk, List, OnOk, ℕ};
-ghost use Rattle.rv_count_tables.specs.Table.{IsTable};
+ghost use Rattle.rv_count_tables.specs.Table.{IsValidTable};
 ghost use Rattle.rv_cover_view.specs.ImagesText.{IsCoverText, IsImageCoverText, header_text, image_text};
 ghost use Rattle.rv_cover_view.specs.JobImages.{image_of_file, images_of_files};
 
@@ -20,7 +20,7 @@ pub fn cover_text(
     table: &CountTable,
     images: &[ImageFile<'_>],
 ) -> Result<Vec<u8>, AllocError>
-    requires { IsTable table.now }
+    requires { IsValidTable table.now }
     ensures { IfOk result (λ text. IsCoverText csv table.now (images_of_files images.now) text.items) }
 {
     let mut text = Vec::new(alloc);
@@ -50,7 +50,7 @@ fn push_image(
     table: &CountTable,
     image: &ImageFile<'_>,
 ) -> Result<(), AllocError>
-    requires { IsTable table.now }
+    requires { IsValidTable table.now }
     ensures { OnOk result ((shown : List ℕ) × (IsImageCoverText csv table.now (image_of_file image.now) shown
         × (text.new.items ≡ text.old.items ++ shown))) }
 {

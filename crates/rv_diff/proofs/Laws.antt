@@ -7,7 +7,7 @@ use Rattle.std.proofs.lemmas.List.Sums.{sum_by-cons}
 use Rattle.rv_rows.specs.declared_row.Row.{Row}
 use Rattle.rv_rows.specs.Report.{line}
 use Rattle.rv_rows.specs.Verdict.{are_same_signatures}
-use Rattle.rv_diff.specs.declared.change.Compare.{Compare}
+use Rattle.rv_diff.specs.declared.change.CompareMode.{CompareMode}
 use Rattle.rv_diff.specs.Change.{rows_agree, have_same_console, are_same_endings, agree_in_steps, are_same_verdicts}
 use Rattle.rv_diff.specs.RowsByName.{row_named}
 use Rattle.rv_diff.specs.Diff.{difference_lines, difference_counts, differing_count, gone_line, is_changed, changes_of_row}
@@ -26,7 +26,7 @@ change_due : (name : List ℕ) (same : Bool) (words : List ℕ) → (length (cha
 change_due name true words = refl
 change_due name false words = ne_eqb (length (line (change_prefix name ++ words))) 0 (omega arith)
 
-pub agree_where_none : (compare : Compare) (old new : Row) →
+pub agree_where_none : (compare : CompareMode) (old new : Row) →
     (length (change_lines compare old new) == 0) ≡ rows_agree compare old new
 unfolding change_lines rows_agree
 agree_where_none compare old new =
@@ -77,13 +77,13 @@ changed_due : (agree : Bool) → agree ≡ (0 + cond (not agree) 1 0 == 0)
 changed_due true = refl
 changed_due false = refl
 
-new_due : (compare : Compare) (other : Option Row) (row : Row) →
+new_due : (compare : CompareMode) (other : Option Row) (row : Row) →
     (length (changes_of_row compare other row) == 0)
     ≡ (cond (is_none other) 1 0 + cond (is_changed compare other row) 1 0 == 0)
 new_due compare None row = ne_eqb (length (changes_of_row compare None row)) 0 (omega arith)
 new_due compare (Some old) row = agree_where_none compare old row ∙ changed_due (rows_agree compare old row)
 
-pub differ_where_due : (compare : Compare) (old new : List Row) →
+pub differ_where_due : (compare : CompareMode) (old new : List Row) →
     (length (difference_lines compare old new) == 0) ≡ (differing_count (difference_counts compare old new) == 0)
 differ_where_due compare old new =
     let gone : Row → ℕ = λ row. cond (is_none (row_named new row.name)) 1 0 in

@@ -8,8 +8,8 @@ use Rattle.rv_rows.specs.declared_row.Verdict.{Verdict}
 use Rattle.rv_rows.specs.Report.{refusal_name, verdict_name}
 use Rattle.rv_rows.specs.Verdict.{are_alike_endings, are_same_signatures}
 use Rattle.rv_diff.specs.declared.change.Change.{Change}
-use Rattle.rv_diff.specs.declared.change.Compare.{Compare}
-use Rattle.rv_diff.specs.declared.change.Compare.TheVariants.{Outcomes, Slower, Steps}
+use Rattle.rv_diff.specs.declared.change.CompareMode.{CompareMode}
+use Rattle.rv_diff.specs.declared.change.CompareMode.TheVariants.{Outcomes, Slower, Steps}
 use Rattle.rv_diff.specs.declared.change.Change.TheVariants.{Gone, Added, Changed, Same}
 
 -- ---- which rows differ
@@ -26,7 +26,7 @@ agree_in_fault_pc_and_value (ending.Fault kind pc value) (ending.Fault other at 
 agree_in_fault_pc_and_value old new = true
 
 -- whether two endings are equal, as far as `compare` compares them: the addresses and values of faults are compared only if steps are
-abbrev pub are_same_endings : Compare → RowEnd → RowEnd → Bool
+abbrev pub are_same_endings : CompareMode → RowEnd → RowEnd → Bool
 are_same_endings Outcomes old new = are_same_end_kinds old new
 are_same_endings (Slower percent) old new = are_same_end_kinds old new
 are_same_endings Steps old new = are_same_end_kinds old new && agree_in_fault_pc_and_value old new
@@ -36,7 +36,7 @@ abbrev pub is_slower : ℕ → ℕ → ℕ → Bool
 is_slower percent old new = nat_lt (old * percent) ((new - old) * 100)
 
 -- whether two rows agree in their steps, as far as `compare` compares steps
-abbrev pub agree_in_steps : Compare → Row → Row → Bool
+abbrev pub agree_in_steps : CompareMode → Row → Row → Bool
 agree_in_steps Outcomes old new = true
 agree_in_steps Steps old new = old.steps == new.steps
 agree_in_steps (Slower percent) old new = not (is_slower percent old.steps new.steps)
@@ -50,7 +50,7 @@ abbrev pub are_same_verdicts : Verdict → Verdict → Bool
 are_same_verdicts old new = bytes_eq (verdict_name old) (verdict_name new)
 
 -- whether two rows agree in everything that `compare` compares
-unfoldable pub rows_agree : Compare → Row → Row → Bool
+unfoldable pub rows_agree : CompareMode → Row → Row → Bool
 rows_agree compare old new = are_same_endings compare old.ending new.ending && agree_in_steps compare old new
     && have_same_console old new && are_same_signatures old.signature new.signature
     && are_same_verdicts old.verdict new.verdict
@@ -59,7 +59,7 @@ rows_agree compare old new = are_same_endings compare old.ending new.ending && a
 
 -- how a job changed, given its rows in the old and in the new report, which are `None` if the report does not have the job; a job in
 -- neither counts as unchanged
-abbrev pub change_of : Compare → Option Row → Option Row → Change
+abbrev pub change_of : CompareMode → Option Row → Option Row → Change
 change_of compare None None = Same
 change_of compare None (Some new) = Added
 change_of compare (Some old) None = Gone

@@ -8,8 +8,8 @@ use Rattle.rv_rows.specs.Report.{line}
 use Rattle.rv_rows.specs.Words.{count_text}
 use Rattle.rv_diff.specs.declared.diff.DifferenceCounts.{DifferenceCounts}
 use Rattle.rv_diff.specs.declared.diff.StepSums.{StepSums}
-use Rattle.rv_diff.specs.declared.change.Compare.{Compare}
-use Rattle.rv_diff.specs.declared.change.Compare.TheVariants.{Outcomes, Slower, Steps}
+use Rattle.rv_diff.specs.declared.change.CompareMode.{CompareMode}
+use Rattle.rv_diff.specs.declared.change.CompareMode.TheVariants.{Outcomes, Slower, Steps}
 use Rattle.rv_diff.specs.RowsByName.{row_named}
 use Rattle.rv_diff.specs.Change.{rows_agree}
 use Rattle.rv_diff.specs.Differences.{change_lines}
@@ -21,7 +21,7 @@ abbrev pub is_missing_from : List Row → Row → Bool
 is_missing_from others row = is_none (row_named others row.name)
 
 -- whether the old report has a row with the name of this new row, and the two do not agree
-abbrev pub is_changed : Compare → Option Row → Row → Bool
+abbrev pub is_changed : CompareMode → Option Row → Row → Bool
 is_changed compare None new = false
 is_changed compare (Some old) new = not (rows_agree compare old new)
 
@@ -31,7 +31,7 @@ gone_line None old = line (codes "- " ++ old.name)
 gone_line (Some new) old = []
 
 -- the lines for a row of the new report: `+ NAME` if the old report has no row with its name, or a line for each field that differs
-abbrev pub changes_of_row : Compare → Option Row → Row → List ℕ
+abbrev pub changes_of_row : CompareMode → Option Row → Row → List ℕ
 changes_of_row compare None new = line (codes "+ " ++ new.name)
 changes_of_row compare (Some old) new = change_lines compare old new
 
@@ -42,7 +42,7 @@ rows_in_both others rows = filter (λ row. not (is_missing_from others row)) row
 -- ---- how many jobs differ
 
 -- how many jobs are only in the old report, are only in the new report, and have rows that differ
-abbrev pub difference_counts : Compare → List Row → List Row → DifferenceCounts
+abbrev pub difference_counts : CompareMode → List Row → List Row → DifferenceCounts
 difference_counts compare old new = record {
   gone = count_by (is_missing_from new) old;
   added = count_by (is_missing_from old) new;
@@ -57,7 +57,7 @@ differing_count counts = counts.gone + counts.added + counts.changed
 
 -- the lines for all jobs that differ: first the jobs that are only in the old report, in its order; then the others, in the order of the
 -- new report
-abbrev pub difference_lines : Compare → List Row → List Row → List ℕ
+abbrev pub difference_lines : CompareMode → List Row → List Row → List ℕ
 difference_lines compare old new =
     flat_map (λ row. gone_line (row_named new row.name) row) old
     ++ flat_map (λ row. changes_of_row compare (row_named old row.name) row) new
@@ -81,7 +81,7 @@ abbrev pub total_steps : List Row → ℕ
 total_steps rows = sum_by (λ row. row.steps) rows
 
 -- the total steps of both reports if `compare` looks for slower jobs, or else `None`
-abbrev pub step_sums : Compare → List Row → List Row → Option StepSums
+abbrev pub step_sums : CompareMode → List Row → List Row → Option StepSums
 step_sums Outcomes old new = None
 step_sums Steps old new = None
 step_sums (Slower percent) old new = Some record { old = total_steps old; new = total_steps new }
@@ -102,7 +102,7 @@ count_line jobs counts left_out sums = line (differing_text (differing_count cou
 
 -- the output of `diff` for the rows of two reports: a line for each difference, and the line of counts; `left_out` is how many jobs were
 -- not compared, since one report is a part without them
-unfoldable pub diff_text : Compare → List Row → List Row → ℕ → List ℕ
+unfoldable pub diff_text : CompareMode → List Row → List Row → ℕ → List ℕ
 diff_text compare old new left_out = let counts = difference_counts compare old new in
     difference_lines compare old new
     ++ count_line (length new + counts.gone) counts left_out (step_sums compare old new)

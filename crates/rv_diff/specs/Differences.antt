@@ -12,8 +12,8 @@ use Rattle.rv_rows.specs.declared_row.Verdict.{Verdict}
 use Rattle.rv_rows.specs.Report.{line, refusal_name, verdict_name}
 use Rattle.rv_rows.specs.Words.{count_text, exit_code_text, word_digits}
 use Rattle.rv_rows.specs.Verdict.{are_same_signatures}
-use Rattle.rv_diff.specs.declared.change.Compare.{Compare}
-use Rattle.rv_diff.specs.declared.change.Compare.TheVariants.{Outcomes, Slower, Steps}
+use Rattle.rv_diff.specs.declared.change.CompareMode.{CompareMode}
+use Rattle.rv_diff.specs.declared.change.CompareMode.TheVariants.{Outcomes, Slower, Steps}
 use Rattle.rv_diff.specs.Change.{have_same_console, are_same_endings, agree_in_steps, are_same_verdicts}
 
 -- ---- the words for a change
@@ -73,14 +73,14 @@ unfoldable pub signature_change_text : Option (List ℕ) → Option (List ℕ) �
 signature_change_text old new = codes "signature " ++ signature_difference_text old new
 
 -- the increase of the steps in percent of the old number, if `compare` looks for slower jobs and the old number is not 0; otherwise nothing
-abbrev pub percent_text : Compare → ℕ → ℕ → List ℕ
+abbrev pub percent_text : CompareMode → ℕ → ℕ → List ℕ
 percent_text Outcomes old new = []
 percent_text Steps old new = []
 percent_text (Slower percent) old new =
     if old == 0 then [] else codes " (+" ++ decimal ((new - old) * 100 / old) ++ codes " %)"
 
 -- the text for steps that changed from `old` to `new`
-abbrev pub steps_change_text : Compare → ℕ → ℕ → List ℕ
+abbrev pub steps_change_text : CompareMode → ℕ → ℕ → List ℕ
 steps_change_text compare old new =
     codes "steps " ++ becomes (decimal old) (decimal new) ++ percent_text compare old new
 
@@ -99,7 +99,7 @@ abbrev pub change_line : List ℕ → Bool → List ℕ → List ℕ
 change_line name same words = if same then [] else line (change_prefix name ++ words)
 
 -- a line for each field in which two rows differ: the ending, the steps, the console, the signature, the verdict
-unfoldable pub change_lines : Compare → Row → Row → List ℕ
+unfoldable pub change_lines : CompareMode → Row → Row → List ℕ
 change_lines compare old new =
     change_line new.name (are_same_endings compare old.ending new.ending)
     (becomes (ending_text old.ending) (ending_text new.ending))

@@ -21,7 +21,7 @@ pub enum Change {
 
 /// What is compared in the two rows of a job.
 #[derive(Clone, Copy)]
-pub enum Compare {
+pub enum CompareMode {
     /// How they ended, and their consoles, signatures and verdicts.
     Outcomes,
     /// Also the steps, and the addresses and values of faults.
@@ -31,7 +31,7 @@ pub enum Compare {
 }
 
 /// Returns how a job changed, given its rows in the old and in the new report, which are `None` if the report does not have the job.
-pub fn change_of(compare: Compare, old: Option<&Row>, new: Option<&Row>) -> Change
+pub fn change_of(compare: CompareMode, old: Option<&Row>, new: Option<&Row>) -> Change
     ensures { result ≡ change_of compare (option_map (λ row. row.now) old.entry)
         (option_map (λ row. row.now) new.entry) }
 {
@@ -45,7 +45,7 @@ pub fn change_of(compare: Compare, old: Option<&Row>, new: Option<&Row>) -> Chan
 
 // Whether two rows agree in everything that is compared.
 #[tactic(auto, unfolding(crate::specs::Change::rows_agree))]
-fn rows_agree(compare: Compare, old: &Row, new: &Row) -> bool
+fn rows_agree(compare: CompareMode, old: &Row, new: &Row) -> bool
     ensures { result ≡ rows_agree compare old.now new.now }
 {
     are_same_endings(compare, old.ending, new.ending)
@@ -57,12 +57,12 @@ fn rows_agree(compare: Compare, old: &Row, new: &Row) -> bool
 
 /// Whether two endings are equal, as far as `compare` compares them: two equal exit codes, two faults of one kind, two used budgets, or two
 /// equal refusals. The addresses and values of faults are compared only if steps are.
-pub fn are_same_endings(compare: Compare, old: RowEnd, new: RowEnd) -> bool
+pub fn are_same_endings(compare: CompareMode, old: RowEnd, new: RowEnd) -> bool
     ensures { result ≡ are_same_endings compare old new }
 {
     match compare {
-        Compare::Outcomes | Compare::Slower(_) => are_same_end_kinds(old, new),
-        Compare::Steps => are_same_end_kinds(old, new) && agree_in_fault_pc_and_value(old, new),
+        CompareMode::Outcomes | CompareMode::Slower(_) => are_same_end_kinds(old, new),
+        CompareMode::Steps => are_same_end_kinds(old, new) && agree_in_fault_pc_and_value(old, new),
     }
 }
 
@@ -87,13 +87,13 @@ fn agree_in_fault_pc_and_value(old: RowEnd, new: RowEnd) -> bool
 }
 
 /// Whether the steps of two rows are equal, if `compare` compares steps, or the new row is not slower, if it compares that; true otherwise.
-pub fn agree_in_steps(compare: Compare, old: &Row, new: &Row) -> bool
+pub fn agree_in_steps(compare: CompareMode, old: &Row, new: &Row) -> bool
     ensures { result ≡ agree_in_steps compare old.now new.now }
 {
     match compare {
-        Compare::Outcomes => true,
-        Compare::Steps => old.steps == new.steps,
-        Compare::Slower(percent) => !is_slower(percent, old.steps, new.steps),
+        CompareMode::Outcomes => true,
+        CompareMode::Steps => old.steps == new.steps,
+        CompareMode::Slower(percent) => !is_slower(percent, old.steps, new.steps),
     }
 }
 

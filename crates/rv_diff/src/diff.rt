@@ -9,7 +9,7 @@ ghost use Rattle.rv_diff.specs.Diff.{change_counts_text, changes_of_row, differ_
 ghost use Rattle.rv_diff.specs.Diff.{rows_in_both, sums_text, total_steps};
 
 use crate::by_name::RowsByName;
-use crate::change::{Change, Compare, change_of};
+use crate::change::{Change, CompareMode, change_of};
 use crate::differences::push_change_lines;
 use rv_rows::{Row, Span, push_spans, push_text};
 use std::alloc::{AllocError, Global};
@@ -58,7 +58,7 @@ pub struct StepSums {
 pub fn push_diff(
     alloc: Global,
     text: &mut Vec<u8>,
-    compare: Compare,
+    compare: CompareMode,
     compared: ComparedReports<'_>,
 ) -> Result<DifferenceCounts, AllocError>
     requires old { length compared.old.now < 2 ^ 32 }
@@ -92,14 +92,14 @@ pub fn rows_in_both(alloc: Global, rows: Vec<Row>, others: &[Row]) -> Result<Vec
 }
 
 // Returns the total steps of both reports if `compare` looks for slower jobs, or else `None`.
-fn step_sums(compare: Compare, old: &[Row], new: &[Row]) -> Option<StepSums>
+fn step_sums(compare: CompareMode, old: &[Row], new: &[Row]) -> Option<StepSums>
     requires old { length old.now < 2 ^ 32 }
     requires new { length new.now < 2 ^ 32 }
     ensures { result ≡ step_sums compare old.now new.now }
 {
     match compare {
-        Compare::Outcomes | Compare::Steps => None,
-        Compare::Slower(_) => Some(StepSums {
+        CompareMode::Outcomes | CompareMode::Steps => None,
+        CompareMode::Slower(_) => Some(StepSums {
             old: total_steps(old),
             new: total_steps(new),
         }),
@@ -118,7 +118,7 @@ fn total_steps(rows: &[Row]) -> u64
 fn push_gone_lines(
     alloc: Global,
     text: &mut Vec<u8>,
-    compare: Compare,
+    compare: CompareMode,
     old: &[Row],
     new: &[Row],
 ) -> Result<usize, AllocError>
@@ -142,7 +142,7 @@ fn push_gone_lines(
 fn push_added_and_changed_lines(
     alloc: Global,
     text: &mut Vec<u8>,
-    compare: Compare,
+    compare: CompareMode,
     old: &[Row],
     new: &[Row],
 ) -> Result<(usize, usize), AllocError>
@@ -172,7 +172,7 @@ fn push_added_and_changed_lines(
 // differs.
 fn push_changes_of_row(
     text: &mut Vec<u8>,
-    compare: Compare,
+    compare: CompareMode,
     old: Option<&Row>,
     new: &Row,
 ) -> Result<(), AllocError>

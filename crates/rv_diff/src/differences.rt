@@ -6,7 +6,7 @@ ghost use Rattle.rv_diff.specs.Differences.{becomes, change_line, change_lines, 
 ghost use Rattle.rv_diff.specs.Differences.{ending_text, first_differing_index, percent_text, steps_change_text, verdict_change_text};
 
 use crate::change::{
-    Compare, agree_in_steps, are_same_endings, are_same_verdicts, have_same_console,
+    CompareMode, agree_in_steps, are_same_endings, are_same_verdicts, have_same_console,
 };
 use crate::signature_line::push_signature_change;
 use rv_rows::{Row, RowEnd, Span, push_spans, push_text, tail_from};
@@ -16,7 +16,7 @@ use std::alloc::AllocError;
 #[tactic(auto, unfolding(crate::specs::Differences::change_lines))]
 pub(crate) fn push_change_lines(
     text: &mut Vec<u8>,
-    compare: Compare,
+    compare: CompareMode,
     old: &Row,
     new: &Row,
 ) -> Result<(), AllocError>
@@ -33,7 +33,7 @@ pub(crate) fn push_change_lines(
 // Appends the line for the endings, if they differ.
 fn push_ending_change(
     text: &mut Vec<u8>,
-    compare: Compare,
+    compare: CompareMode,
     old: &Row,
     new: &Row,
 ) -> Result<(), AllocError>
@@ -94,7 +94,7 @@ fn push_ending<'a>(text: &mut Vec<u8>, ending: RowEnd, end: &'a str) -> Result<(
 // Appends the line for the steps, if they differ.
 fn push_steps_change(
     text: &mut Vec<u8>,
-    compare: Compare,
+    compare: CompareMode,
     old: &Row,
     new: &Row,
 ) -> Result<(), AllocError>
@@ -124,11 +124,11 @@ fn push_steps_change(
 
 // Appends the increase of the steps in percent of the old number, if `compare` looks for slower jobs and the old number is not 0; otherwise
 // nothing.
-fn push_percent(text: &mut Vec<u8>, compare: Compare, old: u32, new: u32) -> Result<(), AllocError>
+fn push_percent(text: &mut Vec<u8>, compare: CompareMode, old: u32, new: u32) -> Result<(), AllocError>
     ensures { OnOk result (text.new.items ≡ text.old.items ++ percent_text compare old new) }
 {
     match compare {
-        Compare::Slower(_) if old != 0 => {
+        CompareMode::Slower(_) if old != 0 => {
             let more = u64::from(new.saturating_sub(old)) * 100 / u64::from(old);
             push_spans(
                 text,

@@ -2,20 +2,20 @@
 
 ghost use Rattle.std.specs.Prelude.{◌≡◌, ◌==◌, List, length};
 ghost use Rattle.rv_rows.specs.declared_row.Row.{Row};
-ghost use Rattle.rv_diff.specs.declared.change.Compare.{Compare};
+ghost use Rattle.rv_diff.specs.declared.change.CompareMode.{CompareMode};
 ghost use Rattle.rv_diff.specs.Change.{rows_agree};
 ghost use Rattle.rv_diff.specs.Diff.{difference_lines, difference_counts, differing_count};
 ghost use Rattle.rv_diff.specs.Differences.{change_lines};
 
 /// Proves that `diff` prints a line for the old and the new row of a job if and only if they differ.
 pub fn rows_agree_iff_no_line()
-    ensures { (compare : Compare) (old new : Row)
+    ensures { (compare : CompareMode) (old new : Row)
         → (length (change_lines compare old new) == 0) ≡ rows_agree compare old new }
 {}
 
 /// Proves that `diff` prints a line of differences for two reports if and only if at least one job differs.
 pub fn jobs_differ_iff_some_line()
-    ensures { (compare : Compare) (old new : List Row)
+    ensures { (compare : CompareMode) (old new : List Row)
         → (length (difference_lines compare old new) == 0)
         ≡ (differing_count (difference_counts compare old new) == 0) }
 {}

@@ -89,7 +89,7 @@ impl<J: RunSpec<H>, H: Drop, L: Listener<H> + Drop> DeliveryState<J, H, L> {
     }
 
     /// Ends the run, unless it has ended already. Called after an allocation failed or a thread could not be started.
-    pub(crate) fn give_up(&mut self) {
+    pub(crate) fn abort(&mut self) {
         if self.ended.is_none() {
             self.ended = Some(End::Failed);
         }

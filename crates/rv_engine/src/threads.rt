@@ -26,7 +26,7 @@ pub(crate) trait Worker: Sync {
         requires pass { pass.draw ≡ claims.now };
 
     /// Makes the other workers stop after their current chunks.
-    fn give_up(&self);
+    fn abort(&self);
 }
 
 /// Runs as many threads as the crew has, or one per chunk if there are fewer chunks. Returns once all of them have ended.
@@ -56,12 +56,12 @@ pub(crate) fn run_workers<R: Threads + Wait, S: Worker>(
                     { worker.compute_chunks(claims, pass) },
                 ) else {
                     // The others need not continue.
-                    worker.give_up();
+                    worker.abort();
                     // No worker: `spawn` fails where the start of a thread was refused.
                     return Err(RunError::NoWorker);
                 };
                 let Ok(()) = handles.push(handle) else {
-                    worker.give_up();
+                    worker.abort();
                     // Out of memory: `push` fails by that alone.
                     return Err(RunError::OutOfMemory);
                 };

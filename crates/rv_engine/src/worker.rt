@@ -56,7 +56,7 @@ impl<
                     return Ok(());
                 },
                 Err(error) => {
-                    in_order.give_up();
+                    in_order.abort();
                     return Err(error);
                 }
             }
@@ -65,7 +65,7 @@ impl<
     }
 
     // Makes the other workers stop after their current chunks.
-    fn give_up(&self) {
-        self.in_order.lock(self.rt).give_up();
+    fn abort(&self) {
+        self.in_order.lock(self.rt).abort();
     }
 }

@@ -31,7 +31,7 @@ pub enum Judgement<'k> {
 
 impl<'k> Judge<'k> {
     /// Returns a judge that applies only this rule, without known failures.
-    pub fn by_rule(rule: Rule) -> Judge<'k>
+    pub fn with_rule(rule: Rule) -> Judge<'k>
         ensures { judge_view result ≡ judge_by_rule rule }
     {
         Judge { rule, known: None }

@@ -14,7 +14,7 @@ use Rattle.rv_rows.specs.declared_row.Row.{Row}
 use Rattle.rv_fleet.specs.declared.pieces.Pieces.{Pieces}
 use Rattle.rv_fleet.specs.declared.worker_promise.WorkerResult.{WorkerResult}
 use Rattle.rv_fleet.specs.Batches.{batch_rows}
-use Rattle.rv_fleet.specs.Collected.{IsIndexRange, AreIndexRanges}
+use Rattle.rv_fleet.specs.CollectedChunks.{IsIndexRange, AreIndexRanges}
 use Rattle.rv_engine.specs.Draws.{numbers}
 use Rattle.rv_engine.specs.Passes.{CounterView}
 use Rattle.rv_fleet.specs.Pieces.{piece_count, numbered_piece, piece_count_of_rows}

@@ -20,8 +20,8 @@ piece_for rows group k = record { number = k; rows = slice_chunk rows group k }
 -- ---- the chunks of a plan
 
 -- the number of chunks that the jobs of a plan are divided into, with `group` jobs each; the last chunk may have fewer
-abbrev pub pieces_of : PlanView → ℕ → ℕ
-pieces_of plan group = div_ceil (length plan.jobs) group
+abbrev pub piece_count_of_plan : PlanView → ℕ → ℕ
+piece_count_of_plan plan group = div_ceil (length plan.jobs) group
 
 -- the chunk with the number `k` of a plan's rows, with `group` rows in each chunk
 abbrev pub piece_at : PlanView → ℕ → ℕ → Piece

@@ -2,7 +2,7 @@
 
 ghost use Rattle.std.specs.Prelude.{◌≡◌, ◌<◌, IfOk, IfSome};
 ghost use Rattle.rv_fleet.specs.Batches.{batch_rows};
-ghost use Rattle.rv_fleet.specs.Collected.{AreIndexRanges, IsIndexRange, AreChunkSlots};
+ghost use Rattle.rv_fleet.specs.CollectedChunks.{AreIndexRanges, IsIndexRange, AreChunkSlots};
 ghost use Rattle.rv_fleet.specs.Pieces.{piece_count, piece_rows};
 ghost use Rattle.rv_fleet.specs.Promised.{AllKeepPromise};
 
@@ -16,7 +16,7 @@ use std::alloc::{AllocError, Global};
 
 /// The results of all workers.
 #[derive(Drop)]
-pub(crate) struct Collected {
+pub(crate) struct CollectedChunks {
     /// The rows of each chunk that was computed, in the slot with its number.
     pub(crate) slots: Vec<Option<Rows>>,
     /// All passes merged into one, if there are any.
@@ -30,7 +30,7 @@ pub(crate) fn collect_chunks(
     claims: &Claims,
     worked: Vec<WorkerResult>,
     pieces: &Pieces<'_>,
-) -> Result<Collected, AllocError>
+) -> Result<CollectedChunks, AllocError>
     requires pieces { claims.now.pieces ≡ piece_count pieces.now }
     requires worked { AllKeepPromise
         (batch_rows pieces.now.batch) pieces.now.group claims.now worked.items }
@@ -43,7 +43,7 @@ pub(crate) fn collect_chunks(
         store_chunks(&mut slots, pieces, made?);
         all = Some(join_passes(claims, all, pass));
     }
-    Ok(Collected { slots, pass: all })
+    Ok(CollectedChunks { slots, pass: all })
 }
 
 /// Returns an empty slot for each chunk.

@@ -3,13 +3,13 @@
 ghost use Rattle.std.specs.Prelude.{◌≡◌, [], IfOk};
 ghost use Rattle.rv_rows.specs.Rows.{rows_at};
 ghost use Rattle.rv_fleet.specs.Batches.{batch_rows};
-ghost use Rattle.rv_fleet.specs.Collected.{AreChunkSlots};
+ghost use Rattle.rv_fleet.specs.CollectedChunks.{AreChunkSlots};
 ghost use Rattle.rv_fleet.specs.Pieces.{piece_count};
 ghost use Rattle.rv_fleet.specs.Promised.{AreFresh, KeepsPromise, AllKeepPromise};
 ghost use Rattle.rv_fleet.specs.Started.{CanStart};
 
 use crate::batch::Batch;
-use crate::collect::{Collected, collect_chunks};
+use crate::collect::{CollectedChunks, collect_chunks};
 use crate::fleet::FleetError;
 use crate::gate::Gate;
 use crate::pieces::Pieces;
@@ -36,7 +36,7 @@ pub(crate) fn compute_chunks<R: Threads + Wait, G: Gate>(
     let (claims, first) = Claims::new(alloc, count)?;
     let passes = split_passes(alloc, &claims, first, count.min(u64::from(crew.workers)))?;
     let worked = run_workers(crew, &claims, passes, pieces, gate)?;
-    let Collected { slots, pass } = collect_chunks(alloc, &claims, worked, pieces)?;
+    let CollectedChunks { slots, pass } = collect_chunks(alloc, &claims, worked, pieces)?;
     if let Some(pass) = pass {
         // The rows depend on the workers' promises and not on this result: a chunk that nobody made is made later.
         let _each_once = claims.finish(pass);

@@ -5,7 +5,7 @@ ghost use Rattle.std.specs.Prelude.{◌≡◌, ◌<◌, ◌≤◌, [], true, map
 ghost use Rattle.rv_engine.specs.NewPieces.{HasDrawnMore, new_pieces};
 ghost use Rattle.rv_engine.specs.Passes.{has_ended};
 ghost use Rattle.rv_fleet.specs.Batches.{batch_rows};
-ghost use Rattle.rv_fleet.specs.Pieces.{piece_count, piece_at, numbered_piece, pieces_of};
+ghost use Rattle.rv_fleet.specs.Pieces.{piece_count, piece_at, numbered_piece, piece_count_of_plan};
 ghost use Rattle.rv_fleet.specs.Promised.{KeepsPromise};
 
 use crate::batch::Batch;
@@ -29,7 +29,7 @@ pub fn work<G: Gate>(
     gate: &G,
 ) -> Result<Vec<Piece>, AllocError>
     requires group { (0 < group) × (group ≤ max_group) }
-    requires pieces { claims.now.pieces ≡ pieces_of plan.now group }
+    requires pieces { claims.now.pieces ≡ piece_count_of_plan plan.now group }
     requires pass { pass.old.draw ≡ claims.now }
     ensures pass { HasDrawnMore pass.old pass.new }
     ensures ended { IfOk result (λ _. has_ended pass.new ≡ true) }

@@ -21,7 +21,7 @@ use Rattle.rv_trace.specs.Bus.{BusContents}
 use Rattle.rv_trace.specs.declared_outcome.LoadableImage.{LoadableImage}
 use Rattle.rv_trace.specs.declared_row.Refusal.{Refusal}
 use Rattle.rv_trace.specs.Outcome.{image_file_or_refusal, loadable_image, loaded_contents, loaded_state, range_if_requested, reference_or_refusal, start_if_loadable, start_if_readable, start_of}
-use Rattle.rv_trace.specs.Rows.{content_if_read, image_if_read, image_in, start_in}
+use Rattle.rv_trace.specs.Rows.{content_if_read, image_if_read, image_in, start_state_in}
 use Rattle.rv_session.specs.declared_start.Start.{Start}
 use Rattle.rv_session.specs.Sessions.{at_start}
 use Rattle.rv_session.specs.declared.session.Session.{Session}
@@ -91,12 +91,12 @@ module _ (job : Job) (s : State) where
   executed_of kept.Unreadable reference console e = cc
   executed_of kept.TooLong reference console e = cc
 
-  pub begun : (answers : List PathResult) → start_in answers job ≡ Ok s → IsBegun job (image_bytes answers job) s
+  pub begun : (answers : List PathResult) → start_state_in answers job ≡ Ok s → IsBegun job (image_bytes answers job) s
   begun answers e = executed_of (result_or_unreadable answers job.image) (option_map (result_or_unreadable answers) job.expect_signature)
       (option_map (result_or_unreadable answers) (console_path job.expect_console)) e
 
   -- it begins at the entry of the image that was read
-  pub begun_at : (answers : List PathResult) (image : Image) → start_in answers job ≡ Ok s → image_in answers job ≡ Some image
+  pub begun_at : (answers : List PathResult) (image : Image) → start_state_in answers job ≡ Ok s → image_in answers job ≡ Some image
       → s ≡ reset_state s.bus image.entry job.isa
   begun_at answers image e there =
       let b = begun answers e in
@@ -114,12 +114,12 @@ not_ok (Ok x) never = absurd (never x refl)
 not_ok (Err why) never = refl
 
 -- a job without an image has no run
-pub no_bytes : (answers : List PathResult) (job : Job) → image_bytes answers job ≡ None → is_ok (start_in answers job) ≡ false
-no_bytes answers job none = not_ok (start_in answers job) (λ s e. let there = (begun job s answers e).there in cc)
+pub no_bytes : (answers : List PathResult) (job : Job) → image_bytes answers job ≡ None → is_ok (start_state_in answers job) ≡ false
+no_bytes answers job none = not_ok (start_state_in answers job) (λ s e. let there = (begun job s answers e).there in cc)
 
 pub no_image : (answers : List PathResult) (job : Job) (file : List ℕ) → image_bytes answers job ≡ Some file
-    → result_ok (image_of job.isa file) ≡ None → is_ok (start_in answers job) ≡ false
-no_image answers job file bytes none = not_ok (start_in answers job) (λ s e.
+    → result_ok (image_of job.isa file) ≡ None → is_ok (start_state_in answers job) ≡ false
+no_image answers job file bytes none = not_ok (start_state_in answers job) (λ s e.
     let b = begun job s answers e in
     let there = b.there in
     let same : b.file ≡ file = cc in
@@ -150,7 +150,7 @@ aligned_of answers job image file bytes there =
 
 -- a session over a start that is the state in which the run of a job begins
 pub opened : (answers : List PathResult) (job : Job) (image : Image) (s : State) (start : Start) (budget : ℕ) (path bytes : List ℕ)
-    (session : Session) → start_in answers job ≡ Ok s → image_in answers job ≡ Some image → image_bytes answers job ≡ Some bytes
+    (session : Session) → start_state_in answers job ≡ Ok s → image_in answers job ≡ Some image → image_bytes answers job ≡ Some bytes
     → start.bus ≡ s.bus → start.entry ≡ image.entry → start.isa ≡ job.isa → budget ≡ job.budget
     → session ≡ at_start start budget (record { path = path; image = bytes }) → IsSessionOf answers job path session
 opened answers job image s start budget path bytes session begins there read bus entry isa same is = record {

@@ -4,7 +4,7 @@ use Rattle.rv_session.specs.Starts.{start_of}
 use Rattle.rv_session.specs.declared_start.Start.{Start}
 use Rattle.rv_trace.specs.declared_answers.PathResult.{PathResult}
 use Rattle.rv_trace.specs.declared_job.Job.{Job}
-use Rattle.rv_trace.specs.Rows.{start_in}
+use Rattle.rv_trace.specs.Rows.{start_state_in}
 use Rattle.rv_session.specs.Sessions.{at_start}
 use Rattle.rv_session.specs.declared.session.Session.{Session}
 use Rattle.rv_trace.specs.Trace.{image_bytes}
@@ -13,7 +13,7 @@ use Rattle.rv_trace.specs.Trace.{image_bytes}
 -- the job's image
 pub record IsSessionOf (answers : List PathResult) (job : Job) (path : List ℕ) (session : Session) : Type 0 where
   pub start : Start
-  pub starts : start_in answers job ≡ Ok (start_of start)
+  pub starts : start_state_in answers job ≡ Ok (start_of start)
   pub image : List ℕ
   pub read : image_bytes answers job ≡ Some image
   pub session_is : session ≡ at_start start job.budget (record { path = path; image = image })

@@ -3,7 +3,7 @@
 ghost use Rattle.std.specs.Prelude.{◌≡◌, ◌<◌, IfOk, MatchOption, Some, false, is_ok, length, option_map};
 ghost use Rattle.rv_trace.specs.declared_job.Job.{Job as AJob};
 ghost use Rattle.rv_gdb.specs.JobSessions.{IsSessionOf};
-ghost use Rattle.rv_trace.specs.Rows.{image_if_read, image_in, start_in};
+ghost use Rattle.rv_trace.specs.Rows.{image_if_read, image_in, start_state_in};
 ghost use Rattle.rv_trace.specs.Trace.{image_bytes, job_at};
 
 use rv_session::{Program, Session, Start};
@@ -20,7 +20,7 @@ pub fn session_at(
 ) -> Result<Option<Session>, AllocError>
     requires { place < length plan.now.jobs }
     ensures { IfOk result (λ found. (d : AJob) → MatchOption found
-        (is_ok (start_in plan.now.answers (job_at plan.now place d)) ≡ false)
+        (is_ok (start_state_in plan.now.answers (job_at plan.now place d)) ≡ false)
         (IsSessionOf plan.now.answers (job_at plan.now place d) path)) }
 {
     let job = plan.job(place);
@@ -47,7 +47,7 @@ fn session_of_image(
     requires image { (d : AJob) → image_in plan.now.answers (job_at plan.now place d) ≡ Some image.now }
     requires bytes { (d : AJob) → image_bytes plan.now.answers (job_at plan.now place d) ≡ Some program.image }
     ensures { IfOk result (λ found. (d : AJob) → MatchOption found
-        (is_ok (start_in plan.now.answers (job_at plan.now place d)) ≡ false)
+        (is_ok (start_state_in plan.now.answers (job_at plan.now place d)) ≡ false)
         (IsSessionOf plan.now.answers (job_at plan.now place d) program.path)) }
 {
     let job = plan.job(place);

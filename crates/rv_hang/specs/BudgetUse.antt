@@ -4,7 +4,7 @@ use Rattle.rv_trace.specs.Plans.{PlanView}
 use Rattle.rv_trace.specs.declared_job.Job.{Job}
 use Rattle.rv_trace.specs.Run.{run_of}
 use Rattle.rv_trace.specs.State.{State}
-use Rattle.rv_trace.specs.Rows.{start_in}
+use Rattle.rv_trace.specs.Rows.{start_state_in}
 use Rattle.rv_hang.specs.Repetition.{RepeatsAtEnd, IsRepetition, IsWaitReported}
 use Rattle.rv_hang.specs.declared.budget_use.BudgetUse.{BudgetUse}
 use Rattle.rv_hang.specs.declared.budget_use.BudgetUse.TheVariants.{NoRepetition, Repeats}
@@ -24,6 +24,6 @@ IsBudgetUse steps s (NoRepetition within) = (within ≡ searched_steps steps)
 -- not complete `steps` steps
 abbrev pub IsBudgetUseIn : PlanView → Job → ℕ → Option BudgetUse → Type 0
 IsBudgetUseIn plan job steps None =
-    (s : State) → start_in plan.answers job ≡ Ok s → (run_of steps s).steps ≡ steps → ⊥
-IsBudgetUseIn plan job steps (Some found) = (s : State) × (start_in plan.answers job ≡ Ok s)
+    (s : State) → start_state_in plan.answers job ≡ Ok s → (run_of steps s).steps ≡ steps → ⊥
+IsBudgetUseIn plan job steps (Some found) = (s : State) × (start_state_in plan.answers job ≡ Ok s)
     × ((run_of steps s).steps ≡ steps) × IsBudgetUse steps s found

@@ -14,7 +14,7 @@ use Rattle.rv_rows.specs.State.{State}
 use Rattle.rv_rows.specs.declared.outcome.LoadableImage.{LoadableImage}
 use Rattle.rv_rows.specs.declared_row.Refusal.{Refusal}
 use Rattle.rv_rows.specs.Outcome.{image_file_or_refusal, loadable_image, reference_or_refusal, start_if_loadable, start_if_readable, start_of}
-use Rattle.rv_rows.specs.Rows.{content_if_read, image_if_read, image_in, start_in}
+use Rattle.rv_rows.specs.Rows.{content_if_read, image_if_read, image_in, start_state_in}
 
 -- a second step that was reached: the first gave a value
 stepped : {E A B : Type 0} (r : Result A E) (f : A → Result B E) (y : B) → (r >>= f) ≡ Ok y → (x : A) × (r ≡ Ok x)
@@ -51,6 +51,6 @@ module _ (job : Job) (s : State) where
   no_start_of kept.Unreadable reference console none e = cc
   no_start_of kept.TooLong reference console none e = cc
 
-  pub no_start : (answers : List PathResult) → image_in answers job ≡ None → start_in answers job ≡ Ok s → ⊥
+  pub no_start : (answers : List PathResult) → image_in answers job ≡ None → start_state_in answers job ≡ Ok s → ⊥
   no_start answers none e = no_start_of (result_or_unreadable answers job.image) (option_map (result_or_unreadable answers) job.expect_signature)
       (option_map (result_or_unreadable answers) (console_path job.expect_console)) none e

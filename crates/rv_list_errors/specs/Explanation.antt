@@ -14,8 +14,8 @@ use Rattle.rv_lists.specs.declared_ending.FaultKind.TheVariants as fault
 use Rattle.rv_text.specs.Printable.{printable_value}
 use Rattle.rv_list_errors.specs.NearNames.{IsNearName, names_text, present, quoted}
 use Rattle.rv_list_locations.specs.LinesAndColumns.{column_at, line_at}
-use Rattle.rv_list_errors.specs.declared.explanations.Rest.{Rest}
-use Rattle.rv_list_errors.specs.declared.explanations.Rest.TheVariants as rest
+use Rattle.rv_list_errors.specs.declared.explanations.InsertedText.{InsertedText}
+use Rattle.rv_list_errors.specs.declared.explanations.InsertedText.TheVariants as rest
 use Rattle.rv_list_errors.specs.declared.explanations.Explanation.{Explanation}
 use Rattle.rv_list_errors.specs.declared.explanations.Explanation.TheVariants as told
 use Rattle.rv_list_errors.specs.declared.keys.Owner.{Owner}
@@ -124,9 +124,9 @@ first_fault_kinds_text zero = []
 first_fault_kinds_text (suc count) = first_fault_kinds_text count ++ kind_text count
 
 -- the text that completes the words of an explanation: a maximum, or the names of all kinds of faults
-abbrev pub inserted_text : Rest → List ℕ
+abbrev pub inserted_text : InsertedText → List ℕ
 inserted_text rest.Nothing = []
-inserted_text (rest.Most most) = decimal most
+inserted_text (rest.Maximum most) = decimal most
 inserted_text rest.FaultKinds = first_fault_kinds_text (length fault_kinds)
 
 -- the words of an explanation, without the key and its value

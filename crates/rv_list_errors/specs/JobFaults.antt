@@ -28,8 +28,8 @@ use Rattle.rv_list_errors.specs.declared.fault_text.FaultView.TheVariants as loo
 use Rattle.rv_list_errors.specs.declared.list.List as listed
 use Rattle.rv_list_errors.specs.declared.explanations.Bytes.{Bytes}
 use Rattle.rv_list_errors.specs.declared.explanations.Bytes.TheVariants as bytes
-use Rattle.rv_list_errors.specs.declared.explanations.Rest.{Rest}
-use Rattle.rv_list_errors.specs.declared.explanations.Rest.TheVariants as rest
+use Rattle.rv_list_errors.specs.declared.explanations.InsertedText.{InsertedText}
+use Rattle.rv_list_errors.specs.declared.explanations.InsertedText.TheVariants as rest
 use Rattle.rv_list_errors.specs.declared.explanations.Expected.{Expected}
 use Rattle.rv_list_errors.specs.declared.explanations.Explanation.{Explanation}
 use Rattle.rv_list_errors.specs.declared.explanations.Explanation.TheVariants as told
@@ -150,8 +150,8 @@ shown_byte_count bytes.Each length = length
 shown_byte_count bytes.Pairs length = length / 2
 
 -- the number of bytes in parentheses, or nothing if it does not exceed the maximum or there is no maximum
-abbrev pub bytes_text : Rest → ℕ → List ℕ
-bytes_text (rest.Most most) count = if nat_lt most count then codes " (" ++ (decimal count ++ codes " bytes)") else []
+abbrev pub bytes_text : InsertedText → ℕ → List ℕ
+bytes_text (rest.Maximum most) count = if nat_lt most count then codes " (" ++ (decimal count ++ codes " bytes)") else []
 bytes_text _ count = []
 
 -- the length of a text, or 0 if there is none

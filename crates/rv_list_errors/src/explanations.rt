@@ -28,17 +28,17 @@ pub(crate) enum Explanation {
 pub(crate) struct Expected {
     key: &'static str,
     before: &'static str,
-    rest: Rest,
+    rest: InsertedText,
     behind: &'static str,
     bytes: Bytes,
 }
 
 /// The text that is inserted after the first words.
 #[derive(Clone, Copy)]
-enum Rest {
+enum InsertedText {
     Nothing,
     /// The maximum.
-    Most(u64),
+    Maximum(u64),
     /// The names of all kinds of faults.
     FaultKinds,
 }
@@ -55,7 +55,7 @@ enum Bytes {
 pub(crate) const NAME: Expected = Expected {
     key: "name",
     before: "expected 1 to ",
-    rest: Rest::Most(MAX_NAME_LEN as u64),
+    rest: InsertedText::Maximum(MAX_NAME_LEN as u64),
     behind: " ASCII letters, digits, \".\", \"_\" or \"-\"",
     bytes: Bytes::Untold,
 };
@@ -63,7 +63,7 @@ pub(crate) const NAME: Expected = Expected {
 pub(crate) const IMAGE: Expected = Expected {
     key: "image",
     before: "expected a path of 1 to ",
-    rest: Rest::Most(MAX_PATH_LEN as u64),
+    rest: InsertedText::Maximum(MAX_PATH_LEN as u64),
     behind: " bytes",
     bytes: Bytes::Each,
 };
@@ -71,7 +71,7 @@ pub(crate) const IMAGE: Expected = Expected {
 pub(crate) const BUDGET: Expected = Expected {
     key: "budget",
     before: "expected an integer from 1 to ",
-    rest: Rest::Most(MAX_BUDGET as u64),
+    rest: InsertedText::Maximum(MAX_BUDGET as u64),
     behind: "",
     bytes: Bytes::Untold,
 };
@@ -79,7 +79,7 @@ pub(crate) const BUDGET: Expected = Expected {
 pub(crate) const INPUT: Expected = Expected {
     key: "input",
     before: "expected at most ",
-    rest: Rest::Most(MAX_SCRIPT_LEN as u64),
+    rest: InsertedText::Maximum(MAX_SCRIPT_LEN as u64),
     behind: " bytes",
     bytes: Bytes::Each,
 };
@@ -87,7 +87,7 @@ pub(crate) const INPUT: Expected = Expected {
 pub(crate) const INPUT_HEX: Expected = Expected {
     key: "input_hex",
     before: "expected at most ",
-    rest: Rest::Most(MAX_SCRIPT_LEN as u64),
+    rest: InsertedText::Maximum(MAX_SCRIPT_LEN as u64),
     behind: " bytes",
     bytes: Bytes::Pairs,
 };
@@ -95,7 +95,7 @@ pub(crate) const INPUT_HEX: Expected = Expected {
 pub(crate) const PAIRS: Expected = Expected {
     key: "input_hex",
     before: "expected pairs of hexadecimal digits",
-    rest: Rest::Nothing,
+    rest: InsertedText::Nothing,
     behind: "",
     bytes: Bytes::Untold,
 };
@@ -103,7 +103,7 @@ pub(crate) const PAIRS: Expected = Expected {
 pub(crate) const LOAD: Expected = Expected {
     key: "load",
     before: "expected \"physical\" or \"virtual\"",
-    rest: Rest::Nothing,
+    rest: InsertedText::Nothing,
     behind: "",
     bytes: Bytes::Untold,
 };
@@ -111,7 +111,7 @@ pub(crate) const LOAD: Expected = Expected {
 pub(crate) const SIGNATURE: Expected = Expected {
     key: "signature",
     before: "expected two symbol names of 1 to ",
-    rest: Rest::Most(MAX_SYMBOL_LEN as u64),
+    rest: InsertedText::Maximum(MAX_SYMBOL_LEN as u64),
     behind: " bytes each, without NUL bytes",
     bytes: Bytes::Untold,
 };
@@ -119,7 +119,7 @@ pub(crate) const SIGNATURE: Expected = Expected {
 pub(crate) const EXPECT_EXIT: Expected = Expected {
     key: "expect_exit",
     before: "expected an integer from 0 to ",
-    rest: Rest::Most(u32::MAX as u64),
+    rest: InsertedText::Maximum(u32::MAX as u64),
     behind: "",
     bytes: Bytes::Untold,
 };
@@ -127,7 +127,7 @@ pub(crate) const EXPECT_EXIT: Expected = Expected {
 pub(crate) const NEGATIVE_EXIT: Expected = Expected {
     key: "expect_exit",
     before: "expected an integer from 0 to ",
-    rest: Rest::Most(u32::MAX as u64),
+    rest: InsertedText::Maximum(u32::MAX as u64),
     behind: "; write -1 as 4294967295",
     bytes: Bytes::Untold,
 };
@@ -135,7 +135,7 @@ pub(crate) const NEGATIVE_EXIT: Expected = Expected {
 pub(crate) const WITHOUT_SIGNATURE: Expected = Expected {
     key: "expect_signature",
     before: "cannot be used without \"signature\"",
-    rest: Rest::Nothing,
+    rest: InsertedText::Nothing,
     behind: "",
     bytes: Bytes::Untold,
 };
@@ -143,7 +143,7 @@ pub(crate) const WITHOUT_SIGNATURE: Expected = Expected {
 pub(crate) const EXPECT_SIGNATURE: Expected = Expected {
     key: "expect_signature",
     before: "expected a path of 1 to ",
-    rest: Rest::Most(MAX_PATH_LEN as u64),
+    rest: InsertedText::Maximum(MAX_PATH_LEN as u64),
     behind: " bytes",
     bytes: Bytes::Each,
 };
@@ -151,7 +151,7 @@ pub(crate) const EXPECT_SIGNATURE: Expected = Expected {
 pub(crate) const EXPECT_CONSOLE: Expected = Expected {
     key: "expect_console",
     before: "expected at most ",
-    rest: Rest::Most(MAX_CONSOLE_LEN as u64),
+    rest: InsertedText::Maximum(MAX_CONSOLE_LEN as u64),
     behind: " bytes",
     bytes: Bytes::Each,
 };
@@ -159,7 +159,7 @@ pub(crate) const EXPECT_CONSOLE: Expected = Expected {
 pub(crate) const EXPECT_CONSOLE_FILE: Expected = Expected {
     key: "expect_console_file",
     before: "expected a path of 1 to ",
-    rest: Rest::Most(MAX_PATH_LEN as u64),
+    rest: InsertedText::Maximum(MAX_PATH_LEN as u64),
     behind: " bytes",
     bytes: Bytes::Each,
 };
@@ -167,7 +167,7 @@ pub(crate) const EXPECT_CONSOLE_FILE: Expected = Expected {
 pub(crate) const EXPECT_END: Expected = Expected {
     key: "expect_end",
     before: "expected \"budget\" or a fault kind: ",
-    rest: Rest::FaultKinds,
+    rest: InsertedText::FaultKinds,
     behind: "",
     bytes: Bytes::Untold,
 };
@@ -175,7 +175,7 @@ pub(crate) const EXPECT_END: Expected = Expected {
 pub(crate) const ISA: Expected = Expected {
     key: "isa",
     before: "expected \"rv32i\", \"rv32im\", \"rv32ic\" or \"rv32imc\"",
-    rest: Rest::Nothing,
+    rest: InsertedText::Nothing,
     behind: "",
     bytes: Bytes::Untold,
 };
@@ -183,7 +183,7 @@ pub(crate) const ISA: Expected = Expected {
 pub(crate) const ISA_WITH_A: Expected = Expected {
     key: "isa",
     before: "the A extension is not simulated: expected \"rv32i\", \"rv32im\", \"rv32ic\" or \"rv32imc\"",
-    rest: Rest::Nothing,
+    rest: InsertedText::Nothing,
     behind: "",
     bytes: Bytes::Untold,
 };
@@ -191,7 +191,7 @@ pub(crate) const ISA_WITH_A: Expected = Expected {
 pub(crate) const ISA_WITH_FLOATS: Expected = Expected {
     key: "isa",
     before: "the F and D extensions are not simulated: expected \"rv32i\", \"rv32im\", \"rv32ic\" or \"rv32imc\"",
-    rest: Rest::Nothing,
+    rest: InsertedText::Nothing,
     behind: "",
     bytes: Bytes::Untold,
 };
@@ -199,7 +199,7 @@ pub(crate) const ISA_WITH_FLOATS: Expected = Expected {
 pub(crate) const ISA_OF_64_BITS: Expected = Expected {
     key: "isa",
     before: "RV64 is not simulated: expected \"rv32i\", \"rv32im\", \"rv32ic\" or \"rv32imc\"",
-    rest: Rest::Nothing,
+    rest: InsertedText::Nothing,
     behind: "",
     bytes: Bytes::Untold,
 };
@@ -207,7 +207,7 @@ pub(crate) const ISA_OF_64_BITS: Expected = Expected {
 pub(crate) const MISALIGNED: Expected = Expected {
     key: "misaligned",
     before: "expected \"fault\" or \"allow\"",
-    rest: Rest::Nothing,
+    rest: InsertedText::Nothing,
     behind: "",
     bytes: Bytes::Untold,
 };
@@ -250,28 +250,28 @@ fn push_expected_text(message: &mut Message, bytes: u64, wanted: &Expected)
     push_byte_count(message, bytes, wanted.rest);
     message.push(": ");
     message.push(wanted.before);
-    push_rest(message, wanted.rest);
+    push_inserted_text(message, wanted.rest);
     message.push(wanted.behind);
 }
 
 // Appends the number of bytes in parentheses, if it exceeds the maximum, or else nothing.
-fn push_byte_count(message: &mut Message, bytes: u64, rest: Rest)
+fn push_byte_count(message: &mut Message, bytes: u64, rest: InsertedText)
     ensures { Adds message.old message.new (bytes_text rest bytes) }
 {
     match rest {
-        Rest::Most(most) if most < bytes => message.push_number_between(" (", bytes, " bytes)"),
+        InsertedText::Maximum(most) if most < bytes => message.push_number_between(" (", bytes, " bytes)"),
         _ => {}
     }
 }
 
 // Appends the text that completes what is expected of a value: nothing, a maximum, or the names of all kinds of faults.
-fn push_rest(message: &mut Message, rest: Rest)
+fn push_inserted_text(message: &mut Message, rest: InsertedText)
     ensures { Adds message.old message.new (inserted_text rest) }
 {
     match rest {
-        Rest::Nothing => {}
-        Rest::Most(most) => message.push_number(most),
-        Rest::FaultKinds => push_fault_kinds(message),
+        InsertedText::Nothing => {}
+        InsertedText::Maximum(most) => message.push_number(most),
+        InsertedText::FaultKinds => push_fault_kinds(message),
     }
 }
 

@@ -74,7 +74,7 @@ pub(crate) struct FaultyJob<'a> {
 enum KeyFault {
     Unknown,
     UnknownInRegion,
-    OtherKind(ValueType),
+    WrongType(ValueType),
     Expected(Explanation),
     DuplicateName,
     NoEarlierJob,
@@ -96,7 +96,7 @@ impl<'a> FaultyJob<'a> {
         match fault {
             KeyFault::Unknown => push_unknown_key_of_job(message, key, self.suggestion),
             KeyFault::UnknownInRegion => push_unknown_region_key(message, self.table),
-            KeyFault::OtherKind(kind) => push_value_of_wrong_type(message, self.table, key, kind),
+            KeyFault::WrongType(kind) => push_value_of_wrong_type(message, self.table, key, kind),
             KeyFault::Expected(told) => push_explanation(message, self.table, told),
             KeyFault::DuplicateName => push_duplicate_name(message, self.list, self.table),
             KeyFault::NoEarlierJob => push_unknown_same_as(
@@ -122,7 +122,7 @@ impl<'a> FaultyJob<'a> {
             _ if key == "region" && has_region_with_unknown_key(self.table) => {
                 Some(KeyFault::UnknownInRegion)
             }
-            Some(_) => Some(KeyFault::OtherKind(kind)),
+            Some(_) => Some(KeyFault::WrongType(kind)),
             None => None,
         }
     }

@@ -11,8 +11,8 @@ use Rattle.std.proofs.lemmas.Slice.Eq.{bytes_eq-Decides}
 use Rattle.toml_parser.specs.Lexical.{equals, first, left_bracket, right_bracket, skip_blank, skip_ws}
 use Rattle.toml_parser.specs.Strings.{Key, key}
 use Rattle.toml.specs.Parse.{expression, header_key, key_equals, skip_bom}
-use Rattle.rv_list_locations.specs.declared.scan.Next.{Next}
-use Rattle.rv_list_locations.specs.declared.scan.Next.TheVariants.{Element, Table, Top}
+use Rattle.rv_list_locations.specs.declared.scan.ScanState.{ScanState}
+use Rattle.rv_list_locations.specs.declared.scan.ScanState.TheVariants.{Element, Table, Top}
 use Rattle.rv_list_locations.specs.JobBegins.{BeginsWithElement, BeginsWithJobHeader, IsInJobArray, IsLineOfJob, behind, opened}
 use Rattle.rv_list_locations.specs.JobLocations.{Step, array_header, after_comma, after_equals, text_after_line, after_value, element}
 use Rattle.rv_list_locations.specs.JobLocations.{header, is_job, is_top, job_lines, job_texts_from, job_texts_of_step, keyed_entry}
@@ -26,7 +26,7 @@ abbrev BeginsJob : List ℕ → List ℕ → Type 0
 BeginsJob list text = BeginsWithJobHeader text ⊎ BeginsWithElement list text
 
 -- what is known where a kind of step comes next
-abbrev Comes : List ℕ → Next → List ℕ → Type 0
+abbrev Comes : List ℕ → ScanState → List ℕ → Type 0
 Comes list Element text = IsInJobArray list text
 Comes list Top text = Unit {0}
 Comes list Table text = Unit {0}
@@ -111,7 +111,7 @@ equals_read text name read is open_now =
       | inr none ↦ absurd (false≢true (rw none at open_now))
     ]
 
-entry-is : (list text : List ℕ) (next : Next) → ((rest : List ℕ) → Comes list next rest) → IsValidEnd list text →
+entry-is : (list text : List ℕ) (next : ScanState) → ((rest : List ℕ) → Comes list next rest) → IsValidEnd list text →
     IfSome (keyed_entry next text) (StepIs list text)
 unfolding keyed_entry
 entry-is list text next comes ends =
@@ -167,7 +167,7 @@ element-is list text inside =
 
 -- ---- all steps
 
-step-is : (list text : List ℕ) (next : Next) → IsValidEnd list text → Comes list next text → IfSome (step next text) (StepIs list text)
+step-is : (list text : List ℕ) (next : ScanState) → IsValidEnd list text → Comes list next text → IfSome (step next text) (StepIs list text)
 unfolding step
 step-is list text Element ends comes = element-is list text comes
 step-is list text Top ends comes =
@@ -181,8 +181,8 @@ step-is list text Table ends comes =
 abbrev IsJobText : List ℕ → List ℕ → Type 0
 IsJobText list text = IsValidEnd list text × BeginsJob list text
 
-job_texts_of_step-are : (list text : List ℕ) (jobs : Next → List ℕ → List (List ℕ)) →
-    ((next : Next) (rest : List ℕ) → IsValidEnd list rest → Comes list next rest → All (IsJobText list) (jobs next rest)) →
+job_texts_of_step-are : (list text : List ℕ) (jobs : ScanState → List ℕ → List (List ℕ)) →
+    ((next : ScanState) (rest : List ℕ) → IsValidEnd list rest → Comes list next rest → All (IsJobText list) (jobs next rest)) →
     IsValidEnd list text → (found : Option Step) → IfSome found (StepIs list text) →
     All (IsJobText list) (job_texts_of_step jobs text found)
 job_texts_of_step-are list text jobs are ends None is = All-nil (IsJobText list)
@@ -191,7 +191,7 @@ job_texts_of_step-are list text jobs are ends (Some found) is =
     cond_both found.0 (text ∷ jobs found.1 found.2) (jobs found.1 found.2) (All (IsJobText list))
     (λ job. All-cons (IsJobText list) text (jobs found.1 found.2) (ends, is.job job) more) (λ _. more)
 
-jobs-are : (list : List ℕ) (n : ℕ) (next : Next) (text : List ℕ) → IsValidEnd list text → Comes list next text →
+jobs-are : (list : List ℕ) (n : ℕ) (next : ScanState) (text : List ℕ) → IsValidEnd list text → Comes list next text →
     All (IsJobText list) (job_texts_from n next text)
 unfolding job_texts_from
 jobs-are list zero next text ends comes = All-nil (IsJobText list)

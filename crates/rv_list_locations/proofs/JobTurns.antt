@@ -17,7 +17,7 @@ use Rattle.toml_parser.specs.declared.error.ParseError.{ParseError}
 use Rattle.toml_parser.specs.declared.error.ParseError.TheVariants.{OutOfMemory}
 use Rattle.std.proofs.lemmas.List.{map-append}
 use Rattle.rv_list_locations.specs.Steps.{UnlessOutOfMemory, texts_of_references}
-use Rattle.rv_list_locations.specs.declared.scan.Next.{Next}
+use Rattle.rv_list_locations.specs.declared.scan.ScanState.{ScanState}
 use Rattle.rv_list_locations.specs.JobLocations.{after_brackets, after_word_bytes, after_token, after_word, depth_after}
 use Rattle.rv_list_locations.specs.JobLocations.{is_in_word, job_texts_from, step}
 
@@ -76,12 +76,12 @@ depth_after-le depth byte = grind (arith, nat_tests)
 
 -- ---- steps
 
-pub jobs_end : (m : ℕ) (next : Next) (text : List ℕ) → length text ≡ 0 → job_texts_from m next text ≡ []
+pub jobs_end : (m : ℕ) (next : ScanState) (text : List ℕ) → length text ≡ 0 → job_texts_from m next text ≡ []
 unfolding job_texts_from
 jobs_end zero next text none = refl
 jobs_end (suc m) next text none = rw none refl
 
-pub jobs_refused : (m : ℕ) (next : Next) (text : List ℕ) → step next text ≡ None → job_texts_from m next text ≡ []
+pub jobs_refused : (m : ℕ) (next : ScanState) (text : List ℕ) → step next text ≡ None → job_texts_from m next text ≡ []
 unfolding job_texts_from
 jobs_refused zero next text none = refl
 jobs_refused (suc m) next text none =
@@ -90,7 +90,7 @@ jobs_refused (suc m) next text none =
       | inr some ↦ rw (some, none) refl
     ]
 
-pub jobs_job : (m : ℕ) (next what : Next) (text rest : List ℕ) → 0 < m → 0 < length text →
+pub jobs_job : (m : ℕ) (next what : ScanState) (text rest : List ℕ) → 0 < m → 0 < length text →
     step next text ≡ Some (true, what, rest) → job_texts_from m next text ≡ text ∷ job_texts_from (m - 1) what rest
 unfolding job_texts_from
 jobs_job zero next what text rest some more is = absurd (omega arith)
@@ -98,7 +98,7 @@ jobs_job (suc m) next what text rest some more is =
     let less : suc m - 1 ≡ m = omega arith in
     rw (ne_eqb (length text) 0 (omega arith), is, less) refl
 
-pub jobs_other : (m : ℕ) (next what : Next) (text rest : List ℕ) → 0 < m → 0 < length text →
+pub jobs_other : (m : ℕ) (next what : ScanState) (text rest : List ℕ) → 0 < m → 0 < length text →
     step next text ≡ Some (false, what, rest) → job_texts_from m next text ≡ job_texts_from (m - 1) what rest
 unfolding job_texts_from
 jobs_other zero next what text rest some more is = absurd (omega arith)

@@ -9,8 +9,8 @@ use Rattle.toml_parser.specs.Lexical.{carriage_return, comma, equals, first, has
 use Rattle.toml_parser.specs.Lexical.{line_feed, right_brace, right_bracket, skip_blank, skip_ws, space}
 use Rattle.toml_parser.specs.Strings.{Key, key, quoted, starts_string}
 use Rattle.toml.specs.Parse.{skip_bom}
-use Rattle.rv_list_locations.specs.declared.scan.Next.{Next}
-use Rattle.rv_list_locations.specs.declared.scan.Next.TheVariants.{Element, Table, Top}
+use Rattle.rv_list_locations.specs.declared.scan.ScanState.{ScanState}
+use Rattle.rv_list_locations.specs.declared.scan.ScanState.TheVariants.{Element, Table, Top}
 use Rattle.rv_list_locations.specs.LinesAndColumns.{line_at}
 
 -- the second step, if the first succeeded
@@ -94,7 +94,7 @@ is_job name = length name.0 == 0 && bytes_eq name.1 (codes "job")
 
 -- the result of scanning a header, an entry or an element: whether a job begins there, what comes next, and the text after it
 abbrev pub Step : Type 0
-Step = Bool × Next × List ℕ
+Step = Bool × ScanState × List ℕ
 
 -- the result of scanning the header of an element of an array of tables, whose opening brackets are already skipped, or `None` if it is
 -- malformed
@@ -114,14 +114,14 @@ header text =
     if slice_index text 1 == left_bracket then array_header (drop 2 text) else table_header (drop 1 text)
 
 -- whether the scan has not reached the first header
-abbrev pub is_top : Next → Bool
+abbrev pub is_top : ScanState → Bool
 is_top Top = true
 is_top Table = false
 is_top Element = false
 
 -- the result of scanning the entry with which the text begins, or `None` if it is malformed; before the first header, an array at the key
 -- `job` has the jobs, and its elements come next
-unfoldable pub keyed_entry : Next → List ℕ → Option Step
+unfoldable pub keyed_entry : ScanState → List ℕ → Option Step
 keyed_entry next text = key text >>= (λ name. let value = after_equals name.1 in
     if (is_job name.0 && is_top next) && first value == left_bracket
     then Some (false, Element, skip_blank (drop 1 value))
@@ -134,12 +134,12 @@ element text =
     else option_map (λ rest. (true, Element, after_comma rest)) (after_value text)
 
 -- the result of scanning the header or the entry with which the text begins, or `None` if it is malformed
-abbrev pub header_or_entry : Next → List ℕ → Option Step
+abbrev pub header_or_entry : ScanState → List ℕ → Option Step
 header_or_entry next text = if first text == left_bracket then header text else keyed_entry next text
 
 -- the result of scanning the header, the entry or the element with which the text begins, or `None` if it is malformed; `next` is what the
 -- scan expects here
-unfoldable pub step : Next → List ℕ → Option Step
+unfoldable pub step : ScanState → List ℕ → Option Step
 step Element text = element text
 step Top text = header_or_entry Top text
 step Table text = header_or_entry Table text
@@ -148,13 +148,13 @@ step Table text = header_or_entry Table text
 
 -- for each job, the suffix of the list's text that begins with it, given the result of scanning the beginning of this text; `jobs` returns
 -- the later ones
-abbrev pub job_texts_of_step : (Next → List ℕ → List (List ℕ)) → List ℕ → Option Step → List (List ℕ)
+abbrev pub job_texts_of_step : (ScanState → List ℕ → List (List ℕ)) → List ℕ → Option Step → List (List ℕ)
 job_texts_of_step jobs text None = []
 job_texts_of_step jobs text (Some found) =
     if found.0 then text ∷ jobs found.1 found.2 else jobs found.1 found.2
 
 -- for each job, the suffix of the list's text that begins with it, if at most `n` headers, entries and elements are scanned
-unfoldable pub job_texts_from : ℕ → Next → List ℕ → List (List ℕ)
+unfoldable pub job_texts_from : ℕ → ScanState → List ℕ → List (List ℕ)
 job_texts_from zero next text = []
 job_texts_from (suc n) next text =
     if length text == 0 then [] else job_texts_of_step (job_texts_from n) text (step next text)

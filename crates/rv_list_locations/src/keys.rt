@@ -7,7 +7,7 @@ ghost use Rattle.toml_parser.specs.Reading.{key_view};
 ghost use Rattle.rv_list_locations.specs.NamedKeys.{IsNamedKey};
 ghost use Rattle.rv_list_locations.specs.JobKeys.{BeginsWithKey, BeginsWithName, BeginsWithTable, header_key};
 
-use crate::scan::{Next, Step, scan_step, skip_comma, skip_equals_sign};
+use crate::scan::{ScanState, Step, scan_step, skip_comma, skip_equals_sign};
 use crate::values::{skip_blank_lines, skip_value};
 use std::alloc::{AllocError, Global};
 use toml_parser::text::{byte_at, first, skip, skip_ws};
@@ -22,20 +22,20 @@ pub struct JobKey<'a> {
 
 /// What comes next in the text of a job.
 #[derive(Clone, Copy)]
-pub(crate) enum Inside {
+pub(crate) enum KeyContext {
     /// An entry of the job's table, or a header.
     Table,
     /// An entry of the job's inline table, or the bracket after the last entry.
-    Braces,
+    InlineTable,
     /// An entry of a table below the job's table, or a header.
-    Below,
+    Subtable,
 }
 
 /// A scanned entry or header of a job: the name of the job's key, if it has one, what comes next, and the text after it.
 #[derive(Drop)]
 pub(crate) struct KeyStep<'a> {
     pub(crate) name: Option<String>,
-    pub(crate) inside: Inside,
+    pub(crate) inside: KeyContext,
     pub(crate) rest: &'a str,
 }
 
@@ -78,29 +78,29 @@ fn push_job_keys<'a>(
 
 // Skips the header or brace with which a job begins. Returns whether the job is a table or an inline table, and the text after what was
 // skipped.
-fn skip_job_start(alloc: Global, job: &str) -> Result<(Inside, &str), ParseError> {
+fn skip_job_start(alloc: Global, job: &str) -> Result<(KeyContext, &str), ParseError> {
     if first(job) == b'{' {
-        return Ok((Inside::Braces, skip_blank_lines(skip(job, 1))));
+        return Ok((KeyContext::InlineTable, skip_blank_lines(skip(job, 1))));
     }
-    let step = scan_step(alloc, job, Next::Table)?;
-    Ok((Inside::Table, step.rest))
+    let step = scan_step(alloc, job, ScanState::Table)?;
+    Ok((KeyContext::Table, step.rest))
 }
 
 /// Scans an entry or a header in the text of a job. Returns its name, if it has one, and the text after it.
 pub(crate) fn scan_key_step(
     alloc: Global,
     here: &str,
-    inside: Inside,
+    inside: KeyContext,
 ) -> Result<KeyStep<'_>, ParseError>
     ensures named { IfOk result (λ step. IfSome step.name (λ name. BeginsWithName (string_bytes name) here.now)) }
     ensures shorter { IfOk result (λ step. length step.rest.now < length here.now) }
 {
     match inside {
-        Inside::Braces => scan_inline_entry(alloc, here),
+        KeyContext::InlineTable => scan_inline_entry(alloc, here),
         _ if first(here) == b'[' => scan_inner_header(alloc, here),
-        Inside::Table => scan_job_entry(alloc, here),
-        Inside::Below => {
-            let Step { rest, .. } = scan_step(alloc, here, Next::Table)?;
+        KeyContext::Table => scan_job_entry(alloc, here),
+        KeyContext::Subtable => {
+            let Step { rest, .. } = scan_step(alloc, here, ScanState::Table)?;
             Ok(KeyStep {
                 name: None,
                 inside,
@@ -115,11 +115,11 @@ fn scan_job_entry(alloc: Global, here: &str) -> Result<KeyStep<'_>, ParseError>
     ensures named { IfOk result (λ step. IfSome step.name (λ name. BeginsWithName (string_bytes name) here.now)) }
     ensures shorter { IfOk result (λ step. length step.rest.now < length here.now) }
 {
-    let Step { rest, .. } = scan_step(alloc, here, Next::Table)?;
+    let Step { rest, .. } = scan_step(alloc, here, ScanState::Table)?;
     let (name, _) = scan_name(alloc, here)?;
     Ok(KeyStep {
         name: Some(name),
-        inside: Inside::Table,
+        inside: KeyContext::Table,
         rest,
     })
 }
@@ -134,7 +134,7 @@ fn scan_inline_entry(alloc: Global, here: &str) -> Result<KeyStep<'_>, ParseErro
     let rest = skip_value(alloc, skip_equals_sign(behind))?;
     Ok(KeyStep {
         name: Some(name),
-        inside: Inside::Braces,
+        inside: KeyContext::InlineTable,
         rest: skip_comma(rest),
     })
 }
@@ -156,17 +156,17 @@ fn scan_inner_header(alloc: Global, here: &str) -> Result<KeyStep<'_>, ParseErro
     ensures named { IfOk result (λ step. IfSome step.name (λ name. BeginsWithName (string_bytes name) here.now)) }
     ensures shorter { IfOk result (λ step. length step.rest.now < length here.now) }
 {
-    let Step { is_job, rest, .. } = scan_step(alloc, here, Next::Table)?;
+    let Step { is_job, rest, .. } = scan_step(alloc, here, ScanState::Table)?;
     if is_job {
         return Ok(KeyStep {
             name: None,
-            inside: Inside::Below,
+            inside: KeyContext::Subtable,
             rest: "",
         });
     }
     Ok(KeyStep {
         name: scan_table_name(alloc, here)?,
-        inside: Inside::Below,
+        inside: KeyContext::Subtable,
         rest,
     })
 }

@@ -9,7 +9,7 @@ use std::alloc::{AllocError, Global};
 
 /// The lines, counted from 1, that were recorded for indices of a text in increasing order.
 #[derive(Drop)]
-pub(crate) struct Lines<'a> {
+pub(crate) struct LineRecorder<'a> {
     text: &'a [u8],
     // The number of bytes counted, and the line of the next one.
     counted: usize,
@@ -21,14 +21,14 @@ pub(crate) struct Lines<'a> {
     ghost rising: { IsNonDecreasing noted.items },
 }
 
-impl<'a> Lines<'a> {
+impl<'a> LineRecorder<'a> {
     /// Returns an empty record of lines of a text. Does not allocate.
-    pub(crate) fn new(alloc: Global, text: &'a str) -> Lines<'a>
+    pub(crate) fn new(alloc: Global, text: &'a str) -> LineRecorder<'a>
         ensures text { result.text.now ≡ text.now }
         ensures counted { result.counted ≡ 0 }
         ensures noted { result.noted.items ≡ [] }
     {
-        Lines {
+        LineRecorder {
             text: text.as_bytes(),
             counted: 0,
             line: 1,

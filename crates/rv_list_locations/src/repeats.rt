@@ -2,8 +2,8 @@
 
 ghost use Rattle.std.specs.Prelude.{◌≤◌, length};
 
-use crate::keys::{Inside, KeyStep, after_brackets, part_or_last, scan_key_step};
-use crate::scan::{Next, Step, scan_step, skip_byte_order_mark};
+use crate::keys::{KeyContext, KeyStep, after_brackets, part_or_last, scan_key_step};
+use crate::scan::{ScanState, Step, scan_step, skip_byte_order_mark};
 use crate::values::{skip_blank_lines, skip_token};
 use std::alloc::{AllocError, Global};
 use toml_parser::text::first;
@@ -21,7 +21,7 @@ pub struct RepeatedKey<'a> {
 #[derive(Clone, Copy)]
 struct Entries<'a> {
     text: &'a str,
-    inside: Inside,
+    inside: KeyContext,
 }
 
 /// Returns the key that a text sets for the second time, which begins where `left` bytes of the text remain, or `None` if no key is found
@@ -47,7 +47,7 @@ fn find_repeated_key<'a>(
 ) -> Result<Option<RepeatedKey<'a>>, ParseError> {
     let mut here = skip_blank_lines(text);
     let mut table = here;
-    let mut what = Next::Top;
+    let mut what = ScanState::Top;
     'steps: while !here.is_empty() {
         let Step { next, rest, .. } = scan_step(alloc, here, what)?;
         if rest.len() < left {
@@ -79,7 +79,7 @@ fn repeated_key_in_step<'a>(
     }
     let entries = Entries {
         text: table,
-        inside: Inside::Table,
+        inside: KeyContext::Table,
     };
     Ok(Some(repeated_key_of_entry(alloc, entries, step)?))
 }
@@ -107,7 +107,7 @@ fn repeated_key_in_inline_table<'a>(
         Some(text) => {
             let entries = Entries {
                 text: *text,
-                inside: Inside::Braces,
+                inside: KeyContext::InlineTable,
             };
             Ok(Some(repeated_key_of_entry(alloc, entries, here)?))
         }

@@ -11,7 +11,7 @@ ghost use Rattle.rv_list_locations.specs.JobLocations as spec;
 ghost use Rattle.rv_list_locations.specs.LinesAndColumns.{text_line_count};
 ghost use Rattle.rv_list_locations.specs.Steps.{GivesStep, UnlessOutOfMemory, texts_of_references};
 
-use crate::lines::Lines;
+use crate::lines::LineRecorder;
 use crate::values::{skip_blank_lines, skip_value};
 use std::alloc::{AllocError, Global};
 use toml_parser::text::{byte_at, first, skip, skip_ws};
@@ -25,7 +25,7 @@ pub fn job_line_numbers(alloc: Global, text: &str) -> Result<Vec<usize>, AllocEr
     ensures within { IfOk result (λ lines. All
         (λ line. (0 < line) × (line ≤ text_line_count text.now)) lines.items) }
 {
-    let mut lines = Lines::new(alloc, text);
+    let mut lines = LineRecorder::new(alloc, text);
     match push_job_lines(alloc, skip_byte_order_mark(text), &mut lines) {
         Err(ParseError::OutOfMemory) => Err(AllocError),
         Ok(()) | Err(_) => Ok(lines.into_line_numbers()),
@@ -42,7 +42,7 @@ pub(crate) fn skip_byte_order_mark(text: &str) -> &str
 
 /// What the scan expects next.
 #[derive(Clone, Copy)]
-pub(crate) enum Next {
+pub(crate) enum ScanState {
     /// An entry of the whole list, or the first header.
     Top,
     /// An element of the array that is the list, or the end of the array.
@@ -55,7 +55,7 @@ pub(crate) enum Next {
 #[derive(Clone, Copy)]
 pub(crate) struct Step<'a> {
     pub(crate) is_job: bool,
-    pub(crate) next: Next,
+    pub(crate) next: ScanState,
     pub(crate) rest: &'a str,
 }
 
@@ -80,7 +80,7 @@ fn push_job_texts<'a>(
         ≡ texts_of_references jobs.old.items ++ spec.jobs_of_text text.now) }
 {
     let mut here = skip_blank_lines(text);
-    let mut what = Next::Top;
+    let mut what = ScanState::Top;
     'steps: while !here.is_empty() {
         let Step { is_job, next, rest } = scan_step(alloc, here, what)?;
         if is_job {
@@ -93,14 +93,14 @@ fn push_job_texts<'a>(
 }
 
 // Records the line on which each job begins, for a list's text without a byte order mark.
-fn push_job_lines(alloc: Global, text: &str, lines: &mut Lines<'_>) -> Result<(), ParseError>
+fn push_job_lines(alloc: Global, text: &str, lines: &mut LineRecorder<'_>) -> Result<(), ParseError>
     requires { lines.old.counted + length text.now ≤ length lines.old.text.now }
     ensures text { lines.new.text.now ≡ lines.old.text.now }
     ensures noted { UnlessOutOfMemory result (lines.new.noted.items ≡ lines.old.noted.items
         ++ map (spec.line_of_suffix lines.old.text.now) (spec.jobs_of_text text.now)) }
 {
     let mut here = skip_blank_lines(text);
-    let mut what = Next::Top;
+    let mut what = ScanState::Top;
     'steps: while !here.is_empty() {
         let Step { is_job, next, rest } = scan_step(alloc, here, what)?;
         if is_job {
@@ -114,12 +114,12 @@ fn push_job_lines(alloc: Global, text: &str, lines: &mut Lines<'_>) -> Result<()
 
 /// Scans a header, an entry or an element. Returns whether a job begins there, what comes next, and the text after it.
 #[tactic(auto, unfolding(crate::specs::JobLocations::step))]
-pub(crate) fn scan_step(alloc: Global, text: &str, next: Next) -> Result<Step<'_>, ParseError>
+pub(crate) fn scan_step(alloc: Global, text: &str, next: ScanState) -> Result<Step<'_>, ParseError>
     ensures step { GivesStep result (spec.step next text.now) }
     ensures shorter { IfOk result (λ step. length step.rest.now < length text.now) }
 {
     match next {
-        Next::Element => scan_element(alloc, text),
+        ScanState::Element => scan_element(alloc, text),
         _ if first(text) == b'[' => scan_header(alloc, text),
         _ => scan_entry(alloc, text, next),
     }
@@ -134,14 +134,14 @@ fn scan_element(alloc: Global, text: &str) -> Result<Step<'_>, ParseError>
     if first(text) == b']' {
         return Ok(Step {
             is_job: false,
-            next: Next::Top,
+            next: ScanState::Top,
             rest: skip_line_end(skip(text, 1)),
         });
     }
     let rest = skip_value(alloc, text)?;
     Ok(Step {
         is_job: true,
-        next: Next::Element,
+        next: ScanState::Element,
         rest: skip_comma(rest),
     })
 }
@@ -170,7 +170,7 @@ fn scan_array_header(alloc: Global, inside: &str) -> Result<Step<'_>, ParseError
     if first(rest) == b']' && byte_at(rest, 1) == b']' {
         Ok(Step {
             is_job,
-            next: Next::Table,
+            next: ScanState::Table,
             rest: skip_line_end(skip(rest, 2)),
         })
     } else {
@@ -188,7 +188,7 @@ fn scan_table_header(alloc: Global, inside: &str) -> Result<Step<'_>, ParseError
     if first(rest) == b']' {
         Ok(Step {
             is_job: false,
-            next: Next::Table,
+            next: ScanState::Table,
             rest: skip_line_end(skip(rest, 1)),
         })
     } else {
@@ -199,16 +199,16 @@ fn scan_table_header(alloc: Global, inside: &str) -> Result<Step<'_>, ParseError
 // Scans an entry. Before the first header, an array at the key `job` has the jobs, and its elements come next. Returns what comes next, and
 // the text after the entry or after the array's opening bracket.
 #[tactic(auto, unfolding(crate::specs::JobLocations::keyed_entry))]
-fn scan_entry(alloc: Global, text: &str, next: Next) -> Result<Step<'_>, ParseError>
+fn scan_entry(alloc: Global, text: &str, next: ScanState) -> Result<Step<'_>, ParseError>
     ensures step { GivesStep result (spec.keyed_entry next text.now) }
     ensures shorter { IfOk result (λ step. length step.rest.now < length text.now) }
 {
     let (is_job, rest) = scan_key(alloc, text)?;
     let value = skip_equals_sign(rest);
-    if is_job && matches!(next, Next::Top) && first(value) == b'[' {
+    if is_job && matches!(next, ScanState::Top) && first(value) == b'[' {
         return Ok(Step {
             is_job: false,
-            next: Next::Element,
+            next: ScanState::Element,
             rest: skip_blank_lines(skip(value, 1)),
         });
     }

@@ -4,7 +4,7 @@ ghost use Rattle.std.specs.Prelude.{◌≡◌, ◌≤◌, IfOk, IfSome, length};
 ghost use Rattle.std.specs.List.{All};
 ghost use Rattle.rv_list_locations.specs.ValueSpans.{IsSpanIn};
 
-use crate::scan::{Next, Step, scan_step, skip_byte_order_mark, skip_equals_sign};
+use crate::scan::{ScanState, Step, scan_step, skip_byte_order_mark, skip_equals_sign};
 use crate::values::{skip_blank_lines, skip_value};
 use std::alloc::{AllocError, Global};
 use toml_parser::text::first;
@@ -41,7 +41,7 @@ fn push_value_spans(alloc: Global, text: &str, spans: &mut Vec<ValueSpan>) -> Re
     ensures { All (IsSpanIn text.now) spans.new.items }
 {
     let mut here = skip_blank_lines(skip_byte_order_mark(text));
-    let mut what = Next::Top;
+    let mut what = ScanState::Top;
     let mut jobs = 0usize;
     let mut is_in_job = false;
     'steps: while !here.is_empty() {
@@ -61,10 +61,10 @@ fn push_value_spans(alloc: Global, text: &str, spans: &mut Vec<ValueSpan>) -> Re
 }
 
 // Whether the text begins with a header. `what` is what the scan expects here.
-fn is_header(here: &str, what: Next) -> bool {
+fn is_header(here: &str, what: ScanState) -> bool {
     match what {
-        Next::Element => false,
-        Next::Top | Next::Table => first(here) == b'[',
+        ScanState::Element => false,
+        ScanState::Top | ScanState::Table => first(here) == b'[',
     }
 }
 

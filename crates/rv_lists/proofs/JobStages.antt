@@ -9,7 +9,7 @@ use Rattle.rv_lists.specs.declared.job.Job.{Job}
 use Rattle.rv_lists.specs.declared.job.ExpectedConsole.{ExpectedConsole}
 use Rattle.rv_lists.specs.declared.job.Symbols.{Symbols}
 use Rattle.rv_lists.specs.declared.run_keys.RunOptions.{RunOptions}
-use Rattle.rv_lists.specs.declared.results.Results.{Results}
+use Rattle.rv_lists.specs.declared.results.ExpectedResults.{ExpectedResults}
 use Rattle.rv_lists.specs.declared.setup.Setup.{Setup}
 use Rattle.rv_elf.specs.declared.loading.LoadAt.{LoadAt}
 use Rattle.rv_machine.specs.declared_map.Region.{Region}
@@ -48,7 +48,7 @@ setup_steps (Ok s) (Ok r) (Ok l) k = refl
 
 result_steps : (signature : Result (Option Symbols) What) (exit : Result (Option ℕ) What)
     (reference : Option Symbols → Result (Option (List ℕ)) What) (console : Result (Option ExpectedConsole) What)
-    (k : Results → Result Job What)
+    (k : ExpectedResults → Result Job What)
     → (signature >>= λ s. exit >>= λ e. reference s >>= λ r. console >>= λ c.
     k (record { signature = s; exit = e; reference = r; console = c }))
     ≡ ((signature >>= λ s. exit >>= λ e. reference s >>= λ r. console >>= λ c.
@@ -76,7 +76,7 @@ pub job_described : (earlier : List (List ℕ)) (ms : Members) (name image : Lis
     → job_from_table earlier ms ≡ job_from_remaining_keys earlier name image budget ms
 unfolding job_from_table job_from_remaining_keys run_options_from_table setup_from_table expected_results_from_table
 job_described earlier ms name image budget known typed named fresh imaged budgeted =
-    let described : Setup → Results → RunOptions → Result Job What
+    let described : Setup → ExpectedResults → RunOptions → Result Job What
     = λ setup results manner. Ok (record {
       name = name;
       image = image;
@@ -93,7 +93,7 @@ job_described earlier ms name image budget known typed named fresh imaged budget
       isa = manner.isa;
       misaligned = manner.misaligned;
     }) in
-    let judged : Setup → Results → Result Job What
+    let judged : Setup → ExpectedResults → Result Job What
     = λ setup results. (end_from_table ms >>= λ end. same_as_from_table earlier ms >>= λ same. isa_from_table ms >>= λ set.
     misaligned_from_table ms >>= λ choice.
     described setup results (record { expect_end = end; same_as = same; isa = set; misaligned = choice })) in

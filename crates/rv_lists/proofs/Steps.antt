@@ -14,7 +14,7 @@ use Rattle.rv_machine.specs.declared_map.Region.{Region}
 use Rattle.rv_lists.specs.declared.error.What.{What}
 use Rattle.rv_lists.specs.declared.job.Job.{Job}
 use Rattle.rv_base.specs.Limits.{max_jobs}
-use Rattle.rv_lists.specs.Reading.{◌>>=◌, with_front}
+use Rattle.rv_lists.specs.Reading.{◌>>=◌, with_prefix}
 use Rattle.rv_lists.specs.JobList.{document_of, has_no_jobs, has_too_many_jobs, job_from_element, jobs_of_elements, names_of_jobs, region_from_element}
 use Rattle.rv_lists.specs.JobList.{regions_from_elements, is_signature_symbol, signature_symbol, symbols_from_names}
 use Rattle.rv_base.specs.Limits.{is_within}
@@ -44,7 +44,7 @@ few_items vs d e below =
     ltb-false _ _ test
 
 front_more : {F A : Type 0} (front : List A) (j : A) (r : Result (List A) F)
-    → with_front (front ++ j ∷ []) r ≡ with_front front (r >>= (λ js. Ok (j ∷ js)))
+    → with_prefix (front ++ j ∷ []) r ≡ with_prefix front (r >>= (λ js. Ok (j ∷ js)))
 front_more front j (Ok xs) = ap Ok (append_assoc front (j ∷ []) xs)
 front_more front j (Err e) = refl
 
@@ -52,44 +52,44 @@ front_more front j (Err e) = refl
 
 module _ (front : List Job) (n : ℕ) (names : List (List ℕ)) where
   step_more : (d : Data) (ds : Items) (j : Job) → job_from_element names d ≡ Ok j
-      → with_front (front ++ j ∷ []) (jobs_of_elements (n + 1) (names ++ j.name ∷ []) ds)
-      ≡ with_front front (jobs_of_elements n names (item d ds))
+      → with_prefix (front ++ j ∷ []) (jobs_of_elements (n + 1) (names ++ j.name ∷ []) ds)
+      ≡ with_prefix front (jobs_of_elements n names (item d ds))
   unfolding jobs_of_elements
   step_more d ds j e = rw e (front_more front j (jobs_of_elements (n + 1) (names ++ j.name ∷ []) ds))
 
   step_bad : (d : Data) (ds : Items) (w : What) → job_from_element names d ≡ Err w
-      → with_front front (jobs_of_elements n names (item d ds)) ≡ Err (record { job = n; what = w })
+      → with_prefix front (jobs_of_elements n names (item d ds)) ≡ Err (record { job = n; what = w })
   unfolding jobs_of_elements
   step_bad d ds w e = rw e refl
 
   -- past the last element
   pub step_end : (vs : List Value) (i : ℕ) → length vs ≤ i
-      → with_front front (jobs_of_elements n names (items_view (drop i vs))) ≡ Ok front
+      → with_prefix front (jobs_of_elements n names (items_view (drop i vs))) ≡ Ok front
   unfolding jobs_of_elements
   step_end vs i past = rw (drop_of_length-le vs past) (ap Ok (append-nil front))
 
   turn_more : (vs : List Value) (i : ℕ) (d : Value) (j : Job) → i < length vs
       → job_from_element names (view (get_or vs i d)) ≡ Ok j
-      → with_front (front ++ j ∷ []) (jobs_of_elements (n + 1) (names ++ j.name ∷ []) (items_view (drop (i + 1) vs)))
-      ≡ with_front front (jobs_of_elements n names (items_view (drop i vs)))
+      → with_prefix (front ++ j ∷ []) (jobs_of_elements (n + 1) (names ++ j.name ∷ []) (items_view (drop (i + 1) vs)))
+      ≡ with_prefix front (jobs_of_elements n names (items_view (drop i vs)))
   turn_more vs i d j lt e =
       step_more (view (get_or vs i d)) (items_view (drop (i + 1) vs)) j e
-      ∙ ap (λ ds. with_front front (jobs_of_elements n names ds)) (sym (items_view-drop vs i d lt))
+      ∙ ap (λ ds. with_prefix front (jobs_of_elements n names ds)) (sym (items_view-drop vs i d lt))
 
   -- at a bad one
   pub turn_bad : (vs : List Value) (i : ℕ) (d : Value) (w : What) → i < length vs
       → job_from_element names (view (get_or vs i d)) ≡ Err w
-      → with_front front (jobs_of_elements n names (items_view (drop i vs))) ≡ Err (record { job = n; what = w })
+      → with_prefix front (jobs_of_elements n names (items_view (drop i vs))) ≡ Err (record { job = n; what = w })
   turn_bad vs i d w lt e =
-      ap (λ ds. with_front front (jobs_of_elements n names ds)) (items_view-drop vs i d lt)
+      ap (λ ds. with_prefix front (jobs_of_elements n names ds)) (items_view-drop vs i d lt)
       ∙ step_bad (view (get_or vs i d)) (items_view (drop (i + 1) vs)) w e
 
 -- one job more
 pub turn_pushed : (js : List Job) (job : Job) (new : List Job) (n : ℕ) (vs : List Value) (i : ℕ) (d : Value)
     → new ≡ js ++ job ∷ [] → i < length vs
     → job_from_element (names_of_jobs js) (view (get_or vs i d)) ≡ Ok job
-    → with_front new (jobs_of_elements (n + 1) (names_of_jobs new) (items_view (drop (i + 1) vs)))
-    ≡ with_front js (jobs_of_elements n (names_of_jobs js) (items_view (drop i vs)))
+    → with_prefix new (jobs_of_elements (n + 1) (names_of_jobs new) (items_view (drop (i + 1) vs)))
+    ≡ with_prefix js (jobs_of_elements n (names_of_jobs js) (items_view (drop i vs)))
 turn_pushed js job new n vs i d pushed lt e =
     rw (pushed, map-append (λ (j : Job). j.name) js (job ∷ [])) (turn_more js n (names_of_jobs js) vs i d job lt e)
 
@@ -97,33 +97,33 @@ turn_pushed js job new n vs i d pushed lt e =
 
 module _ (front : List Region) where
   region_more : (d : Data) (ds : Items) (r : Region) → region_from_element d ≡ Ok r
-      → with_front (front ++ r ∷ []) (regions_from_elements ds) ≡ with_front front (regions_from_elements (item d ds))
+      → with_prefix (front ++ r ∷ []) (regions_from_elements ds) ≡ with_prefix front (regions_from_elements (item d ds))
   unfolding regions_from_elements
   region_more d ds r e = rw e (front_more front r (regions_from_elements ds))
 
   region_bad : (d : Data) (ds : Items) (w : What) → region_from_element d ≡ Err w
-      → with_front front (regions_from_elements (item d ds)) ≡ Err w
+      → with_prefix front (regions_from_elements (item d ds)) ≡ Err w
   unfolding regions_from_elements
   region_bad d ds w e = rw e refl
 
   pub regions_end : (vs : List Value) (i : ℕ) → length vs ≤ i
-      → with_front front (regions_from_elements (items_view (drop i vs))) ≡ Ok front
+      → with_prefix front (regions_from_elements (items_view (drop i vs))) ≡ Ok front
   unfolding regions_from_elements
   regions_end vs i past = rw (drop_of_length-le vs past) (ap Ok (append-nil front))
 
   pub regions_more : (vs : List Value) (i : ℕ) (d : Value) (r : Region) (new : List Region) → new ≡ front ++ r ∷ []
       → i < length vs → region_from_element (view (get_or vs i d)) ≡ Ok r
-      → with_front new (regions_from_elements (items_view (drop (i + 1) vs)))
-      ≡ with_front front (regions_from_elements (items_view (drop i vs)))
+      → with_prefix new (regions_from_elements (items_view (drop (i + 1) vs)))
+      ≡ with_prefix front (regions_from_elements (items_view (drop i vs)))
   regions_more vs i d r new pushed lt e =
       rw pushed (region_more (view (get_or vs i d)) (items_view (drop (i + 1) vs)) r e
-      ∙ ap (λ ds. with_front front (regions_from_elements ds)) (sym (items_view-drop vs i d lt)))
+      ∙ ap (λ ds. with_prefix front (regions_from_elements ds)) (sym (items_view-drop vs i d lt)))
 
   pub regions_bad : (vs : List Value) (i : ℕ) (d : Value) (w : What) → i < length vs
       → region_from_element (view (get_or vs i d)) ≡ Err w
-      → with_front front (regions_from_elements (items_view (drop i vs))) ≡ Err w
+      → with_prefix front (regions_from_elements (items_view (drop i vs))) ≡ Err w
   regions_bad vs i d w lt e =
-      ap (λ ds. with_front front (regions_from_elements ds)) (items_view-drop vs i d lt)
+      ap (λ ds. with_prefix front (regions_from_elements ds)) (items_view-drop vs i d lt)
       ∙ region_bad (view (get_or vs i d)) (items_view (drop (i + 1) vs)) w e
 
 -- ---- the document

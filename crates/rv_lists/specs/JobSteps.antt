@@ -4,7 +4,7 @@ use Rattle.toml.specs.Data.{Members}
 use Rattle.rv_lists.specs.declared.error.What.{What}
 use Rattle.rv_lists.specs.declared.job.Job.{Job}
 use Rattle.rv_lists.specs.declared.run_keys.RunOptions.{RunOptions}
-use Rattle.rv_lists.specs.declared.results.Results.{Results}
+use Rattle.rv_lists.specs.declared.results.ExpectedResults.{ExpectedResults}
 use Rattle.rv_lists.specs.declared.setup.Setup.{Setup}
 use Rattle.rv_lists.specs.JobList.{script_from_table, map_from_table, load_from_table, signature_from_table, exit_from_table}
 use Rattle.rv_lists.specs.JobList.{reference_from_table, console_from_table}
@@ -30,7 +30,7 @@ setup_from_table ms = do
   Ok (record { script = script; regions = regions; load = load })
 
 -- the signature of a job, and its expected exit code, signature and console, or the first error
-unfoldable pub expected_results_from_table : Members → Result Results What
+unfoldable pub expected_results_from_table : Members → Result ExpectedResults What
 expected_results_from_table ms = do
   signature ← signature_from_table ms
   exit ← exit_from_table ms

@@ -32,13 +32,13 @@ with_job_number n (Ok x) = Ok x
 with_job_number n (Err w) = Err (record { job = n; what = w })
 
 -- the list with the elements `front` before its own, or the error
-abbrev pub with_front : {F A : Type 0} → List A → Result (List A) F → Result (List A) F
-with_front front (Ok xs) = Ok (front ++ xs)
-with_front front (Err e) = Err e
+abbrev pub with_prefix : {F A : Type 0} → List A → Result (List A) F → Result (List A) F
+with_prefix front (Ok xs) = Ok (front ++ xs)
+with_prefix front (Err e) = Err e
 
 -- the result `r` is the specified result `read`, or memory ran out
-abbrev pub Gives : {X : Type 0} → Result X What → Result X What → Type 0
-Gives r read = MatchResult r (λ x. read ≡ Ok x) (λ e. (e ≡ OutOfMemory → ⊥) → read ≡ Err e)
+abbrev pub MatchesUnlessOutOfMemory : {X : Type 0} → Result X What → Result X What → Type 0
+MatchesUnlessOutOfMemory r read = MatchResult r (λ x. read ≡ Ok x) (λ e. (e ≡ OutOfMemory → ⊥) → read ≡ Err e)
 
 -- the result `r` is the specified result `read`, whose errors have the number of their job, or memory ran out
 abbrev pub MatchesJobsUnlessOutOfMemory : {X : Type 0} → Result X JobError → Result X JobError → Type 0

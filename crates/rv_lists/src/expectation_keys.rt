@@ -3,7 +3,7 @@
 
 ghost use Rattle.std.specs.Prelude.{◌≡◌};
 ghost use Rattle.toml.specs.View.{table_view};
-ghost use Rattle.rv_lists.specs.Reading.{Gives};
+ghost use Rattle.rv_lists.specs.Reading.{MatchesUnlessOutOfMemory};
 ghost use Rattle.rv_lists.specs.JobList.{exit_from_table, reference_from_table, console_from_text, console_from_path, console_from_table};
 ghost use Rattle.rv_lists.specs.JobList.{end_from_text, end_from_table};
 
@@ -42,7 +42,7 @@ pub(crate) fn reference_from_table(
     has_signature: bool,
     table: &Table,
 ) -> Result<Option<Text>, What>
-    ensures { Gives result (reference_from_table has_signature (table_view table.now)) }
+    ensures { MatchesUnlessOutOfMemory result (reference_from_table has_signature (table_view table.now)) }
 {
     match text_at_key(table, "expect_signature") {
         Some(path) => {
@@ -62,7 +62,7 @@ pub(crate) fn console_from_table(
     alloc: Global,
     table: &Table,
 ) -> Result<Option<ExpectedConsole>, What>
-    ensures { Gives result (console_from_table (table_view table.now)) }
+    ensures { MatchesUnlessOutOfMemory result (console_from_table (table_view table.now)) }
 {
     match (
         text_at_key(table, "expect_console"),
@@ -77,7 +77,7 @@ pub(crate) fn console_from_table(
 
 // Returns the expected console with this text, or an error if it is too long.
 fn console_from_text(alloc: Global, text: &[u8]) -> Result<Option<ExpectedConsole>, What>
-    ensures { Gives result (console_from_text text.now) }
+    ensures { MatchesUnlessOutOfMemory result (console_from_text text.now) }
 {
     if text.len() <= MAX_CONSOLE_LEN {
         let bytes = Bytes::new(text.to_vec(alloc)?);
@@ -89,7 +89,7 @@ fn console_from_text(alloc: Global, text: &[u8]) -> Result<Option<ExpectedConsol
 
 // Returns the expected console in the file at this path, or an error if the path is invalid.
 fn console_from_path(alloc: Global, path: &str) -> Result<Option<ExpectedConsole>, What>
-    ensures { Gives result (console_from_path path.now) }
+    ensures { MatchesUnlessOutOfMemory result (console_from_path path.now) }
 {
     if is_same_path(path) {
         Ok(Some(ExpectedConsole::File(Text::copy(alloc, path)?)))

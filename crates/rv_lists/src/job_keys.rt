@@ -2,7 +2,7 @@
 
 ghost use Rattle.std.specs.Prelude.{◌≡◌, IfOk, None, length};
 ghost use Rattle.toml.specs.View.{view, table_view};
-ghost use Rattle.rv_lists.specs.Reading.{Gives};
+ghost use Rattle.rv_lists.specs.Reading.{MatchesUnlessOutOfMemory};
 ghost use Rattle.rv_lists.specs.Jobs.{IsValidJobAt};
 ghost use Rattle.rv_lists.specs.JobList.{name_from_table, image_from_table, budget_from_table, names_of_jobs, job_from_table, job_from_element};
 ghost use Rattle.rv_base.specs.Names.{index_in};
@@ -14,7 +14,7 @@ use crate::error::What;
 use crate::job::Job;
 use crate::keys::{number_at_key, text_at_key};
 use crate::kinds::{has_unknown_job_or_region_key, has_wrong_type};
-use crate::results::{Results, expected_results_from_table};
+use crate::results::{ExpectedResults, expected_results_from_table};
 use crate::run_keys::{RunOptions, run_options_from_table};
 use crate::setup::{Setup, setup_from_table};
 use crate::texts::is_same_path;
@@ -30,7 +30,7 @@ pub(crate) fn job_from_element(
     earlier: &EarlierJobs,
     value: &Value,
 ) -> Result<Job, What>
-    ensures value { Gives result (job_from_element (names_of_jobs earlier.now) (view value.now)) }
+    ensures value { MatchesUnlessOutOfMemory result (job_from_element (names_of_jobs earlier.now) (view value.now)) }
     ensures good { IfOk result (IsValidJobAt (length earlier.now)) }
     ensures fresh { IfOk result (λ job. index_in (names_of_jobs earlier.now) job.name ≡ None) }
 {
@@ -43,7 +43,7 @@ pub(crate) fn job_from_element(
 // Returns the job of a table, or its first error. `earlier` are the jobs before it.
 #[tactic(auto, unfolding(crate::specs::JobList::job_from_table))]
 fn job_from_table(alloc: Global, earlier: &EarlierJobs, table: &Table) -> Result<Job, What>
-    ensures value { Gives result (job_from_table (names_of_jobs earlier.now) (table_view table.now)) }
+    ensures value { MatchesUnlessOutOfMemory result (job_from_table (names_of_jobs earlier.now) (table_view table.now)) }
     ensures good { IfOk result (IsValidJobAt (length earlier.now)) }
     ensures fresh { IfOk result (λ job. index_in (names_of_jobs earlier.now) job.name ≡ None) }
 {
@@ -75,7 +75,7 @@ impl EarlierJobs {
         table: &Table,
     ) -> Result<Job, What>
         requires { index_in (names_of_jobs self.now) name.now ≡ None }
-        ensures value { Gives result
+        ensures value { MatchesUnlessOutOfMemory result
             (job_from_remaining_keys (names_of_jobs self.now) name.now image.now budget (table_view table.now)) }
         ensures good { IfOk result (IsValidJobAt (length self.now)) }
         ensures fresh { IfOk result (λ job. index_in (names_of_jobs self.now) job.name ≡ None) }
@@ -96,7 +96,7 @@ impl Setup {
         name: Text,
         image: Text,
         budget: u32,
-        results: Results,
+        results: ExpectedResults,
         manner: RunOptions,
     ) -> Job
         ensures { result ≡ record {

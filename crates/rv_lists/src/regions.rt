@@ -3,7 +3,7 @@
 ghost use Rattle.std.specs.Prelude.{◌≡◌, ◌≢◌, MatchResult, Ok, Err};
 ghost use Rattle.rv_lists.specs.declared.error.What.TheVariants.{OutOfMemory};
 ghost use Rattle.toml.specs.View.{view, table_view, items_view};
-ghost use Rattle.rv_lists.specs.Reading.{Gives};
+ghost use Rattle.rv_lists.specs.Reading.{MatchesUnlessOutOfMemory};
 ghost use Rattle.rv_lists.specs.JobList.{region_word, region_from_table, region_from_element, regions_from_elements, map_from_elements};
 ghost use Rattle.rv_lists.specs.JobList.{map_from_table};
 
@@ -16,7 +16,7 @@ use toml::{Table, Value};
 /// Returns the memory map of a job: the regions of `region`, or the default map if there is no such key.
 #[tactic(auto, unfolding(crate::specs::JobList::map_from_table))]
 pub(crate) fn map_from_table(alloc: Global, table: &Table) -> Result<Map, What>
-    ensures { Gives result (map_from_table (table_view table.now)) }
+    ensures { MatchesUnlessOutOfMemory result (map_from_table (table_view table.now)) }
 {
     match array_at_key(table, "region") {
         Some(regions) => map_from_elements(alloc, regions.as_slice()),
@@ -27,7 +27,7 @@ pub(crate) fn map_from_table(alloc: Global, table: &Table) -> Result<Map, What>
 // Returns the memory map that the elements of `region` form, or an error if one is invalid or they do not form one.
 #[tactic(auto, unfolding(crate::specs::JobList::map_from_elements))]
 fn map_from_elements(alloc: Global, elements: &[Value]) -> Result<Map, What>
-    ensures { Gives result (map_from_elements (items_view elements.now)) }
+    ensures { MatchesUnlessOutOfMemory result (map_from_elements (items_view elements.now)) }
 {
     let regions = regions_from_elements(alloc, elements)?;
     match Map::of(regions.as_slice()) {

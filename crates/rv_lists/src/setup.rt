@@ -7,7 +7,7 @@ ghost use Rattle.rv_lists.specs.declared.error.What.TheVariants.{OutOfMemory};
 ghost use Rattle.rv_base.specs.Limits.{max_script_len};
 ghost use Rattle.rv_lists.specs.JobList.{script_from_bytes, script_from_decoded, script_from_table, load_from_text, load_from_table};
 ghost use Rattle.rv_lists.specs.JobSteps.{setup_from_table};
-ghost use Rattle.rv_lists.specs.Reading.{Gives};
+ghost use Rattle.rv_lists.specs.Reading.{MatchesUnlessOutOfMemory};
 
 use crate::error::What;
 use crate::keys::text_at_key;
@@ -31,7 +31,7 @@ pub(crate) struct Setup {
 /// Returns the script, the regions and the load addresses of a job, or the first error.
 #[tactic(auto, unfolding(crate::specs::JobSteps::setup_from_table))]
 pub(crate) fn setup_from_table(alloc: Global, table: &Table) -> Result<Setup, What>
-    ensures value { Gives result (setup_from_table (table_view table.now)) }
+    ensures value { MatchesUnlessOutOfMemory result (setup_from_table (table_view table.now)) }
     ensures short { IfOk result (λ setup. length setup.script ≤ max_script_len) }
 {
     let script = script_from_table(alloc, table)?;
@@ -47,7 +47,7 @@ pub(crate) fn setup_from_table(alloc: Global, table: &Table) -> Result<Setup, Wh
 // Returns the script of a job from `input` or `input_hex`, of which at most one may be set. It is empty if neither is.
 #[tactic(auto, unfolding(crate::specs::JobList::script_from_table))]
 fn script_from_table(alloc: Global, table: &Table) -> Result<Bytes, What>
-    ensures value { Gives result (script_from_table (table_view table.now)) }
+    ensures value { MatchesUnlessOutOfMemory result (script_from_table (table_view table.now)) }
     ensures short { IfOk result (λ s. length s ≤ max_script_len) }
 {
     match (text_at_key(table, "input"), text_at_key(table, "input_hex")) {
@@ -60,7 +60,7 @@ fn script_from_table(alloc: Global, table: &Table) -> Result<Bytes, What>
 
 // Returns the script that consists of these bytes, or an error if it is too long.
 fn script_from_bytes(alloc: Global, bytes: &[u8]) -> Result<Bytes, What>
-    ensures value { Gives result (script_from_bytes bytes.now) }
+    ensures value { MatchesUnlessOutOfMemory result (script_from_bytes bytes.now) }
     ensures short { IfOk result (λ s. length s ≤ max_script_len) }
 {
     if bytes.len() <= MAX_SCRIPT_LEN {
@@ -72,7 +72,7 @@ fn script_from_bytes(alloc: Global, bytes: &[u8]) -> Result<Bytes, What>
 
 // Returns the script from its hexadecimal digits, or an error if they are invalid or it is too long.
 fn script_from_hex(alloc: Global, digits: &str) -> Result<Bytes, What>
-    ensures value { Gives result (script_from_decoded (decode_of digits.now)) }
+    ensures value { MatchesUnlessOutOfMemory result (script_from_decoded (decode_of digits.now)) }
     ensures short { IfOk result (λ s. length s ≤ max_script_len) }
 {
     match hex::decode(alloc, digits) {

@@ -5,7 +5,7 @@ ghost use Rattle.std.specs.Prelude.{option_and_then};
 ghost use Rattle.std.specs.List.{list_all};
 ghost use Rattle.toml.specs.Data.{as_str, get_item};
 ghost use Rattle.toml.specs.View.{table_view, items_view};
-ghost use Rattle.rv_lists.specs.Reading.{Gives};
+ghost use Rattle.rv_lists.specs.Reading.{MatchesUnlessOutOfMemory};
 ghost use Rattle.rv_lists.specs.JobList.{is_signature_symbol, signature_symbol, symbols_from_names, signature_from_table};
 
 use crate::error::What;
@@ -20,7 +20,7 @@ use toml::{Table, Value};
 /// Returns the symbols of a job's signature, or `None` if it has none.
 #[tactic(auto, unfolding(crate::specs::JobList::signature_from_table))]
 pub(crate) fn signature_from_table(alloc: Global, table: &Table) -> Result<Option<Symbols>, What>
-    ensures value { Gives result (signature_from_table (table_view table.now)) }
+    ensures value { MatchesUnlessOutOfMemory result (signature_from_table (table_view table.now)) }
     ensures named { IfOk result (λ o. IfSome o (λ s. (0 < length s.begin) × (0 < length s.end))) }
 {
     match array_at_key(table, "signature") {
@@ -32,7 +32,7 @@ pub(crate) fn signature_from_table(alloc: Global, table: &Table) -> Result<Optio
 // Returns the two symbols of a signature from the value of `signature`, or an error if they are invalid.
 #[tactic(auto, unfolding(crate::specs::JobList::symbols_from_names))]
 fn symbols_from_names(alloc: Global, names: &[Value]) -> Result<Option<Symbols>, What>
-    ensures value { Gives result (symbols_from_names (items_view names.now)) }
+    ensures value { MatchesUnlessOutOfMemory result (symbols_from_names (items_view names.now)) }
     ensures named { IfOk result (λ o. IfSome o (λ s. (0 < length s.begin) × (0 < length s.end))) }
 {
     if names.len() != 2 {
@@ -46,7 +46,7 @@ fn symbols_from_names(alloc: Global, names: &[Value]) -> Result<Option<Symbols>,
 // Returns the name at an index of the value of `signature`, or an error if it is invalid.
 fn signature_symbol(alloc: Global, names: &[Value], at: usize) -> Result<Text, What>
     requires { at < length names.now }
-    ensures value { Gives result (signature_symbol at (items_view names.now)) }
+    ensures value { MatchesUnlessOutOfMemory result (signature_symbol at (items_view names.now)) }
     ensures named { IfOk result (λ t. 0 < length t) }
 {
     match element_text(names, at) {

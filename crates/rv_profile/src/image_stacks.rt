@@ -2,7 +2,7 @@
 
 ghost use Rattle.std.specs.Prelude.{◌≡◌, [], find, option_map, true};
 ghost use Rattle.std.specs.List.{list_any};
-ghost use Rattle.rv_count_tables.specs.Table.{IsValidImage, IsTable, functions_increase_from};
+ghost use Rattle.rv_count_tables.specs.Table.{IsValidImage, IsValidTable, functions_increase_from};
 ghost use Rattle.rv_cover_view.specs.JobImages.{image_of_file, images_of_files};
 ghost use Rattle.rv_count_tables.specs.Trees.{IsTree};
 ghost use Rattle.rv_profile.specs.ImageStacks.{has_stacks, image_past_64_bits, is_past_64_bits, has_nodes, names_of, nodes_of};
@@ -22,7 +22,7 @@ pub(crate) struct ImageStacks<'t> {
 
 /// Returns the call tree that the table has for the image with these bytes; empty if the table does not have this image.
 pub(crate) fn stacks_of<'t>(table: &'t CountTable, bytes: &[u8]) -> ImageStacks<'t>
-    requires { IsTable table.now }
+    requires { IsValidTable table.now }
     ensures spots { result.spots.now ≡ nodes_of table.now bytes.now }
     ensures names { result.names.now ≡ names_of table.now bytes.now }
     ensures tree { IsTree result.spots.now }

@@ -1,7 +1,7 @@
 //! The profile report of images, from a table's call trees.
 
 ghost use Rattle.std.specs.Prelude.{◌≡◌, ◌++◌, IfOk, List, None, OnOk, false, ℕ};
-ghost use Rattle.rv_count_tables.specs.Table.{IsTable};
+ghost use Rattle.rv_count_tables.specs.Table.{IsValidTable};
 ghost use Rattle.rv_cover_view.specs.JobImages.{image_of_file, images_of_files};
 ghost use Rattle.rv_profile.specs.ImageStacks.{image_past_64_bits, is_past_64_bits};
 ghost use Rattle.rv_profile.specs.Profile.{profiles_of};
@@ -25,7 +25,7 @@ pub fn profile_text(
     table: &CountTable,
     images: &[ImageFile<'_>],
 ) -> Result<Vec<u8>, AllocError>
-    requires table { IsTable table.now }
+    requires table { IsValidTable table.now }
     requires few { image_past_64_bits table.now (images_of_files images.now) ≡ None }
     ensures { IfOk result (λ text. IsProfileText format table.now (images_of_files images.now) text.items) }
 {
@@ -56,7 +56,7 @@ fn push_image(
     table: &CountTable,
     image: &ImageFile<'_>,
 ) -> Result<(), AllocError>
-    requires table { IsTable table.now }
+    requires table { IsValidTable table.now }
     requires few { is_past_64_bits table.now (image_of_file image.now) ≡ false }
     ensures { OnOk result ((shown : List ℕ) × (IsImageProfileText format table.now (image_of_file image.now) shown
         × (text.new.items ≡ text.old.items ++ shown))) }

@@ -1,7 +1,7 @@
 //! A law on profiles, with no code to run.
 
 ghost use Rattle.std.specs.Prelude.{◌≡◌, ℕ, List};
-ghost use Rattle.rv_count_tables.specs.Table.{IsTable};
+ghost use Rattle.rv_count_tables.specs.Table.{IsValidTable};
 ghost use Rattle.rv_count_tables.specs.declared.table.CountTable.{CountTable as ATable};
 ghost use Rattle.rv_profile.specs.ImageStacks.{names_of, nodes_of};
 ghost use Rattle.rv_profile.specs.Profile.{IsProfileOf, FunctionCounts, total_own_steps};
@@ -11,7 +11,7 @@ use rv_count_tables::own_steps_sum_to_all;
 
 /// Proves that the own steps of all functions of an image add up to the steps of its call tree.
 pub fn own_steps_sum_to_all_steps()
-    ensures { (table : ATable) (bytes : List ℕ) (found : List FunctionCounts) → IsTable table
+    ensures { (table : ATable) (bytes : List ℕ) (found : List FunctionCounts) → IsValidTable table
         → IsProfileOf (nodes_of table bytes) (names_of table bytes) found
         → total_own_steps found ≡ all_steps (nodes_of table bytes) }
 {

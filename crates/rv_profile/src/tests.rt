@@ -1,6 +1,6 @@
 //! Tests with profiles that another tool made of the same call trees, and some that were counted by hand.
 
-ghost use Rattle.rv_count_tables.specs.Table.{IsTable};
+ghost use Rattle.rv_count_tables.specs.Table.{IsValidTable};
 
 use crate::csv::{push_csv_header, push_csv_rows};
 use crate::image_lines::push_image_lines;
@@ -222,7 +222,7 @@ const PAST_64_BITS: [&str; 2] = [
 
 // Returns the profile of the image `FILE`, computed from a table.
 fn profile_in(alloc: Global, table: &CountTable) -> Result<ImageProfile<'_>, Fail>
-    requires { IsTable table.now }
+    requires { IsValidTable table.now }
 {
     let stacks = stacks_of(table, FILE);
     if sums_of(stacks.spots).is_none() {

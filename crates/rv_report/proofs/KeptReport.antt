@@ -13,7 +13,7 @@ use Rattle.rv_report.specs.declared.saved.SavedReport.{SavedReport}
 use Rattle.rv_report.specs.Report.{line}
 use Rattle.rv_report.specs.LenientReport.{lines, ReaderStateView, state_between_rows, with_unfinished_row, state_after_text}
 use Rattle.rv_report.specs.LenientReport.{lenient_report, increasing_count, count_before_repeated_name, extent_or_selection}
-use Rattle.rv_report.specs.Saved.{IsValidReport, are_increasing, are_distinct, row_names, numbered_text, extent_line, saved_text}
+use Rattle.rv_report.specs.Saved.{IsValidReport, are_increasing, are_distinct, row_names, numbered_rows_text, extent_line, saved_text}
 use Rattle.rv_report.proofs.Spelled.{says, says_line}
 use Rattle.rv_report.proofs.Parts.{last_words, last_is_line, last_says, lacks-last, prove_row_has_numbers}
 use Rattle.rv_report.proofs.Cut.{few_numbers, length-names, length-taken}
@@ -158,8 +158,8 @@ gathered_past r h w =
     let last = last_words r.extent count in
     let start = state_between_rows [] [] Whole in
     ap (λ (t : List ℕ). with_unfinished_row (says t start))
-    (append_assoc (numbered_text r.numbers r.rows) (extent_line r.extent count) w)
-    ∙ ap (λ (t : List ℕ). with_unfinished_row (says (numbered_text r.numbers r.rows ++ (t ++ w)) start))
+    (append_assoc (numbered_rows_text r.numbers r.rows) (extent_line r.extent count) w)
+    ∙ ap (λ (t : List ℕ). with_unfinished_row (says (numbered_rows_text r.numbers r.rows ++ (t ++ w)) start))
     (last_is_line r.extent count)
     ∙ ap with_unfinished_row (rows_say r.numbers r.rows (line last ++ w) [] [] Whole 0 h.rows counted h.listed.rising
     (omega arith)

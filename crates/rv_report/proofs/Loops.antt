@@ -12,7 +12,7 @@ use Rattle.rv_base.specs.Limits.{max_jobs}
 use Rattle.rv_report.specs.Report.{row_text}
 use Rattle.rv_report.specs.declared.row.Row.{Row}
 use Rattle.rv_report.specs.LenientReport.{increasing_count}
-use Rattle.rv_report.specs.Saved.{are_increasing, numbered_text}
+use Rattle.rv_report.specs.Saved.{are_increasing, numbered_rows_text}
 
 pub feeds_step : (xs : List ℕ) (i : ℕ) → i < length xs
     → line_feed_count (drop i xs) ≡ cond (get_or xs i 0 == 10) (line_feed_count (drop (i + 1) xs) + 1) (line_feed_count (drop (i + 1) xs))
@@ -131,9 +131,9 @@ count_on before xs i h low high =
 -- one row more
 pub numbered_more : (numbers : List ℕ) (rows : List Row) (i n place : ℕ) (row : Row) → i < length rows
     → length numbers ≡ length rows → get_or numbers i 0 ≡ n → place ≡ n - 1
-    → numbered_text (take (suc i) numbers) (take (suc i) rows)
-    ≡ numbered_text (take i numbers) (take i rows) ++ row_text place (get_or rows i row)
-unfolding numbered_text
+    → numbered_rows_text (take (suc i) numbers) (take (suc i) rows)
+    ≡ numbered_rows_text (take i numbers) (take i rows) ++ row_text place (get_or rows i row)
+unfolding numbered_rows_text
 numbered_more [] [] i n place row h even at is = absurd (omega arith)
 numbered_more [] (r ∷ rows) i n place row h even at is = absurd (omega arith)
 numbered_more (k ∷ ks) [] i n place row h even at is = absurd (omega arith)
@@ -141,14 +141,14 @@ numbered_more (k ∷ ks) (r ∷ rows) zero n place row h even at is =
     append-nil (row_text (k - 1) r) ∙ ap (λ (p : ℕ). row_text p r) (ap (λ (m : ℕ). m - 1) at ∙ sym is)
 numbered_more (k ∷ ks) (r ∷ rows) (suc i) n place row h even at is =
     ap (λ (t : List ℕ). row_text (k - 1) r ++ t) (numbered_more ks rows i n place row (omega arith) (omega arith) at is)
-    ∙ sym (append_assoc (row_text (k - 1) r) (numbered_text (take i ks) (take i rows))
+    ∙ sym (append_assoc (row_text (k - 1) r) (numbered_rows_text (take i ks) (take i rows))
     (row_text place (get_or rows i row)))
 
 -- the first rows, and the rest
 pub numbered_split : (numbers : List ℕ) (rows : List Row) (i : ℕ) → length numbers ≡ length rows
-    → numbered_text numbers rows
-    ≡ numbered_text (take i numbers) (take i rows) ++ numbered_text (drop i numbers) (drop i rows)
-unfolding numbered_text
+    → numbered_rows_text numbers rows
+    ≡ numbered_rows_text (take i numbers) (take i rows) ++ numbered_rows_text (drop i numbers) (drop i rows)
+unfolding numbered_rows_text
 numbered_split [] [] zero even = refl
 numbered_split [] [] (suc i) even = refl
 numbered_split [] (r ∷ rows) i even = absurd (omega arith)
@@ -156,8 +156,8 @@ numbered_split (k ∷ ks) [] i even = absurd (omega arith)
 numbered_split (k ∷ ks) (r ∷ rows) zero even = refl
 numbered_split (k ∷ ks) (r ∷ rows) (suc i) even =
     ap (λ (t : List ℕ). row_text (k - 1) r ++ t) (numbered_split ks rows i (omega arith))
-    ∙ sym (append_assoc (row_text (k - 1) r) (numbered_text (take i ks) (take i rows))
-    (numbered_text (drop i ks) (drop i rows)))
+    ∙ sym (append_assoc (row_text (k - 1) r) (numbered_rows_text (take i ks) (take i rows))
+    (numbered_rows_text (drop i ks) (drop i rows)))
 
 -- numbers that rise from behind one are above it
 pub above : (before last : ℕ) (ns : List ℕ) (i : ℕ) → are_increasing before last ns ≡ true → i < length ns

@@ -14,7 +14,7 @@ use Rattle.rv_report.specs.LeastLine.{IsReportPrefix}
 use Rattle.rv_report.specs.LenientReport.{lenient_report}
 use Rattle.rv_report.specs.Partial.{BeginsWith, HasCompleteRows, first_rows, first_rows_text, complete_lines}
 use Rattle.rv_report.specs.Report.{row_text}
-use Rattle.rv_report.specs.Saved.{IsValidRow, IsValidReport, are_distinct, are_increasing, matches_job_numbers, numbered_text, row_names}
+use Rattle.rv_report.specs.Saved.{IsValidRow, IsValidReport, are_distinct, are_increasing, matches_job_numbers, numbered_rows_text, row_names}
 use Rattle.rv_report.proofs.Cut.{length-taken, said_can_be}
 use Rattle.rv_report.proofs.LeastLine.{lines_stay}
 use Rattle.rv_report.proofs.Loops.{numbered_more}
@@ -103,10 +103,10 @@ saved_read bytes count read is within =
 -- the text of one row more, behind which a text goes on
 pub one_more_row : (bytes rest behind : List ℕ) (numbers : List ℕ) (rows : List Row) (at n : ℕ) (row : Row)
     → at < length rows → length numbers ≡ length rows → get_or numbers at 0 ≡ n → get_or rows at row ≡ row
-    → bytes ≡ numbered_text (take at numbers) (take at rows) ++ rest → rest ≡ row_text (n - 1) row ++ behind
-    → bytes ≡ numbered_text (take (suc at) numbers) (take (suc at) rows) ++ behind
+    → bytes ≡ numbered_rows_text (take at numbers) (take at rows) ++ rest → rest ≡ row_text (n - 1) row ++ behind
+    → bytes ≡ numbered_rows_text (take (suc at) numbers) (take (suc at) rows) ++ behind
 one_more_row bytes rest behind numbers rows at n row within counted is of here more =
-    let taken = numbered_text (take at numbers) (take at rows) in
+    let taken = numbered_rows_text (take at numbers) (take at rows) in
     let longer = numbered_more numbers rows at n (n - 1) row within counted is refl in
     here ∙ ap (λ (text : List ℕ). taken ++ text) more ∙ sym (append_assoc taken (row_text (n - 1) row) behind)
     ∙ ap (λ (r : Row). (taken ++ row_text (n - 1) r) ++ behind) (sym of)
@@ -119,11 +119,11 @@ same_behind (b ∷ first) xs ys is = same_behind first xs ys (ap (λ (text : Lis
 -- a text that goes on otherwise does not have one row more
 pub no_more_row : (bytes rest : List ℕ) (numbers : List ℕ) (rows : List Row) (at n : ℕ) (row : Row)
     → at < length rows → length numbers ≡ length rows → get_or numbers at 0 ≡ n → get_or rows at row ≡ row
-    → bytes ≡ numbered_text (take at numbers) (take at rows) ++ rest
+    → bytes ≡ numbered_rows_text (take at numbers) (take at rows) ++ rest
     → ((behind : List ℕ) → rest ≡ row_text (n - 1) row ++ behind → ⊥)
-    → BeginsWith bytes (numbered_text (take (suc at) numbers) (take (suc at) rows)) → ⊥
+    → BeginsWith bytes (numbered_rows_text (take (suc at) numbers) (take (suc at) rows)) → ⊥
 no_more_row bytes rest numbers rows at n row within counted is of here other begins =
-    let taken = numbered_text (take at numbers) (take at rows) in
+    let taken = numbered_rows_text (take at numbers) (take at rows) in
     let longer = numbered_more numbers rows at n (n - 1) row within counted is refl in
     other begins.0 (same_behind taken rest (row_text (n - 1) row ++ begins.0)
     (sym here ∙ begins.1 ∙ ap (λ (text : List ℕ). text ++ begins.0) longer

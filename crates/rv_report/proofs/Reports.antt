@@ -15,7 +15,7 @@ use Rattle.rv_report.specs.declared.saved.Extent.TheVariants.{Whole, Choice}
 use Rattle.rv_report.specs.declared.saved.SavedReport.{SavedReport}
 use Rattle.rv_report.specs.LenientReport.{lines, ReaderStateView, state_between_rows, with_stage_done, with_line, with_lines, with_unfinished_row, state_after_text}
 use Rattle.rv_report.specs.LenientReport.{lenient_report, increasing_count, count_before_repeated_name, extent_or_selection}
-use Rattle.rv_report.specs.Saved.{IsValidRow, HasDistinctJobs, IsValidReport, are_increasing, are_distinct, matches_job_numbers, row_names, numbered_text}
+use Rattle.rv_report.specs.Saved.{IsValidRow, HasDistinctJobs, IsValidReport, are_increasing, are_distinct, matches_job_numbers, row_names, numbered_rows_text}
 use Rattle.rv_report.specs.Saved.{saved_text}
 use Rattle.rv_report.proofs.Cut.{few_numbers, length-names}
 use Rattle.rv_report.proofs.Pieces.{lacks}
@@ -33,9 +33,9 @@ rising_parts before last n ns h =
 pub rows_say : (numbers : List ℕ) (rows : List Row) (rest earlier : List ℕ) (done : List Row) (e : Extent) (before : ℕ)
     → AllByRecursion IsValidRow rows → length numbers ≡ length rows → are_increasing before max_jobs numbers ≡ true
     → length done + length rows ≤ max_jobs
-    → says (numbered_text numbers rows ++ rest) (state_between_rows earlier done e)
+    → says (numbered_rows_text numbers rows ++ rest) (state_between_rows earlier done e)
     ≡ says rest (state_between_rows (earlier ++ numbers) (done ++ rows) e)
-unfolding numbered_text
+unfolding numbered_rows_text
 rows_say [] [] rest earlier done e before each counted rising few =
     ap (λ (ns : List ℕ). says rest (state_between_rows ns done e)) (sym (append-nil earlier))
     ∙ ap (λ (t : List Row). says rest (state_between_rows (earlier ++ []) t e)) (sym (append-nil done))
@@ -46,8 +46,8 @@ rows_say (n ∷ ns) (row ∷ rows) rest earlier done e before each counted risin
     let low = parts.0 in
     let high = parts.1 in
     ap (λ (t : List ℕ). says t (state_between_rows earlier done e))
-    (append_assoc (row_text (n - 1) row) (numbered_text ns rows) rest)
-    ∙ row_says (n - 1) n row (numbered_text ns rows ++ rest) earlier done e each.0 (omega arith) (omega arith)
+    (append_assoc (row_text (n - 1) row) (numbered_rows_text ns rows) rest)
+    ∙ row_says (n - 1) n row (numbered_rows_text ns rows ++ rest) earlier done e each.0 (omega arith) (omega arith)
     (omega arith)
     ∙ rows_say ns rows rest (earlier ++ n ∷ []) (done ++ row ∷ []) e n each.1 (omega arith) parts.2
     (let longer = length-append done (row ∷ []) in omega arith)
@@ -70,7 +70,7 @@ pub gathered_all : (r : SavedReport) → IsValidReport r → HasNumbers r.extent
 unfolding state_after_text saved_text
 gathered_all r h known few =
     let count = length r.rows in
-    ap (λ (t : List ℕ). with_unfinished_row (says (numbered_text r.numbers r.rows ++ t) (state_between_rows [] [] Whole)))
+    ap (λ (t : List ℕ). with_unfinished_row (says (numbered_rows_text r.numbers r.rows ++ t) (state_between_rows [] [] Whole)))
     (last_is_line r.extent count)
     ∙ ap with_unfinished_row (rows_say r.numbers r.rows (line (last_words r.extent count)) [] [] Whole 0 h.rows h.listed.counted
     h.listed.rising (omega arith)

@@ -13,7 +13,7 @@ use Rattle.rv_report.specs.declared.row.Row.{Row}
 use Rattle.rv_report.specs.declared.row.Verdict.{Verdict}
 use Rattle.rv_report.specs.declared.saved.SavedReport.{SavedReport}
 use Rattle.rv_report.specs.Report.{line, verdict_name, end_line, dash_if_empty, console_line, signature_lines, row_text}
-use Rattle.rv_report.specs.Saved.{IsValidRow, IsValidSignature, IsValidReport, are_increasing, max_words, numbered_text, saved_text}
+use Rattle.rv_report.specs.Saved.{IsValidRow, IsValidSignature, IsValidReport, are_increasing, max_words, numbered_rows_text, saved_text}
 use Rattle.rv_report.proofs.Pieces.{lacks}
 use Rattle.rv_report.proofs.Words.{lacks-decimal, lacks-digits}
 use Rattle.rv_report.proofs.Spelled.{end_words, end_is_line, lacks-job, lacks-end, lacks-shown, lacks-verdict, regroup}
@@ -80,8 +80,8 @@ joined_row n place row same =
     ∙ ap (λ (k : ℕ). line (job_words k row.name) ++ end_line row.ending ++ s ++ c ++ g ++ v) (sym same)
 
 pub joined_numbered : (before : ℕ) (ns : List ℕ) (rows : List Row) → are_increasing before max_jobs ns ≡ true
-    → joined (numbered_lines ns rows) ≡ numbered_text ns rows
-unfolding numbered_text
+    → joined (numbered_lines ns rows) ≡ numbered_rows_text ns rows
+unfolding numbered_rows_text
 joined_numbered before [] rows h = refl
 joined_numbered before (n ∷ ns) [] h = refl
 joined_numbered before (n ∷ ns) (row ∷ rows) h =
@@ -97,8 +97,8 @@ joined_saved r h =
     let last = last_words r.extent (length r.rows) in
     flat_map-append line (numbered_lines r.numbers r.rows) (last ∷ [])
     ∙ ap (λ (t : List ℕ). t ++ (line last ++ [])) (joined_numbered 0 r.numbers r.rows h.listed.rising)
-    ∙ ap (λ (t : List ℕ). numbered_text r.numbers r.rows ++ t) (append-nil (line last))
-    ∙ ap (λ (t : List ℕ). numbered_text r.numbers r.rows ++ t) (sym (last_is_line r.extent (length r.rows)))
+    ∙ ap (λ (t : List ℕ). numbered_rows_text r.numbers r.rows ++ t) (append-nil (line last))
+    ∙ ap (λ (t : List ℕ). numbered_rows_text r.numbers r.rows ++ t) (sym (last_is_line r.extent (length r.rows)))
 
 -- ---- no line has a line feed in it
 

@@ -3,7 +3,7 @@ use Rattle.std.specs.Prelude.{◌≡◌, ◌+◌, ◌<◌, ◌≤◌, ℕ, Bool,
 use Rattle.rv_base.specs.Limits.{max_jobs}
 use Rattle.rv_report.specs.Differences.{line_feed_count}
 use Rattle.rv_report.specs.LeastLine.{first_lines}
-use Rattle.rv_report.specs.Saved.{IsValidReport, numbered_text, saved_text}
+use Rattle.rv_report.specs.Saved.{IsValidReport, numbered_rows_text, saved_text}
 use Rattle.rv_report.specs.declared.saved.Extent.TheVariants as extent
 use Rattle.rv_report.specs.declared.saved.SavedReport.{SavedReport}
 
@@ -26,7 +26,7 @@ first_rows count report = record {
 
 -- the text of the first `count` rows of a report
 abbrev pub first_rows_text : ℕ → SavedReport → List ℕ
-first_rows_text count report = numbered_text (take count report.numbers) (take count report.rows)
+first_rows_text count report = numbered_rows_text (take count report.numbers) (take count report.rows)
 
 -- the report's text begins with the complete lines of the bytes, and exactly its first `count` rows are complete in the bytes
 pub record HasCompleteRows (bytes : List ℕ) (report : SavedReport) (count : ℕ) : Type 0 where

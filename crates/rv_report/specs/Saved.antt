@@ -47,10 +47,10 @@ matches_job_numbers (extent.Shard s) ns = is_valid_shard s && are_evenly_spaced 
 -- ---- the text
 
 -- the text of rows, given the numbers of their jobs
-unfoldable pub numbered_text : List ℕ → List Row → List ℕ
-numbered_text (n ∷ ns) (row ∷ rows) = row_text (n - 1) row ++ numbered_text ns rows
-numbered_text [] rows = []
-numbered_text (n ∷ ns) [] = []
+unfoldable pub numbered_rows_text : List ℕ → List Row → List ℕ
+numbered_rows_text (n ∷ ns) (row ∷ rows) = row_text (n - 1) row ++ numbered_rows_text ns rows
+numbered_rows_text [] rows = []
+numbered_rows_text (n ∷ ns) [] = []
 
 -- the text `part ROWS of JOBS`, with the number of rows and the number of jobs in the list
 abbrev pub part_text : ℕ → ℕ → List ℕ
@@ -69,7 +69,7 @@ extent_line (extent.Shard s) count = line (part_text count s.jobs ++ shard_text 
 
 -- the text of a report
 unfoldable pub saved_text : SavedReport → List ℕ
-saved_text r = numbered_text r.numbers r.rows ++ extent_line r.extent (length r.rows)
+saved_text r = numbered_rows_text r.numbers r.rows ++ extent_line r.extent (length r.rows)
 
 -- ---- valid reports
 

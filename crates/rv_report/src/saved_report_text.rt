@@ -1,7 +1,7 @@
 //! The text of a saved report.
 
 ghost use Rattle.std.specs.Prelude.{◌≡◌, ◌++◌, ◌≤◌, ◌<◌, ◌^◌, true, IfOk, OnOk, string_bytes, length};
-ghost use Rattle.rv_report.specs.Saved.{HasDistinctJobs, are_increasing, numbered_text, extent_line, saved_text};
+ghost use Rattle.rv_report.specs.Saved.{HasDistinctJobs, are_increasing, numbered_rows_text, extent_line, saved_text};
 ghost use Rattle.rv_base.specs.Limits.{max_jobs};
 
 use crate::report::{push_done_line, push_row};
@@ -32,7 +32,7 @@ fn push_numbered_rows(
     requires counted { length numbers.now ≡ length rows.now }
     requires rising { are_increasing 0 max_jobs numbers.now ≡ true }
     ensures { OnOk result (string_bytes text.new
-        ≡ string_bytes text.old ++ numbered_text numbers.now rows.now) }
+        ≡ string_bytes text.old ++ numbered_rows_text numbers.now rows.now) }
 {
     for (at, row) in rows.iter().enumerate() {
         push_row(alloc, text, numbers[at] as usize - 1, row)?;

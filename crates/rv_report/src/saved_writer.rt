@@ -6,7 +6,7 @@ ghost use Rattle.rv_base.specs.Limits.{max_jobs};
 ghost use Rattle.rv_base.specs.Counts.{one_more};
 ghost use Rattle.rv_base.specs.Sinks.{AppendsPrefix, IsPartlyWritten};
 ghost use Rattle.rv_base.specs.Counts.{HasIncreased};
-ghost use Rattle.rv_report.specs.Saved.{are_increasing, numbered_text, saved_text};
+ghost use Rattle.rv_report.specs.Saved.{are_increasing, numbered_rows_text, saved_text};
 
 use crate::report::{WriteError, flush_text, push_row, write_text_if_large};
 use crate::row::Row;
@@ -53,10 +53,10 @@ fn write_numbered_rows<W: Sink>(
     requires empty { string_bytes text.old ≡ [] }
     ensures under_way { OnOk result
         (IsPartlyWritten (W.accepted out.old) (W.accepted out.new)
-        (string_bytes text.new) (numbered_text numbers.now rows.now)) }
+        (string_bytes text.new) (numbered_rows_text numbers.now rows.now)) }
     ensures counted { OnOk result (W.failure_count out.new ≡ W.failure_count out.old) }
     ensures part { OnErr result (AppendsPrefix (W.accepted out.old) (W.accepted out.new)
-        (numbered_text numbers.now rows.now)) }
+        (numbered_rows_text numbers.now rows.now)) }
     ensures failed { IfErr result
         (λ error. error ≡ WriteError.Failed → W.failure_count out.new ≡ one_more (W.failure_count out.old)) }
 {

@@ -26,8 +26,8 @@ outcome_in answers job =
     (option_map (result_or_unreadable answers) (console_path job.expect_console))
 
 -- the state in which the run of a job begins, given the results for the paths of a plan, or the refusal
-abbrev pub start_in : List PathResult → Job → Result State Refusal
-start_in answers job =
+abbrev pub start_state_in : List PathResult → Job → Result State Refusal
+start_state_in answers job =
     start_of job (result_or_unreadable answers job.image) (option_map (result_or_unreadable answers) job.expect_signature)
     (option_map (result_or_unreadable answers) (console_path job.expect_console))
 

@@ -10,7 +10,7 @@ ghost use Rattle.rv_machine.specs.State.{State};
 ghost use Rattle.rv_rows.specs.Attempt.{HasValidRange, HasReadableSignature, outcome_in_bus, outcome_of_attempt};
 ghost use Rattle.rv_rows.specs.IntermediateState.{IsIntermediateState};
 ghost use Rattle.rv_rows.specs.Outcome.{file_outcome_of, loadable_image, outcome_of_run, start_if_loadable};
-ghost use Rattle.rv_rows.specs.Rows.{outcome_in, row_of, start_in};
+ghost use Rattle.rv_rows.specs.Rows.{outcome_in, row_of, start_state_in};
 
 use crate::attempt::{ended_run, image_file_or_refusal, loadable_image};
 use crate::outcome::{Attempt, EndedRun, SignatureRange};
@@ -34,7 +34,7 @@ pub fn row_from(
 ) -> Result<Row, AllocError>
     requires place { i < length plan.now.jobs }
     requires way { (d : AJob) → let job = slice_index_or plan.now.jobs i d in
-        IsIntermediateState (start_in plan.now.answers job) job.budget steps (state_of machine) }
+        IsIntermediateState (start_state_in plan.now.answers job) job.budget steps (state_of machine) }
     ensures { IfOk result (λ row. (d : AJob) → row
         ≡ row_of plan.now (slice_index_or plan.now.jobs i d)) }
 {
@@ -57,7 +57,7 @@ fn complete_run_of_job(
 ) -> Result<Attempt, AllocError>
     requires place { i < length plan.now.jobs }
     requires way { (d : AJob) → let job = slice_index_or plan.now.jobs i d in
-        IsIntermediateState (start_in plan.now.answers job) job.budget steps (state_of machine) }
+        IsIntermediateState (start_state_in plan.now.answers job) job.budget steps (state_of machine) }
     ensures outcome { IfOk result (λ attempt. (d : AJob) → outcome_of_attempt attempt
         ≡ outcome_in plan.now.answers (slice_index_or plan.now.jobs i d)) }
     ensures readable { IfOk result HasReadableSignature }

@@ -9,7 +9,7 @@ ghost use Rattle.rv_rows.specs.ImageRefusals.{image_refusal_in};
 ghost use Rattle.rv_rows.specs.Outcome.{refusal_in};
 ghost use Rattle.rv_rows.specs.Recent.{AreOutcomesOfPlan, outcome_at};
 ghost use Rattle.rv_rows.specs.Rows.{content_if_read, expected_console_bytes, same_as_outcome, outcome_in, signature_reference_bytes, row_of, row_of_outcome};
-ghost use Rattle.rv_rows.specs.Rows.{image_in, rows_of, start_in};
+ghost use Rattle.rv_rows.specs.Rows.{image_in, rows_of, start_state_in};
 ghost use Rattle.rv_rows.specs.Verdict.{are_same_outcomes, matches_same_as};
 
 use crate::attempt::{image_file_or_refusal, machine_of_image, refusal_of_job, run_image};
@@ -142,9 +142,9 @@ pub fn machine_at(
     requires image { (d : AJob) → image_in plan.now.answers (slice_index_or plan.now.jobs i d)
         ≡ Some image.now }
     ensures { IfOk result (λ found. (d : AJob) → MatchResult found
-        (λ machine. start_in plan.now.answers (slice_index_or plan.now.jobs i d)
+        (λ machine. start_state_in plan.now.answers (slice_index_or plan.now.jobs i d)
         ≡ Ok (state_of machine))
-        (λ why. start_in plan.now.answers (slice_index_or plan.now.jobs i d) ≡ Err why)) }
+        (λ why. start_state_in plan.now.answers (slice_index_or plan.now.jobs i d) ≡ Err why)) }
 {
     machine_at_reusing(alloc, plan, i, image, &mut SpareBus::new())
 }
@@ -162,9 +162,9 @@ pub fn machine_at_reusing(
     requires image { (d : AJob) → image_in plan.now.answers (slice_index_or plan.now.jobs i d)
         ≡ Some image.now }
     ensures { IfOk result (λ found. (d : AJob) → MatchResult found
-        (λ machine. start_in plan.now.answers (slice_index_or plan.now.jobs i d)
+        (λ machine. start_state_in plan.now.answers (slice_index_or plan.now.jobs i d)
         ≡ Ok (state_of machine))
-        (λ why. start_in plan.now.answers (slice_index_or plan.now.jobs i d) ≡ Err why)) }
+        (λ why. start_state_in plan.now.answers (slice_index_or plan.now.jobs i d) ≡ Err why)) }
 {
     match image_file_or_refusal(plan.image(i), plan.reference(i), plan.console_reference(i)) {
         Ok(file) => machine_of_image(alloc, plan.job(i), file, image, spare),

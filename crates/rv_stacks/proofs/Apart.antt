@@ -5,8 +5,8 @@ use Rattle.std.specs.List.{AllByRecursion}
 use Rattle.std.specs.Str.{bytes_eq}
 use Rattle.rv_count_tables.specs.declared.table.CountTable.{CountTable}
 use Rattle.rv_count_tables.specs.declared.table.ImageCounts.{ImageCounts}
-use Rattle.rv_count_tables.specs.Sum.{Agree, IsSumOfTables}
-use Rattle.rv_count_tables.specs.Table.{executed_at, taken_at, executed_in, taken_in, next_path, name_at, truncated_name, calls_in, steps_in, digests_increase_from, is_greater_than_last, min_text_of, IsValidImage, IsTable}
+use Rattle.rv_count_tables.specs.Sum.{NamesAgree, IsSumOfTables}
+use Rattle.rv_count_tables.specs.Table.{executed_at, taken_at, executed_in, taken_in, next_path, name_at, truncated_name, calls_in, steps_in, digests_increase_from, is_greater_than_last, min_text_of, IsValidImage, IsValidTable}
 use Rattle.rv_counting.proofs.Public.{no_names, no_owners, no_spots}
 use Rattle.rv_counting.specs.JobTables.{jobs_at, IsTableOfJobsAt}
 use Rattle.rv_counting.specs.Plans.{PlanView}
@@ -41,7 +41,7 @@ unfolding digests_increase_from
 bare_rises last [] = refl
 bare_rises last (i ∷ is) = ap (λ (b : Bool). is_greater_than_last last i.digest && b) (bare_rises (Some i.digest) is)
 
-bare_is_table : (t : CountTable) → IsTable t → IsTable (without_stacks t)
+bare_is_table : (t : CountTable) → IsValidTable t → IsValidTable (without_stacks t)
 bare_is_table t h = record {
   images = each_bare t.images h.images;
   rising = bare_rises None t.images ∙ h.rising;
@@ -145,7 +145,7 @@ unfolding digests_increase_from
 stacked_rises last [] = refl
 stacked_rises last (i ∷ is) = ap (λ (b : Bool). is_greater_than_last last i.digest && b) (stacked_rises (Some i.digest) is)
 
-stacks_are_table : (t : CountTable) → IsTable t → IsTable (stacks_alone t)
+stacks_are_table : (t : CountTable) → IsValidTable t → IsValidTable (stacks_alone t)
 stacks_are_table t h = record {
   images = each_stacked t.images h.images;
   rising = stacked_rises None t.images ∙ h.rising;
@@ -202,7 +202,7 @@ stacks_of_jobs plan places t h = record {
   budgets = h.budgets;
 }
 
-both_sum : (t : CountTable) → IsTable t → IsSumOfTables (without_stacks t) (stacks_alone t) t
+both_sum : (t : CountTable) → IsValidTable t → IsSumOfTables (without_stacks t) (stacks_alone t) t
 both_sum t table = record {
   table = table;
   begun = λ digest address.
@@ -216,7 +216,7 @@ both_sum t table = record {
   paths = λ digest. sym (with_itself (next_path digest t.images))
       ∙ (λ i. min_text_of (sym (same_path digest t.images) i) (sym (stacked_path digest t.images) i));
   agree = λ digest f.
-      subst (λ (o : Option (List ℕ)). Agree o (truncated_name digest f (stacked t.images))) (sym (no_name digest f t.images)) tt;
+      subst (λ (o : Option (List ℕ)). NamesAgree o (truncated_name digest f (stacked t.images))) (sym (no_name digest f t.images)) tt;
   names = λ digest f. sym (λ i. min_text_of (no_name digest f t.images i) (same_name digest f t.images i));
   arrivals = λ digest path.
       let p = no_arrivals digest path t.images in

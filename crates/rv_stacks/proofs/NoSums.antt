@@ -19,7 +19,7 @@ use Rattle.rv_counting.specs.declared_row.Refusal.{Refusal}
 use Rattle.rv_counting.specs.declared_job.Job.{Job}
 use Rattle.rv_counting.specs.Jobs.{single_job}
 use Rattle.rv_counting.specs.Plans.{PlanView}
-use Rattle.rv_calls.specs.Rows.{start_in}
+use Rattle.rv_calls.specs.Rows.{start_state_in}
 use Rattle.rv_stacks.specs.StackTables.{calls_by_job, calls_from, function_of_job, steps_by_job, steps_from, HaveNoTableWithStacks, IsNextTableNotAdded, IsOfNamesOrMemory, IsTableWithStacks, RunsWithinABudget}
 use Rattle.rv_stacks.proofs.Bounds.{arrivals_at_most, begun_at_most, once_at_most, steps_at_most}
 use Rattle.rv_stacks.proofs.WithStacks.{of_places, IsOfJobs}
@@ -35,9 +35,9 @@ record IsSmall (n : ℕ) (t : CountTable) : Type 0 where
 few_if_run : (answers : List PathResult) (job : Job) (digest : List ℕ) (count : ℕ → Option State → ℕ)
     → ((n : ℕ) (o : Option State) → count n o ≤ 1 + n + n) → ((n : ℕ) → count n None ≡ 0) → RunsWithinABudget answers job
     → count job.budget (start_state_of_image answers digest job) ≤ 2 ^ 34
-few_if_run answers job digest count few zero_of_none small = by (start_in answers job) refl
+few_if_run answers job digest count few zero_of_none small = by (start_state_in answers job) refl
   where
-    by : (r : Result State Refusal) → start_in answers job ≡ r → count job.budget (start_state_of_image answers digest job) ≤ 2 ^ 34
+    by : (r : Result State Refusal) → start_state_in answers job ≡ r → count job.budget (start_state_of_image answers digest job) ≤ 2 ^ 34
     by (Ok s) start =
         let budget = small s start in
         let k = few job.budget (start_state_of_image answers digest job) in
@@ -86,7 +86,7 @@ module _ (plan : PlanView) (places : List ℕ) (budgets : AllByRecursion (RunsWi
         omega (arith, e, few);
     runs = (let e = h.runs in
         let few = few_jobs (runs_by plan.answers)
-        (λ job small. let b = once_at_most (is_ok (start_in plan.answers job)) in omega (arith, b)) in
+        (λ job small. let b = once_at_most (is_ok (start_state_in plan.answers job)) in omega (arith, b)) in
         omega (arith, e, few));
   }
 

@@ -8,7 +8,7 @@ use Rattle.rv_count_tables.specs.declared.table.AddressCounts.{AddressCounts}
 use Rattle.rv_count_tables.specs.declared.table.CountTable.{CountTable}
 use Rattle.rv_count_tables.specs.declared.table.FunctionName.{FunctionName}
 use Rattle.rv_count_tables.specs.Sum.{no_counts}
-use Rattle.rv_count_tables.specs.Table.{executed_at, name_at, taken_at, min_text_of, IsTable}
+use Rattle.rv_count_tables.specs.Table.{executed_at, name_at, taken_at, min_text_of, IsValidTable}
 use Rattle.rv_counting.proofs.Public.{no_counts_is_table, none_if_no_ok, not_ok_if_none, not_over, over, picked_begun, picked_path, picked_taken}
 use Rattle.rv_counting.specs.Coverage.{address_if, AreCountsOf}
 use Rattle.rv_counting.specs.JobTables.{executed_from, taken_from}
@@ -17,7 +17,7 @@ use Rattle.rv_counting.specs.declared_answers.PathResult.{PathResult}
 use Rattle.rv_counting.specs.declared_job.Job.{Job}
 use Rattle.rv_counting.specs.State.{State}
 use Rattle.rv_counting.specs.declared_row.Refusal.{Refusal}
-use Rattle.rv_calls.specs.Rows.{image_in, start_in}
+use Rattle.rv_calls.specs.Rows.{image_in, start_state_in}
 use Rattle.rv_count_tables.specs.declared_spot.CallNode.{CallNode}
 use Rattle.rv_count_tables.specs.Trees.{calls_at, steps_at, HasCalls, IsTree}
 use Rattle.rv_stacks.specs.Stacks.{function_at, AreCountsAndStacksOfJob, AreStacksOf}
@@ -45,9 +45,9 @@ if_some false n h = absurd (omega (arith, h))
 
 module _ (answers : List PathResult) (job : Job) where
   -- a job that is refused
-  nothing_run : ((s : State) → start_in answers job ≡ Ok s → ⊥) → IsOfJobs answers (job ∷ []) no_counts
+  nothing_run : ((s : State) → start_state_in answers job ≡ Ok s → ⊥) → IsOfJobs answers (job ∷ []) no_counts
   nothing_run no_start =
-      let none = none_if_no_ok (start_in answers job) no_start in
+      let none = none_if_no_ok (start_state_in answers job) no_start in
       let no_arrivals : (digest path : List ℕ) → calls_by_job answers digest path job ≡ 0 =
       λ digest path. ap (calls_from (function_of_job answers job) path job.budget) (not_over answers job digest none) in record {
         table = no_counts_is_table;
@@ -63,17 +63,17 @@ module _ (answers : List PathResult) (job : Job) where
             let e = ap (steps_from (function_of_job answers job) path job.budget) (not_over answers job digest none) in
             omega (arith, e);
         names = λ digest f. (λ path ends some. absurd (let e = no_arrivals digest path in omega (arith, e, some)), tt);
-        runs = (let e = ap address_if (not_ok_if_none (start_in answers job) none) in omega (arith, e));
+        runs = (let e = ap address_if (not_ok_if_none (start_state_in answers job) none) in omega (arith, e));
         budgets = (λ s start. absurd (no_start s start), tt);
       }
 
-  pub refused : (t : CountTable) → t ≡ no_counts → ((s : State) → start_in answers job ≡ Ok s → ⊥)
+  pub refused : (t : CountTable) → t ≡ no_counts → ((s : State) → start_state_in answers job ≡ Ok s → ⊥)
       → IsOfJobs answers (job ∷ []) t
   refused t is no_start = subst (IsOfJobs answers (job ∷ [])) (sym is) (nothing_run no_start)
 
   module _ (file : List ℕ) (image : Image) (bytes : image_bytes answers job ≡ Some file)
       (read : image_in answers job ≡ Some image) where
-    module _ (s : State) (start : start_in answers job ≡ Ok s) (addresses : List AddressCounts) (functions : List FunctionName)
+    module _ (s : State) (start : start_state_in answers job ≡ Ok s) (addresses : List AddressCounts) (functions : List FunctionName)
         (spots : List CallNode) (counts : AreCountsOf job.budget s addresses)
         (stacks : AreStacksOf (function_at image file) job.budget s spots)
         (named : AreNamesBy (name_of_function image file) spots functions) where
@@ -102,7 +102,7 @@ module _ (answers : List PathResult) (job : Job) where
           (sym (first_is functions 0 f named.sound.rising) ∙ named.each f has)
           ∙ (λ i. Some (name_in_image (sym read i) (sym bytes i) f))
 
-      its_table : RunsWithinABudget answers job → IsTable (table_of_run job.image file addresses functions spots)
+      its_table : RunsWithinABudget answers job → IsValidTable (table_of_run job.image file addresses functions spots)
           → IsOfJobs answers (job ∷ []) (table_of_run job.image file addresses functions spots)
       its_table small table = record {
         table = table;
@@ -131,15 +131,15 @@ module _ (answers : List PathResult) (job : Job) where
     -- with what `count_job_with_stacks` answers
     pub ran : (addresses : List AddressCounts) (spots : List CallNode) (t : CountTable)
         → IsTableOfRun (name_of_function image file) job.image file addresses spots t
-        → AreCountsAndStacksOfJob (function_at image file) job.budget (start_in answers job) (Some (addresses, spots))
+        → AreCountsAndStacksOfJob (function_at image file) job.budget (start_state_in answers job) (Some (addresses, spots))
         → RunsWithinABudget answers job → IsOfJobs answers (job ∷ []) t
-    ran addresses spots t is both small = by (start_in answers job) refl both
+    ran addresses spots t is both small = by (start_state_in answers job) refl both
       where
-        by : (r : Result State Refusal) → start_in answers job ≡ r
+        by : (r : Result State Refusal) → start_state_in answers job ≡ r
             → AreCountsAndStacksOfJob (function_at image file) job.budget r (Some (addresses, spots))
             → IsOfJobs answers (job ∷ []) t
         by (Ok s) start both = subst (IsOfJobs answers (job ∷ [])) (sym is.value)
-            (its_table s start addresses is.functions spots both.0 both.1 is.named small (subst IsTable is.value is.table))
+            (its_table s start addresses is.functions spots both.0 both.1 is.named small (subst IsValidTable is.value is.table))
         by (Err why) start both = absurd both
 
 pub tree_of_job : (function : ℕ → ℕ) (n : ℕ) (r : Result State Refusal) (both : List AddressCounts × List CallNode)

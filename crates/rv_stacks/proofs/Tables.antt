@@ -8,8 +8,8 @@ use Rattle.rv_count_tables.specs.declared.table.CountTable.{CountTable}
 use Rattle.rv_count_tables.specs.declared.table.FunctionName.{FunctionName}
 use Rattle.rv_count_tables.specs.declared.table.ImageCounts.{ImageCounts}
 use Rattle.rv_count_tables.specs.Lines.{lacks}
-use Rattle.rv_count_tables.specs.Sum.{Agree, IsSumOfTables}
-use Rattle.rv_count_tables.specs.Table.{truncated_name, min_text_of, increase_from, AreValidCounts, IsValidImage, IsTable}
+use Rattle.rv_count_tables.specs.Sum.{NamesAgree, IsSumOfTables}
+use Rattle.rv_count_tables.specs.Table.{truncated_name, min_text_of, increase_from, AreValidCounts, IsValidImage, IsValidTable}
 use Rattle.rv_counting.proofs.Public.{one_rises}
 use Rattle.rv_counting.specs.declared_answers.PathResult.{PathResult}
 use Rattle.rv_counting.specs.declared_job.Job.{Job}
@@ -29,7 +29,7 @@ no_counts_rise = refl
 pub no_addresses : AreValidCounts []
 no_addresses = record { each = tt; rising = no_counts_rise }
 
-pub one_image_is_table : (i : ImageCounts) → IsValidImage i → IsTable (record { images = i ∷ []; runs = 1 })
+pub one_image_is_table : (i : ImageCounts) → IsValidImage i → IsValidTable (record { images = i ∷ []; runs = 1 })
 one_image_is_table i h = record { images = (h, tt); rising = one_rises i; few = omega arith; runs = omega arith }
 
 -- that of a run, by what was made for it
@@ -52,7 +52,7 @@ run_table name path file digest shown addresses functions spots given images is 
             images = record { digest = d k; path = p k; addresses = addresses; functions = functions; spots = spots } ∷ [];
             runs = 1;
           });
-      table = subst (λ (images : List ImageCounts). IsTable (record { images = images; runs = 1 })) (sym is)
+      table = subst (λ (images : List ImageCounts). IsValidTable (record { images = images; runs = 1 })) (sym is)
           (one_image_is_table i (record {
             digest = long;
             bytes = bytes;
@@ -74,13 +74,13 @@ pub same_either : (b : Bool) (name : List ℕ) → cond b name name ≡ name
 same_either true name = refl
 same_either false name = refl
 
-named_first : (o p : Option (List ℕ)) (name : List ℕ) → Agree o p → o ≡ Some name → min_text_of o p ≡ Some name
+named_first : (o p : Option (List ℕ)) (name : List ℕ) → NamesAgree o p → o ≡ Some name → min_text_of o p ≡ Some name
 named_first None p name agree h = cc
 named_first (Some x) None name agree h = h
 named_first (Some x) (Some y) name agree h =
     ap (λ (z : List ℕ). min_text_of (Some x) (Some z)) (sym agree) ∙ ap Some (same_either _ x) ∙ h
 
-named_second : (o p : Option (List ℕ)) (name : List ℕ) → Agree o p → p ≡ Some name → min_text_of o p ≡ Some name
+named_second : (o p : Option (List ℕ)) (name : List ℕ) → NamesAgree o p → p ≡ Some name → min_text_of o p ≡ Some name
 named_second None p name agree h = h
 named_second (Some x) None name agree h = cc
 named_second (Some x) (Some y) name agree h =

@@ -8,7 +8,7 @@ use Rattle.std.specs.List.Sorted.{IsPermutation}
 use Rattle.rv_count_tables.proofs.Public.{one_table_of}
 use Rattle.rv_count_tables.specs.declared.table.CountTable.{CountTable}
 use Rattle.rv_count_tables.specs.Sum.{IsSumOfTables, no_counts}
-use Rattle.rv_count_tables.specs.Table.{executed_in, taken_in, next_path, truncated_name, calls_in, steps_in, has_name, is_before, min_text_of, IsTable}
+use Rattle.rv_count_tables.specs.Table.{executed_in, taken_in, next_path, truncated_name, calls_in, steps_in, has_name, is_before, min_text_of, IsValidTable}
 use Rattle.rv_counting.proofs.Public.{first_moved, first_path-append, no_counts_is_table}
 use Rattle.rv_counting.specs.JobTables.{executed_by, first_path, jobs_at, runs_by, taken_by}
 use Rattle.rv_counting.specs.declared_answers.PathResult.{PathResult}
@@ -21,7 +21,7 @@ use Rattle.rv_stacks.proofs.Tables.{budgets_of_both, names_of_both, same_either}
 
 -- each number is the sum over the jobs
 pub record IsOfJobs (answers : List PathResult) (jobs : List Job) (t : CountTable) : Type 0 where
-  pub table : IsTable t
+  pub table : IsValidTable t
   pub begun : (digest : List ℕ) (address : ℕ)
       → executed_in digest address t.images ≡ sum_by (executed_by answers digest address) jobs
   pub taken : (digest : List ℕ) (address : ℕ)

@@ -12,7 +12,7 @@ use Rattle.rv_count_tables.specs.declared.table.CountTable.{CountTable}
 use Rattle.rv_count_tables.specs.declared.table.FunctionName.{FunctionName}
 use Rattle.rv_count_tables.specs.declared.table.ImageCounts.{ImageCounts}
 use Rattle.rv_count_tables.specs.Sum.{HaveNoSum, IsSumOfTables}
-use Rattle.rv_count_tables.specs.Table.{executed_in, taken_in, next_path, truncated_name, calls_in, steps_in, has_name, name_of, AreValidNames, AreNamesOf, IsTable}
+use Rattle.rv_count_tables.specs.Table.{executed_in, taken_in, next_path, truncated_name, calls_in, steps_in, has_name, name_of, AreValidNames, AreNamesOf, IsValidTable}
 use Rattle.rv_counting.specs.Coverage.{address_if}
 use Rattle.rv_counting.specs.JobTables.{first_path, jobs_at, start_state_of_image, IsTableOfJobsAt}
 use Rattle.rv_counting.specs.declared_image.Image.{Image}
@@ -21,7 +21,7 @@ use Rattle.rv_counting.specs.declared_answers.PathResult.{PathResult}
 use Rattle.rv_counting.specs.declared_job.Job.{Job}
 use Rattle.rv_counting.specs.Plans.{PlanView}
 use Rattle.rv_counting.specs.State.{State}
-use Rattle.rv_calls.specs.Rows.{image_in, start_in}
+use Rattle.rv_calls.specs.Rows.{image_in, start_state_in}
 use Rattle.rv_count_tables.specs.declared_spot.CallNode.{CallNode}
 use Rattle.rv_count_tables.specs.Profiles.{ends_some_path}
 use Rattle.rv_count_tables.specs.Trees.{ends_with}
@@ -78,7 +78,7 @@ pub record IsTableOfRun (name : ℕ → List ℕ) (path file : List ℕ) (addres
   pub functions : List FunctionName
   pub named : AreNamesBy name spots functions
   pub value : t ≡ table_of_run path file addresses functions spots
-  pub table : IsTable t
+  pub table : IsValidTable t
 
 -- ---- one job
 
@@ -129,13 +129,13 @@ IsNamedBy answers t digest f job = (path : List ℕ) → ends_with f path ≡ tr
 
 -- the job is refused, or its budget is below 2^32
 abbrev pub RunsWithinABudget : List PathResult → Job → Type 0
-RunsWithinABudget answers job = (s : State) → start_in answers job ≡ Ok s → job.budget < 2 ^ 32
+RunsWithinABudget answers job = (s : State) → start_state_in answers job ≡ Ok s → job.budget < 2 ^ 32
 
 -- ---- some jobs
 
 -- `t` is the table of only the call trees of the jobs, without counts and runs: each of its numbers is the sum over the jobs
 pub record AreStacksOfJobs (answers : List PathResult) (jobs : List Job) (t : CountTable) : Type 0 where
-  pub table : IsTable t
+  pub table : IsValidTable t
   pub begun : (digest : List ℕ) (address : ℕ) → executed_in digest address t.images ≡ 0
   pub taken : (digest : List ℕ) (address : ℕ) → taken_in digest address t.images ≡ 0
   pub paths : (digest : List ℕ) → next_path digest t.images ≡ first_path answers digest jobs

@@ -3,7 +3,7 @@
 ghost use Rattle.std.specs.Prelude.{IfOk, IfSome};
 ghost use Rattle.rv_count_tables.specs.Table.{AreValidCounts};
 ghost use Rattle.rv_counting.specs.declared_job.Job.{Job as AJob};
-ghost use Rattle.rv_calls.specs.Rows.{start_in};
+ghost use Rattle.rv_calls.specs.Rows.{start_state_in};
 ghost use Rattle.rv_stacks.specs.Stacks.{function_at, AreCountsAndStacksOfJob};
 ghost use Rattle.rv_stacks.specs.StackTables.{RunsWithinABudget};
 ghost use Rattle.rv_counting.specs.Trace.{job_at};
@@ -24,7 +24,7 @@ pub fn count_job_with_stacks(
     ensures both { IfOk result (λ both. (d : AJob) → AreCountsAndStacksOfJob
         (function_at symbols.now.image.now symbols.now.bytes.now)
         (job_at job.now.plan.now job.now.place d).budget
-        (start_in job.now.plan.now.answers (job_at job.now.plan.now job.now.place d)) both) }
+        (start_state_in job.now.plan.now.answers (job_at job.now.plan.now job.now.place d)) both) }
     ensures table { IfOk result (λ both. IfSome both (λ both. AreValidCounts both.0)) }
     ensures budget { (d : AJob) → IfOk result (λ _. RunsWithinABudget job.now.plan.now.answers
         (job_at job.now.plan.now job.now.place d)) }

@@ -7,7 +7,7 @@ use Rattle.rv_rows.specs.Plans.{PlanView, result_or_unreadable}
 use Rattle.rv_rows.specs.declared_job.Job.{Job}
 use Rattle.rv_machine.specs.Run.{run_of}
 use Rattle.rv_machine.specs.State.{State, register}
-use Rattle.rv_rows.specs.Rows.{content_if_read, start_in}
+use Rattle.rv_rows.specs.Rows.{content_if_read, start_state_in}
 use Rattle.rv_trace.specs.declared.step.TracedStep.{TracedStep}
 use Rattle.rv_trace.specs.declared.trace.Trace.{Trace}
 use Rattle.rv_trace.specs.Code.{code_at}
@@ -49,4 +49,4 @@ trace_of steps last s =
 -- the trace of the run of a plan's job that completes this many steps, or `None` if the job is refused
 unfoldable pub trace_in : PlanView → Job → ℕ → ℕ → Option Trace
 trace_in plan job steps last =
-    option_map (trace_of steps last) (result_ok (start_in plan.answers job))
+    option_map (trace_of steps last) (result_ok (start_state_in plan.answers job))

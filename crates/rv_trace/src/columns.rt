@@ -17,7 +17,7 @@ pub(crate) const MARGIN: &str = "     ";
 
 /// An instruction's address and what its line shows.
 #[derive(Clone, Copy)]
-pub(crate) struct Instruction<'a> {
+pub(crate) struct InstructionLine<'a> {
     pub symbol: Option<SymbolAt<'a>>,
     pub pc: u32,
     pub code: Option<Code>,
@@ -32,7 +32,7 @@ pub(crate) struct Instruction<'a> {
 pub(crate) fn push_instruction_line(
     alloc: Global,
     bytes: &mut Vec<u8>,
-    shown: &Instruction<'_>,
+    shown: &InstructionLine<'_>,
 ) -> Result<(), AllocError>
     ensures { OnOk result (bytes.new.items ≡ bytes.old.items
         ++ instruction_line (option_map (λ s. (s.name.now, s.offset)) shown.now.symbol)

@@ -8,7 +8,7 @@ ghost use Rattle.rv_machine.specs.Fetch.{fetch};
 ghost use Rattle.rv_machine.specs.Run.{run_of, step_of};
 ghost use Rattle.rv_machine.specs.State.{State};
 ghost use Rattle.rv_rows.specs.Outcome.{row_end};
-ghost use Rattle.rv_rows.specs.Rows.{row_of, start_in};
+ghost use Rattle.rv_rows.specs.Rows.{row_of, start_state_in};
 ghost use Rattle.rv_machine.specs.Bus.{size_of, touches_console, value_at};
 ghost use Rattle.rv_machine.specs.declared_access.Width.{Width};
 ghost use Rattle.rv_trace.specs.declared.code.Code.{Code};
@@ -41,8 +41,8 @@ pub fn stored_values_stand()
 
 /// Proves that the row of a plan's job that is not refused says how the run in the job's trace ended, and how many steps it completed.
 pub fn rows_describe_the_run()
-    ensures ending { (plan : PlanView) (job : Job) (s : State) → start_in plan.answers job ≡ Ok s
+    ensures ending { (plan : PlanView) (job : Job) (s : State) → start_state_in plan.answers job ≡ Ok s
         → (row_of plan job).ending ≡ row_end (run_of job.budget s).ending }
-    ensures steps { (plan : PlanView) (job : Job) (s : State) → start_in plan.answers job ≡ Ok s
+    ensures steps { (plan : PlanView) (job : Job) (s : State) → start_state_in plan.answers job ≡ Ok s
         → (row_of plan job).steps ≡ (run_of job.budget s).steps }
 {}

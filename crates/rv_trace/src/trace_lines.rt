@@ -7,7 +7,7 @@ ghost use Rattle.rv_trace.specs.Text.{symbol_after_value, end_instruction_line, 
 ghost use Rattle.rv_text.specs.Symbol.{symbol_in_brackets};
 ghost use Rattle.rv_trace.specs.Text.{trace_text};
 
-use crate::columns::{GAP, Instruction, MARGIN, push_instruction_line, push_padded_text};
+use crate::columns::{GAP, InstructionLine, MARGIN, push_instruction_line, push_padded_text};
 use crate::elf_file::ElfFile;
 use crate::instruction_text::{
     push_assembly, push_end_assembly, push_end_reason, push_write_effect, register_name_or_empty,
@@ -166,7 +166,7 @@ fn push_step_line(
     push_assembly(alloc, &mut text, step.pc, step.code)?;
     let mut effect_text = Vec::new(alloc);
     push_write_effect(alloc, &mut effect_text, elf, step.wrote)?;
-    let shown = Instruction {
+    let shown = InstructionLine {
         symbol: elf.symbol_at(step.pc),
         pc: step.pc,
         code: step.code,
@@ -192,7 +192,7 @@ fn push_end_instruction_line(
     push_end_assembly(alloc, &mut text, trace.pc, trace.code, end)?;
     let mut effect_text = Vec::new(alloc);
     push_end_reason(&mut effect_text, end)?;
-    let shown = Instruction {
+    let shown = InstructionLine {
         symbol: elf.symbol_at(trace.pc),
         pc: trace.pc,
         code: trace.code,

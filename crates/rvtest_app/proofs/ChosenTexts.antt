@@ -6,7 +6,7 @@ use Rattle.std.specs.List.{All, concat}
 use Rattle.std.specs.List.Sorted.{IsStrictlyIncreasing}
 use Rattle.std.specs.Prelude.{if◌then◌else◌}
 use Rattle.rv_rows.specs.Report.{done_line, report_text, row_text, rows_text}
-use Rattle.rv_rows.specs.Saved.{extent_line, numbered_text, saved_text}
+use Rattle.rv_rows.specs.Saved.{extent_line, numbered_rows_text, saved_text}
 use Rattle.rv_rows.specs.declared_row.Row.{Row}
 use Rattle.rv_rows.specs.declared_saved.Extent.{Extent}
 use Rattle.rv_rows.specs.declared_saved.Extent.TheVariants as extent
@@ -17,13 +17,13 @@ use Rattle.rvtest_app.specs.RunOutput.{chosen_last_line, chosen_report_text, job
 use Rattle.rvtest_app.proofs.Numbers.{behind, fit_behind, next}
 
 -- rows under the numbers of jobs are told at the jobs' places
-numbered_joined : (places : List ℕ) (rows : List Row) → numbered_text (job_numbers places) rows ≡ joined_row_texts row_text places rows
-unfolding numbered_text
+numbered_joined : (places : List ℕ) (rows : List Row) → numbered_rows_text (job_numbers places) rows ≡ joined_row_texts row_text places rows
+unfolding numbered_rows_text
 numbered_joined [] rows = refl
 numbered_joined (p ∷ ps) [] = refl
 numbered_joined (p ∷ ps) (row ∷ rows) =
     let is : p + 1 - 1 ≡ p = omega arith in
-    ap (λ (k : ℕ). row_text k row ++ numbered_text (job_numbers ps) rows) is
+    ap (λ (k : ℕ). row_text k row ++ numbered_rows_text (job_numbers ps) rows) is
     ∙ ap (λ (t : List ℕ). row_text p row ++ t) (numbered_joined ps rows)
 
 -- rows of all jobs from one on

@@ -10,15 +10,15 @@ use Rattle.rv_rows.specs.declared_job.Job.{Job}
 use Rattle.rv_rows.specs.State.{State}
 use Rattle.rv_rows.specs.declared_row.Refusal.{Refusal}
 use Rattle.rv_rows.specs.Flat.{flat_state}
-use Rattle.rv_rows.specs.Rows.{start_in}
+use Rattle.rv_rows.specs.Rows.{start_state_in}
 use Rattle.rv_gdb.specs.declared_session.Session.{Session}
 use Rattle.rvtest_app.specs.Debugging.{job_start_state}
 
 pub start_is : (plan : PlanView) (place : ℕ) (d : Job) (first : State) → place < length plan.jobs
-    → start_in plan.answers (slice_index_or plan.jobs place d) ≡ Ok first → job_start_state plan place ≡ first
+    → start_state_in plan.answers (slice_index_or plan.jobs place d) ≡ Ok first → job_start_state plan place ≡ first
 unfolding job_start_state
 start_is plan place d first within starts =
-    ap (λ (found : Option Job). unwrap_or (option_and_then (λ (job : Job). result_ok (start_in plan.answers job)) found) (flat_state []))
+    ap (λ (found : Option Job). unwrap_or (option_and_then (λ (job : Job). result_ok (start_state_in plan.answers job)) found) (flat_state []))
     (slice_get-get_or plan.jobs place d within)
     ∙ ap (λ (found : Result State Refusal). unwrap_or (result_ok found) (flat_state [])) starts
 
@@ -28,10 +28,10 @@ ok_there (Err why) e = cc
 
 -- a job that is not refused starts there
 pub starts_there : (plan : PlanView) (place : ℕ) (d : Job) → place < length plan.jobs
-    → is_ok (start_in plan.answers (slice_index_or plan.jobs place d)) ≡ true
-    → start_in plan.answers (slice_index_or plan.jobs place d) ≡ Ok (job_start_state plan place)
+    → is_ok (start_state_in plan.answers (slice_index_or plan.jobs place d)) ≡ true
+    → start_state_in plan.answers (slice_index_or plan.jobs place d) ≡ Ok (job_start_state plan place)
 starts_there plan place d within runs =
-    let found = ok_there (start_in plan.answers (slice_index_or plan.jobs place d)) runs in
+    let found = ok_there (start_state_in plan.answers (slice_index_or plan.jobs place d)) runs in
     found.1 ∙ ap (λ (s : State). Ok s) (sym (start_is plan place d found.0 within found.1))
 
 -- and so does the session over its run

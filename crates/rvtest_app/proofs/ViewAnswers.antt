@@ -8,7 +8,7 @@ use Rattle.std.proofs.lemmas.List.{map-append, take_more}
 use Rattle.std.proofs.lemmas.List.Elements.{All-head, All-tail}
 use Rattle.rv_files.specs.Files.{FileContents}
 use Rattle.rv_files.specs.Limits.{max_file_size}
-use Rattle.rv_count_tables.specs.Table.{IsTable}
+use Rattle.rv_count_tables.specs.Table.{IsValidTable}
 use Rattle.rv_count_tables.specs.declared.table.CountTable.{CountTable}
 use Rattle.rv_profile.specs.JobImages.{AreSmall}
 use Rattle.rv_stacks.specs.JobTables.{jobs_at}
@@ -73,11 +73,11 @@ all_small known answers are job = kept_small known job.image answers are
 
 -- ---- tables
 
-counted_table : (shown : View) (plan : PlanView) (places : List ℕ) (table : CountTable) → IsRunTableForView shown plan places table → IsTable table
+counted_table : (shown : View) (plan : PlanView) (places : List ℕ) (table : CountTable) → IsRunTableForView shown plan places table → IsValidTable table
 counted_table (view.Cover csv) plan places table are = are.table
 counted_table (view.Profile format) plan places table are = are.sum.table
 
 pub table_of_view : (known : Option FileContents) (shown : View) (path : Option (List ℕ)) (plan : PlanView) (places : List ℕ)
-    (table : CountTable) → IsTableForView known shown path plan places table → IsTable table
+    (table : CountTable) → IsTableForView known shown path plan places table → IsValidTable table
 table_of_view known shown None plan places table are = counted_table shown plan places table are
 table_of_view known shown (Some path) plan places table are = are.at.0

@@ -10,7 +10,7 @@ use Rattle.rv_command.specs.declared.stop.Stop.{Stop}
 use Rattle.rv_command.specs.declared.stop.Stop.TheVariants as stop
 use Rattle.rv_count_tables.specs.Read.{IsFirstError}
 use Rattle.rv_count_tables.specs.Sum.{HaveNoSum, no_counts}
-use Rattle.rv_count_tables.specs.Table.{IsTable}
+use Rattle.rv_count_tables.specs.Table.{IsValidTable}
 use Rattle.rv_count_tables.specs.Text.{table_text}
 use Rattle.rv_count_tables.specs.declared.read.ReadError.{ReadError}
 use Rattle.rv_count_tables.specs.declared.read.ReadError.TheVariants as read
@@ -53,7 +53,7 @@ IsSumErrorStop path sum.Runs why = IsStop 2 (path_message path (codes "the numbe
 -- memory ran out
 pub record IsTableFaultStop (path text : List ℕ) (why : Stop) : Type 0 where
   pub told : (error : ReadError) × (IsFirstError error text × IsReadErrorStop path error why)
-  pub whole : (table : CountTable) → IsTable table → table_text table ≡ text → why ≡ stop.OutOfMemory
+  pub whole : (table : CountTable) → IsValidTable table → table_text table ≡ text → why ≡ stop.OutOfMemory
 
 -- why a command stopped: the file at the path is a valid table of counts, but cannot be added to `before`, the sum of the earlier tables
 abbrev pub IsSumOverflowStop : Option FileContents → List ℕ → CountTable → Stop → Type 0

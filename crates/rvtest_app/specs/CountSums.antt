@@ -6,7 +6,7 @@ use Rattle.rv_files.specs.Files.{FileContents}
 use Rattle.rvtest_cli.specs.declared.counts.CountsArgs.{CountsArgs}
 use Rattle.rv_command.specs.Texts.{IsTextAt, optional_text}
 use Rattle.rv_count_tables.specs.Sum.{IsSumOfTables, no_counts}
-use Rattle.rv_count_tables.specs.Table.{IsTable}
+use Rattle.rv_count_tables.specs.Table.{IsValidTable}
 use Rattle.rv_count_tables.specs.Text.{table_text}
 use Rattle.rv_count_tables.specs.declared.table.AddressCounts.{AddressCounts}
 use Rattle.rv_count_tables.specs.declared.table.CountTable.{CountTable}
@@ -16,7 +16,7 @@ use Rattle.rvtest_app.specs.WrittenTexts.{IsWrittenAt, written_path}
 
 -- the file at the path contains exactly the text of the valid table of counts `table`
 abbrev pub IsTableAt : Option FileContents → List ℕ → CountTable → Type 0
-IsTableAt known path table = IsTable table × IsTextAt known path (table_text table)
+IsTableAt known path table = IsValidTable table × IsTextAt known path (table_text table)
 
 -- the table `after` is the sum of the table `before` and the table of counts at the path
 abbrev pub IsTableAdded : Option FileContents → List ℕ → CountTable → CountTable → Type 0

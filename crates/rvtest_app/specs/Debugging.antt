@@ -24,7 +24,7 @@ use Rattle.rv_rows.specs.JobList.{job_list_of}
 use Rattle.rv_rows.specs.declared_job.Job.{Job}
 use Rattle.rv_rows.specs.State.{State}
 use Rattle.rv_rows.specs.Flat.{flat_state}
-use Rattle.rv_rows.specs.Rows.{row_of, start_in}
+use Rattle.rv_rows.specs.Rows.{row_of, start_state_in}
 use Rattle.rv_gdb.specs.Incoming.{IsReceived}
 use Rattle.rv_gdb.specs.declared_session.Session.{Session}
 use Rattle.rvtest_app.specs.Reports.{HasEntryPerUnreadable, IsFirstJobNamed}
@@ -42,7 +42,7 @@ job_end_text plan unread place = end_text_of_job plan unread (slice_get plan.job
 -- the state in which the run of the job at index `place` starts; for a refused job, the start state of an empty image
 unfoldable pub job_start_state : PlanView → ℕ → State
 job_start_state plan place =
-    unwrap_or (option_and_then (λ (job : Job). result_ok (start_in plan.answers job)) (slice_get plan.jobs place)) (flat_state [])
+    unwrap_or (option_and_then (λ (job : Job). result_ok (start_state_in plan.answers job)) (slice_get plan.jobs place)) (flat_state [])
 
 -- `session` debugs the run of the job at index `place`, with the files that it needs read from the store and its image's path resolved
 -- against `root`; `end_text` is the text that `run` prints about the job
@@ -113,7 +113,7 @@ pub record IsRefusedJobStop (known : Option FileContents) (jobs : List Job) (pla
   pub kept : AgreeWithContents known plan.answers
   pub unread : List UnreadablePath
   pub noted : HasEntryPerUnreadable plan.answers unread
-  pub refused : (d : Job) → is_ok (start_in plan.answers (slice_index_or plan.jobs place d)) ≡ false
+  pub refused : (d : Job) → is_ok (start_state_in plan.answers (slice_index_or plan.jobs place d)) ≡ false
   pub told : (d : Job) → IsStop 2 (row_line plan unread (judge_by_rule Strict) (slice_index_or plan.jobs place d)
       (row_of plan (slice_index_or plan.jobs place d))) why
 

@@ -9,8 +9,8 @@ use Rattle.rvtest_cli.specs.declared.explain.ExplainArgs.{ExplainArgs}
 use Rattle.rv_command.specs.Messages.{truncation_note}
 use Rattle.rv_command.specs.Texts.{IsReportRead, IsTextAt, optional_text}
 use Rattle.rv_diff.specs.Diff.{difference_counts, diff_text, rows_in_both}
-use Rattle.rv_diff.specs.declared.change.Compare.{Compare}
-use Rattle.rv_diff.specs.declared.change.Compare.TheVariants.{Outcomes, Slower, Steps}
+use Rattle.rv_diff.specs.declared.change.CompareMode.{CompareMode}
+use Rattle.rv_diff.specs.declared.change.CompareMode.TheVariants.{Outcomes, Slower, Steps}
 use Rattle.rv_expect.specs.Judgement.{judge_by_rule}
 use Rattle.rv_expect.specs.Passing.{has_passed}
 use Rattle.rv_expect.specs.declared.passing.Rule.TheVariants.{Strict}
@@ -47,7 +47,7 @@ HasEntryPerUnreadable answers unread = length unread ≡ after_increments 0 (unr
 -- ---- diff
 
 -- what `diff` compares: steps if the Bool is true (`--steps`), else slower jobs if a percentage is given (`--slower`), else outcomes
-abbrev pub requested_comparison : Bool → Option ℕ → Compare
+abbrev pub requested_comparison : Bool → Option ℕ → CompareMode
 requested_comparison true slower = Steps
 requested_comparison false (Some percent) = Slower percent
 requested_comparison false None = Outcomes
@@ -69,7 +69,7 @@ uncompared_row_count old new = (length old.rows - length (compared_rows new old)
     + (length new.rows - length (compared_rows old new))
 
 -- `output` and `status` are the output and the exit status of `diff` for the reports `before` and `after`
-pub record IsDiffOfReports (compare : Compare) (before after : SavedReport) (output : List ℕ) (status : ℕ) : Type 0 where
+pub record IsDiffOfReports (compare : CompareMode) (before after : SavedReport) (output : List ℕ) (status : ℕ) : Type 0 where
   pub text : output ≡ diff_text compare (compared_rows after before) (compared_rows before after)
       (uncompared_row_count before after)
   pub judged : status ≡ diff_status (difference_counts compare (compared_rows after before) (compared_rows before after))

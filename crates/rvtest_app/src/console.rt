@@ -127,7 +127,7 @@ fn run_planned_job(
     let reporter = TextReporter {
         plan,
         unread,
-        judge: Judge::by_rule(Rule::Strict),
+        judge: Judge::with_rule(Rule::Strict),
         verbosity: Verbosity::All,
         last: None,
     };

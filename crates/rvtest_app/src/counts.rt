@@ -3,7 +3,7 @@
 ghost use Rattle.std.specs.Prelude.{◌≡◌, ◌⊎◌, ◌≤◌, IfErr, IfOk, IfSome, OnErr, OnOk, true};
 ghost use Rattle.rv_command.specs.Texts.{optional_text};
 ghost use Rattle.rv_count_tables.specs.Sum.{no_counts};
-ghost use Rattle.rv_count_tables.specs.Table.{IsTable};
+ghost use Rattle.rv_count_tables.specs.Table.{IsValidTable};
 ghost use Rattle.rv_count_tables.specs.Text.{table_text};
 ghost use Rattle.rvtest_app.specs.CountStops.{IsCountsStop, IsReadErrorStop, IsSumErrorStop, IsSumStop, IsTableFaultStop, IsTableNotAddedStop, count_overflow_message, two_names_message};
 ghost use Rattle.rvtest_app.specs.CountSums.{AreTablesAdded, IsTableAdded, IsSumWritten};
@@ -71,7 +71,7 @@ fn reject_sum_overwrite<F: Outputs>(
 // Returns the sum of the tables of counts at these paths.
 fn sum_of_paths<D: Inputs>(inputs: &D, alloc: Global, paths: &[&str]) -> Result<CountTable, Stop>
     ensures added { IfOk result (AreTablesAdded (D.contents inputs.now) paths.now no_counts) }
-    ensures table { IfOk result IsTable }
+    ensures table { IfOk result IsValidTable }
     ensures stopped { IfErr result (IsSumStop (D.contents inputs.now) paths.now) }
 {
     let mut sum = CountTable {
@@ -91,9 +91,9 @@ fn sum_with_path<D: Inputs>(
     path: &str,
     before: &CountTable,
 ) -> Result<CountTable, Stop>
-    requires { IsTable before.now }
+    requires { IsValidTable before.now }
     ensures added { IfOk result (IsTableAdded (D.contents inputs.now) path.now before.now) }
-    ensures table { IfOk result IsTable }
+    ensures table { IfOk result IsValidTable }
     ensures stopped { IfErr result (IsTableNotAddedStop (D.contents inputs.now) path.now before.now) }
 {
     let text = read_result_file(inputs, alloc, path)?;
@@ -106,7 +106,7 @@ fn sum_with_path<D: Inputs>(
 
 /// Parses the text of the file at a path as a table of counts.
 pub(crate) fn table_of_text(alloc: Global, path: &str, text: &[u8]) -> Result<CountTable, Stop>
-    ensures table { IfOk result (λ table. IsTable table × (table_text table ≡ text.now)) }
+    ensures table { IfOk result (λ table. IsValidTable table × (table_text table ≡ text.now)) }
     ensures stopped { IfErr result (IsTableFaultStop path.now text.now) }
 {
     match read_table(alloc, text) {

@@ -17,7 +17,7 @@ use rv_command::{
     DONE, RequestedReport, SOME_FAIL, Stop, parse_requested_report, read_result_file,
     truncation_note, write_message, write_results,
 };
-use rv_diff::{Compare, ComparedReports, DifferenceCounts, push_diff, rows_in_both};
+use rv_diff::{CompareMode, ComparedReports, DifferenceCounts, push_diff, rows_in_both};
 use rv_files::{Inputs, Outputs, Sink};
 use rv_rows::{Extent, PartialReport, Row, SavedReport};
 use rvtest_cli::DiffArgs;
@@ -122,7 +122,7 @@ fn diff_read_reports(
 // Returns the differences between the compared rows of two reports, and the exit status.
 fn diff_saved_reports(
     alloc: Global,
-    compare: Compare,
+    compare: CompareMode,
     old: SavedReport,
     new: SavedReport,
 ) -> Result<CommandResult, Stop>
@@ -182,18 +182,18 @@ fn is_partial_of_whole(part: &Extent, other: &Extent) -> bool
 }
 
 // Returns what to compare: steps with `--steps`, else slower jobs with `--slower`, else outcomes.
-fn requested_comparison(steps: bool, slower: Option<u32>) -> Compare
+fn requested_comparison(steps: bool, slower: Option<u32>) -> CompareMode
     ensures { result ≡ requested_comparison steps slower }
 {
     match (steps, slower) {
-        (true, _) => Compare::Steps,
-        (false, Some(percent)) => Compare::Slower(percent),
-        (false, None) => Compare::Outcomes,
+        (true, _) => CompareMode::Steps,
+        (false, Some(percent)) => CompareMode::Slower(percent),
+        (false, None) => CompareMode::Outcomes,
     }
 }
 
 // Returns the differences between the rows, with the exit status.
-fn diff_rows(alloc: Global, compare: Compare, compared: ComparedReports<'_>) -> Result<CommandResult, Stop>
+fn diff_rows(alloc: Global, compare: CompareMode, compared: ComparedReports<'_>) -> Result<CommandResult, Stop>
     requires old { length compared.old.now < 2 ^ 32 }
     requires new { length compared.new.now < 2 ^ 32 }
     ensures low { IfOk result (λ found. found.status ≤ 1) }

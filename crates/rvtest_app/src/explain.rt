@@ -96,7 +96,7 @@ fn explain_planned_job(
     let reporter = TextReporter {
         plan,
         unread,
-        judge: Judge::by_rule(Rule::Strict),
+        judge: Judge::with_rule(Rule::Strict),
         verbosity: Verbosity::All,
         last: None,
     };

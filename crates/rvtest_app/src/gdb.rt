@@ -11,7 +11,7 @@ ghost use Rattle.rv_files.specs.UnreadPaths.{contents_below, resolved_path};
 ghost use Rattle.rv_gdb.specs.JobSessions.{IsSessionOf};
 ghost use Rattle.rv_job_text.specs.RowReporter.{row_line};
 ghost use Rattle.rv_rows.proofs.Public.{state_code};
-ghost use Rattle.rv_rows.specs.Rows.{row_of, start_in};
+ghost use Rattle.rv_rows.specs.Rows.{row_of, start_state_in};
 ghost use Rattle.rvtest_app.specs.CommandStops.{IsGdbStopped, IsNoJobStop, IsUnopenedSessionStop};
 ghost use Rattle.rvtest_app.specs.Debugging.{IsSessionErrorStop, IsGdbServed, IsJobOpened, IsNoGdbStop, IsSessionOpenedAt, IsSessionOpenedOf, IsUnopenedJobOfTextStop, IsUnopenedJobStop, job_end_text, job_start_state};
 ghost use Rattle.rvtest_app.specs.CommandOutputs.{outputs_of};
@@ -187,7 +187,7 @@ fn session_of_plan(
 ) -> Result<Option<Session>, AllocError>
     requires { place < length plan.now.jobs }
     ensures { IfOk result (λ found. (d : AJob) → MatchOption found
-        (is_ok (start_in plan.now.answers (slice_index_or plan.now.jobs place d)) ≡ false)
+        (is_ok (start_state_in plan.now.answers (slice_index_or plan.now.jobs place d)) ≡ false)
         (IsSessionOf plan.now.answers (slice_index_or plan.now.jobs place d)
         (resolved_path (optional_text root.entry) (slice_index_or plan.now.jobs place d).image))) }
 {
@@ -227,7 +227,7 @@ fn row_line(
     let reporter = TextReporter {
         plan,
         unread,
-        judge: Judge::by_rule(Rule::Strict),
+        judge: Judge::with_rule(Rule::Strict),
         verbosity: Verbosity::All,
         last: None,
     };

@@ -4,7 +4,7 @@ ghost use Rattle.std.specs.Prelude.{◌≡◌, ◌<◌, IfOk, is_ok, length, sli
 ghost use Rattle.rv_gdb.specs.Places.{IsReached};
 ghost use Rattle.rv_rows.specs.declared_job.Job.{Job as AJob};
 ghost use Rattle.rv_rows.specs.Machine.{state_of};
-ghost use Rattle.rv_rows.specs.Rows.{row_of, start_in};
+ghost use Rattle.rv_rows.specs.Rows.{row_of, start_state_in};
 ghost use Rattle.rvtest_app.specs.Debugging.{job_start_state};
 
 use rv_expect::{Judge, Rule};
@@ -21,7 +21,7 @@ pub(crate) struct PlannedJob {
     pub(crate) unread: Vec<UnreadablePath>,
     pub(crate) place: usize,
     ghost within: { place < length plan.jobs },
-    ghost runs: { (d : AJob) → is_ok (start_in plan.answers (slice_index_or plan.jobs place d)) ≡ true },
+    ghost runs: { (d : AJob) → is_ok (start_state_in plan.answers (slice_index_or plan.jobs place d)) ≡ true },
 }
 
 impl EndText for PlannedJob {
@@ -44,7 +44,7 @@ impl EndText for PlannedJob {
         let reporter = TextReporter {
             plan: &self.plan,
             unread: self.unread.as_slice(),
-            judge: Judge::by_rule(Rule::Strict),
+            judge: Judge::with_rule(Rule::Strict),
             verbosity: Verbosity::All,
             last: None,
         };

@@ -1,7 +1,7 @@
 //! What `profile` shows for a table, and which tables it rejects.
 
 ghost use Rattle.std.specs.Prelude.{◌≡◌, ◌⊎◌, IfErr, IfOk};
-ghost use Rattle.rv_count_tables.specs.Table.{IsTable};
+ghost use Rattle.rv_count_tables.specs.Table.{IsValidTable};
 ghost use Rattle.rv_profile.specs.JobImages.{images_of_files};
 ghost use Rattle.rv_profile.specs.ProfileText.{IsProfileText};
 ghost use Rattle.rvtest_app.specs.ViewStops.{IsPast64BitsStop, past_64_bits_message};
@@ -21,7 +21,7 @@ pub(crate) fn text_of_profile(
     table: &CountTable,
     images: &[ImageFile<'_>],
 ) -> Result<Vec<u8>, Stop>
-    requires { IsTable table.now }
+    requires { IsValidTable table.now }
     ensures shown { IfOk result (λ text. IsProfileText format table.now (images_of_files images.now) text.items) }
     ensures stopped { IfErr result (λ why. (why ≡ Stop.OutOfMemory)
         ⊎ IsPast64BitsStop table.now (images_of_files images.now) source.now why) }

@@ -31,7 +31,7 @@ pub(crate) fn refused_note(
     let reporter = TextReporter {
         plan,
         unread,
-        judge: Judge::by_rule(failure_rule(args.lenient)),
+        judge: Judge::with_rule(failure_rule(args.lenient)),
         verbosity: Verbosity::All,
         last: None,
     };

@@ -24,7 +24,7 @@ pub(crate) fn failure_rule(is_lenient: bool) -> Rule
 pub(crate) fn report_judge<'a>(is_lenient: bool) -> Judge<'a>
     ensures { judge_view result ≡ report_judging is_lenient }
 {
-    Judge::by_rule(failure_rule(is_lenient))
+    Judge::with_rule(failure_rule(is_lenient))
 }
 
 /// Returns the exit status for a single job: [`DONE`] if it passed, and otherwise [`SOME_FAIL`].

@@ -2,7 +2,7 @@
 
 ghost use Rattle.std.specs.Prelude.{◌≡◌, ◌⊎◌, ◌≤◌, IfErr, IfOk, length};
 ghost use Rattle.std.specs.List.Sorted.{IsStrictlyIncreasing};
-ghost use Rattle.rv_count_tables.specs.Table.{IsTable};
+ghost use Rattle.rv_count_tables.specs.Table.{IsValidTable};
 ghost use Rattle.rv_profile.specs.JobImages.{AreSmall, images_of_files};
 ghost use Rattle.rv_stream.specs.Choices.{AreJobIndices};
 ghost use Rattle.rvtest_app.specs.Runs.{selected_job_indices};
@@ -121,7 +121,7 @@ impl<'x, R: Threads + Wait + Sync, D: Inputs> JobsView<'x, R, D> {
 impl<'x, R, D> JobsView<'x, R, D> {
     // Returns the view of these images, computed from a table of counts.
     fn view_of_table(&self, table: &CountTable, images: &[ImageFile<'_>]) -> Result<Vec<u8>, Stop>
-        requires { IsTable table.now }
+        requires { IsValidTable table.now }
         ensures shown { IfOk result (λ text. IsViewText self.now.view table.now (images_of_files images.now) text.items) }
         ensures stopped { IfErr result (IsTableTextStop self.now.view table.now (images_of_files images.now)
             (counts_source self.now.args.now)) }

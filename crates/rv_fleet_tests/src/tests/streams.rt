@@ -190,7 +190,7 @@ fn told<R: Threads + Wait + Sync>(
     let crew = Crew::new(rt, alloc, workers, group);
     let batch = Batch::new(&plan, places.as_slice());
     let limit = FailureLimit {
-        judge: Judge::by_rule(Rule::Strict),
+        judge: Judge::with_rule(Rule::Strict),
         failures: None,
     };
     let to = ReporterOutput {

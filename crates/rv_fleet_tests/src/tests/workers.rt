@@ -1,6 +1,6 @@
 //! Single workers: which chunks they make, and what their gate records.
 ghost use Rattle.std.specs.Prelude.{◌≡◌, ◌<◌, ◌≤◌, IfOk};
-ghost use Rattle.rv_fleet.specs.Pieces.{pieces_of};
+ghost use Rattle.rv_fleet.specs.Pieces.{piece_count_of_plan};
 
 use super::draws::halves;
 use super::gate::NotingGate;
@@ -15,7 +15,7 @@ use std::thread::Threads;
 /// Returns the number of chunks of a plan.
 fn piece_count(plan: &Plan, group: u32) -> u64
     requires { 0 < group }
-    ensures { result ≡ pieces_of plan.now group }
+    ensures { result ≡ piece_count_of_plan plan.now group }
 {
     plan.jobs().div_ceil(group as usize) as u64
 }
@@ -30,7 +30,7 @@ fn work_alone(
     gate: &NotingGate,
 ) -> Result<(Pass, Vec<Piece>), AllocError>
     requires group { (0 < group) × (group ≤ 4096) }
-    requires pieces { claims.now.pieces ≡ pieces_of plan.now group }
+    requires pieces { claims.now.pieces ≡ piece_count_of_plan plan.now group }
     requires pass { pass.draw ≡ claims.now }
     ensures { IfOk result (λ worked. worked.0.draw ≡ claims.now) }
 {
@@ -49,7 +49,7 @@ fn work_in_two<R: Threads>(
     gate: &NotingGate,
 ) -> Result<(Pass, Vec<Piece>), Fail>
     requires group { (0 < group) × (group ≤ 4096) }
-    requires pieces { claims.now.pieces ≡ pieces_of plan.now group }
+    requires pieces { claims.now.pieces ≡ piece_count_of_plan plan.now group }
     requires pass { pass.draw ≡ claims.now }
     ensures { IfOk result (λ worked. worked.0.draw ≡ claims.now) }
 {
@@ -60,12 +60,12 @@ fn work_in_two<R: Threads>(
         rt,
         move || -> Result<(Pass, Vec<Piece>), AllocError>
             requires { (0 < group) × (group ≤ 4096)
-                × (claims.now.pieces ≡ pieces_of plan.now group) × (first.draw ≡ claims.now) }
+                × (claims.now.pieces ≡ piece_count_of_plan plan.now group) × (first.draw ≡ claims.now) }
             ensures { IfOk result (λ worked. worked.0.draw ≡ claims.entry.now) }
         { work_alone(alloc, claims, first, plan, group, gate) },
         move || -> Result<(Pass, Vec<Piece>), AllocError>
             requires { (0 < group) × (group ≤ 4096)
-                × (claims.now.pieces ≡ pieces_of plan.now group) × (second.draw ≡ claims.now) }
+                × (claims.now.pieces ≡ piece_count_of_plan plan.now group) × (second.draw ≡ claims.now) }
             ensures { IfOk result (λ worked. worked.0.draw ≡ claims.entry.now) }
         { work_alone(alloc, claims, second, plan, group, gate) },
     );
@@ -87,7 +87,7 @@ fn worked<R: Threads>(
     gate: &NotingGate,
 ) -> Result<(Pass, Vec<Piece>), Fail>
     requires group { (0 < group) × (group ≤ 4096) }
-    requires pieces { claims.now.pieces ≡ pieces_of plan.now group }
+    requires pieces { claims.now.pieces ≡ piece_count_of_plan plan.now group }
     requires pass { pass.draw ≡ claims.now }
     ensures { IfOk result (λ worked. worked.0.draw ≡ claims.now) }
 {

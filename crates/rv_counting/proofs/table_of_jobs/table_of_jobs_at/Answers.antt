@@ -2,7 +2,7 @@
 use Rattle.std.proofs.Common.{◌≡◌, ◌∙◌, ◌<◌, ℕ, List, [], take, get_or, length, sym, ap, subst, arith}
 use Rattle.std.proofs.lemmas.List.{get_or_read, length-map, length-take-le, take_all}
 use Rattle.std.proofs.lemmas.List.Elements.{All-get_or}
-use Rattle.rv_count_tables.specs.Table.{IsTable}
+use Rattle.rv_count_tables.specs.Table.{IsValidTable}
 use Rattle.rv_trace.specs.declared_job.Job.{Job}
 use Rattle.rv_trace.specs.Jobs.{single_job}
 use Rattle.rv_count_tables.specs.declared.table.AddressCounts.{AddressCounts}
@@ -96,7 +96,7 @@ returns c =
     let other = c.if-counter-eq0.false in
     both_ok c.table_of_runs.result
     (λ table. (addresses : List AddressCounts) × IsSorted (counts_of counter.counter) addresses
-    × (table ≡ table_of_runs counter.runs path file addresses)) IsTable (IsTableOfRange plan places)
+    × (table ≡ table_of_runs counter.runs path file addresses)) IsValidTable (IsTableOfRange plan places)
     (λ t value table.
     image_ran plan places c.requires.same file path counter value.0 t (sym (c.in-Some.ensures no_job))
     (sym (c.as_str-path.ensures ∙ ap (λ (j : Job). j.image) read)) whole (omega (arith, other)) value.1 value.2 table)

@@ -1,5 +1,5 @@
 use Rattle.std.proofs.lemmas.List.Elements.{All-rest}
-use Rattle.rv_fleet.specs.Collected.{IsIndexRange}
+use Rattle.rv_fleet.specs.CollectedChunks.{IsIndexRange}
 use Rattle.rv_fleet.proofs.collect.store_chunks.Goals as goal
 
 pub loop-piece-preserved : goal.loop-piece-preserved

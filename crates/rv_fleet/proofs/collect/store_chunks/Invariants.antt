@@ -1,5 +1,5 @@
 use Rattle.std.specs.Vec.Iter.{into_iter_items}
-use Rattle.rv_fleet.specs.Collected.{AreIndexRanges, AreChunkSlots}
+use Rattle.rv_fleet.specs.CollectedChunks.{AreIndexRanges, AreChunkSlots}
 use Rattle.rv_fleet.proofs.collect.store_chunks.Given as goal
 
 abbrev pub invariant-loop-piece : goal.invariant-loop-piece

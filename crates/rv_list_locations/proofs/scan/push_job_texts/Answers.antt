@@ -1,6 +1,6 @@
 use Rattle.std.proofs.Common.{◌≡◌, ◌-◌, ◌∙◌, ◌<◌, ◌++◌, Some, ap, append-nil, arith}
 use Rattle.std.proofs.Common.{eqb-true, false, length, rules, suc, sym, true}
-use Rattle.rv_list_locations.specs.declared.scan.Next.TheVariants.{Top}
+use Rattle.rv_list_locations.specs.declared.scan.ScanState.TheVariants.{Top}
 use Rattle.rv_list_locations.specs.JobLocations.{job_texts_from, jobs_of_text, step}
 use Rattle.rv_list_locations.specs.Steps.{texts_of_references}
 use Rattle.rv_list_locations.proofs.JobTurns.{jobs_end, jobs_job, jobs_other, jobs_refused, texts_more, unless_err}

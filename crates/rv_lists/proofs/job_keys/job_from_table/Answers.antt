@@ -1,6 +1,6 @@
 use Rattle.std.proofs.Common.{◌∙◌, ap, sym, subst, is_some, rules}
 use Rattle.toml.specs.View.{table_view}
-use Rattle.rv_lists.specs.Reading.{Gives}
+use Rattle.rv_lists.specs.Reading.{MatchesUnlessOutOfMemory}
 use Rattle.rv_lists.specs.JobList.{job_from_table, names_of_jobs}
 use Rattle.rv_lists.proofs.JobStages.{job_described}
 use Rattle.rv_lists.proofs.job_keys.job_from_table.Goals as goal
@@ -13,7 +13,7 @@ returns-clause-value c =
     c.in_ok-budget.budget (sym c.has_unknown_job_or_region_key.ensures ∙ c.if-has_unknown_job_or_region_key.false)
     (sym c.has_wrong_type.ensures ∙ c.if-has_wrong_type.false) c.in_ok-name.ensures fresh c.in_ok-image.ensures
     (sym c.budget_from_table.ensures ∙ c.in_ok-budget.was) in
-    subst (λ read. Gives c.job_from_remaining_keys.result read) (sym same) c.job_from_remaining_keys.ensures.value
+    subst (λ read. MatchesUnlessOutOfMemory c.job_from_remaining_keys.result read) (sym same) c.job_from_remaining_keys.ensures.value
 
 pub returns-then-has_wrong_type-clause-value : goal.returns-then-has_wrong_type-clause-value
 unfolding job_from_table

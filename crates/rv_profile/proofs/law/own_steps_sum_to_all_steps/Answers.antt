@@ -1,7 +1,7 @@
 use Rattle.std.proofs.Common.{◌≡◌, ◌∙◌, [], List, ℕ, Option, Some, None, map, refl, true}
 use Rattle.std.specs.Option.{option_map_or}
 use Rattle.sha2.specs.Sha256.{sha256}
-use Rattle.rv_count_tables.specs.Table.{AreNamesOf, IsValidImage, IsTable, functions_increase_from}
+use Rattle.rv_count_tables.specs.Table.{AreNamesOf, IsValidImage, IsValidTable, functions_increase_from}
 use Rattle.rv_count_tables.specs.declared.table.CountTable.{CountTable}
 use Rattle.rv_count_tables.specs.declared.table.FunctionName.{FunctionName}
 use Rattle.rv_count_tables.specs.declared.table.ImageCounts.{ImageCounts}
@@ -21,7 +21,7 @@ unfolding functions_increase_from
 none_named = record { rising = refl; named = λ f. refl }
 
 -- the names of an image of a table are those of its spots
-named : (table : CountTable) (bytes : List ℕ) → IsTable table → HaveNames (nodes_of table bytes) (names_of table bytes)
+named : (table : CountTable) (bytes : List ℕ) → IsValidTable table → HaveNames (nodes_of table bytes) (names_of table bytes)
 named table bytes is = go (entry_of_image table bytes) refl
   where
     go : (found : Option ImageCounts) → found ≡ entry_of_image table bytes

@@ -3,13 +3,13 @@ use Rattle.std.proofs.lemmas.Bool.Decides.{Decides-eqb}
 use Rattle.std.proofs.lemmas.Slice.Eq.{strip_prefix_is}
 use Rattle.rv_base.specs.Limits.{max_jobs}
 use Rattle.rv_report.specs.Report.{row_text}
-use Rattle.rv_report.specs.Saved.{numbered_text}
+use Rattle.rv_report.specs.Saved.{numbered_rows_text}
 use Rattle.rv_report.proofs.Loops.{above}
 use Rattle.rv_report.proofs.PartialReports.{no_more_row, one_more_row}
 use Rattle.rv_report.proofs.partial.complete_row_count.Goals as goal
 
 pub loop-at-init : goal.loop-at-init
-unfolding numbered_text
+unfolding numbered_rows_text
 loop-at-init c = refl
 
 pub overflow_sub-numbers : goal.overflow_sub-numbers

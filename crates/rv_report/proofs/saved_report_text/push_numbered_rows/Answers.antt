@@ -3,12 +3,12 @@ use Rattle.std.proofs.Common.{take, add-one}
 use Rattle.std.specs.Prelude.{string_bytes}
 use Rattle.rv_base.specs.Limits.{max_jobs}
 use Rattle.rv_report.specs.Report.{row_text}
-use Rattle.rv_report.specs.Saved.{numbered_text}
+use Rattle.rv_report.specs.Saved.{numbered_rows_text}
 use Rattle.rv_report.proofs.Loops.{numbered_more, above}
 use Rattle.rv_report.proofs.saved_report_text.push_numbered_rows.Goals as goal
 
 pub loop-at-init : goal.loop-at-init
-unfolding numbered_text
+unfolding numbered_rows_text
 loop-at-init c = sym (append-nil (string_bytes c.args.text.now))
 
 pub overflow_sub-numbers : goal.overflow_sub-numbers
@@ -24,7 +24,7 @@ loop-at-preserved c =
     let n = get_or numbers at 0 in
     let row = c.index-rows-at.result in
     rw add-one (c.in_ok-push_row.ensures ∙ ap (λ (t : List ℕ). t ++ row_text (n - 1) row) c.loop-at.invariant
-    ∙ append_assoc (string_bytes c.args.text.now) (numbered_text (take at numbers) (take at rows))
+    ∙ append_assoc (string_bytes c.args.text.now) (numbered_rows_text (take at numbers) (take at rows))
     (row_text (n - 1) row)
     ∙ ap (λ (t : List ℕ). string_bytes c.args.text.now ++ t)
     (sym (rw (← c.index-rows-at.is) at (numbered_more numbers rows at n (n - 1) row (omega arith) c.requires.counted

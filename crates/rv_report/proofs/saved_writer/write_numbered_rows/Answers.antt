@@ -4,12 +4,12 @@ use Rattle.rv_base.specs.Limits.{max_jobs}
 use Rattle.rv_report.specs.Report.{row_text}
 use Rattle.rv_base.proofs.Public.{beginning_of_longer, failed_under_way, more_under_way, nothing_under_way}
 use Rattle.rv_base.proofs.Public.{stopped_under_way}
-use Rattle.rv_report.specs.Saved.{numbered_text}
+use Rattle.rv_report.specs.Saved.{numbered_rows_text}
 use Rattle.rv_report.proofs.Public.{above, numbered_more, numbered_split}
 use Rattle.rv_report.proofs.saved_writer.write_numbered_rows.Goals as goal
 
 pub loop-at-init : goal.loop-at-init
-unfolding numbered_text
+unfolding numbered_rows_text
 loop-at-init g c = record { under_way = nothing_under_way _ _ _ c.requires.empty; counted = refl }
 
 pub overflow_sub-numbers : goal.overflow_sub-numbers

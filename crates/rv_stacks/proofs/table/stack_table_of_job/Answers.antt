@@ -10,7 +10,7 @@ use Rattle.rv_counting.specs.declared_elf_error.ImageError.{ImageError}
 use Rattle.rv_counting.specs.declared_image.Image.{Image}
 use Rattle.rv_counting.specs.declared_job.Job.{Job}
 use Rattle.rv_counting.specs.Jobs.{single_job}
-use Rattle.rv_calls.specs.Rows.{image_if_read, start_in}
+use Rattle.rv_calls.specs.Rows.{image_if_read, start_state_in}
 use Rattle.rv_count_tables.specs.declared_spot.CallNode.{CallNode}
 use Rattle.rv_stacks.specs.Stacks.{function_at, AreCountsAndStacksOfJob}
 use Rattle.rv_stacks.specs.StackTables.{name_of_function, IsTableOfRun, IsTableWithStacks}
@@ -81,13 +81,13 @@ returns-in-Some-3 c =
     its_image is in
     let of_file = subst (λ (b : List ℕ). IsTableOfRun (name_of_function image b) c.as_str.result.now b addresses spots t) its_bytes of_image in
     let both = subst (λ (o : Option (List AddressCounts × List CallNode)). AreCountsAndStacksOfJob (function_at symbols.image.now symbols.bytes.now) job.budget
-    (start_in plan.answers job) o) c.in-Some-3.is (c.in_ok-addresses.ensures.both d) in
-    let by_image = subst (λ (i : Image). AreCountsAndStacksOfJob (function_at i symbols.bytes.now) job.budget (start_in plan.answers job) (Some (addresses, spots)))
+    (start_state_in plan.answers job) o) c.in-Some-3.is (c.in_ok-addresses.ensures.both d) in
+    let by_image = subst (λ (i : Image). AreCountsAndStacksOfJob (function_at i symbols.bytes.now) job.budget (start_state_in plan.answers job) (Some (addresses, spots)))
     its_image both in
     counts_and_stacks plan (c.args.place ∷ []) t
     (ran plan.answers job file image bytes read addresses spots t
     (subst (λ (p : List ℕ). IsTableOfRun (name_of_function image file) p file addresses spots t) path of_file)
-    (subst (λ (b : List ℕ). AreCountsAndStacksOfJob (function_at image b) job.budget (start_in plan.answers job) (Some (addresses, spots))) its_bytes by_image)
+    (subst (λ (b : List ℕ). AreCountsAndStacksOfJob (function_at image b) job.budget (start_state_in plan.answers job) (Some (addresses, spots))) its_bytes by_image)
     (c.in_ok-addresses.ensures.budget d)))
     c.table_of_run.ensures
 
@@ -98,9 +98,9 @@ returns c =
     let job = job_at plan c.args.place d in
     let symbols = c.in_ok-symbols.symbols in
     let function = function_at symbols.image.now symbols.bytes.now in
-    let none = subst (λ (o : Option (List AddressCounts × List CallNode)). AreCountsAndStacksOfJob function job.budget (start_in plan.answers job) o)
+    let none = subst (λ (o : Option (List AddressCounts × List CallNode)). AreCountsAndStacksOfJob function job.budget (start_state_in plan.answers job) o)
     c.in-None.is (c.in_ok-addresses.ensures.both d) in
     let table = c.empty_table-in-None.result in
     counts_and_stacks plan (c.args.place ∷ []) table
     (refused plan.answers job table c.empty_table-in-None.ensures
-    (λ s start. none_if_unstacked function job.budget (start_in plan.answers job) s none start))
+    (λ s start. none_if_unstacked function job.budget (start_state_in plan.answers job) s none start))

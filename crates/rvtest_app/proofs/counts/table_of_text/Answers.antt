@@ -1,7 +1,7 @@
 use Rattle.std.proofs.Common.{◌≡◌, ℕ, List, Err, subst}
 use Rattle.rv_command.specs.declared.stop.Stop.{Stop}
 use Rattle.rv_count_tables.specs.Read.{IsOkOrOutOfMemory, IsFirstError}
-use Rattle.rv_count_tables.specs.Table.{IsTable}
+use Rattle.rv_count_tables.specs.Table.{IsValidTable}
 use Rattle.rv_count_tables.specs.Text.{table_text}
 use Rattle.rv_count_tables.specs.declared.read.ReadError.{ReadError}
 use Rattle.rv_count_tables.specs.declared.table.CountTable.{CountTable}
@@ -9,7 +9,7 @@ use Rattle.rvtest_app.specs.CountStops.{IsReadErrorStop, IsTableFaultStop}
 use Rattle.rvtest_app.proofs.counts.table_of_text.Goals as goal
 
 refused_table : (path text : List ℕ) (error : ReadError) (why : Stop) → IsFirstError error text
-    → ((table : CountTable) → IsTable table → table_text table ≡ text → IsOkOrOutOfMemory table (Err error))
+    → ((table : CountTable) → IsValidTable table → table_text table ≡ text → IsOkOrOutOfMemory table (Err error))
     → IsReadErrorStop path error why → IsTableFaultStop path text why
 refused_table path text error why least only is = record {
   told = (error, (least, is));

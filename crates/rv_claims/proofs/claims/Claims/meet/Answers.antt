@@ -1,6 +1,6 @@
 use Rattle.std.proofs.Common.{ℕ, ◌∙◌, sym, ap, subst, arith, append-nil, List, ◌++◌, ◌≤◌}
 use Rattle.rv_claims.specs.declared.view.Entry.{Entry}
-use Rattle.rv_claims.specs.Draws.{times, Sitting, Within, numbers, IsIn}
+use Rattle.rv_claims.specs.Draws.{times, SeatState, Within, numbers, IsIn}
 use Rattle.rv_claims.specs.Passes.{PassView, CounterView, AreDisjoint}
 use Rattle.rv_claims.proofs.Keeps.{joins, notes, looks}
 use Rattle.rv_claims.proofs.Sums.{in_left, in_right}
@@ -32,7 +32,7 @@ join_seat-requires c =
     let two = ap (λ (h : PassView). h.draw) c.second.view_is ∙ (c.requires.second ∙ sym c.self.view_is) in (
       ap (λ (d : CounterView). d.table) two,
       c.split_seat-note.ensures.3 ∙ ap (λ (d : CounterView). d.table) one,
-      ap (λ (m : Sitting). m.1) c.split_seat-note.ensures.4,
+      ap (λ (m : SeatState). m.1) c.split_seat-note.ensures.4,
       omega (arith, c.self.invariant.1),
       joins _ _ _ _ _,
     )
@@ -44,18 +44,18 @@ load-requires-2 c =
 
 pub invariant_of-first : goal.invariant_of-first
 invariant_of-first c = let me = c.split_seat-note.ensures.2 in
-    noted_pass c.first.inside.seat.me c.split_seat-note.new.seat.me _ _ c.first.invariant (ap (λ (m : Sitting). m.1) me)
-    (ap (λ (m : Sitting). m.0.pieces) me) (ap (λ (m : Sitting). m.0.places) me) (ap (λ (m : Sitting). m.0.draws) me)
+    noted_pass c.first.inside.seat.me c.split_seat-note.new.seat.me _ _ c.first.invariant (ap (λ (m : SeatState). m.1) me)
+    (ap (λ (m : SeatState). m.0.pieces) me) (ap (λ (m : SeatState). m.0.places) me) (ap (λ (m : SeatState). m.0.draws) me)
 
 pub invariant_of-second : goal.invariant_of-second
 invariant_of-second c =
     let me = c.load-2.ensures.2.same ∙ c.join_seat.ensures.2 in
     let note = c.split_seat-note.ensures.4 in
     let v = c.second.inside.seat.me.0 in
-    noted_pass c.second.inside.seat.me c.load-2.new.seat.me _ _ c.second.invariant (ap (λ (m : Sitting). m.1) me)
-    (ap (λ (m : Sitting). m.0.pieces) me)
-    (ap (λ (m : Sitting). m.0.places) me ∙ (ap (λ (m : Sitting). v.places ++ m.0.places) note ∙ append-nil v.places))
-    (ap (λ (m : Sitting). m.0.draws) me ∙ (ap (λ (m : Sitting). v.draws ++ m.0.draws) note ∙ append-nil v.draws))
+    noted_pass c.second.inside.seat.me c.load-2.new.seat.me _ _ c.second.invariant (ap (λ (m : SeatState). m.1) me)
+    (ap (λ (m : SeatState). m.0.pieces) me)
+    (ap (λ (m : SeatState). m.0.places) me ∙ (ap (λ (m : SeatState). v.places ++ m.0.places) note ∙ append-nil v.places))
+    (ap (λ (m : SeatState). m.0.draws) me ∙ (ap (λ (m : SeatState). v.draws ++ m.0.draws) note ∙ append-nil v.draws))
 
 pub returns-clause-history : goal.returns-clause-history
 returns-clause-history c =
@@ -67,10 +67,10 @@ returns-clause-history c =
       t.history,
       t.numbered,
       subst (λ (h : PassView). Within h.draws t.history) c.first.view_is
-          (λ e i. subst (λ (m : Sitting). Within m.0.noted t.history) me t.noted e
-          (in_right v.noted w.noted e (subst (λ (m : Sitting). IsIn e m.0.noted) (sym note) i))),
+          (λ e i. subst (λ (m : SeatState). Within m.0.noted t.history) me t.noted e
+          (in_right v.noted w.noted e (subst (λ (m : SeatState). IsIn e m.0.noted) (sym note) i))),
       subst (λ (h : PassView). Within h.draws t.history) c.second.view_is
-          (λ e i. subst (λ (m : Sitting). Within m.0.draws t.history) me t.draws e (in_left v.draws w.draws e i)),
+          (λ e i. subst (λ (m : SeatState). Within m.0.draws t.history) me t.draws e (in_left v.draws w.draws e i)),
     )
 
 pub returns-clause-apart : goal.returns-clause-apart

@@ -1,5 +1,5 @@
 use Rattle.std.proofs.Common.{◌∙◌, sym, ap, arith}
-use Rattle.rv_claims.specs.Draws.{Sitting}
+use Rattle.rv_claims.specs.Draws.{SeatState}
 use Rattle.rv_claims.specs.Passes.{PassView, CounterView}
 use Rattle.rv_claims.proofs.Keeps.{frees}
 use Rattle.rv_claims.proofs.Passes.{noted_pass}
@@ -12,5 +12,5 @@ split_seat-seat-requires c =
 
 pub invariant_of-pass : goal.invariant_of-pass
 invariant_of-pass c = let me = c.split_seat-seat.ensures.2 in
-    noted_pass c.pass.inside.seat.me c.split_seat-seat.new.seat.me _ _ c.pass.invariant (ap (λ (m : Sitting). m.1) me)
-    (ap (λ (m : Sitting). m.0.pieces) me) (ap (λ (m : Sitting). m.0.places) me) (ap (λ (m : Sitting). m.0.draws) me)
+    noted_pass c.pass.inside.seat.me c.split_seat-seat.new.seat.me _ _ c.pass.invariant (ap (λ (m : SeatState). m.1) me)
+    (ap (λ (m : SeatState). m.0.pieces) me) (ap (λ (m : SeatState). m.0.places) me) (ap (λ (m : SeatState). m.0.draws) me)

@@ -1,7 +1,7 @@
 -- Each byte is the one, or is passed.
 use Rattle.std.proofs.Common.{arith}
 use Rattle.rv_count_tables.proofs.LineLoops.{place_here, place_later, place_end}
-use Rattle.rv_count_tables.proofs.line_parts.place_of_byte.Goals as goal
+use Rattle.rv_count_tables.proofs.line_parts.index_of_byte.Goals as goal
 
 pub returns-then-b-byte-clause-place : goal.returns-then-b-byte-clause-place
 returns-then-b-byte-clause-place c = omega (

@@ -1,7 +1,7 @@
 use Rattle.std.proofs.Common.{◌+◌, ◌≤◌, ◌∙◌, ap, arith, is_ok}
 use Rattle.rv_list_locations.specs.LinesAndColumns.{line_at}
 use Rattle.rv_list_locations.proofs.Counting.{line_later, rising_noted, within_noted}
-use Rattle.rv_list_locations.proofs.lines.Lines.push_line.Goals as goal
+use Rattle.rv_list_locations.proofs.lines.LineRecorder.push_line.Goals as goal
 
 pub invariant_of-self : goal.invariant_of-self
 invariant_of-self c =

@@ -1,7 +1,0 @@
--- The place in what is ahead, and what was passed.
-use Rattle.std.proofs.Common.{◌≡◌, ◌+◌, drop}
-use Rattle.rv_count_tables.specs.Lines.{place_of_byte}
-use Rattle.rv_count_tables.proofs.line_parts.place_of_byte.Given as goal
-
-abbrev pub invariant-loop-place : goal.invariant-loop-place
-invariant-loop-place l = l.place + place_of_byte l.byte (drop l.place l.text) ≡ place_of_byte l.byte l.text
