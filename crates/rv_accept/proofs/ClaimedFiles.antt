@@ -205,7 +205,7 @@ signature_is_target place jobs runs job run path at ran accepted named =
 
 -- the fate of a target is that of its file
 abbrev HasFate : List GoldenText → Target → Type 0
-HasFate claims target = target.fate ≡ outcome_of_golden_file target.path claims
+HasFate claims target = target.outcome ≡ outcome_of_golden_file target.path claims
 
 one_more_fate : (runs : List (Option JobRun)) (claims : List GoldenText) (targets : List Target) (claim : GoldenText)
     → All (HasFate claims) targets → All (HasFate claims) (with_target runs claims targets claim)
@@ -218,8 +218,8 @@ one_more_fate runs claims targets claim each =
     go false = each
 
 pub targets_have_fates : (runs : List (Option JobRun)) (claims rest : List GoldenText) (targets : List Target)
-    → All (λ (target : Target). target.fate ≡ outcome_of_golden_file target.path claims) targets
-    → All (λ (target : Target). target.fate ≡ outcome_of_golden_file target.path claims) (fold (with_target runs claims) targets rest)
+    → All (λ (target : Target). target.outcome ≡ outcome_of_golden_file target.path claims) targets
+    → All (λ (target : Target). target.outcome ≡ outcome_of_golden_file target.path claims) (fold (with_target runs claims) targets rest)
 targets_have_fates runs claims [] targets each = each
 targets_have_fates runs claims (claim ∷ rest) targets each = targets_have_fates runs claims rest _
     (one_more_fate runs claims targets claim each)

@@ -23,7 +23,7 @@ target_of claims claim = record {
   path = claim.path;
   job = claim.job;
   part = claim.part;
-  fate = outcome_of_golden_file claim.path claims;
+  outcome = outcome_of_golden_file claim.path claims;
 }
 
 -- the list with the golden file of this golden text added, if the text's job is accepted and the list does not have the file yet

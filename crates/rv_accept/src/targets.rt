@@ -18,7 +18,7 @@ pub struct Target {
     /// Which result of that job's run it contains.
     pub part: GoldenKind,
     /// What happens to it.
-    pub fate: GoldenFileOutcome,
+    pub outcome: GoldenFileOutcome,
 }
 
 /// Returns the golden files that accepted jobs name, each once, in the order in which the list names them.
@@ -62,7 +62,7 @@ fn target_of(alloc: Global, claim: &GoldenText, claims: &[GoldenText]) -> Result
         path: Text::copy(alloc, claim.path.as_str())?,
         job: claim.job,
         part: claim.part,
-        fate: outcome_of_golden_file(alloc, claim.path.as_str(), claims)?,
+        outcome: outcome_of_golden_file(alloc, claim.path.as_str(), claims)?,
     })
 }
 

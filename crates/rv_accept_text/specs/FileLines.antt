@@ -102,5 +102,5 @@ skipped_prefix name = codes "skipped " ++ printable_text name ++ codes ": "
 -- the line about a skipped golden file; empty if it is not skipped
 unfoldable pub skipped_file_line : ListFile → List GoldenText → GoldenFile → List ℕ
 skipped_file_line list claims file = if is_skipped list file
-    then skipped_prefix file.target.path ++ file_skip_reason list.jobs.now claims file.target.path file.target.fate
+    then skipped_prefix file.target.path ++ file_skip_reason list.jobs.now claims file.target.path file.target.outcome
     else []

@@ -33,7 +33,7 @@ agreed_text_of kept _ = None
 
 -- the text on which all jobs that name the golden file agree, or `None` if there is none, or the file is the list or an image
 abbrev pub agreed_text : ListFile → GoldenFile → Option (List ℕ)
-agreed_text list file = agreed_text_of (is_protected list file) file.target.fate
+agreed_text list file = agreed_text_of (is_protected list file) file.target.outcome
 
 -- the text, or `None` if it equals the old contents of the file
 abbrev pub text_if_changed : List ℕ → Option (List ℕ) → Option (List ℕ)
@@ -48,7 +48,7 @@ new_text_of kept _ old = None
 
 -- the text to write to the golden file, or `None` if the file is skipped or already has the text
 abbrev pub new_text : ListFile → GoldenFile → Option (List ℕ)
-new_text list file = new_text_of (is_protected list file) file.target.fate file.old
+new_text list file = new_text_of (is_protected list file) file.target.outcome file.old
 
 -- whether a golden file with this outcome is skipped; the Bool says that it is never overwritten
 abbrev pub is_skipped_with : Bool → GoldenFileOutcome → Bool
@@ -59,4 +59,4 @@ is_skipped_with kept fate.Unclaimed = false
 
 -- whether the golden file is skipped: it is the list or an image, or the jobs that name it disagree or were skipped
 abbrev pub is_skipped : ListFile → GoldenFile → Bool
-is_skipped list file = is_skipped_with (is_protected list file) file.target.fate
+is_skipped list file = is_skipped_with (is_protected list file) file.target.outcome

@@ -164,9 +164,9 @@ fn push_file_skip_reason(
     target: &Target,
 ) -> Result<(), AllocError>
     ensures { OnOk result (out.new.items
-        ≡ out.old.items ++ file_skip_reason jobs.now claims.now target.now.path target.now.fate) }
+        ≡ out.old.items ++ file_skip_reason jobs.now claims.now target.now.path target.now.outcome) }
 {
-    match &target.fate {
+    match &target.outcome {
         GoldenFileOutcome::SkippedBy(job) => push_spans(
             out,
             &[

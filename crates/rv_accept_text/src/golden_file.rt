@@ -29,7 +29,7 @@ impl GoldenFile {
     pub fn new_text(&self, list: &ListFile<'_>) -> Option<&[u8]>
         ensures { option_map (λ text. text.now) result ≡ new_text list.now self.now }
     {
-        match &self.target.fate {
+        match &self.target.outcome {
             GoldenFileOutcome::Agreed(text) if !self.is_protected(list) => text_if_changed(
                 text.as_slice(),
                 &self.old,
@@ -42,7 +42,7 @@ impl GoldenFile {
     pub fn agreed_text(&self, list: &ListFile<'_>) -> Option<&[u8]>
         ensures { option_map (λ text. text.now) result ≡ agreed_text list.now self.now }
     {
-        match &self.target.fate {
+        match &self.target.outcome {
             GoldenFileOutcome::Agreed(text) if !self.is_protected(list) => Some(text.as_slice()),
             _ => None,
         }
@@ -52,7 +52,7 @@ impl GoldenFile {
     pub fn is_skipped(&self, list: &ListFile<'_>) -> bool
         ensures { result ≡ is_skipped list.now self.now }
     {
-        match &self.target.fate {
+        match &self.target.outcome {
             GoldenFileOutcome::Agreed(_) => self.is_protected(list),
             GoldenFileOutcome::SkippedBy(_) | GoldenFileOutcome::Disagree(..) => true,
             GoldenFileOutcome::Unclaimed => false,

@@ -3,7 +3,7 @@ use Rattle.std.proofs.Common.{◌≡◌, ◌≢◌, ℕ, Some, None, refl, inl, 
 use Rattle.std.specs.Prelude.{codes}
 use Rattle.std.proofs.lemmas.Bool.{ne_eqb, cases_eq}
 use Rattle.rv_isa.specs.Bits.{field}
-use Rattle.rv_isa.specs.Halfwords.{rows16, immediate_ci, immediate_ciw, immediate_addi16sp, upper}
+use Rattle.rv_isa.specs.Halfwords.{rows16, immediate_ci, immediate_ciw, immediate_addi16sp, immediate_clui}
 use Rattle.rv_disasm.specs.declared.form.Operand.TheVariants.{Rs1, Target, Imm}
 use Rattle.rv_disasm.specs.declared.form.Operands.TheVariants.{Absent, One}
 use Rattle.rv_disasm.specs.Forms.{form16, form_row, immediate_operands, load_operands, store_operands, upper_immediate_operands, register_immediate_operands, two_register_operands}
@@ -58,12 +58,12 @@ pub c_addi16sp_of_zero : (h : ℕ) → field h 1 0 ≡ 1 → field h 15 13 ≡ 3
 unfolding form16 rows16
 c_addi16sp_of_zero h p q r z = rw (p, q, r, z) refl
 
-pub c_lui : (h : ℕ) → field h 1 0 ≡ 1 → field h 15 13 ≡ 3 → field h 11 7 ≢ 2 → upper h ≢ 0
+pub c_lui : (h : ℕ) → field h 1 0 ≡ 1 → field h 15 13 ≡ 3 → field h 11 7 ≢ 2 → immediate_clui h ≢ 0
     → form16 h ≡ Some (form_row (codes "c.lui") upper_immediate_operands)
 unfolding form16 rows16
-c_lui h p q r z = rw (p, q, ne_eqb (field h 11 7) 2 r, ne_eqb (upper h) 0 z) refl
+c_lui h p q r z = rw (p, q, ne_eqb (field h 11 7) 2 r, ne_eqb (immediate_clui h) 0 z) refl
 
-pub c_lui_of_zero : (h : ℕ) → field h 1 0 ≡ 1 → field h 15 13 ≡ 3 → field h 11 7 ≢ 2 → upper h ≡ 0
+pub c_lui_of_zero : (h : ℕ) → field h 1 0 ≡ 1 → field h 15 13 ≡ 3 → field h 11 7 ≢ 2 → immediate_clui h ≡ 0
     → form16 h ≡ None
 unfolding form16 rows16
 c_lui_of_zero h p q r z = rw (p, q, ne_eqb (field h 11 7) 2 r, z) refl

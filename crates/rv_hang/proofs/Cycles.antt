@@ -215,7 +215,7 @@ last_again values steps p s complete end b =
 pub repetition_of : (values : HartValues) (begin steps : ℕ) (s : State) (a : MatchingSteps) (waits : Bool)
     → (run_of steps s).steps ≡ steps
     → has_values values (state_after steps s) ≡ true → Known values begin steps s (Some a)
-    → IsRepetition steps s (record { begin = a.first; period = steps - a.last; waits = waits })
+    → IsRepetition steps s (record { begin = a.first; period = steps - a.last; waits_for_input = waits })
 repetition_of values begin steps s a waits complete end known =
     let first = known.some.0 in let last = known.some.1 in let rising = known.some.2 in
     let b = first.before in let l = last.before in

@@ -42,7 +42,7 @@ module _ (begin place : ℕ) (s t : State) (here : t ≡ state_after place s) wh
 
 -- from a place on there is such a load where the last is not before it
 pub wait_told : (begin steps first period waited : ℕ) (s : State) → begin ≤ first → Waited begin steps s waited
-    → IsWaitReported steps s (record { begin = first; period = period; waits = ltb first waited })
+    → IsWaitReported steps s (record { begin = first; period = period; waits_for_input = ltb first waited })
 wait_told begin steps first period waited s l known = record {
   load = λ e. (let less = ltb-true first waited e in
       let found = known.some (waited - 1) (omega arith) in (waited - 1, omega arith, found.0, found.1));

@@ -33,8 +33,8 @@ pub record RepeatsAtEnd (steps place : ℕ) (s : State) : Type 0 where
 
 -- the repetition is reported to wait for input if and only if a step after its first `r.begin` steps loads from the exhausted input script
 pub record IsWaitReported (steps : ℕ) (s : State) (r : Repetition) : Type 0 where
-  pub load : r.waits ≡ true → (k : ℕ) × (r.begin ≤ k) × (k < steps) × (reads_script_end (state_after k s) ≡ true)
-  pub all : (k : ℕ) → r.begin ≤ k → k < steps → reads_script_end (state_after k s) ≡ true → r.waits ≡ true
+  pub load : r.waits_for_input ≡ true → (k : ℕ) × (r.begin ≤ k) × (k < steps) × (reads_script_end (state_after k s) ≡ true)
+  pub all : (k : ℕ) → r.begin ≤ k → k < steps → reads_script_end (state_after k s) ≡ true → r.waits_for_input ≡ true
 
 -- ---- a search in progress
 

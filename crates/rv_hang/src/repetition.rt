@@ -19,7 +19,7 @@ pub struct Repetition {
     /// The number of steps until it repeats, at least 1.
     pub period: u32,
     /// Whether some step from its begin on loads from the console's exhausted input script.
-    pub waits: bool,
+    pub waits_for_input: bool,
 }
 
 /// Returns a repetition of the state after the last of `steps` steps of a machine, all of which complete, or `None` if none is found: the
@@ -52,7 +52,7 @@ pub fn find_repetition(
     Some(Repetition {
         begin: again.first,
         period: steps - again.last,
-        waits: waited > again.first,
+        waits_for_input: waited > again.first,
     })
 }
 

@@ -23,7 +23,7 @@ period_text period = if period == 1 then codes "step" else count_text period (co
 -- the line about a run that never ends: after how many steps it begins to repeat, and the length of its loop
 unfoldable pub repetition_line : Repetition → List ℕ
 repetition_line r = line (codes "     never ends: after " ++ count_text r.begin (codes "step") ++ codes " it repeats every "
-    ++ period_text r.period ++ waiting_text r.waits)
+    ++ period_text r.period ++ waiting_text r.waits_for_input)
 
 -- `its ` if all steps of the run were searched, or else `its last `
 abbrev pub last_or_all_text : ℕ → ℕ → List ℕ

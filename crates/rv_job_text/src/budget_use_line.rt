@@ -35,7 +35,7 @@ fn push_repetition_line(text: &mut Vec<u8>, repetition: Repetition) -> Result<()
             Span::Count(u64::from(repetition.begin), "step"),
             Span::Text(" it repeats every "),
             period_span(repetition.period),
-            Span::Text(waiting_text(repetition.waits)),
+            Span::Text(waiting_text(repetition.waits_for_input)),
             Span::Text("\n"),
         ],
     )

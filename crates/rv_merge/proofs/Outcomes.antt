@@ -12,7 +12,7 @@ use Rattle.rv_rows.specs.declared_elf_error.ImageError.TheVariants as image
 use Rattle.rv_rows.specs.declared_image.Segment.{Segment}
 use Rattle.rv_rows.specs.declared_loading.LoadAt.{LoadAt}
 use Rattle.rv_rows.specs.ElfRows.{ErrorRow, first_error_of, accepted}
-use Rattle.rv_rows.specs.Image.{image_of, unchecked_image, refusals}
+use Rattle.rv_rows.specs.Image.{image_of, unchecked_image, image_error_rows}
 use Rattle.rv_rows.specs.Loading.{map_check, map_rows}
 use Rattle.rv_rows.specs.Symbols.{symbol_of, symbol_rows, signature_check, is_bad_signature_range}
 use Rattle.rv_rows.specs.declared_job.Job.{Job}
@@ -84,7 +84,7 @@ lasting_first (row ∷ rows) next h n =
 
 lasting_image : (set : Isa) (file : List ℕ) → Errs Lasting (image_of set file)
 unfolding image_of
-lasting_image set file = lasting_first (refusals set file) (Ok (unchecked_image file)) refl tt
+lasting_image set file = lasting_first (image_error_rows set file) (Ok (unchecked_image file)) refl tt
 
 lasting_symbol : (file name : List ℕ) → Errs Lasting (symbol_of file name)
 unfolding symbol_of

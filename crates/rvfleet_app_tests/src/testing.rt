@@ -21,18 +21,18 @@ pub(crate) fn number(faults: &str, name: &str) -> usize {
 pub(crate) struct MemorySink {
     bytes: Vec<u8>,
     most: usize,
-    fails_behind: usize,
+    fails_after: usize,
     puts: usize,
     failures: u64,
 }
 
 impl MemorySink {
-    /// Creates an empty sink that accepts at most `most` bytes per write, and fails once, after `fails_behind` successful writes.
-    pub(crate) fn new(alloc: Global, most: usize, fails_behind: usize) -> MemorySink {
+    /// Creates an empty sink that accepts at most `most` bytes per write, and fails once, after `fails_after` successful writes.
+    pub(crate) fn new(alloc: Global, most: usize, fails_after: usize) -> MemorySink {
         MemorySink {
             bytes: Vec::new(alloc),
             most,
-            fails_behind,
+            fails_after,
             puts: 0,
             failures: 0,
         }
@@ -53,7 +53,7 @@ impl Sink for MemorySink {
     // Accepts leading bytes, or fails if it is the write that must fail.
     fn put(&mut self, bytes: &[u8]) -> Result<usize, SinkFailed> {
         let count = bytes.len().min(self.most.max(1));
-        let fails = self.puts == self.fails_behind && self.failures == 0;
+        let fails = self.puts == self.fails_after && self.failures == 0;
         if !fails && self.bytes.extend_from_slice(&bytes[..count]).is_ok() {
             self.puts = self.puts.saturating_add(1);
             return Ok(count);

@@ -23,7 +23,7 @@ use Rattle.rv_accept.specs.declared.golden_outcomes.GoldenFileOutcome.TheVariant
 use Rattle.rv_accept.specs.declared.runs.JobRun.{JobRun}
 use Rattle.rv_accept.specs.declared.targets.Target.{Target}
 use Rattle.rv_accept_text.proofs.Public.{accepted_from_the_first, list_is_no_image}
-use Rattle.rv_accept_text.specs.GoldenFiles.{elf_magic, is_kept, is_skipped, is_skipped_with}
+use Rattle.rv_accept_text.specs.GoldenFiles.{elf_magic, is_protected, is_skipped, is_skipped_with}
 use Rattle.rv_accept_text.specs.declared.accepting.AcceptSummary.{AcceptSummary}
 use Rattle.rv_accept_text.specs.declared.golden_file.GoldenFile.{GoldenFile}
 use Rattle.rv_files.specs.Files.{FileContents}
@@ -106,11 +106,11 @@ content_of store root answers path bytes are read holds =
 -- a file of those that are told is that of its target
 abbrev IsOf : Option (List ℕ) → List GoldenText → GoldenFile → Type 0
 IsOf root claims file = (file.resolved_path ≡ resolved_path root file.target.path)
-    × (file.target.fate ≡ outcome_of_golden_file file.target.path claims)
+    × (file.target.outcome ≡ outcome_of_golden_file file.target.path claims)
 
 match_machine : (before : FileContents) (root : Option (List ℕ)) (claims : List GoldenText) (targets : List Target)
     (files : List GoldenFile) → AreGoldenFiles (Some before) root targets files
-    → All (λ (target : Target). target.fate ≡ outcome_of_golden_file target.path claims) targets → All (IsOf root claims) files
+    → All (λ (target : Target). target.outcome ≡ outcome_of_golden_file target.path claims) targets → All (IsOf root claims) files
 match_machine before root claims [] [] are fates = All-nil (IsOf root claims)
 match_machine before root claims [] (file ∷ files) are fates = absurd are
 match_machine before root claims (target ∷ targets) [] are fates = absurd are
@@ -118,11 +118,11 @@ match_machine before root claims (target ∷ targets) (file ∷ files) are fates
     let of = are.0.of in
     All-cons (IsOf root claims) file files (
       rw of are.0.leads,
-      rw of (All-head (λ (target : Target). target.fate ≡ outcome_of_golden_file target.path claims) target targets
+      rw of (All-head (λ (target : Target). target.outcome ≡ outcome_of_golden_file target.path claims) target targets
           fates),
     )
     (match_machine before root claims targets files are.1
-    (All-tail (λ (target : Target). target.fate ≡ outcome_of_golden_file target.path claims) target targets fates))
+    (All-tail (λ (target : Target). target.outcome ≡ outcome_of_golden_file target.path claims) target targets fates))
 
 -- where a file is a target, it is told
 is_told : (before : FileContents) (root : Option (List ℕ)) (path : List ℕ) (targets : List Target)
@@ -248,12 +248,12 @@ module _ (words : AcceptArgs) (before after : FileContents) (bytes : List ℕ) (
           let same : path ≡ file.target.path = (bytes_eq-Decides path file.target.path).0 is in
           let of = match_machine before root claims targets told.files.now files_are
           (targets_have_fates told.runs.now claims claims []
-          (All-nil (λ (target : Target). target.fate ≡ outcome_of_golden_file target.path claims))) k d below in
+          (All-nil (λ (target : Target). target.outcome ≡ outcome_of_golden_file target.path claims))) k d below in
           let kept = left k d below (rw same at names) in
-          let fate_is : outcome_of_golden_file path claims ≡ file.target.fate =
+          let fate_is : outcome_of_golden_file path claims ≡ file.target.outcome =
           ap (λ path. outcome_of_golden_file path claims) same ∙ sym of.1 in
-          let agrees : file.target.fate ≡ fate.Agreed text = sym fate_is ∙ agreed_fate text (outcome_of_golden_file path claims)
-          (is_kept told.list file) (rw fate_is kept) unclaimed_is agreed_is in
+          let agrees : file.target.outcome ≡ fate.Agreed text = sym fate_is ∙ agreed_fate text (outcome_of_golden_file path claims)
+          (is_protected told.list file) (rw fate_is kept) unclaimed_is agreed_is in
           let there = golden_files_there told before after store list_stood files_stood alike k d below text agrees kept in
           rw same (subst (λ place. after place ≡ Some text) of.0 there)
 

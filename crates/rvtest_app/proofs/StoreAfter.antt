@@ -10,7 +10,7 @@ use Rattle.rv_accept.proofs.Public.{all_left, all_right}
 use Rattle.rv_accept.specs.declared.golden_outcomes.GoldenFileOutcome.{GoldenFileOutcome}
 use Rattle.rv_accept.specs.declared.golden_outcomes.GoldenFileOutcome.TheVariants as fate
 use Rattle.rv_accept.specs.declared.targets.Target.{Target}
-use Rattle.rv_accept_text.specs.GoldenFiles.{text_if_changed, elf_magic, is_image_path, is_kept, is_skipped, is_skipped_with, new_text, new_text_of}
+use Rattle.rv_accept_text.specs.GoldenFiles.{text_if_changed, elf_magic, is_image_path, is_protected, is_skipped, is_skipped_with, new_text, new_text_of}
 use Rattle.rv_accept_text.specs.declared.accepting.AcceptSummary.{AcceptSummary}
 use Rattle.rv_accept_text.specs.declared.golden_file.GoldenFile.{GoldenFile}
 use Rattle.rv_accept_text.specs.declared.golden_file.ListFile.{ListFile}
@@ -100,11 +100,11 @@ kept_is_not_written {A} list file old text is keeps written =
     no_text (fate.Disagree job other) old none = cc
     no_text fate.Unclaimed old none = cc
 
-    go : (is_list is_image : Bool) → new_text_of (is_list || (is_image || true)) file.target.fate (Some old) ≡ Some text
+    go : (is_list is_image : Bool) → new_text_of (is_list || (is_image || true)) file.target.outcome (Some old) ≡ Some text
         → A
-    go true is_image none = no_text file.target.fate (Some old) none
-    go false true none = no_text file.target.fate (Some old) none
-    go false false none = no_text file.target.fate (Some old) none
+    go true is_image none = no_text file.target.outcome (Some old) none
+    go false true none = no_text file.target.outcome (Some old) none
+    go false false none = no_text file.target.outcome (Some old) none
 
 -- ---- a path that holds the list or an image
 
@@ -205,7 +205,7 @@ old_text text (Some old) is = go (bytes_eq text old) refl is
 
 -- what holds the list's text is kept
 is_not_kept : {A : Type 0} (list : ListFile) (file : GoldenFile) (old : List ℕ) → file.old ≡ Some old
-    → bytes_eq old list.text.now ≡ true → is_kept list file ≡ false → A
+    → bytes_eq old list.text.now ≡ true → is_protected list file ≡ false → A
 is_not_kept {A} list file old is same kept =
     go (bytes_eq file.resolved_path list.path.now) (is_image_path file.target.path list.jobs.now) (rw (is, same) at kept)
   where
@@ -225,14 +225,14 @@ module _ (told : AcceptSummary) (before after : FileContents) (store : IsStoreAf
     (stood : All (λ (file : GoldenFile). before file.resolved_path ≡ file.old) told.files.now)
     (alike : HaveOneTextPerFile store.leads told.files.now) where
   golden_there : (k : ℕ) (d : GoldenFile) → k < length told.files.now → (text : List ℕ)
-      → (get_or told.files.now k d).target.fate ≡ fate.Agreed text → is_kept told.list (get_or told.files.now k d) ≡ false
-      → (new : Option (List ℕ)) → new_text_of (is_kept told.list (get_or told.files.now k d)) (get_or told.files.now k d).target.fate
+      → (get_or told.files.now k d).target.outcome ≡ fate.Agreed text → is_protected told.list (get_or told.files.now k d) ≡ false
+      → (new : Option (List ℕ)) → new_text_of (is_protected told.list (get_or told.files.now k d)) (get_or told.files.now k d).target.outcome
       (get_or told.files.now k d).old ≡ new → after (get_or told.files.now k d).resolved_path ≡ Some text
   golden_there k d below text agreed kept (Some written) new =
       let there = of_golden (λ (file : CommittedFile). after file.path ≡ Some file.bytes) told.list told.files.now
       (all_left (λ (file : CommittedFile). after file.path ≡ Some file.bytes) (golden_written told) (file_if_text told.list.path.now (new_list_text told))
       store.written_contents) k d below written new in
-      let same = agreed_text (is_kept told.list (get_or told.files.now k d)) text written (get_or told.files.now k d).old
+      let same = agreed_text (is_protected told.list (get_or told.files.now k d)) text written (get_or told.files.now k d).old
       (rw agreed at new) in
       there ∙ ap Some (sym same)
   golden_there k d below text agreed kept None new = go (store.others (get_or told.files.now k d).resolved_path)
@@ -250,8 +250,8 @@ module _ (told : AcceptSummary) (before after : FileContents) (store : IsStoreAf
           let there = of_golden (λ (file : CommittedFile). after file.path ≡ Some file.bytes) told.list told.files.now
           (all_left (λ (file : CommittedFile). after file.path ≡ Some file.bytes) (golden_written told)
           (file_if_text told.list.path.now (new_list_text told)) store.written_contents) j e within written is in
-          let fate_is : other.target.fate ≡ fate.Agreed text = sym (alike k d below j e within (sym leads)) ∙ agreed in
-          let same = agreed_text (is_kept told.list other) text written other.old (rw fate_is at is) in
+          let fate_is : other.target.outcome ≡ fate.Agreed text = sym (alike k d below j e within (sym leads)) ∙ agreed in
+          let same = agreed_text (is_protected told.list other) text written other.old (rw fate_is at is) in
           store.same_after file.resolved_path other.resolved_path (sym leads) ∙ there ∙ ap Some (sym same)
 
       no_list : (written : List ℕ) → new_list_text told ≡ Some written
@@ -268,7 +268,7 @@ module _ (told : AcceptSummary) (before after : FileContents) (store : IsStoreAf
           (to_written (λ (other : CommittedFile). store.leads other.path ≡ store.leads file.resolved_path → after file.resolved_path ≡ Some text)
           told golden no_list) some
 
-  pub golden_files_there : All (λ (file : GoldenFile). (text : List ℕ) → file.target.fate ≡ fate.Agreed text
+  pub golden_files_there : All (λ (file : GoldenFile). (text : List ℕ) → file.target.outcome ≡ fate.Agreed text
       → is_skipped told.list file ≡ false → after file.resolved_path ≡ Some text) told.files.now
   golden_files_there k d below text agreed left = golden_there k d below text agreed
-      (kept_of (is_kept told.list (get_or told.files.now k d)) (get_or told.files.now k d).target.fate text agreed left) _ refl
+      (kept_of (is_protected told.list (get_or told.files.now k d)) (get_or told.files.now k d).target.outcome text agreed left) _ refl

@@ -41,7 +41,7 @@ pub record IsStoreAfter (written : List CommittedFile) (before after : FileConte
 -- any two of the golden files whose resolved paths `leads` maps to the same file have equal outcomes, so both get the same new text
 abbrev pub HaveOneTextPerFile : (List ℕ → List ℕ) → List GoldenFile → Type 0
 HaveOneTextPerFile leads files = All (λ (file : GoldenFile). All (λ (other : GoldenFile).
-    leads file.resolved_path ≡ leads other.resolved_path → file.target.fate ≡ other.target.fate) files) files
+    leads file.resolved_path ≡ leads other.resolved_path → file.target.outcome ≡ other.target.outcome) files) files
 
 -- ---- the job
 

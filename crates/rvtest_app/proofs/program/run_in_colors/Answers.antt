@@ -1,6 +1,6 @@
 use Rattle.std.proofs.Common.{◌≡◌, ◌⊎◌, ◌∙◌, ℕ, true, false, Result, Ok, Err, IfErr, IfOk, ap, refl, ⊎_elim}
 use Rattle.std.specs.Prelude.{MatchResult, is_err}
-use Rattle.rv_terminal.specs.ColorSinks.{first_state, is_cut_off}
+use Rattle.rv_terminal.specs.ColorSinks.{first_state, has_failed}
 use Rattle.rv_terminal.specs.declared.colors.Colors.{Colors}
 use Rattle.rv_terminal.specs.declared.colors.Colors.TheVariants as colors
 use Rattle.rv_command.specs.declared.stop.Stop.{Stop}
@@ -8,7 +8,7 @@ use Rattle.rv_command.specs.declared.stop.Stop.TheVariants as stop
 use Rattle.rvtest_app.proofs.program.run_in_colors.Goals as goal
 
 -- results are not cut off where nothing was put
-begins_whole : (colors : Colors) → is_cut_off (first_state colors) ≡ false
+begins_whole : (colors : Colors) → has_failed (first_state colors) ≡ false
 begins_whole colors.Plain = refl
 begins_whole colors.Colored = refl
 
@@ -27,6 +27,6 @@ stop_of_whole (Err why) whole result Untouched Stops is_whole is done stopped = 
 pub returns-clause-stopped : goal.returns-clause-stopped
 returns-clause-stopped g c =
     stop_of_whole c.run_subcommand-to.result.1 c.finish-out.result.1 c.outcome_if_written.result _ _
-    (λ same. c.finish-out.ensures.told ∙ ap (λ s. is_cut_off s.state) same ∙ ap is_cut_off c.new-out.ensures.state
+    (λ same. c.finish-out.ensures.told ∙ ap (λ s. has_failed s.state) same ∙ ap has_failed c.new-out.ensures.state
     ∙ begins_whole _)
     c.outcome_if_written.ensures c.run_subcommand-to.ensures.untouched c.run_subcommand-to.ensures.stopped
