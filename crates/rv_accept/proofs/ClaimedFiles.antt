@@ -58,14 +58,14 @@ abbrev pub signature_claim : ℕ → JobRun → List ℕ → GoldenText
 signature_claim place run path =
     record { job = place; part = part.Signature; path = path; text = Some (lines_of_signature run.row.signature) }
 
-none_left : (run : JobRun) → is_accepted_run run ≡ true → not (is_some run.skipped) ≡ true
+none_left : (run : JobRun) → is_accepted_run run ≡ true → not (is_some run.skip_reason) ≡ true
 none_left run accepted = go run.is_chosen accepted
   where
-    go : (chosen : Bool) → (chosen && not (is_some run.skipped)) ≡ true → not (is_some run.skipped) ≡ true
+    go : (chosen : Bool) → (chosen && not (is_some run.skip_reason)) ≡ true → not (is_some run.skip_reason) ≡ true
     go true is = is
     go false is = cc
 
-given : (run : JobRun) (text : List ℕ) → is_accepted_run run ≡ true → text_if (not (is_some run.skipped)) text ≡ Some text
+given : (run : JobRun) (text : List ℕ) → is_accepted_run run ≡ true → text_if (not (is_some run.skip_reason)) text ≡ Some text
 given run text accepted = rw (none_left run accepted) refl
 
 among_first : (P : GoldenText → Type 0) (place : ℕ) (jobs : List Job) (runs : List (Option JobRun)) (job : Job)
@@ -80,9 +80,9 @@ pub console_claim_among : (P : GoldenText → Type 0) (place : ℕ) (jobs : List
     → slice_get runs place ≡ Some (Some run) → is_accepted_run run ≡ true
     → console_path job.expect_console ≡ Some path → P (console_claim place run path)
 console_claim_among P place jobs runs job run path each at ran accepted named =
-    let text = text_if (not (is_some run.skipped)) run.row.console in
+    let text = text_if (not (is_some run.skip_reason)) run.row.console in
     let rest = golden_text_if_named place part.Signature
-    (text_if (not (is_some run.skipped)) (lines_of_signature run.row.signature)) job.expect_signature in
+    (text_if (not (is_some run.skip_reason)) (lines_of_signature run.row.signature)) job.expect_signature in
     subst (λ text. P (record { job = place; part = part.Console; path = path; text = text }))
     (given run run.row.console accepted)
     (claim_named P place part.Console text (console_path job.expect_console) path named
@@ -95,8 +95,8 @@ pub signature_claim_among : (P : GoldenText → Type 0) (place : ℕ) (jobs : Li
     → job.expect_signature ≡ Some path → P (signature_claim place run path)
 signature_claim_among P place jobs runs job run path each at ran accepted named =
     let lines = lines_of_signature run.row.signature in
-    let text = text_if (not (is_some run.skipped)) lines in
-    let first = golden_text_if_named place part.Console (text_if (not (is_some run.skipped)) run.row.console)
+    let text = text_if (not (is_some run.skip_reason)) lines in
+    let first = golden_text_if_named place part.Console (text_if (not (is_some run.skip_reason)) run.row.console)
     (console_path job.expect_console) in
     subst (λ text. P (record { job = place; part = part.Signature; path = path; text = text }))
     (given run lines accepted)

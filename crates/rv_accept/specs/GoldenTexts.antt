@@ -28,7 +28,7 @@ golden_texts_of_job place accepted job row =
 -- the golden texts of a job; empty if it was not run, and without texts if it was skipped
 abbrev pub golden_texts_of_run : ℕ → Job → Option JobRun → List GoldenText
 golden_texts_of_run place job None = []
-golden_texts_of_run place job (Some run) = golden_texts_of_job place (not (is_some run.skipped)) job run.row
+golden_texts_of_run place job (Some run) = golden_texts_of_job place (not (is_some run.skip_reason)) job run.row
 
 -- the golden texts of these jobs, in list order; `place` is the index of the first of them in the list
 unfoldable pub golden_texts_of_runs : ℕ → List Job → List (Option JobRun) → List GoldenText

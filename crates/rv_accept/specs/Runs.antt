@@ -54,7 +54,7 @@ abbrev pub judged_run : Acceptance → Job → Candidate → Row → JobRun
 judged_run asked job candidate row = record {
   row = row;
   is_chosen = candidate.is_chosen;
-  skipped = if candidate.is_chosen then chosen_skip_reason asked candidate.standing job row
+  skip_reason = if candidate.is_chosen then chosen_skip_reason asked candidate.standing job row
       else unchosen_skip_reason candidate.standing job row.ending;
 }
 
@@ -89,7 +89,7 @@ judged_runs asked (job ∷ jobs) (candidate ∷ candidates) rows =
 
 -- whether a run is accepted: its job is chosen and was not skipped
 abbrev pub is_accepted_run : JobRun → Bool
-is_accepted_run run = run.is_chosen && not (is_some run.skipped)
+is_accepted_run run = run.is_chosen && not (is_some run.skip_reason)
 
 -- the row of a run, or `None` if its job is not chosen or was skipped
 abbrev pub row_if_accepted : JobRun → Option Row

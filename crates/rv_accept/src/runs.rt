@@ -35,7 +35,7 @@ pub struct JobRun {
     /// `same_as`.
     pub is_chosen: bool,
     /// Why the job was skipped; `None` if it was not.
-    pub skipped: Option<SkipReason>,
+    pub skip_reason: Option<SkipReason>,
 }
 
 impl JobRun {
@@ -43,7 +43,7 @@ impl JobRun {
     pub fn is_accepted(&self) -> bool
         ensures { result ≡ is_accepted_run self.now }
     {
-        self.is_chosen && self.skipped.is_none()
+        self.is_chosen && self.skip_reason.is_none()
     }
 }
 
@@ -170,7 +170,7 @@ fn judged_run(acceptance: Acceptance, job: &Job, candidate: Candidate, row: Row)
     JobRun {
         row,
         is_chosen,
-        skipped,
+        skip_reason: skipped,
     }
 }
 

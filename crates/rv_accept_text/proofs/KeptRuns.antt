@@ -11,9 +11,9 @@ no is = cc
 
 -- a run that is accepted though it may be left is the same
 same_run : (why : Option SkipReason) (run : JobRun) → is_accepted_run (skipped_run why run) ≡ true → skipped_run why run ≡ run
-same_run why run accepted = go run.is_chosen run.skipped refl refl why accepted
+same_run why run accepted = go run.is_chosen run.skip_reason refl refl why accepted
   where
-    go : (chosen : Bool) (left : Option SkipReason) → run.is_chosen ≡ chosen → run.skipped ≡ left → (why : Option SkipReason)
+    go : (chosen : Bool) (left : Option SkipReason) → run.is_chosen ≡ chosen → run.skip_reason ≡ left → (why : Option SkipReason)
         → is_accepted_run (skipped_run why run) ≡ true → skipped_run why run ≡ run
     go false left chosen_is left_is why accepted = rw chosen_is refl
     go true (Some other) chosen_is left_is why accepted = rw (chosen_is, left_is) refl

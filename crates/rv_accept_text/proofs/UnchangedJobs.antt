@@ -71,9 +71,9 @@ same_job job row none =
 
 meant_if_left : (job : Job) (run : JobRun) (why : Option SkipReason) → change_skip_reason job run.row ≡ why
     → intended_job job (row_if_accepted (skipped_run why run)) ≡ job
-meant_if_left job run why is = go run.is_chosen run.skipped refl refl
+meant_if_left job run why is = go run.is_chosen run.skip_reason refl refl
   where
-    go : (chosen : Bool) (left : Option SkipReason) → run.is_chosen ≡ chosen → run.skipped ≡ left
+    go : (chosen : Bool) (left : Option SkipReason) → run.is_chosen ≡ chosen → run.skip_reason ≡ left
         → intended_job job (row_if_accepted (skipped_run why run)) ≡ job
     go false left chosen_is left_is = rw chosen_is refl
     go true (Some other) chosen_is left_is = rw (chosen_is, left_is) refl

@@ -58,7 +58,7 @@ changed_count told = count_by (is_changed told.list) told.files.now + address_if
 -- whether there is a run, and its job is chosen and was skipped
 abbrev pub is_skipped_job : Option JobRun → Bool
 is_skipped_job None = false
-is_skipped_job (Some run) = run.is_chosen && is_some run.skipped
+is_skipped_job (Some run) = run.is_chosen && is_some run.skip_reason
 
 -- the number of chosen jobs that were skipped plus the number of golden files that were skipped
 abbrev pub skipped_count : AcceptSummary → ℕ

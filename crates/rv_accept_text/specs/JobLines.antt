@@ -132,4 +132,4 @@ skipped_line_of list job row (Some left) = skipped_prefix job.name ++ skip_reaso
 -- the line about a job that is chosen and was skipped; empty for any other job
 abbrev pub skipped_job_line : List Job → Job → Option JobRun → List ℕ
 skipped_job_line list job None = []
-skipped_job_line list job (Some run) = if run.is_chosen then skipped_line_of list job run.row run.skipped else []
+skipped_job_line list job (Some run) = if run.is_chosen then skipped_line_of list job run.row run.skip_reason else []

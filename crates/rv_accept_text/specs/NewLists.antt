@@ -11,7 +11,7 @@ use Rattle.rv_accept.specs.declared.values.ValueKey.TheVariants as key
 
 -- the run, with `why` as its reason to be skipped if it was accepted, and otherwise unchanged
 abbrev pub skipped_run : Option SkipReason → JobRun → JobRun
-skipped_run why run = if is_accepted_run run then record run { skipped = why } else run
+skipped_run why run = if is_accepted_run run then record run { skip_reason = why } else run
 
 -- the run at an index, or `None` if the index is past the end or has no run
 abbrev pub run_or_none : Option (Option JobRun) → Option JobRun

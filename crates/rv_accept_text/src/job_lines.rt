@@ -191,7 +191,7 @@ fn push_skipped_line(
 ) -> Result<(), AllocError>
     ensures { OnOk result (out.new.items ≡ out.old.items ++ skipped_line_of list.now job.now run.now.row run.now.skipped) }
 {
-    let Some(why) = run.skipped else {
+    let Some(why) = run.skip_reason else {
         return Ok(());
     };
     push_skipped_prefix(out, job.name.as_str())?;

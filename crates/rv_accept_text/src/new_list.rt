@@ -239,7 +239,7 @@ fn skipped_run(why: Option<SkipReason>, run: JobRun) -> JobRun
     JobRun {
         row,
         is_chosen,
-        skipped: why,
+        skip_reason: why,
     }
 }
 

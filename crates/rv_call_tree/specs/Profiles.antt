@@ -10,8 +10,8 @@ abbrev pub has_function : ℕ → List ℕ → Bool
 has_function function path = list_any (λ f. f == function) path
 
 -- the number of calls of a function: the sum of the calls of the nodes whose paths end in it
-abbrev pub arrivals_in : ℕ → List CallNode → ℕ
-arrivals_in function spots = sum_over_nodes (λ s. steps_if (s.function == function) s.arrivals) spots
+abbrev pub calls_of_function : ℕ → List CallNode → ℕ
+calls_of_function function spots = sum_over_nodes (λ s. steps_if (s.function == function) s.arrivals) spots
 
 -- the inclusive steps of a function: the sum of the steps of the nodes whose paths have it, each node counted once; `front` is the path of
 -- the node before these nodes
@@ -24,7 +24,7 @@ inclusive_steps_after function front (s ∷ ss) = steps_if (has_function functio
 pub record AreStepsOf (function : ℕ) (spots : List CallNode) (found : FunctionSteps) : Type 0 where
   pub own : found.own ≡ own_steps_of function spots
   pub inclusive : found.inclusive ≡ inclusive_steps_after function [] spots
-  pub arrivals : found.arrivals ≡ arrivals_in function spots
+  pub arrivals : found.arrivals ≡ calls_of_function function spots
 
 -- ---- the functions of nodes
 

@@ -12,7 +12,7 @@ use Rattle.rv_count_tables.specs.declared.sum.SumError.{SumError}
 use Rattle.rv_count_tables.specs.declared.sum.SumError.TheVariants.{OutOfMemory, Count, Spot, Names, Runs}
 use Rattle.rv_count_tables.specs.declared.sum_of_images.NextImage.{NextImage}
 use Rattle.rv_count_tables.specs.Lines.{lacks}
-use Rattle.rv_count_tables.specs.Table.{executed_at, taken_at, name_at, executed_in, taken_in, next_path, truncated_name, arrivals_in, steps_in, min_text, min_text_of}
+use Rattle.rv_count_tables.specs.Table.{executed_at, taken_at, name_at, executed_in, taken_in, next_path, truncated_name, calls_in_image, steps_in, min_text, min_text_of}
 use Rattle.rv_count_tables.specs.Table.{is_before, is_greater_than_last, digests_increase_from, AreNamesOf, AreValidNodes, IsValidImage, IsValidNode, IsValidTable}
 use Rattle.rv_count_tables.specs.Sum.{sum_error_of, NamesAgree, HasName, HasNameIn, IsSumOfTables, IsSumOfCounts, IsSumOfNames, CountsHaveNoSum, NamesHaveNoSum}
 use Rattle.rv_count_tables.specs.SumSteps.{ImagesAddUp, IsNextImage, ImagesHaveNoSum, ImageHasNoSum}
@@ -235,7 +235,7 @@ both_images_ahead x y sum xs ys others image also one at path counts names of tr
       ∙ name_parts (bytes_eq x.digest d) (bytes_eq y.digest d) (name_at f sum.functions) (name_at f x.functions)
       (name_at f y.functions) _ (truncated_name d f xs) (truncated_name d f ys)
       (ap (λ (s : List ℕ). bytes_eq s d) one) (names.each f) (h.names d f);
-  arrivals = λ d p. ap (λ (s : List ℕ). cond (bytes_eq s d) (calls_at p sum.spots) 0 + arrivals_in d p others) at
+  arrivals = λ d p. ap (λ (s : List ℕ). cond (bytes_eq s d) (calls_at p sum.spots) 0 + calls_in_image d p others) at
       ∙ parts (bytes_eq x.digest d) (bytes_eq y.digest d) (calls_at p x.spots) (calls_at p y.spots)
       (calls_at p sum.spots) _ _ _ (ap (λ (s : List ℕ). bytes_eq s d) one) (spots.arrivals p) (h.arrivals d p);
   steps = λ d p. ap (λ (s : List ℕ). cond (bytes_eq s d) (steps_at p sum.spots) 0 + steps_in d p others) at
@@ -375,7 +375,7 @@ no_sum_of_first (x ∷ xs) (y ∷ ys) z w (Spot f) some other is at first second
       h.0,
       h.1,
       elim h.2 [
-        | inl k ↦ inl (great_here (λ i. calls_at h.0 i.spots) x y z w (arrivals_in x.digest h.0 xs) (arrivals_in x.digest h.0 ys) is at one k)
+        | inl k ↦ inl (great_here (λ i. calls_at h.0 i.spots) x y z w (calls_in_image x.digest h.0 xs) (calls_in_image x.digest h.0 ys) is at one k)
         | inr k ↦ inr (great_here (λ i. steps_at h.0 i.spots) x y z w (steps_in x.digest h.0 xs) (steps_in x.digest h.0 ys) is at one k)
       ],
     )
@@ -446,7 +446,7 @@ some_images_left (suc n) digest address [] = omega arith
 some_images_left (suc n) digest address (i ∷ is) = let h = some_images_left n digest address is in omega (arith, h)
 
 some_arrivals_left : (n : ℕ) (digest path : List ℕ) (is : List ImageCounts)
-    → arrivals_in digest path (drop n is) ≤ arrivals_in digest path is
+    → calls_in_image digest path (drop n is) ≤ calls_in_image digest path is
 some_arrivals_left zero digest path is = omega arith
 some_arrivals_left (suc n) digest path [] = omega arith
 some_arrivals_left (suc n) digest path (i ∷ is) = let h = some_arrivals_left n digest path is in omega (arith, h)

@@ -6,7 +6,7 @@ use Rattle.std.specs.List.{AllByRecursion}
 use Rattle.std.specs.Str.{bytes_eq}
 use Rattle.rv_count_tables.specs.declared.table.ImageCounts.{ImageCounts}
 use Rattle.rv_count_tables.specs.declared.table.CountTable.{CountTable}
-use Rattle.rv_count_tables.specs.Table.{executed_at, taken_at, name_at, executed_in, taken_in, next_path, truncated_name, arrivals_in, steps_in, min_text_of, is_before, digests_increase_from, IsValidImage, IsValidTable}
+use Rattle.rv_count_tables.specs.Table.{executed_at, taken_at, name_at, executed_in, taken_in, next_path, truncated_name, calls_in_image, steps_in, min_text_of, is_before, digests_increase_from, IsValidImage, IsValidTable}
 use Rattle.rv_call_tree.specs.Trees.{calls_at, steps_at}
 use Rattle.rv_call_tree.proofs.Public.{one_tree_of_counts}
 use Rattle.rv_count_tables.proofs.AddingNames.{one_list_of_names}
@@ -49,7 +49,7 @@ taken_is n digest [] = refl
 taken_is n digest (i ∷ is) = ap (λ (m : ℕ). cond (bytes_eq i.digest digest) (taken_at n i.addresses) 0 + m) (taken_is n digest is)
 
 arrivals_is : (path digest : List ℕ) (is : List ImageCounts)
-    → arrivals_in digest path is ≡ counted_in (λ i. calls_at path i.spots) digest is
+    → calls_in_image digest path is ≡ counted_in (λ i. calls_at path i.spots) digest is
 arrivals_is path digest [] = refl
 arrivals_is path digest (i ∷ is) =
     ap (λ (m : ℕ). cond (bytes_eq i.digest digest) (calls_at path i.spots) 0 + m) (arrivals_is path digest is)
@@ -106,7 +106,7 @@ pub record AreAlike (is js : List ImageCounts) : Type 0 where
   pub taken : (digest : List ℕ) (n : ℕ) → taken_in digest n is ≡ taken_in digest n js
   pub paths : (digest : List ℕ) → next_path digest is ≡ next_path digest js
   pub names : (digest : List ℕ) (f : ℕ) → truncated_name digest f is ≡ truncated_name digest f js
-  pub arrivals : (digest path : List ℕ) → arrivals_in digest path is ≡ arrivals_in digest path js
+  pub arrivals : (digest path : List ℕ) → calls_in_image digest path is ≡ calls_in_image digest path js
   pub steps : (digest path : List ℕ) → steps_in digest path is ≡ steps_in digest path js
 
 -- a number of the first images of both lists
@@ -212,7 +212,7 @@ pub one_table_of : (t u : CountTable) → IsValidTable t → IsValidTable u
     → ((digest : List ℕ) (n : ℕ) → taken_in digest n t.images ≡ taken_in digest n u.images)
     → ((digest : List ℕ) → next_path digest t.images ≡ next_path digest u.images)
     → ((digest : List ℕ) (f : ℕ) → truncated_name digest f t.images ≡ truncated_name digest f u.images)
-    → ((digest path : List ℕ) → arrivals_in digest path t.images ≡ arrivals_in digest path u.images)
+    → ((digest path : List ℕ) → calls_in_image digest path t.images ≡ calls_in_image digest path u.images)
     → ((digest path : List ℕ) → steps_in digest path t.images ≡ steps_in digest path u.images) → t.runs ≡ u.runs → t ≡ u
 one_table_of t u h k begun taken paths names arrivals steps runs =
     let alike : AreAlike t.images u.images = record {
@@ -234,7 +234,7 @@ tables_commute a b ab ba p q = one_table_of ab ba p.table q.table
     (λ d n. either_order _ _ (taken_in d n a.images) (taken_in d n b.images) (p.taken d n) (q.taken d n))
     (λ d. p.paths d ∙ either (next_path d a.images) (next_path d b.images) ∙ sym (q.paths d))
     (λ d f. p.names d f ∙ either (truncated_name d f a.images) (truncated_name d f b.images) ∙ sym (q.names d f))
-    (λ d n. either_order _ _ (arrivals_in d n a.images) (arrivals_in d n b.images) (p.arrivals d n) (q.arrivals d n))
+    (λ d n. either_order _ _ (calls_in_image d n a.images) (calls_in_image d n b.images) (p.arrivals d n) (q.arrivals d n))
     (λ d n. either_order _ _ (steps_in d n a.images) (steps_in d n b.images) (p.steps d n) (q.steps d n))
     (either_order _ _ a.runs b.runs p.runs q.runs)
 
@@ -251,8 +251,8 @@ tables_associate a b c ab bc first last p q r s = one_table_of first last q.tabl
     (λ d f. q.names d f ∙ ap (λ x. min_text_of x (truncated_name d f c.images)) (p.names d f)
     ∙ any_first (truncated_name d f a.images) (truncated_name d f b.images) (truncated_name d f c.images)
     ∙ sym (ap (min_text_of (truncated_name d f a.images)) (r.names d f)) ∙ sym (s.names d f))
-    (λ d n. either_first (arrivals_in d n ab.images) (arrivals_in d n bc.images) _ _ (arrivals_in d n a.images)
-    (arrivals_in d n b.images) (arrivals_in d n c.images) (p.arrivals d n) (q.arrivals d n) (r.arrivals d n) (s.arrivals d n))
+    (λ d n. either_first (calls_in_image d n ab.images) (calls_in_image d n bc.images) _ _ (calls_in_image d n a.images)
+    (calls_in_image d n b.images) (calls_in_image d n c.images) (p.arrivals d n) (q.arrivals d n) (r.arrivals d n) (s.arrivals d n))
     (λ d n. either_first (steps_in d n ab.images) (steps_in d n bc.images) _ _ (steps_in d n a.images)
     (steps_in d n b.images) (steps_in d n c.images) (p.steps d n) (q.steps d n) (r.steps d n) (s.steps d n))
     (either_first ab.runs bc.runs _ _ a.runs b.runs c.runs p.runs q.runs r.runs s.runs)

@@ -7,7 +7,7 @@ use Rattle.rv_count_tables.specs.declared.table.ImageCounts.{ImageCounts}
 use Rattle.rv_count_tables.specs.declared.table.CountTable.{CountTable}
 use Rattle.rv_count_tables.specs.declared.sum.SumError.{SumError}
 use Rattle.rv_count_tables.specs.declared.sum.SumError.TheVariants.{OutOfMemory, Count, Spot, Names, Runs}
-use Rattle.rv_count_tables.specs.Table.{executed_at, taken_at, name_at, executed_in, taken_in, next_path, truncated_name, arrivals_in, steps_in, min_text_of, AreValidCounts, AreValidNames, IsValidTable}
+use Rattle.rv_count_tables.specs.Table.{executed_at, taken_at, name_at, executed_in, taken_in, next_path, truncated_name, calls_in_image, steps_in, min_text_of, AreValidCounts, AreValidNames, IsValidTable}
 use Rattle.rv_call_tree.specs.Trees.{ends_with}
 use Rattle.rv_call_tree.specs.declared.sum.CallTreeSumError.{CallTreeSumError}
 use Rattle.rv_call_tree.specs.declared.sum.CallTreeSumError.TheVariants as spots
@@ -46,7 +46,7 @@ pub record IsSumOfTables (a b sum : CountTable) : Type 0 where
   pub names : (digest : List ℕ) → (function : ℕ)
       → truncated_name digest function sum.images ≡ min_text_of (truncated_name digest function a.images) (truncated_name digest function b.images)
   pub arrivals : (digest path : List ℕ)
-      → arrivals_in digest path sum.images ≡ arrivals_in digest path a.images + arrivals_in digest path b.images
+      → calls_in_image digest path sum.images ≡ calls_in_image digest path a.images + calls_in_image digest path b.images
   pub steps : (digest path : List ℕ)
       → steps_in digest path sum.images ≡ steps_in digest path a.images + steps_in digest path b.images
   pub runs : sum.runs ≡ a.runs + b.runs
@@ -74,7 +74,7 @@ HaveNoSum OutOfMemory a b = Unit {0}
 HaveNoSum (Count address) a b = (digest : List ℕ)
     × (2 ^ 64 ≤ executed_in digest address a.images + executed_in digest address b.images)
 HaveNoSum (Spot function) a b = (digest : List ℕ) × (path : List ℕ) × (ends_with function path ≡ true)
-    × ((2 ^ 64 ≤ arrivals_in digest path a.images + arrivals_in digest path b.images)
+    × ((2 ^ 64 ≤ calls_in_image digest path a.images + calls_in_image digest path b.images)
     ⊎ (2 ^ 64 ≤ steps_in digest path a.images + steps_in digest path b.images))
 HaveNoSum (Names function) a b = (digest : List ℕ) × (name : List ℕ) × (other : List ℕ)
     × HasNameIn digest function name a.images × HasNameIn digest function other b.images × (name ≡ other → ⊥)

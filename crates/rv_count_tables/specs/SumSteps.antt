@@ -10,7 +10,7 @@ use Rattle.rv_count_tables.specs.declared.sum_of_counts.NextCount.{NextCount}
 use Rattle.rv_count_tables.specs.declared.sum_of_images.NextImage.{NextImage}
 use Rattle.rv_count_tables.specs.declared.sum_of_names.NextName.{NextName}
 use Rattle.rv_count_tables.specs.Sum.{NamesAgree, CountsHaveNoSum, HasNameIn, NamesHaveNoSum}
-use Rattle.rv_count_tables.specs.Table.{executed_at, taken_at, name_at, executed_in, taken_in, next_path, truncated_name, arrivals_in, steps_in, min_text_of}
+use Rattle.rv_count_tables.specs.Table.{executed_at, taken_at, name_at, executed_in, taken_in, next_path, truncated_name, calls_in_image, steps_in, min_text_of}
 use Rattle.rv_count_tables.specs.Table.{increase_from, functions_increase_from, digests_increase_from, IsValidCount, IsValidImage, IsValidName}
 use Rattle.rv_call_tree.specs.Trees.{calls_at, ends_with, steps_at}
 
@@ -65,7 +65,7 @@ pub record ImagesAddUp (a b sum : List ImageCounts) : Type 0 where
   pub names : (digest : List ℕ) (function : ℕ)
       → truncated_name digest function sum ≡ min_text_of (truncated_name digest function a) (truncated_name digest function b)
   pub arrivals : (digest path : List ℕ)
-      → arrivals_in digest path sum ≡ arrivals_in digest path a + arrivals_in digest path b
+      → calls_in_image digest path sum ≡ calls_in_image digest path a + calls_in_image digest path b
   pub steps : (digest path : List ℕ) → steps_in digest path sum ≡ steps_in digest path a + steps_in digest path b
 
 -- `next` has the image with the lowest digest in a sum, and how many images of each list it adds up; followed by the sum of the remaining
@@ -83,7 +83,7 @@ ImagesHaveNoSum OutOfMemory a b = Unit {0}
 ImagesHaveNoSum (Count address) a b = (digest : List ℕ)
     × (2 ^ 64 ≤ executed_in digest address a + executed_in digest address b)
 ImagesHaveNoSum (Spot function) a b = (digest : List ℕ) × (path : List ℕ) × (ends_with function path ≡ true)
-    × ((2 ^ 64 ≤ arrivals_in digest path a + arrivals_in digest path b)
+    × ((2 ^ 64 ≤ calls_in_image digest path a + calls_in_image digest path b)
     ⊎ (2 ^ 64 ≤ steps_in digest path a + steps_in digest path b))
 ImagesHaveNoSum (Names function) a b = (digest : List ℕ) × (name : List ℕ) × (other : List ℕ)
     × HasNameIn digest function name a × HasNameIn digest function other b × (name ≡ other → ⊥)

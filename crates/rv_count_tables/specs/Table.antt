@@ -71,10 +71,10 @@ truncated_name digest function (i ∷ is) =
     min_text_of (if bytes_eq i.digest digest then name_at function i.functions else None) (truncated_name digest function is)
 
 -- how often runs entered a call path in the image with this digest
-abbrev pub arrivals_in : List ℕ → List ℕ → List ImageCounts → ℕ
-arrivals_in digest path [] = 0
-arrivals_in digest path (i ∷ is) =
-    (if bytes_eq i.digest digest then calls_at path i.spots else 0) + arrivals_in digest path is
+abbrev pub calls_in_image : List ℕ → List ℕ → List ImageCounts → ℕ
+calls_in_image digest path [] = 0
+calls_in_image digest path (i ∷ is) =
+    (if bytes_eq i.digest digest then calls_at path i.spots else 0) + calls_in_image digest path is
 
 -- how many instructions runs executed in a call path in the image with this digest
 abbrev pub steps_in : List ℕ → List ℕ → List ImageCounts → ℕ

@@ -11,7 +11,7 @@ use Rattle.rv_trace.specs.declared_answers.PathResult.{PathResult}
 use Rattle.rv_trace.specs.declared_job.Job.{Job}
 use Rattle.rv_trace.specs.State.{State}
 use Rattle.rv_fleet.specs.declared_row.Refusal.{Refusal}
-use Rattle.rv_trace.specs.Outcome.{range_start}
+use Rattle.rv_trace.specs.Outcome.{start_of}
 use Rattle.rv_trace.specs.Rows.{content_if_read, start_state_in}
 use Rattle.rv_trace.specs.Wholes.{HaveSameResults}
 use Rattle.rv_count_tables.specs.Printable.{printable_text}
@@ -28,7 +28,7 @@ same_sum f g P (j ∷ js) same all =
 
 module _ (some others : List PathResult) where
   same_start : (job : Job) → HaveSameResults some others job → start_state_in some job ≡ start_state_in others job
-  same_start job h = λ i. range_start job (h.image i) (h.reference i) (h.console i)
+  same_start job h = λ i. start_of job (h.image i) (h.reference i) (h.console i)
 
   same_over : (digest : List ℕ) (job : Job) → HaveSameResults some others job
       → start_state_of_image some digest job ≡ start_state_of_image others digest job

@@ -16,7 +16,7 @@ use Rattle.rv_trace.specs.declared_job.Job.{Job}
 use Rattle.rv_trace.specs.State.{State}
 use Rattle.rv_trace.specs.declared_outcome.LoadableImage.{LoadableImage}
 use Rattle.rv_fleet.specs.declared_row.Refusal.{Refusal}
-use Rattle.rv_trace.specs.Outcome.{image_file_or_refusal, loadable_image, loaded_state, range_if_requested, reference_or_refusal, start_if_loadable, start_if_readable, range_start}
+use Rattle.rv_trace.specs.Outcome.{image_file_or_refusal, loadable_image, loaded_state, range_if_requested, reference_or_refusal, start_if_loadable, start_if_readable, start_of}
 use Rattle.rv_trace.specs.Rows.{content_if_read, start_state_in}
 use Rattle.rv_trace.specs.Trace.{image_bytes}
 
@@ -68,9 +68,9 @@ module _ (job : Job) (s : State) where
   with_file file (Ok lines) (Err why) e = cc
   with_file file (Err why) bytes e = cc
 
-  started_of : (image : Kept) (reference console : Option Kept) → range_start job image reference console ≡ Ok s
+  started_of : (image : Kept) (reference console : Option Kept) → start_of job image reference console ≡ Ok s
       → IsStart job (content_if_read (Some image)) s
-  unfolding range_start image_file_or_refusal
+  unfolding start_of image_file_or_refusal
   started_of (kept.Content file) reference console e =
       with_file file (reference_or_refusal reference) (reference_or_refusal console) e
   started_of kept.Unreadable reference console e = cc

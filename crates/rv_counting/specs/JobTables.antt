@@ -8,7 +8,7 @@ use Rattle.sha2.specs.Sha256.{sha256}
 use Rattle.rv_count_tables.specs.declared.table.AddressCounts.{AddressCounts}
 use Rattle.rv_count_tables.specs.declared.table.CountTable.{CountTable}
 use Rattle.rv_count_tables.specs.Sum.{IsSumOfTables}
-use Rattle.rv_count_tables.specs.Table.{executed_in, taken_in, next_path, truncated_name, arrivals_in, steps_in, min_text_of, IsValidTable}
+use Rattle.rv_count_tables.specs.Table.{executed_in, taken_in, next_path, truncated_name, calls_in_image, steps_in, min_text_of, IsValidTable}
 use Rattle.rv_trace.specs.declared_answers.PathResult.{PathResult}
 use Rattle.rv_trace.specs.declared_job.Job.{Job}
 use Rattle.rv_trace.specs.Jobs.{single_job}
@@ -76,7 +76,7 @@ table_of_runs runs path bytes addresses = record {
 -- the table has no call trees and no function names
 pub record HasNoStacks (t : CountTable) : Type 0 where
   pub names : (digest : List ℕ) (function : ℕ) → truncated_name digest function t.images ≡ None
-  pub arrivals : (digest path : List ℕ) → arrivals_in digest path t.images ≡ 0
+  pub arrivals : (digest path : List ℕ) → calls_in_image digest path t.images ≡ 0
   pub steps : (digest path : List ℕ) → steps_in digest path t.images ≡ 0
 
 -- `t` is the table of the jobs: each of its numbers is the sum of the jobs' numbers

@@ -3,7 +3,7 @@ use Rattle.std.specs.Prelude.{◌==◌, ◌≤◌, ◌&&◌, ◌||◌, ℕ, Bool
 use Rattle.std.specs.List.{All, sum_by}
 use Rattle.std.specs.List.Sorted.{IsPermutation, IsSortedBy}
 use Rattle.rv_count_tables.specs.declared.table.FunctionName.{FunctionName}
-use Rattle.rv_count_tables.specs.Profiles.{arrivals_in, inclusive_steps_after}
+use Rattle.rv_count_tables.specs.Profiles.{calls_of_function, inclusive_steps_after}
 use Rattle.rv_count_tables.specs.Trees.{own_steps_of}
 use Rattle.rv_count_tables.specs.declared_spot.CallNode.{CallNode}
 use Rattle.rv_profile.specs.declared.function.FunctionProfile.{FunctionProfile}
@@ -26,7 +26,7 @@ function_counts spots named = record {
   function = named.function;
   own = own_steps_of named.function spots;
   inclusive = inclusive_steps_after named.function [] spots;
-  arrivals = arrivals_in named.function spots;
+  arrivals = calls_of_function named.function spots;
 }
 
 -- whether `p` comes before `q` in a profile: it has more own steps, or equally many and a lower address

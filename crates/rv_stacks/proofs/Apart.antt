@@ -6,7 +6,7 @@ use Rattle.std.specs.Str.{bytes_eq}
 use Rattle.rv_count_tables.specs.declared.table.CountTable.{CountTable}
 use Rattle.rv_count_tables.specs.declared.table.ImageCounts.{ImageCounts}
 use Rattle.rv_count_tables.specs.Sum.{NamesAgree, IsSumOfTables}
-use Rattle.rv_count_tables.specs.Table.{executed_at, taken_at, executed_in, taken_in, next_path, name_at, truncated_name, calls_in, steps_in, digests_increase_from, is_greater_than_last, min_text_of, IsValidImage, IsValidTable}
+use Rattle.rv_count_tables.specs.Table.{executed_at, taken_at, executed_in, taken_in, next_path, name_at, truncated_name, calls_in_image, steps_in, digests_increase_from, is_greater_than_last, min_text_of, IsValidImage, IsValidTable}
 use Rattle.rv_counting.proofs.Public.{no_names, no_owners, no_spots}
 use Rattle.rv_counting.specs.JobTables.{jobs_at, IsTableOfJobsAt}
 use Rattle.rv_counting.specs.Plans.{PlanView}
@@ -80,9 +80,9 @@ module _ (digest : List ℕ) where
   no_name f [] = refl
   no_name f (i ∷ is) = none_picked (bytes_eq i.digest digest) (truncated_name digest f (bare is)) ∙ no_name f is
 
-  no_arrivals : (path : List ℕ) (is : List ImageCounts) → calls_in digest path (bare is) ≡ 0
+  no_arrivals : (path : List ℕ) (is : List ImageCounts) → calls_in_image digest path (bare is) ≡ 0
   no_arrivals path [] = refl
-  no_arrivals path (i ∷ is) = zero_picked (bytes_eq i.digest digest) (calls_in digest path (bare is)) (no_arrivals path is)
+  no_arrivals path (i ∷ is) = zero_picked (bytes_eq i.digest digest) (calls_in_image digest path (bare is)) (no_arrivals path is)
 
   no_steps : (path : List ℕ) (is : List ImageCounts) → steps_in digest path (bare is) ≡ 0
   no_steps path [] = refl
@@ -176,7 +176,7 @@ module _ (digest : List ℕ) where
       ap (min_text_of (cond (bytes_eq i.digest digest) (name_at f i.functions) None)) (same_name f is)
 
   same_arrivals : (path : List ℕ) (is : List ImageCounts)
-      → calls_in digest path (stacked is) ≡ calls_in digest path is
+      → calls_in_image digest path (stacked is) ≡ calls_in_image digest path is
   same_arrivals path [] = refl
   same_arrivals path (i ∷ is) =
       ap (λ (n : ℕ). cond (bytes_eq i.digest digest) (calls_at path i.spots) 0 + n) (same_arrivals path is)

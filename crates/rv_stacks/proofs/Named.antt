@@ -7,7 +7,7 @@ use Rattle.std.specs.List.{AllByRecursion}
 use Rattle.std.specs.Str.{bytes_eq}
 use Rattle.rv_count_tables.proofs.Public.{first_is}
 use Rattle.rv_count_tables.specs.declared.table.ImageCounts.{ImageCounts}
-use Rattle.rv_count_tables.specs.Table.{calls_in, has_name, min_text_of, name_at, truncated_name, IsValidImage, IsValidNode}
+use Rattle.rv_count_tables.specs.Table.{calls_in_image, has_name, min_text_of, name_at, truncated_name, IsValidImage, IsValidNode}
 use Rattle.rv_count_tables.specs.declared_spot.CallNode.{CallNode}
 use Rattle.rv_count_tables.specs.Profiles.{ends_some_path}
 use Rattle.rv_count_tables.specs.Trees.{calls_at, calls_of_node, sum_over_path, ends_with, path_after}
@@ -62,7 +62,7 @@ named_here false o h = absurd (false≢true h)
 pub record IsComeTo (f : ℕ) (digest : List ℕ) (is : List ImageCounts) : Type 0 where
   pub path : List ℕ
   pub ends : ends_with f path ≡ true
-  pub some : 0 < calls_in digest path is
+  pub some : 0 < calls_in_image digest path is
 
 pub come_to : (f : ℕ) (digest : List ℕ) (is : List ImageCounts) → AllByRecursion IsValidImage is
     → has_name (truncated_name digest f is) ≡ true → IsComeTo f digest is
@@ -76,13 +76,13 @@ come_to f digest (i ∷ is) h named =
           record {
             path = k.path;
             ends = k.ends;
-            some = here_counts (bytes_eq i.digest digest) (calls_at k.path i.spots) (calls_in digest k.path is) here.0 k.some;
+            some = here_counts (bytes_eq i.digest digest) (calls_at k.path i.spots) (calls_in_image digest k.path is) here.0 k.some;
           }
       | inr t ↦
           let k = come_to f digest is h.1 t in
           record {
             path = k.path;
             ends = k.ends;
-            some = further_counts (bytes_eq i.digest digest) (calls_at k.path i.spots) (calls_in digest k.path is) k.some;
+            some = further_counts (bytes_eq i.digest digest) (calls_at k.path i.spots) (calls_in_image digest k.path is) k.some;
           }
     ]

@@ -10,7 +10,7 @@ use Rattle.rv_count_tables.specs.declared.sum.SumError.{SumError}
 use Rattle.rv_count_tables.specs.declared.sum.SumError.TheVariants.{OutOfMemory, Count, Spot, Names, Runs}
 use Rattle.rv_count_tables.specs.declared.table.CountTable.{CountTable}
 use Rattle.rv_count_tables.specs.Sum.{HaveNoSum}
-use Rattle.rv_count_tables.specs.Table.{executed_in, calls_in, steps_in}
+use Rattle.rv_count_tables.specs.Table.{executed_in, calls_in_image, steps_in}
 use Rattle.rv_counting.specs.JobTables.{executed_by, executed_from, jobs_at, runs_by, start_state_of_image}
 use Rattle.rv_counting.proofs.Public.{not_over}
 use Rattle.rv_counting.specs.declared_answers.PathResult.{PathResult}
@@ -28,7 +28,7 @@ use Rattle.rv_stacks.proofs.WithStacks.{of_places, IsOfJobs}
 
 record IsSmall (n : ℕ) (t : CountTable) : Type 0 where
   pub begun : (digest : List ℕ) (address : ℕ) → executed_in digest address t.images ≤ n * 2 ^ 34
-  pub arrivals : (digest path : List ℕ) → calls_in digest path t.images ≤ n * 2 ^ 34
+  pub arrivals : (digest path : List ℕ) → calls_in_image digest path t.images ≤ n * 2 ^ 34
   pub steps : (digest path : List ℕ) → steps_in digest path t.images ≤ n * 2 ^ 34
   pub runs : t.runs ≤ n * 2 ^ 34
 

@@ -8,7 +8,7 @@ use Rattle.std.specs.List.Sorted.{IsPermutation}
 use Rattle.rv_count_tables.proofs.Public.{one_table_of}
 use Rattle.rv_count_tables.specs.declared.table.CountTable.{CountTable}
 use Rattle.rv_count_tables.specs.Sum.{IsSumOfTables, no_counts}
-use Rattle.rv_count_tables.specs.Table.{executed_in, taken_in, next_path, truncated_name, calls_in, steps_in, has_name, is_before, min_text_of, IsValidTable}
+use Rattle.rv_count_tables.specs.Table.{executed_in, taken_in, next_path, truncated_name, calls_in_image, steps_in, has_name, is_before, min_text_of, IsValidTable}
 use Rattle.rv_counting.proofs.Public.{first_moved, first_path-append, no_counts_is_table}
 use Rattle.rv_counting.specs.JobTables.{executed_by, first_path, jobs_at, runs_by, taken_by}
 use Rattle.rv_counting.specs.declared_answers.PathResult.{PathResult}
@@ -28,7 +28,7 @@ pub record IsOfJobs (answers : List PathResult) (jobs : List Job) (t : CountTabl
       → taken_in digest address t.images ≡ sum_by (taken_by answers digest address) jobs
   pub paths : (digest : List ℕ) → next_path digest t.images ≡ first_path answers digest jobs
   pub arrivals : (digest path : List ℕ)
-      → calls_in digest path t.images ≡ sum_by (calls_by_job answers digest path) jobs
+      → calls_in_image digest path t.images ≡ sum_by (calls_by_job answers digest path) jobs
   pub steps : (digest path : List ℕ) → steps_in digest path t.images ≡ sum_by (steps_by_job answers digest path) jobs
   pub names : (digest : List ℕ) (f : ℕ) → AllByRecursion (IsNamedBy answers t digest f) jobs
   pub runs : t.runs ≡ sum_by (runs_by answers) jobs

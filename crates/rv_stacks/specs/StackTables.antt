@@ -12,7 +12,7 @@ use Rattle.rv_count_tables.specs.declared.table.CountTable.{CountTable}
 use Rattle.rv_count_tables.specs.declared.table.FunctionName.{FunctionName}
 use Rattle.rv_count_tables.specs.declared.table.ImageCounts.{ImageCounts}
 use Rattle.rv_count_tables.specs.Sum.{HaveNoSum, IsSumOfTables}
-use Rattle.rv_count_tables.specs.Table.{executed_in, taken_in, next_path, truncated_name, calls_in, steps_in, has_name, name_of, AreValidNames, AreNamesOf, IsValidTable}
+use Rattle.rv_count_tables.specs.Table.{executed_in, taken_in, next_path, truncated_name, calls_in_image, steps_in, has_name, name_of, AreValidNames, AreNamesOf, IsValidTable}
 use Rattle.rv_counting.specs.Coverage.{address_if}
 use Rattle.rv_counting.specs.JobTables.{first_path, jobs_at, start_state_of_image, IsTableOfJobsAt}
 use Rattle.rv_counting.specs.declared_image.Image.{Image}
@@ -104,7 +104,7 @@ name_of_job answers job = name_in_image (image_in answers job) (image_bytes answ
 abbrev pub calls_from : (ℕ → ℕ) → List ℕ → ℕ → Option State → ℕ
 calls_from function path n None = 0
 calls_from function path n (Some s) =
-    address_if (bytes_eq (function s.pc ∷ []) path) + run.calls_in function path n [] s
+    address_if (bytes_eq (function s.pc ∷ []) path) + run.calls_in_image function path n [] s
 
 -- how many instructions a run of at most `n` steps from this state executes on a path; 0 without a state
 abbrev pub steps_from : (ℕ → ℕ) → List ℕ → ℕ → Option State → ℕ
@@ -140,7 +140,7 @@ pub record AreStacksOfJobs (answers : List PathResult) (jobs : List Job) (t : Co
   pub taken : (digest : List ℕ) (address : ℕ) → taken_in digest address t.images ≡ 0
   pub paths : (digest : List ℕ) → next_path digest t.images ≡ first_path answers digest jobs
   pub arrivals : (digest path : List ℕ)
-      → calls_in digest path t.images ≡ sum_by (calls_by_job answers digest path) jobs
+      → calls_in_image digest path t.images ≡ sum_by (calls_by_job answers digest path) jobs
   pub steps : (digest path : List ℕ) → steps_in digest path t.images
       ≡ sum_by (steps_by_job answers digest path) jobs
   pub names : (digest : List ℕ) (f : ℕ) → AllByRecursion (IsNamedBy answers t digest f) jobs

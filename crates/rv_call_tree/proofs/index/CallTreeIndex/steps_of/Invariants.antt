@@ -1,7 +1,7 @@
 -- The other subtrees of the function tell the rest.
 use Rattle.std.proofs.Common.{◌≡◌, ◌+◌, [], drop}
 use Rattle.std.specs.List.{sum_by}
-use Rattle.rv_call_tree.specs.Profiles.{arrivals_in, inclusive_steps_after}
+use Rattle.rv_call_tree.specs.Profiles.{calls_of_function, inclusive_steps_after}
 use Rattle.rv_call_tree.specs.Subtrees.{subtrees_of_function}
 use Rattle.rv_call_tree.specs.Trees.{own_steps_of}
 use Rattle.rv_call_tree.proofs.Profiled.{inclusive_from}
@@ -14,5 +14,5 @@ invariant-loop-subtree l = record {
   inclusive : l.found.inclusive + inclusive_from l.end (drop l.subtree-index (subtrees_of_function l.function l.self.spots.now))
       ≡ inclusive_steps_after l.function [] l.self.spots.now;
   arrivals : l.found.arrivals + sum_by (λ s. s.arrivals) (drop l.subtree-index (subtrees_of_function l.function l.self.spots.now))
-      ≡ arrivals_in l.function l.self.spots.now;
+      ≡ calls_of_function l.function l.self.spots.now;
 }
