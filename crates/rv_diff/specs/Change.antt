@@ -22,7 +22,7 @@ are_same_end_kinds old new = are_alike_endings old new
 
 -- whether two faults have equal addresses and equal values; true if one of the endings is not a fault
 abbrev pub agree_in_fault_pc_and_value : RowEnd → RowEnd → Bool
-agree_in_fault_pc_and_value (ending.Fault kind pc value) (ending.Fault other at met) = pc == at && value == met
+agree_in_fault_pc_and_value (ending.Fault kind pc value) (ending.Fault other other_pc other_value) = pc == other_pc && value == other_value
 agree_in_fault_pc_and_value old new = true
 
 -- whether two endings are equal, as far as `compare` compares them: the addresses and values of faults are compared only if steps are

@@ -97,7 +97,7 @@ not_compared_text count = if count == 0 then [] else codes ", " ++ decimal count
 
 -- the last line: how many of the compared jobs differ and how, how many jobs were not compared, and the total steps, if there are sums
 unfoldable pub count_line : ℕ → DifferenceCounts → ℕ → Option StepSums → List ℕ
-count_line jobs counts left_out sums = line (differing_text (differing_count counts) jobs ++ change_counts_text counts
+count_line job_count counts left_out sums = line (differing_text (differing_count counts) job_count ++ change_counts_text counts
     ++ not_compared_text left_out ++ sums_text sums)
 
 -- the output of `diff` for the rows of two reports: a line for each difference, and the line of counts; `left_out` is how many jobs were

@@ -94,9 +94,9 @@ verdict_change_text old new = codes "verdict " ++ becomes (verdict_name old) (ve
 abbrev pub change_prefix : List ℕ → List ℕ
 change_prefix name = codes "! " ++ name ++ codes ": "
 
--- the line for a field of the job with this name, or nothing if `same` is true, that is, if the field is equal in both rows
+-- the line for a field of the job with this name, or nothing if `is_same` is true, that is, if the field is equal in both rows
 abbrev pub change_line : List ℕ → Bool → List ℕ → List ℕ
-change_line name same words = if same then [] else line (change_prefix name ++ words)
+change_line name is_same words = if is_same then [] else line (change_prefix name ++ words)
 
 -- a line for each field in which two rows differ: the ending, the steps, the console, the signature, the verdict
 unfoldable pub change_lines : CompareMode → Row → Row → List ℕ

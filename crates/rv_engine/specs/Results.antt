@@ -11,7 +11,7 @@ use Rattle.rv_engine.specs.declared.listener.Flow.TheVariants.{Continue, Stop}
 
 -- the list has one result for each of the first jobs, in order; `is_result` says which results the job at an index can have
 abbrev pub AreResults : {H : Type 0} → (ℕ → H → Type 0) → List H → Type 0
-AreResults {H} is_result results = (k : ℕ) (any : H) → k < length results → is_result k (slice_index_or results k any)
+AreResults {H} is_result results = (k : ℕ) (default : H) → k < length results → is_result k (slice_index_or results k default)
 
 -- ---- delivered in order
 

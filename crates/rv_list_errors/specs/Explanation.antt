@@ -83,11 +83,11 @@ is_key_of_owner owner.List key = is_list_key key
 is_key_of_owner owner.Job key = is_job_key key
 is_key_of_owner owner.Region key = is_region_key key
 
--- the first key of a table that does not satisfy `known`, or `None` if all keys do
+-- the first key of a table that does not satisfy `is_known`, or `None` if all keys do
 unfoldable pub first_unknown_key : (List ℕ → Bool) → Members → Option (List ℕ)
-first_unknown_key known no_members = None
-first_unknown_key known (member key value members) =
-    if known key then first_unknown_key known members else Some key
+first_unknown_key is_known no_members = None
+first_unknown_key is_known (member key value members) =
+    if is_known key then first_unknown_key is_known members else Some key
 
 -- the text that this key is unknown
 abbrev pub unknown_key_text : List ℕ → List ℕ

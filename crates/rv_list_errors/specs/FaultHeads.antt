@@ -52,7 +52,7 @@ job_number_and_name names number =
 
 -- `:WORD_LINE_LEN: error: job NUMBER "NAME": ` for the job with this number, given the lines on which the jobs begin and their names
 abbrev pub job_heading : List ℕ → List (Option (List ℕ)) → ℕ → List ℕ
-job_heading lines names number = line_text (slice_get lines (number - 1)) ++ job_number_and_name names number
+job_heading line_numbers names number = line_text (slice_get line_numbers (number - 1)) ++ job_number_and_name names number
 
 -- the text between the path and the explanation of an error: the heading of the job with this number, or `: error: ` if the number is 0
 abbrev pub fault_location : List ℕ → List (Option (List ℕ)) → ℕ → List ℕ

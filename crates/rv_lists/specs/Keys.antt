@@ -138,10 +138,10 @@ is_region_key name = is_key_among region_keys name
 abbrev pub is_list_key : List ℕ → Bool
 is_list_key name = bytes_eq name (codes "job")
 
--- whether a table has a key that does not satisfy `known`
+-- whether a table has a key that does not satisfy `is_known`
 unfoldable pub any_unknown_key : (List ℕ → Bool) → Members → Bool
-any_unknown_key known no_members = false
-any_unknown_key known (member k d ms) = not (known k) || any_unknown_key known ms
+any_unknown_key is_known no_members = false
+any_unknown_key is_known (member k d ms) = not (is_known k) || any_unknown_key is_known ms
 
 -- whether a value is a table with a key that regions may not have
 abbrev pub region_has_unknown_key : Data → Bool

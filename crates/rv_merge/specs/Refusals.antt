@@ -29,13 +29,13 @@ pub record IsUnread (place : ReadError) (bytes : List ℕ) : Type 0 where
   pub begins : (report : SavedReport) × IsValidReport report × AgreeBeforeError place (saved_text report) bytes
   pub told : IsSameReadError place (first_read_error (saved_text (lenient_report bytes)) bytes)
 
--- the two texts are reports of shards for which the function `what` has different values
-pub record Differ {X : Type 0} (what : Shard → X) (bytes others : List ℕ) : Type 0 where
+-- the two texts are reports of shards for which the function `value` has different values
+pub record Differ {X : Type 0} (value : Shard → X) (bytes other_bytes : List ℕ) : Type 0 where
   pub shard : Shard
   pub other : Shard
   pub is : IsReportAt (extent.Shard shard) bytes
-  pub of : IsReportAt (extent.Shard other) others
-  pub differ : what shard ≡ what other → ⊥
+  pub of : IsReportAt (extent.Shard other) other_bytes
+  pub differ : value shard ≡ value other → ⊥
 
 -- the two texts are different reports of the same shard
 pub record AreDifferentReports (bytes others : List ℕ) : Type 0 where

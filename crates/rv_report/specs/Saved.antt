@@ -25,11 +25,11 @@ unfoldable pub are_increasing : ℕ → ℕ → List ℕ → Bool
 are_increasing before last [] = true
 are_increasing before last (n ∷ ns) = nat_lt before n && (nat_le n last && are_increasing n last ns)
 
--- whether the job numbers are `next`, `next` + `step`, `next` + 2 `step` and so on, up to `last`
+-- whether the job numbers are `next`, `next` + `step`, `next` + 2 `step` and so on, up to `limit`
 unfoldable pub are_evenly_spaced : ℕ → ℕ → ℕ → List ℕ → Bool
-are_evenly_spaced next step last [] = nat_lt last next
-are_evenly_spaced next step last (n ∷ ns) =
-    (n == next) && (nat_le n last && are_evenly_spaced (next + step) step last ns)
+are_evenly_spaced next step limit [] = nat_lt limit next
+are_evenly_spaced next step limit (n ∷ ns) =
+    (n == next) && (nat_le n limit && are_evenly_spaced (next + step) step limit ns)
 
 -- whether a shard is valid: its number is from 1 to the number of shards, that number and the number of jobs are at most `max_jobs`, and
 -- its stamp is a valid name

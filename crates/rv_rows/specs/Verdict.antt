@@ -96,7 +96,7 @@ has_expected_signature (Some path) (Some bytes) outcome = did_run outcome.ending
 -- whether two jobs ended alike: with equal exit codes, with faults of the same kind, or both by using up their budgets
 abbrev pub are_alike_endings : RowEnd → RowEnd → Bool
 are_alike_endings (ending.Exit m) (ending.Exit n) = m == n
-are_alike_endings (ending.Fault kind pc value) (ending.Fault other at met) = is_same_kind kind other
+are_alike_endings (ending.Fault kind pc value) (ending.Fault other at actual) = is_same_kind kind other
 are_alike_endings ending.Budget ending.Budget = true
 are_alike_endings _ _ = false
 

@@ -10,11 +10,11 @@ abbrev pub plan_of_jobs : List Job → List PathResult → PlanView
 plan_of_jobs jobs answers = record { jobs = jobs; answers = answers }
 
 -- both lists of results have equal results for each path that the job names
-pub record HaveSameResults (some others : List PathResult) (job : Job) : Type 0 where
-  pub image : result_or_unreadable some job.image ≡ result_or_unreadable others job.image
+pub record HaveSameResults (results other_results : List PathResult) (job : Job) : Type 0 where
+  pub image : result_or_unreadable results job.image ≡ result_or_unreadable other_results job.image
   pub reference :
-      option_map (result_or_unreadable some) job.expect_signature
-      ≡ option_map (result_or_unreadable others) job.expect_signature
+      option_map (result_or_unreadable results) job.expect_signature
+      ≡ option_map (result_or_unreadable other_results) job.expect_signature
   pub console :
-      option_map (result_or_unreadable some) (console_path job.expect_console)
-      ≡ option_map (result_or_unreadable others) (console_path job.expect_console)
+      option_map (result_or_unreadable results) (console_path job.expect_console)
+      ≡ option_map (result_or_unreadable other_results) (console_path job.expect_console)

@@ -7,14 +7,14 @@ use Rattle.rv_fleet.specs.declared_row.Row.{Row}
 -- the rows up to and including the nth failure; all rows if there are fewer failures
 abbrev pub rows_until : (Row → Bool) → ℕ → List Row → List Row
 rows_until fails zero rows = []
-rows_until fails (suc more) [] = []
-rows_until fails (suc more) (row ∷ rows) = row ∷ rows_until fails (if fails row then more else suc more) rows
+rows_until fails (suc remaining) [] = []
+rows_until fails (suc remaining) (row ∷ rows) = row ∷ rows_until fails (if fails row then remaining else suc remaining) rows
 
 -- the number of failures that are still allowed after these rows before the run stops, if it stops at the failure number `n`
 abbrev pub failures_left_after : (Row → Bool) → ℕ → List Row → ℕ
 failures_left_after fails zero rows = zero
-failures_left_after fails (suc more) [] = suc more
-failures_left_after fails (suc more) (row ∷ rows) = failures_left_after fails (if fails row then more else suc more) rows
+failures_left_after fails (suc remaining) [] = suc remaining
+failures_left_after fails (suc remaining) (row ∷ rows) = failures_left_after fails (if fails row then remaining else suc remaining) rows
 
 -- the rows up to and including the failure that stops the run; all rows without a limit
 abbrev pub rows_up_to : Option ℕ → (Row → Bool) → List Row → List Row

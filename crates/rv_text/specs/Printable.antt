@@ -53,12 +53,12 @@ escape byte = codes "\\x" ++ encode_lower (byte ∷ [])
 abbrev pub printable_byte : List ℕ → ℕ → List ℕ
 printable_byte text byte = if plain_first_len text == 0 then escape byte else byte ∷ []
 
--- the printable form of a text whose first `left` bytes continue a character that began before the text and is shown unchanged
+-- the printable form of a text whose first `remaining` bytes continue a character that began before the text and is shown unchanged
 unfoldable pub printable_from : ℕ → List ℕ → List ℕ
-printable_from left [] = []
+printable_from remaining [] = []
 printable_from zero (byte ∷ rest) = printable_byte (byte ∷ rest) byte
     ++ printable_from (plain_first_len (byte ∷ rest) - 1) rest
-printable_from (suc left) (byte ∷ rest) = byte ∷ printable_from left rest
+printable_from (suc remaining) (byte ∷ rest) = byte ∷ printable_from remaining rest
 
 -- the printable form of a text from a file: characters are unchanged, but each byte of a control character, of a format character or of
 -- invalid UTF-8 is replaced by its escape
@@ -69,15 +69,15 @@ printable_text text = printable_from 0 text
 abbrev pub first_width : List ℕ → ℕ
 first_width text = if plain_first_len text == 0 then 4 else 1
 
--- the printable form of a text, cut off after the last whole character or escape that fits in `room` characters; the first `left` bytes of
+-- the printable form of a text, cut off after the last whole character or escape that fits in `max_chars` characters; the first `remaining` bytes of
 -- the text continue a character that began before it
 unfoldable pub printable_within : ℕ → ℕ → List ℕ → List ℕ
-printable_within room left [] = []
-printable_within room zero (byte ∷ rest) =
-    if nat_lt room (first_width (byte ∷ rest)) then []
+printable_within max_chars remaining [] = []
+printable_within max_chars zero (byte ∷ rest) =
+    if nat_lt max_chars (first_width (byte ∷ rest)) then []
     else printable_byte (byte ∷ rest) byte
-    ++ printable_within (room - first_width (byte ∷ rest)) (plain_first_len (byte ∷ rest) - 1) rest
-printable_within room (suc left) (byte ∷ rest) = byte ∷ printable_within room left rest
+    ++ printable_within (max_chars - first_width (byte ∷ rest)) (plain_first_len (byte ∷ rest) - 1) rest
+printable_within max_chars (suc remaining) (byte ∷ rest) = byte ∷ printable_within max_chars remaining rest
 
 -- the maximum number of printed characters of an actual or expected value
 abbrev pub max_value_chars : ℕ

@@ -14,4 +14,4 @@ symbol_text place = printable_name place.0 ++ codes "+0x" ++ hexadecimal place.1
 -- the text ` (NAME+0xOFFSET)` for the name of a symbol and the offset from it; empty if there is no symbol
 abbrev pub symbol_in_brackets : Option (List ℕ × ℕ) → List ℕ
 symbol_in_brackets None = []
-symbol_in_brackets (Some place) = codes " (" ++ symbol_text place ++ codes ")"
+symbol_in_brackets (Some symbol) = codes " (" ++ symbol_text symbol ++ codes ")"

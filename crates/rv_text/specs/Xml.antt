@@ -73,12 +73,12 @@ bytes_after_first None = 0
 
 -- ---- the text
 
--- the text in XML for the bytes after the first `left`, which continue a character that began before them
+-- the text in XML for the bytes after the first `remaining`, which continue a character that began before them
 unfoldable pub xml_text_from : XmlContext → ℕ → List ℕ → List ℕ
-xml_text_from within left [] = []
+xml_text_from within remaining [] = []
 xml_text_from within zero (byte ∷ rest) = let front = first_xml_character (byte ∷ rest) in
     character_or_escape within byte front ++ xml_text_from within (bytes_after_first front) rest
-xml_text_from within (suc left) (byte ∷ rest) = xml_text_from within left rest
+xml_text_from within (suc remaining) (byte ∷ rest) = xml_text_from within remaining rest
 
 -- the text in XML, in an attribute or an element, for these bytes: XML characters are unchanged or replaced by their references, and every
 -- other byte is replaced by its escape

@@ -130,7 +130,7 @@ unfoldable pub end_reason : RowEnd → List ℕ
 end_reason (ending.Exit code) = codes "exit " ++ exit_code_text code
 end_reason (ending.Fault kind pc value) = fault_name kind ++ fault_value_text kind value
 end_reason ending.Budget = codes "not run: the budget is used up"
-end_reason (ending.Refused why) = refusal_name why
+end_reason (ending.Refused refusal) = refusal_name refusal
 
 -- whether a run ended with an illegal instruction: the job's instruction set has no instruction for the encoding
 abbrev pub is_illegal_end : RowEnd → Bool
