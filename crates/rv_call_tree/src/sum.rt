@@ -29,7 +29,11 @@ impl From<AllocError> for CallTreeSumError {
 
 /// Returns the sum of two call trees, in which the counts of each path are added, or an error if a count would not fit in 64 bits.
 /// Allocates only the sum.
-pub fn sum_of_call_trees(alloc: Global, a: &[CallNode], b: &[CallNode]) -> Result<CallNodes, CallTreeSumError>
+pub fn sum_of_call_trees(
+    alloc: Global,
+    a: &[CallNode],
+    b: &[CallNode],
+) -> Result<CallNodes, CallTreeSumError>
     requires a { IsTree a.now }
     requires b { IsTree b.now }
     ensures value { IfOk result (λ sum. IsSumOfCallTrees a.now b.now sum) }

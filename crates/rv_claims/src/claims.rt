@@ -10,7 +10,7 @@ ghost use Rattle.rv_claims.specs.Passes.{IsWholeHistory, opening_row, IsNewPass}
 ghost use Rattle.rv_claims.specs.Split.{pass_of_error};
 
 use crate::pass::{Pass, SplitError};
-use crate::rule::{JoinedSeat, Draw, NewSeat, Look, Note, CounterRule, Sit};
+use crate::rule::{CounterRule, Draw, JoinedSeat, Look, NewSeat, Note, Sit};
 use crate::view::View;
 use atomic_table::{Closed, Seat, Table};
 use std::alloc::{AllocError, Global};
@@ -104,7 +104,9 @@ impl Claims {
             ≡ pass_of self.now (first.places ++ second.places) (first.draws ++ second.draws) }
     {
         let Pass { seat, bits, ended } = second;
-        self.table.shared.join_seat::<JoinedSeat>(&mut first.seat, seat);
+        self.table
+            .shared
+            .join_seat::<JoinedSeat>(&mut first.seat, seat);
         first.bits |= bits;
         first.ended |= ended;
         first
@@ -126,7 +128,9 @@ impl Claims {
             unreachable!()
         }
         let note = self.table.shared.split_seat::<Note>(&mut first.seat);
-        self.table.shared.join_seat::<JoinedSeat>(&mut second.seat, note);
+        self.table
+            .shared
+            .join_seat::<JoinedSeat>(&mut second.seat, note);
         self.table.shared.load::<Look>(&mut second.seat, 0);
         (first, second)
     }

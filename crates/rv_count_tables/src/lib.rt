@@ -42,7 +42,7 @@ pub use text::table_text;
 
 // From the crates below: what this interface names, and what its callers need with it.
 pub use rv_call_tree::{
-    Bytes, CallTreeIndex, FunctionSteps, CallNode, CallNodes, Text, own_steps_sum_to_all,
+    Bytes, CallNode, CallNodes, CallTreeIndex, FunctionSteps, Text, own_steps_sum_to_all,
     trees_with_equal_counts_are_equal,
 };
 pub use rv_text::{

@@ -1,6 +1,6 @@
 //! The table of counts.
 
-use rv_call_tree::{Bytes, Sequence, CallNode, CallNodes, Text};
+use rv_call_tree::{Bytes, CallNode, CallNodes, Sequence, Text};
 
 /// The counts of one image's addresses; contracts see them as a list.
 pub type Addresses = Sequence<AddressCounts>;

@@ -196,7 +196,11 @@ fn push_line_with_digits(
 
 // Appends the words of a node's line before the name, with these digits for the address of its function.
 #[tactic(auto, unfolding(crate::specs::ParsedNodes::fields_with_digits))]
-fn push_fields_with_digits(text: &mut String, spot: CallNode, digits: &str) -> Result<(), AllocError>
+fn push_fields_with_digits(
+    text: &mut String,
+    spot: CallNode,
+    digits: &str,
+) -> Result<(), AllocError>
     ensures { OnOk result (string_bytes text.new ≡ string_bytes text.old ++ fields_with_digits digits.now spot) }
 {
     text.push_str("spot")?;

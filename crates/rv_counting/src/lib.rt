@@ -13,8 +13,8 @@ mod count;
 mod count_work;
 mod counter;
 mod decode_cache;
-mod law;
 mod index_ranges;
+mod law;
 mod runs_counter;
 mod step;
 mod table_of_jobs;
@@ -25,7 +25,7 @@ pub use batch::count_batch;
 pub use block::{Block, block_prefix};
 pub use count::count_run;
 pub use count_work::JobsTable;
-pub use counter::{Counter, CountedStep};
+pub use counter::{CountedStep, Counter};
 pub use law::{
     completed_steps_are_executed, counts_have_even_addresses, counts_sum_to_the_steps,
     ending_says_whether_the_last_step_is_executed, jobs_have_one_table,

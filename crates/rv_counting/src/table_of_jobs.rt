@@ -21,7 +21,7 @@ ghost use Rattle.rv_counting.specs.Tallies.{IsSorted};
 
 use crate::runs_counter::RunsCounter;
 use rv_count_tables::{
-    Bytes, CountTable, FunctionNames, ImageCounts, Images, CallNodes, Text,
+    Bytes, CallNodes, CountTable, FunctionNames, ImageCounts, Images, Text,
     printable_text_is_utf8_without_controls, push_printable_text,
 };
 use rv_trace::{JobImage, Plan, SpareBus, image_bytes, image_of_bytes};

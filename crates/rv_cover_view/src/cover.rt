@@ -7,8 +7,8 @@ ghost use Rattle.rv_cover_view.specs.Codes.{codes_of};
 ghost use Rattle.rv_cover_view.specs.Cover.{totals_of, totals_of_codes, has_run, never_run};
 ghost use Rattle.rv_cover_view.specs.Functions.{code_bytes, named};
 
-use crate::totals::{CoverageTotals, CodeTotals};
 use crate::code::totals_of_code;
+use crate::totals::{CodeTotals, CoverageTotals};
 use rv_count_tables::{AddressCounts, was_executed_within};
 use rv_elf::Function;
 use std::alloc::{AllocError, Global};

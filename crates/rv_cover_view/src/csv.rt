@@ -4,7 +4,7 @@ ghost use Rattle.std.specs.Prelude.{◌≡◌, ◌++◌, OnOk};
 ghost use Rattle.std.specs.List.{list_any};
 ghost use Rattle.rv_cover_view.specs.Csv.{csv_branches, csv_field, csv_functions, csv_header, csv_instructions, csv_row, is_special, with_doubled_quotes};
 
-use crate::totals::{CoverageTotals, CodeTotals};
+use crate::totals::{CodeTotals, CoverageTotals};
 use rv_count_tables::{Span, push_spans, push_text};
 use std::alloc::AllocError;
 
@@ -21,7 +21,11 @@ pub fn push_csv_header(bytes: &mut Vec<u8>) -> Result<(), AllocError>
 
 /// Appends the CSV row of an image: its path, quoted if necessary, and its totals.
 #[tactic(auto, unfolding(crate::specs::Csv::csv_row))]
-pub fn push_csv_row(bytes: &mut Vec<u8>, path: &[u8], amounts: &CoverageTotals) -> Result<(), AllocError>
+pub fn push_csv_row(
+    bytes: &mut Vec<u8>,
+    path: &[u8],
+    amounts: &CoverageTotals,
+) -> Result<(), AllocError>
     ensures { OnOk result (bytes.new.items ≡ bytes.old.items ++ csv_row path.now amounts.now) }
 {
     push_csv_field(bytes, path)?;
@@ -109,8 +113,8 @@ fn is_special(byte: u8) -> bool
 }
 
 // Appends a field with its quotes doubled.
-fn push_with_quotes_twice(bytes: &mut Vec<u8>, field: &[u8]) -> Result<(), AllocError>
-    ensures { OnOk result (bytes.new.items ≡ bytes.old.items ++ with_quotes_twice field.now) }
+fn push_with_doubled_quotes(bytes: &mut Vec<u8>, field: &[u8]) -> Result<(), AllocError>
+    ensures { OnOk result (bytes.new.items ≡ bytes.old.items ++ with_doubled_quotes field.now) }
 {
     for byte in field {
         if *byte == b'"' {

@@ -5,9 +5,9 @@ ghost use Rattle.rv_count_tables.specs.Table.{increase_from};
 ghost use Rattle.rv_elf.specs.Image.{IsImageOf};
 ghost use Rattle.rv_cover_view.specs.Images.{IsCoverOf};
 
-use crate::totals::CoverageTotals;
 use crate::by_address::functions_by_address;
 use crate::cover::{cover_of_functions, never_run};
+use crate::totals::CoverageTotals;
 use rv_count_tables::AddressCounts;
 use rv_elf::{Function, Image};
 use std::alloc::{AllocError, Global};

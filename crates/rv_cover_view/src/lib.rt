@@ -8,7 +8,6 @@
 //! [`push_csv_field`].
 #![tactic(auto)]
 
-mod totals;
 mod by_address;
 mod code;
 mod cover;
@@ -22,8 +21,8 @@ mod law;
 #[cfg(test)]
 mod tests;
 mod text;
+mod totals;
 
-pub use totals::{CoverageTotals, CodeTotals};
 pub use by_address::{each_address_once, functions_by_address};
 pub use cover::{cover_of_functions, never_run};
 pub use csv::{push_csv_field, push_csv_header, push_csv_row};
@@ -36,3 +35,4 @@ pub use law::functions_never_run_have_not_begun;
 pub use text::{
     push_cover_header, push_image_line, push_never_run_line, push_right_aligned, push_spaces,
 };
+pub use totals::{CodeTotals, CoverageTotals};

@@ -1,8 +1,8 @@
 //! Tests with functions counted by hand.
 
 use crate::{
-    CoverageTotals, CodeTotals, cover_of_functions, each_address_once, never_run, push_cover_header,
-    push_csv_header, push_csv_row, push_image_line, push_never_run_line,
+    CodeTotals, CoverageTotals, cover_of_functions, each_address_once, never_run,
+    push_cover_header, push_csv_header, push_csv_row, push_image_line, push_never_run_line,
 };
 use rv_count_tables::AddressCounts;
 use rv_elf::Function;

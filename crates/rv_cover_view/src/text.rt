@@ -4,7 +4,7 @@ ghost use Rattle.std.specs.Prelude.{◌≡◌, ◌++◌, OnOk, map, replicate};
 ghost use Rattle.rv_cover_view.specs.Functions.{named};
 ghost use Rattle.rv_cover_view.specs.Text.{code_columns, cover_header, function_columns, further_names, image_line, never_run_line, right};
 
-use crate::totals::{CoverageTotals, CodeTotals};
+use crate::totals::{CodeTotals, CoverageTotals};
 use rv_count_tables::{Span, push_number, push_spans, push_text};
 use rv_elf::Function;
 use std::alloc::{AllocError, Global};

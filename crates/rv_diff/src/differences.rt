@@ -124,7 +124,12 @@ fn push_steps_change(
 
 // Appends the increase of the steps in percent of the old number, if `compare` looks for slower jobs and the old number is not 0; otherwise
 // nothing.
-fn push_percent(text: &mut Vec<u8>, compare: CompareMode, old: u32, new: u32) -> Result<(), AllocError>
+fn push_percent(
+    text: &mut Vec<u8>,
+    compare: CompareMode,
+    old: u32,
+    new: u32,
+) -> Result<(), AllocError>
     ensures { OnOk result (text.new.items ≡ text.old.items ++ percent_text compare old new) }
 {
     match compare {

@@ -1,8 +1,8 @@
 //! The differences between two reports, job by job.
 //!
 //! [`push_diff`] appends a line for each job that only one report has and for each field in which the two rows of a job differ, and returns
-//! how many jobs are gone, added and changed ([`DifferenceCounts`]). [`CompareMode`] selects what is compared. The text is exactly as defined in
-//! `specs/`. Two laws state that there is a line if and only if rows differ: [`rows_agree_iff_no_line`] and
+//! how many jobs are gone, added and changed ([`DifferenceCounts`]). [`CompareMode`] selects what is compared. The text is exactly as
+//! defined in `specs/`. Two laws state that there is a line if and only if rows differ: [`rows_agree_iff_no_line`] and
 //! [`jobs_differ_iff_some_line`].
 #![tactic(auto)]
 

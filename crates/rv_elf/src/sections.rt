@@ -73,7 +73,8 @@ pub(crate) fn has_bad_section_table(file: &[u8]) -> bool
     let count = half_field(file, E_SHNUM);
     count == 0
         || half_field(file, E_SHENTSIZE) != SECTION_HEADER_SIZE
-        || file.len() < word_field(file, E_SHOFF) as usize + SECTION_HEADER_SIZE as usize * count as usize
+        || file.len()
+            < word_field(file, E_SHOFF) as usize + SECTION_HEADER_SIZE as usize * count as usize
 }
 
 /// Returns the first symbol table of the file, or `None` if there is none.

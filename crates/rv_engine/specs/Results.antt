@@ -69,8 +69,8 @@ pub record IsInOrder {H : Type 0} (is_result : ℕ → H → Type 0) (jobs group
   pub received : HasReceivedUntil is_result jobs group has_received stops next ended
   pub waiting : ArePending is_result jobs group pending
 
--- with `Continue`, a listener has received the results of all chunks before `next`; with `Stop`, it has received the results of some number of
--- first jobs and stopped the run
+-- with `Continue`, a listener has received the results of all chunks before `next`; with `Stop`, it has received the results of some number
+-- of first jobs and stopped the run
 abbrev pub IsDelivered : {H : Type 0} → (ℕ → H → Type 0) → ℕ → ℕ → (List H → Type 0) → Type 0 → ℕ → Flow → Type 0
 IsDelivered is_result jobs group has_received stops next Continue = HasReceivedUpTo is_result jobs group has_received stops next
 IsDelivered is_result jobs group has_received stops next Stop = HasReceivedSome is_result jobs has_received × stops

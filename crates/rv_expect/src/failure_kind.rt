@@ -113,7 +113,8 @@ fn kind_of_first(ending: RowEnd, first: UnmetExpectation) -> FailureKind
     ensures { result ≡ failure_kind_of_first ending first }
 {
     match first {
-        UnmetExpectation::Exit | UnmetExpectation::End | UnmetExpectation::Nothing => FailureKind::of_end(ending),
+        UnmetExpectation::Exit | UnmetExpectation::End | UnmetExpectation::Nothing =>
+            FailureKind::of_end(ending),
         UnmetExpectation::Console(_) => FailureKind::Console,
         UnmetExpectation::Signature(_) => FailureKind::Signature,
         UnmetExpectation::Same(_) => FailureKind::SameAs,

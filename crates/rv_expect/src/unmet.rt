@@ -57,7 +57,10 @@ pub fn unmet_expectations(
 }
 
 // Appends an unmet expectation, if there is one.
-fn push_if_unmet(found: &mut Vec<UnmetExpectation>, unmet: Option<UnmetExpectation>) -> Result<(), AllocError>
+fn push_if_unmet(
+    found: &mut Vec<UnmetExpectation>,
+    unmet: Option<UnmetExpectation>,
+) -> Result<(), AllocError>
     ensures { OnOk result (found.new.items ≡ found.old.items ++ option_to_list unmet) }
 {
     if let Some(unmet) = unmet {

@@ -6,7 +6,8 @@ use Rattle.rv_trace.specs.declared_ending.Ending.{Ending}
 use Rattle.rv_trace.specs.Run.{RunResult, run_after_step, step_of, run_of}
 use Rattle.rv_trace.specs.State.{State}
 
--- what the steps of it tell: where there is one, the step completed with the state at the end, and else it gave the ending and left the state
+-- what the steps of it tell: where there is one, the step completed with the state at the end, and else it gave the ending and left the
+-- state
 abbrev Told : State → ℕ → Ending → Result State Ending → State → Type 0
 Told s n e r t = MatchBool (n == 1) (r ≡ Ok t) ((r ≡ Err e) × (t ≡ s))
 

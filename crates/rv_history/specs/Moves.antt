@@ -37,8 +37,8 @@ IsForwardStop stops bounds budget start from place found.Done = ⊥
 IsForwardStop stops bounds budget start from place found.RunStart = ⊥
 IsForwardStop stops bounds budget start from place found.Interrupted = from < place → IsHaltAt stops bounds start place → ⊥
 
--- the result of a forward move that has used up the budget: `Breakpoint` if the Bool says that it is at a breakpoint or outside of the bounds,
--- or else the end of the run
+-- the result of a forward move that has used up the budget: `Breakpoint` if the Bool says that it is at a breakpoint or outside of the
+-- bounds, or else the end of the run
 abbrev pub result_at_budget : Bool → MoveResult
 result_at_budget halts = if halts then found.Breakpoint else found.End Budget
 

@@ -11,8 +11,8 @@ ghost use Rattle.std.specs.Prelude.{ℕ, ◌≡◌, ◌↔◌, ◌≤◌, ◌==�
 use crate::bits::field;
 use crate::formats::{no_operands, type_b, type_i, type_j, type_r, type_s, type_shift, type_u};
 use crate::instruction::{Instr, Op};
-use crate::opcodes::{AUIPC, BRANCH, JAL, JALR, LOAD, LUI, MISC_MEM, OP, OP_IMM, STORE, SYSTEM};
 use crate::isa::Isa;
+use crate::opcodes::{AUIPC, BRANCH, JAL, JALR, LOAD, LUI, MISC_MEM, OP, OP_IMM, STORE, SYSTEM};
 
 /// Decodes a 32-bit word: returns the instruction of its only row in the RV32G listing of the RISC-V Unprivileged ISA 20191213 (chapter 24;
 /// RV32I, RV32M and Zifencei), or `None` if no row of the instruction set matches. `Isa::Im` and `Isa::Imc` have the rows of RV32M; every

@@ -5,7 +5,7 @@ ghost use Rattle.rv_isa.specs.Bits.{field as bits_of, sign_extended};
 ghost use Rattle.rv_isa.specs.Words.{immediate_s, immediate_b, immediate_j};
 ghost use Rattle.std.specs.Prelude.{◌≡◌, ◌+◌, ◌*◌, ◌-◌, ◌<◌, ◌≤◌, ◌^◌, ◌%◌};
 
-use crate::bits::{field, concat_bits};
+use crate::bits::{concat_bits, field};
 
 /// Returns the word of format R with these fields.
 #[inline]

@@ -5,7 +5,7 @@ ghost use Rattle.rv_isa.specs.Words.{immediate_i, immediate_s, immediate_b, imme
 ghost use Rattle.rv_isa.specs.Words.{TypeR, TypeI, TypeShift, TypeS, TypeB, TypeU, TypeJ, NoOperands};
 ghost use Rattle.std.specs.Prelude.{◌≡◌, ◌+◌, ◌*◌, ◌-◌, ◌<◌, ◌≤◌, ◌^◌};
 
-use crate::bits::{field, concat_bits, sign_extend};
+use crate::bits::{concat_bits, field, sign_extend};
 use crate::instruction::{Instr, Op};
 
 /// Returns the instruction of this name with the operands of a word of format R.

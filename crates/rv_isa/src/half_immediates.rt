@@ -4,7 +4,7 @@ ghost use Rattle.rv_isa.specs.Bits.{bit, field as bits_of};
 ghost use Rattle.rv_isa.specs.Halfwords as row;
 ghost use Rattle.std.specs.Prelude.{◌≡◌, ◌+◌, ◌*◌, ◌-◌, ◌<◌, ◌≤◌, ◌^◌, ◌%◌};
 
-use crate::bits::{field, concat_bits};
+use crate::bits::{concat_bits, field};
 
 /// Returns the immediate of C.ADDI, C.LI, C.ANDI and C.LUI as a number of 6 bits, before sign extension. For C.LUI it is in units of 4096.
 #[inline]
@@ -22,7 +22,11 @@ pub fn imm_ciw(half: u32) -> u32
     ensures below { result < 1024 }
 {
     let upper = concat_bits(field(half, 10, 7), field(half, 12, 11), 2);
-    let words = concat_bits(concat_bits(upper, field(half, 5, 5), 1), field(half, 6, 6), 1);
+    let words = concat_bits(
+        concat_bits(upper, field(half, 5, 5), 1),
+        field(half, 6, 6),
+        1,
+    );
     words << 2
 }
 
@@ -43,7 +47,11 @@ pub fn imm_addi16sp(half: u32) -> u32
     ensures below { result < 1024 }
 {
     let upper = concat_bits(field(half, 12, 12), field(half, 4, 3), 2);
-    let middle = concat_bits(concat_bits(upper, field(half, 5, 5), 1), field(half, 2, 2), 1);
+    let middle = concat_bits(
+        concat_bits(upper, field(half, 5, 5), 1),
+        field(half, 2, 2),
+        1,
+    );
     concat_bits(middle, field(half, 6, 6), 1) << 4
 }
 
@@ -57,7 +65,11 @@ pub fn imm_cj(half: u32) -> u32
     let first = concat_bits(field(half, 12, 12), field(half, 8, 8), 1);
     let top = concat_bits(first, field(half, 10, 9), 2);
     let upper = concat_bits(concat_bits(top, field(half, 6, 6), 1), field(half, 7, 7), 1);
-    let middle = concat_bits(concat_bits(upper, field(half, 2, 2), 1), field(half, 11, 11), 1);
+    let middle = concat_bits(
+        concat_bits(upper, field(half, 2, 2), 1),
+        field(half, 11, 11),
+        1,
+    );
     concat_bits(middle, field(half, 5, 3), 3) << 1
 }
 
@@ -70,7 +82,11 @@ pub fn imm_cb(half: u32) -> u32
 {
     let first = concat_bits(field(half, 12, 12), field(half, 6, 5), 2);
     let top = concat_bits(first, field(half, 2, 2), 1);
-    concat_bits(concat_bits(top, field(half, 11, 10), 2), field(half, 4, 3), 2) << 1
+    concat_bits(
+        concat_bits(top, field(half, 11, 10), 2),
+        field(half, 4, 3),
+        2,
+    ) << 1
 }
 
 /// Returns the offset of C.LWSP.

@@ -14,8 +14,8 @@ mod encode;
 mod formats;
 mod half_immediates;
 mod instruction;
-mod opcodes;
 mod isa;
+mod opcodes;
 
 pub use bits::{field, sign_extend};
 pub use decoder16::{decode16, expand, is_long, no_halfword_has_two_rows};

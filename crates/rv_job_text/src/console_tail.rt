@@ -13,8 +13,8 @@ pub const MAX_TAIL_LINES: usize = 10;
 /// The number of bytes at a console's end from which the lines are taken.
 pub const MAX_TAIL_BYTES: usize = 1_024;
 
-/// Appends the last lines of a console, at most [`MAX_TAIL_LINES`] out of its last [`MAX_TAIL_BYTES`] bytes. Each line is written after a margin,
-/// by [`push_printable_text`](rv_text::push_printable_text), and ends with a line feed, even if the console ends without one.
+/// Appends the last lines of a console, at most [`MAX_TAIL_LINES`] out of its last [`MAX_TAIL_BYTES`] bytes. Each line is written after a
+/// margin, by [`push_printable_text`](rv_text::push_printable_text), and ends with a line feed, even if the console ends without one.
 #[tactic(auto, unfolding(crate::specs::ConsoleTail::console_tail))]
 pub fn push_console_tail(bytes: &mut Vec<u8>, console: &[u8]) -> Result<(), AllocError>
     ensures { OnOk result (bytes.new.items ≡ bytes.old.items ++ console_tail console.now) }

@@ -13,7 +13,7 @@ use crate::message::Message;
 use crate::values::{push_key_and_value, text_at_key};
 use rv_lists::FaultKind;
 use rv_lists::limits::{
-    MAX_BUDGET, MAX_CONSOLE_LEN, MAX_PATH_LEN, MAX_SCRIPT_LEN, MAX_SYMBOL_LEN, MAX_NAME_LEN,
+    MAX_BUDGET, MAX_CONSOLE_LEN, MAX_NAME_LEN, MAX_PATH_LEN, MAX_SCRIPT_LEN, MAX_SYMBOL_LEN,
 };
 use toml::Table;
 
@@ -259,7 +259,9 @@ fn push_byte_count(message: &mut Message, bytes: u64, rest: InsertedText)
     ensures { Adds message.old message.new (bytes_text rest bytes) }
 {
     match rest {
-        InsertedText::Maximum(most) if most < bytes => message.push_number_between(" (", bytes, " bytes)"),
+        InsertedText::Maximum(most) if most < bytes => message.push_number_between(
+            " (", bytes, " bytes)",
+        ),
         _ => {}
     }
 }

@@ -62,7 +62,10 @@ fn push_fault_lines(
 {
     for (at, fault) in faults.iter().enumerate() {
         let message = message_of_fault(alloc, file, look, *fault, suggestion_for_fault(at))?;
-        push_spans(bytes, &[Span::Printable(message.as_slice()), Span::Text("\n")])?;
+        push_spans(
+            bytes,
+            &[Span::Printable(message.as_slice()), Span::Text("\n")],
+        )?;
     }
     Ok(())
 }

@@ -154,13 +154,23 @@ fn is_not_boolean(value: Option<&Value>) -> bool
 const NUMBER: &str = "expected an integer";
 
 /// Appends a key whose value does not have this type, its value, and the expected type. For regions, appends the bad region.
-pub(crate) fn push_value_of_wrong_type(message: &mut Message, table: &Table, key: &str, kind: ValueType)
+pub(crate) fn push_value_of_wrong_type(
+    message: &mut Message,
+    table: &Table,
+    key: &str,
+    kind: ValueType,
+)
     ensures { AppendsTextThat message.old message.new (ExplainsWrongType key.now kind (table_view table.now)) }
 {
     match kind {
         ValueType::Text => push_text_of_wrong_type(message, table, key),
         ValueType::Number => push_expected_value(message, table, key, NUMBER),
-        ValueType::Texts => push_expected_value(message, table, key, "expected an array of strings"),
+        ValueType::Texts => push_expected_value(
+            message,
+            table,
+            key,
+            "expected an array of strings",
+        ),
         ValueType::Regions => push_regions_of_wrong_type(message, table, key),
     }
 }

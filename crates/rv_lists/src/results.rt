@@ -24,7 +24,10 @@ pub(crate) struct ExpectedResults {
 
 /// Returns the signature of a job, and its expected exit code, signature and console, or the first error.
 #[tactic(auto, unfolding(crate::specs::JobSteps::expected_results_from_table))]
-pub(crate) fn expected_results_from_table(alloc: Global, table: &Table) -> Result<ExpectedResults, What>
+pub(crate) fn expected_results_from_table(
+    alloc: Global,
+    table: &Table,
+) -> Result<ExpectedResults, What>
     ensures value { MatchesUnlessOutOfMemory result (expected_results_from_table (table_view table.now)) }
     ensures named { IfOk result (λ results.
         IfSome results.signature (λ s. (0 < length s.begin) × (0 < length s.end))) }

@@ -8,10 +8,10 @@ ghost use Rattle.rv_memory.specs.Bus.{size_of, load_from, store_to, fetch_half_f
 ghost use Rattle.rv_memory.specs.Bus.{put, without_stored, with_bytes};
 
 use crate::access::{Misaligned, Width, read_value, read_word, write_value};
+use crate::buffer_range::BufferRange;
 use crate::faults::{BusFault, FetchFault};
 use crate::map::Map;
 use crate::marks::{has_mark, mark};
-use crate::buffer_range::BufferRange;
 use std::marker::Model;
 
 /// The memory of a map, with marks on its stored bytes, and the console.

@@ -8,7 +8,7 @@ ghost use Rattle.rv_count_tables.specs.Trees.{IsTree};
 ghost use Rattle.rv_profile.specs.ImageStacks.{has_stacks, image_past_64_bits, is_past_64_bits, has_nodes, names_of, nodes_of};
 
 use crate::sums::sums_of;
-use rv_count_tables::{CountTable, FunctionName, ImageCounts, CallNode};
+use rv_count_tables::{CallNode, CountTable, FunctionName, ImageCounts};
 use rv_cover_view::{ImageFile, entry_of_image};
 
 /// The call tree of an image.

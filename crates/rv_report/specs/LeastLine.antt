@@ -22,8 +22,8 @@ pub record IsFirstInvalidLine (line : ℕ) (bytes : List ℕ) : Type 0 where
   pub before : IsReportPrefix (first_lines (line - 1) bytes)
   pub refused : IsReportPrefix (first_lines line bytes) → ⊥
 
--- the error names the first invalid line of the bytes; if it is `Truncated`, some report begins with all complete lines of the bytes; memory
--- may always run out
+-- the error names the first invalid line of the bytes; if it is `Truncated`, some report begins with all complete lines of the bytes;
+-- memory may always run out
 abbrev pub IsFirstError : ReadError → List ℕ → Type 0
 IsFirstError OutOfMemory bytes = Unit {0}
 IsFirstError (Line line) bytes = IsFirstInvalidLine line bytes

@@ -143,7 +143,11 @@ pub(crate) fn run_image(
 
 /// Returns the image in the bytes of a file and the range of the job's signature, if one is requested, or the first error.
 #[tactic(auto, unfolding(crate::specs::Outcome::loadable_image))]
-pub(crate) fn loadable_image(alloc: Global, job: &Job, file: &[u8]) -> Result<LoadableImage, ImageError>
+pub(crate) fn loadable_image(
+    alloc: Global,
+    job: &Job,
+    file: &[u8],
+) -> Result<LoadableImage, ImageError>
     requires { IfSome job.now.signature (λ names. (0 < length names.begin)
         × (0 < length names.end)) }
     ensures { MatchResult result (λ loadable. loadable_image job.now file.now ≡ Ok loadable)

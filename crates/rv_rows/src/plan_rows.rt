@@ -31,7 +31,13 @@ pub fn row_at(alloc: Global, plan: &Plan, i: usize) -> Result<Row, AllocError>
     ensures { IfOk result (λ row. (d : AJob) → row
         ≡ row_of plan.now (slice_index_or plan.now.jobs i d)) }
 {
-    row_at_with_recent(alloc, plan, i, &mut SpareBus::new(), &mut RecentOutcomes::new(alloc))
+    row_at_with_recent(
+        alloc,
+        plan,
+        i,
+        &mut SpareBus::new(),
+        &mut RecentOutcomes::new(alloc),
+    )
 }
 
 /// Returns the row of the job at an index, reusing the memory of the last run and the cached outcomes of the last jobs.

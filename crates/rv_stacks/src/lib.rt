@@ -10,12 +10,12 @@
 mod batch;
 mod children;
 mod control_flow;
-mod preorder;
 mod functions;
 mod job;
 mod law;
 mod names;
 mod node;
+mod preorder;
 mod run;
 mod stack_work;
 mod stacks;
@@ -24,7 +24,6 @@ mod walk;
 
 pub use batch::count_batch_with_stacks;
 pub use children::Children;
-pub use preorder::PreorderBuilder;
 pub use functions::{CachedFunction, function_of};
 pub use job::count_job_with_stacks;
 pub use law::{
@@ -34,6 +33,7 @@ pub use law::{
     tables_with_stacks_of_shards_sum_to_that_of_all,
 };
 pub use node::WalkNode;
+pub use preorder::PreorderBuilder;
 pub use run::count_with_stacks;
 pub use stacks::Stacks;
 pub use walk::Walk;

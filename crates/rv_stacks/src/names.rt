@@ -11,7 +11,7 @@ ghost use Rattle.rv_count_tables.specs.Sums.{FitsFields};
 ghost use Rattle.rv_stacks.specs.StackTables.{name_in_file, name_of_function, symbol_name, AreNamedUpTo, AreNamesBy};
 
 use crate::functions::LAST_ADDRESS;
-use rv_count_tables::{FunctionName, FunctionNames, CallNode, Text};
+use rv_count_tables::{CallNode, FunctionName, FunctionNames, Text};
 use rv_counting::{CodeSymbols, shown_text};
 use std::alloc::{AllocError, Global};
 

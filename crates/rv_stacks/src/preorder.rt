@@ -74,7 +74,11 @@ impl PreorderBuilder {
     }
 
     // Moves to the next child of the current node, or back to its parent if there is no further child.
-    fn visit_next(&mut self, left: &mut Vec<WalkNode>, children: &Children) -> Result<(), AllocError>
+    fn visit_next(
+        &mut self,
+        left: &mut Vec<WalkNode>,
+        children: &Children,
+    ) -> Result<(), AllocError>
         requires { IsPreorderBuilder left.old.items self.old }
         ensures { OnOk result (MovesCounts left.old.items self.old left.new.items self.new) }
     {

@@ -7,7 +7,7 @@ ghost use Rattle.rv_stacks.specs.StackTables.{name_of_function, IsTableOfRun, Is
 
 use crate::job::count_job_with_stacks;
 use crate::names::names_of_functions;
-use rv_count_tables::{Addresses, CountTable, ImageCounts, CallNodes};
+use rv_count_tables::{Addresses, CallNodes, CountTable, ImageCounts};
 use rv_counting::{
     CodeSymbols, JobImage, Plan, digest_of, empty_table, image_bytes, image_of_bytes,
     images_of_one, shown_text,

@@ -5,8 +5,8 @@ ghost use Rattle.rv_stacks.specs.Nodes.{all_calls, all_steps, paths_of};
 ghost use Rattle.rv_stacks.specs.Walks.{Enters, ArePreorderOf, IsWalk, ReturnsTo, CountsSteps};
 
 use crate::children::Children;
-use crate::preorder::preorder_of_nodes;
 use crate::node::{WalkNode, count_call, count_steps, number_of_child};
+use crate::preorder::preorder_of_nodes;
 use rv_count_tables::CallNodes;
 use std::alloc::{AllocError, Global};
 

@@ -69,8 +69,8 @@ printable_text text = printable_from 0 text
 abbrev pub first_width : List ℕ → ℕ
 first_width text = if plain_first_len text == 0 then 4 else 1
 
--- the printable form of a text, cut off after the last whole character or escape that fits in `max_chars` characters; the first `remaining` bytes of
--- the text continue a character that began before it
+-- the printable form of a text, cut off after the last whole character or escape that fits in `max_chars` characters; the first `remaining`
+-- bytes of the text continue a character that began before it
 unfoldable pub printable_within : ℕ → ℕ → List ℕ → List ℕ
 printable_within max_chars remaining [] = []
 printable_within max_chars zero (byte ∷ rest) =

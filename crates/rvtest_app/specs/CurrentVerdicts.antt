@@ -26,8 +26,8 @@ use Rattle.rv_rows.specs.Verdict.{did_run}
 abbrev pub IsMissingAt : Option FileContents → List ℕ → Type 0
 IsMissingAt known place = IfSome known (λ files. files place ≡ None)
 
--- the file at the path is longer than `max_file_size`, the largest number of bytes that is read of a file; holds for any path if the contents
--- of files are not known
+-- the file at the path is longer than `max_file_size`, the largest number of bytes that is read of a file; holds for any path if the
+-- contents of files are not known
 abbrev pub IsTooLongAt : Option FileContents → List ℕ → Type 0
 IsTooLongAt known place = IfSome known (λ files. IsSomeAnd (files place) (λ bytes. max_file_size < length bytes))
 

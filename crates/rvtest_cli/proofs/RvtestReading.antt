@@ -1,4 +1,5 @@
--- What a parse that succeeds shows of the words: the subcommand and its values, and that no fault is found; and what is told where it fails.
+-- What a parse that succeeds shows of the words: the subcommand and its values, and that no fault is found; and what is told where it
+-- fails.
 use Rattle.std.proofs.Common.{◌≡◌, ◌∙◌, ◌⊎◌, ap, refl, subst, sym, ⊎_elim, [], List, Option, Some, None, option_map}
 use Rattle.std.proofs.Common.{◌∷◌, ◌≤◌, ◌<◌, arith, codes, cond, false, get_or, is_some, length, map, true, IfErr, Result, Ok, Err, inl}
 use Rattle.std.specs.Result.{IsErrAnd}
