@@ -24,58 +24,58 @@ text_of _ = []
 abbrev Gives : List ℕ → List ℕ → GoldenText → Type 0
 Gives path text claim = is_for_file path claim ≡ true → claim.text ≡ Some text
 
-unless_another : (path text first : List ℕ) (claims : List GoldenText) (job : ℕ) (other : Option GoldenText)
-    → find (has_other_text path first) claims ≡ other → outcome_unless_another job first other ≡ fate.Agreed text
-    → All (Gives path text) claims
+unless_another : (path text first : List ℕ) (golden_texts : List GoldenText) (job : ℕ) (other : Option GoldenText)
+    → find (has_other_text path first) golden_texts ≡ other → outcome_unless_another job first other ≡ fate.Agreed text
+    → All (Gives path text) golden_texts
 unfolding text_of
-unless_another path text first claims job None none is = λ place claim below names.
-    rw (sym (ap text_of is)) (given_text first (get_or claims place claim).text
-    (rw names at (none_found (has_other_text path first) claims none place claim below)))
-unless_another path text first claims job (Some other) none is = cc
+unless_another path text first golden_texts job None none is = λ place claim below names.
+    rw (sym (ap text_of is)) (given_text first (get_or golden_texts place claim).text
+    (rw names at (none_found (has_other_text path first) golden_texts none place claim below)))
+unless_another path text first golden_texts job (Some other) none is = cc
 
-of_given : (path text : List ℕ) (claims : List GoldenText) (job : ℕ) (first : Option (List ℕ))
-    → outcome_of_given_text path claims job first ≡ fate.Agreed text → All (Gives path text) claims
-of_given path text claims job None is = cc
-of_given path text claims job (Some first) is = unless_another path text first claims job _ refl is
+of_given : (path text : List ℕ) (golden_texts : List GoldenText) (job : ℕ) (first : Option (List ℕ))
+    → outcome_of_given_text path golden_texts job first ≡ fate.Agreed text → All (Gives path text) golden_texts
+of_given path text golden_texts job None is = cc
+of_given path text golden_texts job (Some first) is = unless_another path text first golden_texts job _ refl is
 
-node_of_first : (path text : List ℕ) (claims : List GoldenText) (first : Option GoldenText)
-    → outcome_of_first path claims first ≡ fate.Agreed text → All (Gives path text) claims
-node_of_first path text claims None is = cc
-node_of_first path text claims (Some first) is = of_given path text claims first.job first.text is
+node_of_first : (path text : List ℕ) (golden_texts : List GoldenText) (first : Option GoldenText)
+    → outcome_of_first path golden_texts first ≡ fate.Agreed text → All (Gives path text) golden_texts
+node_of_first path text golden_texts None is = cc
+node_of_first path text golden_texts (Some first) is = of_given path text golden_texts first.job first.text is
 
-unless_left : (path text : List ℕ) (claims : List GoldenText) (left : Option GoldenText)
-    → outcome_unless_skipped path claims left ≡ fate.Agreed text → All (Gives path text) claims
-unless_left path text claims (Some left) is = cc
-unless_left path text claims None is = node_of_first path text claims _ is
+unless_left : (path text : List ℕ) (golden_texts : List GoldenText) (left : Option GoldenText)
+    → outcome_unless_skipped path golden_texts left ≡ fate.Agreed text → All (Gives path text) golden_texts
+unless_left path text golden_texts (Some left) is = cc
+unless_left path text golden_texts None is = node_of_first path text golden_texts _ is
 
-pub agreed : (path text : List ℕ) (claims : List GoldenText) → outcome_of_golden_file path claims ≡ fate.Agreed text
-    → All (λ (claim : GoldenText). is_for_file path claim ≡ true → claim.text ≡ Some text) claims
+pub agreed : (path text : List ℕ) (golden_texts : List GoldenText) → outcome_of_golden_file path golden_texts ≡ fate.Agreed text
+    → All (λ (claim : GoldenText). is_for_file path claim ≡ true → claim.text ≡ Some text) golden_texts
 unfolding outcome_of_golden_file
-agreed path text claims is = unless_left path text claims _ is
+agreed path text golden_texts is = unless_left path text golden_texts _ is
 
 -- ---- no job names the file
 
-unclaimed_first : (path : List ℕ) (claims : List GoldenText) (first : Option GoldenText) → find (is_for_file path) claims ≡ first
-    → outcome_of_first path claims first ≡ fate.Unclaimed → All (λ claim. is_for_file path claim ≡ false) claims
-unclaimed_first path claims None none is = none_found (is_for_file path) claims none
-unclaimed_first path claims (Some first) found is = go first.text is
+unclaimed_first : (path : List ℕ) (golden_texts : List GoldenText) (first : Option GoldenText) → find (is_for_file path) golden_texts ≡ first
+    → outcome_of_first path golden_texts first ≡ fate.Unclaimed → All (λ claim. is_for_file path claim ≡ false) golden_texts
+unclaimed_first path golden_texts None none is = none_found (is_for_file path) golden_texts none
+unclaimed_first path golden_texts (Some first) found is = go first.text is
   where
-    go : (text : Option (List ℕ)) → outcome_of_given_text path claims first.job text ≡ fate.Unclaimed
-        → All (λ claim. is_for_file path claim ≡ false) claims
+    go : (text : Option (List ℕ)) → outcome_of_given_text path golden_texts first.job text ≡ fate.Unclaimed
+        → All (λ claim. is_for_file path claim ≡ false) golden_texts
     go None is = cc
-    go (Some text) is = at_other (find (has_other_text path text) claims) is
+    go (Some text) is = at_other (find (has_other_text path text) golden_texts) is
       where
         at_other : (other : Option GoldenText) → outcome_unless_another first.job text other ≡ fate.Unclaimed
-            → All (λ claim. is_for_file path claim ≡ false) claims
+            → All (λ claim. is_for_file path claim ≡ false) golden_texts
         at_other None is = cc
         at_other (Some other) is = cc
 
-pub unclaimed : (path : List ℕ) (claims : List GoldenText) → outcome_of_golden_file path claims ≡ fate.Unclaimed
-    → All (λ (claim : GoldenText). is_for_file path claim ≡ false) claims
+pub unclaimed : (path : List ℕ) (golden_texts : List GoldenText) → outcome_of_golden_file path golden_texts ≡ fate.Unclaimed
+    → All (λ (claim : GoldenText). is_for_file path claim ≡ false) golden_texts
 unfolding outcome_of_golden_file
-unclaimed path claims is = go (find (is_of_skipped_job path) claims) is
+unclaimed path golden_texts is = go (find (is_of_skipped_job path) golden_texts) is
   where
-    go : (left : Option GoldenText) → outcome_unless_skipped path claims left ≡ fate.Unclaimed
-        → All (λ claim. is_for_file path claim ≡ false) claims
+    go : (left : Option GoldenText) → outcome_unless_skipped path golden_texts left ≡ fate.Unclaimed
+        → All (λ claim. is_for_file path claim ≡ false) golden_texts
     go (Some left) is = cc
-    go None is = unclaimed_first path claims _ refl is
+    go None is = unclaimed_first path golden_texts _ refl is

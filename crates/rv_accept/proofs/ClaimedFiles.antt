@@ -107,20 +107,20 @@ signature_claim_among P place jobs runs job run path each at ran accepted named 
 -- ---- targets
 
 -- a target stays one
-one_more_stays : (path : List ℕ) (runs : List (Option JobRun)) (claims : List GoldenText) (targets : List Target)
-    (claim : GoldenText) → has_target path targets ≡ true → has_target path (with_target runs claims targets claim) ≡ true
-one_more_stays path runs claims targets claim is =
+one_more_stays : (path : List ℕ) (runs : List (Option JobRun)) (golden_texts : List GoldenText) (targets : List Target)
+    (claim : GoldenText) → has_target path targets ≡ true → has_target path (with_target runs golden_texts targets claim) ≡ true
+one_more_stays path runs golden_texts targets claim is =
     go (is_accepted_entry (slice_get runs claim.job) && not (has_target claim.path targets))
   where
-    go : (added : Bool) → has_target path (if added then targets ++ target_of claims claim ∷ [] else targets) ≡ true
+    go : (added : Bool) → has_target path (if added then targets ++ target_of golden_texts claim ∷ [] else targets) ≡ true
     go true = any_left (λ target. bytes_eq path target.path) targets _ is
     go false = is
 
-stays : (path : List ℕ) (runs : List (Option JobRun)) (claims rest : List GoldenText) (targets : List Target)
-    → has_target path targets ≡ true → has_target path (fold (with_target runs claims) targets rest) ≡ true
-stays path runs claims [] targets is = is
-stays path runs claims (claim ∷ rest) targets is = stays path runs claims rest (with_target runs claims targets claim)
-    (one_more_stays path runs claims targets claim is)
+stays : (path : List ℕ) (runs : List (Option JobRun)) (golden_texts rest : List GoldenText) (targets : List Target)
+    → has_target path targets ≡ true → has_target path (fold (with_target runs golden_texts) targets rest) ≡ true
+stays path runs golden_texts [] targets is = is
+stays path runs golden_texts (claim ∷ rest) targets is = stays path runs golden_texts rest (with_target runs golden_texts targets claim)
+    (one_more_stays path runs golden_texts targets claim is)
 
 -- a claim of an accepted job on a file
 abbrev is_accepted_claim : List (Option JobRun) → List ℕ → GoldenText → Bool
@@ -132,9 +132,9 @@ both true false holds = cc
 both false b holds = cc
 
 -- makes its file a target
-added : (path : List ℕ) (runs : List (Option JobRun)) (claims : List GoldenText) (targets : List Target) (claim : GoldenText)
-    → is_accepted_claim runs path claim ≡ true → has_target path (with_target runs claims targets claim) ≡ true
-added path runs claims targets claim is = go (has_target claim.path targets) refl
+added : (path : List ℕ) (runs : List (Option JobRun)) (golden_texts : List GoldenText) (targets : List Target) (claim : GoldenText)
+    → is_accepted_claim runs path claim ≡ true → has_target path (with_target runs golden_texts targets claim) ≡ true
+added path runs golden_texts targets claim is = go (has_target claim.path targets) refl
   where
     parts : (is_for_file path claim ≡ true) × (is_accepted_entry (slice_get runs claim.job) ≡ true)
     parts = both (is_for_file path claim) _ is
@@ -144,24 +144,24 @@ added path runs claims targets claim is = go (has_target claim.path targets) ref
 
     go : (there : Bool) → has_target claim.path targets ≡ there
         → has_target path (if is_accepted_entry (slice_get runs claim.job) && not there
-        then targets ++ target_of claims claim ∷ [] else targets) ≡ true
+        then targets ++ target_of golden_texts claim ∷ [] else targets) ≡ true
     go true is = rw parts.1 (rw same is)
-    go false is = rw parts.1 (any_last (λ target. bytes_eq path target.path) targets (target_of claims claim) parts.0)
+    go false is = rw parts.1 (any_last (λ target. bytes_eq path target.path) targets (target_of golden_texts claim) parts.0)
 
-becomes : (path : List ℕ) (runs : List (Option JobRun)) (claims rest : List GoldenText) (targets : List Target)
+becomes : (path : List ℕ) (runs : List (Option JobRun)) (golden_texts rest : List GoldenText) (targets : List Target)
     → list_any (is_accepted_claim runs path) rest ≡ true
-    → has_target path (fold (with_target runs claims) targets rest) ≡ true
-becomes path runs claims [] targets some = cc
-becomes path runs claims (claim ∷ rest) targets some = go (is_accepted_claim runs path claim) refl
-    (becomes path runs claims rest (with_target runs claims targets claim)) some
+    → has_target path (fold (with_target runs golden_texts) targets rest) ≡ true
+becomes path runs golden_texts [] targets some = cc
+becomes path runs golden_texts (claim ∷ rest) targets some = go (is_accepted_claim runs path claim) refl
+    (becomes path runs golden_texts rest (with_target runs golden_texts targets claim)) some
   where
     go : (passes : Bool) → is_accepted_claim runs path claim ≡ passes
         → (list_any (is_accepted_claim runs path) rest ≡ true
-        → has_target path (fold (with_target runs claims) (with_target runs claims targets claim) rest) ≡ true)
+        → has_target path (fold (with_target runs golden_texts) (with_target runs golden_texts targets claim) rest) ≡ true)
         → (passes || list_any (is_accepted_claim runs path) rest) ≡ true
-        → has_target path (fold (with_target runs claims) (with_target runs claims targets claim) rest) ≡ true
+        → has_target path (fold (with_target runs golden_texts) (with_target runs golden_texts targets claim) rest) ≡ true
     go true is behind some =
-        stays path runs claims rest (with_target runs claims targets claim) (added path runs claims targets claim is)
+        stays path runs golden_texts rest (with_target runs golden_texts targets claim) (added path runs golden_texts targets claim is)
     go false is behind some = behind some
 
 -- a claim that cannot be missing is there
@@ -205,21 +205,21 @@ signature_is_target place jobs runs job run path at ran accepted named =
 
 -- the fate of a target is that of its file
 abbrev HasFate : List GoldenText → Target → Type 0
-HasFate claims target = target.outcome ≡ outcome_of_golden_file target.path claims
+HasFate golden_texts target = target.outcome ≡ outcome_of_golden_file target.path golden_texts
 
-one_more_fate : (runs : List (Option JobRun)) (claims : List GoldenText) (targets : List Target) (claim : GoldenText)
-    → All (HasFate claims) targets → All (HasFate claims) (with_target runs claims targets claim)
-one_more_fate runs claims targets claim each =
+one_more_fate : (runs : List (Option JobRun)) (golden_texts : List GoldenText) (targets : List Target) (claim : GoldenText)
+    → All (HasFate golden_texts) targets → All (HasFate golden_texts) (with_target runs golden_texts targets claim)
+one_more_fate runs golden_texts targets claim each =
     go (is_accepted_entry (slice_get runs claim.job) && not (has_target claim.path targets))
   where
-    go : (added : Bool) → All (HasFate claims) (if added then targets ++ target_of claims claim ∷ [] else targets)
-    go true = All-append (HasFate claims) targets _ each
-        (All-cons (HasFate claims) (target_of claims claim) [] refl (All-nil (HasFate claims)))
+    go : (added : Bool) → All (HasFate golden_texts) (if added then targets ++ target_of golden_texts claim ∷ [] else targets)
+    go true = All-append (HasFate golden_texts) targets _ each
+        (All-cons (HasFate golden_texts) (target_of golden_texts claim) [] refl (All-nil (HasFate golden_texts)))
     go false = each
 
-pub targets_have_fates : (runs : List (Option JobRun)) (claims rest : List GoldenText) (targets : List Target)
-    → All (λ (target : Target). target.outcome ≡ outcome_of_golden_file target.path claims) targets
-    → All (λ (target : Target). target.outcome ≡ outcome_of_golden_file target.path claims) (fold (with_target runs claims) targets rest)
-targets_have_fates runs claims [] targets each = each
-targets_have_fates runs claims (claim ∷ rest) targets each = targets_have_fates runs claims rest _
-    (one_more_fate runs claims targets claim each)
+pub targets_have_fates : (runs : List (Option JobRun)) (golden_texts rest : List GoldenText) (targets : List Target)
+    → All (λ (target : Target). target.outcome ≡ outcome_of_golden_file target.path golden_texts) targets
+    → All (λ (target : Target). target.outcome ≡ outcome_of_golden_file target.path golden_texts) (fold (with_target runs golden_texts) targets rest)
+targets_have_fates runs golden_texts [] targets each = each
+targets_have_fates runs golden_texts (claim ∷ rest) targets each = targets_have_fates runs golden_texts rest _
+    (one_more_fate runs golden_texts targets claim each)

@@ -51,9 +51,9 @@ of_run jobs place job (Some run) = All-append (OfClaim (job ∷ jobs)) _ _
     (λ path is. or_left (names_golden_file path job) _
     (or_right (is_same_path path (console_path job.expect_console)) _ (rw is (same_bytes path)))))
 
-one_more_job : (job : Job) (jobs : List Job) (claims : List GoldenText) → All (OfClaim jobs) claims
-    → All (OfClaim (job ∷ jobs)) claims
-one_more_job job jobs claims each = λ place claim below. or_right _ _ (each place claim below)
+one_more_job : (job : Job) (jobs : List Job) (golden_texts : List GoldenText) → All (OfClaim jobs) golden_texts
+    → All (OfClaim (job ∷ jobs)) golden_texts
+one_more_job job jobs golden_texts each = λ place claim below. or_right _ _ (each place claim below)
 
 of_runs : (place : ℕ) (jobs : List Job) (runs : List (Option JobRun))
     → All (OfClaim jobs) (golden_texts_of_runs place jobs runs)
@@ -63,24 +63,24 @@ of_runs place (job ∷ jobs) [] = All-nil (OfClaim (job ∷ jobs))
 of_runs place (job ∷ jobs) (run ∷ runs) = All-append (OfClaim (job ∷ jobs)) _ _ (of_run jobs place job run)
     (one_more_job job jobs _ (of_runs (place + 1) jobs runs))
 
-one_more_target : (jobs : List Job) (runs : List (Option JobRun)) (claims : List GoldenText) (targets : List Target)
+one_more_target : (jobs : List Job) (runs : List (Option JobRun)) (golden_texts : List GoldenText) (targets : List Target)
     (claim : GoldenText) → All (OfTarget jobs) targets → OfClaim jobs claim
-    → All (OfTarget jobs) (with_target runs claims targets claim)
-one_more_target jobs runs claims targets claim each is =
+    → All (OfTarget jobs) (with_target runs golden_texts targets claim)
+one_more_target jobs runs golden_texts targets claim each is =
     go (is_accepted_entry (slice_get runs claim.job) && not (has_target claim.path targets))
   where
-    go : (added : Bool) → All (OfTarget jobs) (if added then targets ++ target_of claims claim ∷ [] else targets)
+    go : (added : Bool) → All (OfTarget jobs) (if added then targets ++ target_of golden_texts claim ∷ [] else targets)
     go true = All-append (OfTarget jobs) targets _ each
-        (All-cons (OfTarget jobs) (target_of claims claim) [] is (All-nil (OfTarget jobs)))
+        (All-cons (OfTarget jobs) (target_of golden_texts claim) [] is (All-nil (OfTarget jobs)))
     go false = each
 
-of_claims : (jobs : List Job) (runs : List (Option JobRun)) (claims rest : List GoldenText) (targets : List Target)
+of_claims : (jobs : List Job) (runs : List (Option JobRun)) (golden_texts rest : List GoldenText) (targets : List Target)
     → All (OfTarget jobs) targets → All (OfClaim jobs) rest
-    → All (OfTarget jobs) (fold (with_target runs claims) targets rest)
-of_claims jobs runs claims [] targets each are = each
-of_claims jobs runs claims (claim ∷ rest) targets each are =
-    of_claims jobs runs claims rest (with_target runs claims targets claim)
-    (one_more_target jobs runs claims targets claim each (All-head (OfClaim jobs) claim rest are))
+    → All (OfTarget jobs) (fold (with_target runs golden_texts) targets rest)
+of_claims jobs runs golden_texts [] targets each are = each
+of_claims jobs runs golden_texts (claim ∷ rest) targets each are =
+    of_claims jobs runs golden_texts rest (with_target runs golden_texts targets claim)
+    (one_more_target jobs runs golden_texts targets claim each (All-head (OfClaim jobs) claim rest are))
     (All-tail (OfClaim jobs) claim rest are)
 
 -- a target is a golden file of some job

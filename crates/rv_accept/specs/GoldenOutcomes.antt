@@ -31,20 +31,20 @@ outcome_unless_another job text (Some other) = fate.Disagree job other.job
 -- the outcome for the golden file at the path, to which its first job `job` gives this text: the text, or that two jobs differ, or that
 -- `job` was skipped
 abbrev pub outcome_of_given_text : List ℕ → List GoldenText → ℕ → Option (List ℕ) → GoldenFileOutcome
-outcome_of_given_text path claims job None = fate.SkippedBy job
-outcome_of_given_text path claims job (Some text) =
-    outcome_unless_another job text (find (has_other_text path text) claims)
+outcome_of_given_text path golden_texts job None = fate.SkippedBy job
+outcome_of_given_text path golden_texts job (Some text) =
+    outcome_unless_another job text (find (has_other_text path text) golden_texts)
 
 -- the outcome for the golden file at the path, given its first golden text; `Unclaimed` if there is none
 abbrev pub outcome_of_first : List ℕ → List GoldenText → Option GoldenText → GoldenFileOutcome
-outcome_of_first path claims None = fate.Unclaimed
-outcome_of_first path claims (Some first) = outcome_of_given_text path claims first.job first.text
+outcome_of_first path golden_texts None = fate.Unclaimed
+outcome_of_first path golden_texts (Some first) = outcome_of_given_text path golden_texts first.job first.text
 
 -- the outcome for the golden file at the path, given the first golden text of a skipped job; if there is one, the file is left as it is
 abbrev pub outcome_unless_skipped : List ℕ → List GoldenText → Option GoldenText → GoldenFileOutcome
-outcome_unless_skipped path claims (Some claim) = fate.SkippedBy claim.job
-outcome_unless_skipped path claims None = outcome_of_first path claims (find (is_for_file path) claims)
+outcome_unless_skipped path golden_texts (Some claim) = fate.SkippedBy claim.job
+outcome_unless_skipped path golden_texts None = outcome_of_first path golden_texts (find (is_for_file path) golden_texts)
 
 -- the outcome for the golden file at the path: the text on which all jobs that name it agree, or why there is none
 unfoldable pub outcome_of_golden_file : List ℕ → List GoldenText → GoldenFileOutcome
-outcome_of_golden_file path claims = outcome_unless_skipped path claims (find (is_of_skipped_job path) claims)
+outcome_of_golden_file path golden_texts = outcome_unless_skipped path golden_texts (find (is_of_skipped_job path) golden_texts)

@@ -26,13 +26,13 @@ pub enum GoldenFileOutcome {
 pub fn outcome_of_golden_file(
     alloc: Global,
     path: &str,
-    claims: &[GoldenText],
+    golden_texts: &[GoldenText],
 ) -> Result<GoldenFileOutcome, AllocError>
-    ensures { IfOk result (λ fate. fate ≡ outcome_of_golden_file path.now claims.now) }
+    ensures { IfOk result (λ fate. fate ≡ outcome_of_golden_file path.now golden_texts.now) }
 {
-    match first_skipped_text(path, claims) {
+    match first_skipped_text(path, golden_texts) {
         Some(claim) => Ok(GoldenFileOutcome::SkippedBy(claim.job)),
-        None => outcome_of_first(alloc, path, claims),
+        None => outcome_of_first(alloc, path, golden_texts),
     }
 }
 
@@ -40,13 +40,13 @@ pub fn outcome_of_golden_file(
 fn outcome_of_first(
     alloc: Global,
     path: &str,
-    claims: &[GoldenText],
+    golden_texts: &[GoldenText],
 ) -> Result<GoldenFileOutcome, AllocError>
-    ensures { IfOk result (λ fate. fate ≡ outcome_of_first path.now claims.now
-        (find (is_for_file path.now) claims.now)) }
+    ensures { IfOk result (λ fate. fate ≡ outcome_of_first path.now golden_texts.now
+        (find (is_for_file path.now) golden_texts.now)) }
 {
-    match first_text_for_file(path, claims) {
-        Some(first) => outcome_of_given_text(alloc, path, claims, first),
+    match first_text_for_file(path, golden_texts) {
+        Some(first) => outcome_of_given_text(alloc, path, golden_texts, first),
         None => Ok(GoldenFileOutcome::Unclaimed),
     }
 }
@@ -56,46 +56,46 @@ fn outcome_of_first(
 fn outcome_of_given_text(
     alloc: Global,
     path: &str,
-    claims: &[GoldenText],
+    golden_texts: &[GoldenText],
     first: &GoldenText,
 ) -> Result<GoldenFileOutcome, AllocError>
     ensures { IfOk result (λ fate. fate
-        ≡ outcome_of_given_text path.now claims.now first.now.job first.now.text) }
+        ≡ outcome_of_given_text path.now golden_texts.now first.now.job first.now.text) }
 {
     let Some(text) = &first.text else {
         return Ok(GoldenFileOutcome::SkippedBy(first.job));
     };
     let text = text.as_slice();
-    match first_other_text(path, text, claims) {
+    match first_other_text(path, text, golden_texts) {
         Some(other) => Ok(GoldenFileOutcome::Disagree(first.job, other.job)),
         None => Ok(GoldenFileOutcome::Agreed(Bytes::new(text.to_vec(alloc)?))),
     }
 }
 
 // Returns the first golden text for the file at the path whose job was skipped, or `None` if there is none.
-fn first_skipped_text<'a>(path: &str, claims: &'a [GoldenText]) -> Option<&'a GoldenText>
-    ensures { option_map (λ claim. claim.now) result ≡ find (is_of_skipped_job path.now) claims.now }
+fn first_skipped_text<'a>(path: &str, golden_texts: &'a [GoldenText]) -> Option<&'a GoldenText>
+    ensures { option_map (λ claim. claim.now) result ≡ find (is_of_skipped_job path.now) golden_texts.now }
 {
-    claims.iter().find(|claim| is_of_skipped_job(path, claim))
+    golden_texts.iter().find(|claim| is_of_skipped_job(path, claim))
 }
 
 /// Returns the first golden text for the file at the path, or `None` if there is none.
-pub fn first_text_for_file<'a>(path: &str, claims: &'a [GoldenText]) -> Option<&'a GoldenText>
-    ensures { option_map (λ claim. claim.now) result ≡ find (is_for_file path.now) claims.now }
+pub fn first_text_for_file<'a>(path: &str, golden_texts: &'a [GoldenText]) -> Option<&'a GoldenText>
+    ensures { option_map (λ claim. claim.now) result ≡ find (is_for_file path.now) golden_texts.now }
 {
-    claims.iter().find(|claim| is_for_file(path, claim))
+    golden_texts.iter().find(|claim| is_for_file(path, claim))
 }
 
 /// Returns the first golden text for the file at the path that differs from `text`, or `None` if there is none.
 pub fn first_other_text<'a>(
     path: &str,
     text: &[u8],
-    claims: &'a [GoldenText],
+    golden_texts: &'a [GoldenText],
 ) -> Option<&'a GoldenText>
     ensures { option_map (λ claim. claim.now) result
-        ≡ find (has_other_text path.now text.now) claims.now }
+        ≡ find (has_other_text path.now text.now) golden_texts.now }
 {
-    claims
+    golden_texts
         .iter()
         .find(|claim| has_other_text(path, text, claim))
 }

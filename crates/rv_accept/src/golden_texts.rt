@@ -35,21 +35,21 @@ pub struct GoldenText {
 // the job is not accepted.
 fn push_golden_texts(
     alloc: Global,
-    claims: &mut Vec<GoldenText>,
+    golden_texts: &mut Vec<GoldenText>,
     place: usize,
     is_accepted: bool,
     ran: (&Job, &Row),
 ) -> Result<(), AllocError>
-    ensures { OnOk result (claims.new.items ≡ claims.old.items ++ golden_texts_of_job place is_accepted ran.entry.0.now ran.entry.1.now) }
+    ensures { OnOk result (golden_texts.new.items ≡ golden_texts.old.items ++ golden_texts_of_job place is_accepted ran.entry.0.now ran.entry.1.now) }
 {
     let (job, row) = ran;
     if let Some(path) = console_path(job) {
         let text = console_if_accepted(alloc, is_accepted, row)?;
-        push_golden_text(alloc, claims, (place, GoldenKind::Console), path, text)?;
+        push_golden_text(alloc, golden_texts, (place, GoldenKind::Console), path, text)?;
     }
     if let Some(path) = &job.expect_signature {
         let text = signature_if_accepted(alloc, is_accepted, row)?;
-        push_golden_text(alloc, claims, (place, GoldenKind::Signature), path.as_str(), text)?;
+        push_golden_text(alloc, golden_texts, (place, GoldenKind::Signature), path.as_str(), text)?;
     }
     Ok(())
 }
@@ -60,29 +60,29 @@ pub fn golden_texts_of_runs(
     jobs: &[Job],
     runs: &[Option<JobRun>],
 ) -> Result<Vec<GoldenText>, AllocError>
-    ensures { IfOk result (λ claims. claims.items ≡ golden_texts_of_runs 0 jobs.now runs.now) }
+    ensures { IfOk result (λ golden_texts. golden_texts.items ≡ golden_texts_of_runs 0 jobs.now runs.now) }
 {
-    let mut claims = Vec::new(alloc);
-    push_golden_texts_of_runs(alloc, &mut claims, 0, jobs, runs)?;
-    Ok(claims)
+    let mut golden_texts = Vec::new(alloc);
+    push_golden_texts_of_runs(alloc, &mut golden_texts, 0, jobs, runs)?;
+    Ok(golden_texts)
 }
 
 // Appends the golden texts of these jobs, in list order. `place` is the index of the first of them in the list.
 #[tactic(auto, unfolding(crate::specs::GoldenTexts::golden_texts_of_runs))]
 fn push_golden_texts_of_runs(
     alloc: Global,
-    claims: &mut Vec<GoldenText>,
+    golden_texts: &mut Vec<GoldenText>,
     place: usize,
     jobs: &[Job],
     runs: &[Option<JobRun>],
 ) -> Result<(), AllocError>
     requires { place + length jobs.now < 2 ^ 64 }
-    ensures { OnOk result (claims.new.items ≡ claims.old.items ++ golden_texts_of_runs place jobs.now runs.now) }
+    ensures { OnOk result (golden_texts.new.items ≡ golden_texts.old.items ++ golden_texts_of_runs place jobs.now runs.now) }
 {
     match (jobs, runs) {
         ([job, jobs @ ..], [run, runs @ ..]) => {
-            push_golden_texts_of_run(alloc, claims, place, job, run)?;
-            push_golden_texts_of_runs(alloc, claims, place + 1, jobs, runs)
+            push_golden_texts_of_run(alloc, golden_texts, place, job, run)?;
+            push_golden_texts_of_runs(alloc, golden_texts, place + 1, jobs, runs)
         }
         ([], _) => Ok(()),
         ([_job, _jobs @ ..], []) => Ok(()),
@@ -92,17 +92,17 @@ fn push_golden_texts_of_runs(
 // Appends the golden texts of a job, or nothing if it was not run. They have no text if the job was skipped.
 fn push_golden_texts_of_run(
     alloc: Global,
-    claims: &mut Vec<GoldenText>,
+    golden_texts: &mut Vec<GoldenText>,
     place: usize,
     job: &Job,
     run: &Option<JobRun>,
 ) -> Result<(), AllocError>
-    ensures { OnOk result (claims.new.items ≡ claims.old.items ++ golden_texts_of_run place job.now run.now) }
+    ensures { OnOk result (golden_texts.new.items ≡ golden_texts.old.items ++ golden_texts_of_run place job.now run.now) }
 {
     match run {
         Some(run) => push_golden_texts(
             alloc,
-            claims,
+            golden_texts,
             place,
             run.skipped.is_none(),
             (job, &run.row),
@@ -124,16 +124,16 @@ pub fn console_path(job: &Job) -> Option<&str>
 // Appends the golden text for the file at the path: `of` is the index of its job and the kind of result that it contains.
 fn push_golden_text(
     alloc: Global,
-    claims: &mut Vec<GoldenText>,
+    golden_texts: &mut Vec<GoldenText>,
     of: (usize, GoldenKind),
     path: &str,
     text: Option<Bytes>,
 ) -> Result<(), AllocError>
-    ensures { OnOk result (claims.new.items ≡ claims.old.items ++ golden_text_if_named of.0 of.1 text (Some path.now)) }
+    ensures { OnOk result (golden_texts.new.items ≡ golden_texts.old.items ++ golden_text_if_named of.0 of.1 text (Some path.now)) }
 {
     let (job, part) = of;
     let path = Text::copy(alloc, path)?;
-    claims.push(GoldenText {
+    golden_texts.push(GoldenText {
         job,
         part,
         path,

@@ -25,13 +25,13 @@ pub struct Target {
 pub fn targets_of(
     alloc: Global,
     runs: &[Option<JobRun>],
-    claims: &[GoldenText],
+    golden_texts: &[GoldenText],
 ) -> Result<Vec<Target>, AllocError>
-    ensures { IfOk result (λ targets. targets.items ≡ fold (with_target runs.now claims.now) [] claims.now) }
+    ensures { IfOk result (λ targets. targets.items ≡ fold (with_target runs.now golden_texts.now) [] golden_texts.now) }
 {
     let mut targets = Vec::new(alloc);
-    for claim in claims {
-        add_target(alloc, runs, claims, &mut targets, claim)?;
+    for claim in golden_texts {
+        add_target(alloc, runs, golden_texts, &mut targets, claim)?;
     }
     Ok(targets)
 }
@@ -40,29 +40,29 @@ pub fn targets_of(
 fn add_target(
     alloc: Global,
     runs: &[Option<JobRun>],
-    claims: &[GoldenText],
+    golden_texts: &[GoldenText],
     targets: &mut Vec<Target>,
     claim: &GoldenText,
 ) -> Result<(), AllocError>
-    ensures { OnOk result (targets.new.items ≡ with_target runs.now claims.now targets.old.items claim.now) }
+    ensures { OnOk result (targets.new.items ≡ with_target runs.now golden_texts.now targets.old.items claim.now) }
 {
     if is_accepted_entry(runs.get(claim.job))
         && !has_target(claim.path.as_str(), targets.as_slice())
     {
-        targets.push(target_of(alloc, claim, claims)?)?;
+        targets.push(target_of(alloc, claim, golden_texts)?)?;
     }
     Ok(())
 }
 
 // Returns the golden file of a golden text, with the outcome for this file.
-fn target_of(alloc: Global, claim: &GoldenText, claims: &[GoldenText]) -> Result<Target, AllocError>
-    ensures { IfOk result (λ target. target ≡ target_of claims.now claim.now) }
+fn target_of(alloc: Global, claim: &GoldenText, golden_texts: &[GoldenText]) -> Result<Target, AllocError>
+    ensures { IfOk result (λ target. target ≡ target_of golden_texts.now claim.now) }
 {
     Ok(Target {
         path: Text::copy(alloc, claim.path.as_str())?,
         job: claim.job,
         part: claim.part,
-        outcome: outcome_of_golden_file(alloc, claim.path.as_str(), claims)?,
+        outcome: outcome_of_golden_file(alloc, claim.path.as_str(), golden_texts)?,
     })
 }
 

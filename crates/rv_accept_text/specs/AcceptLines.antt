@@ -38,7 +38,7 @@ abbrev pub accept_lines : AcceptSummary → List ℕ
 accept_lines told = flat_map (file_line told.list) told.files.now
     ++ flat_map (value_line_in told) told.new.now.values.items
     ++ skipped_job_lines told.list.jobs.now told.list.jobs.now told.runs.now
-    ++ flat_map (skipped_file_line told.list told.claims.now) told.files.now
+    ++ flat_map (skipped_file_line told.list told.golden_texts.now) told.files.now
 
 -- ---- the last line
 

@@ -79,21 +79,21 @@ other_text_reason jobs first (Some other) = disagreeing_texts jobs first other
 
 -- the reason that two jobs give the golden file at the path different texts, given the file's first golden text
 abbrev pub first_text_reason : List Job → List GoldenText → List ℕ → Option GoldenText → List ℕ
-first_text_reason jobs claims path None = codes "\n"
-first_text_reason jobs claims path (Some first) =
-    other_text_reason jobs first (find (has_other_text path (text_or_empty first.text)) claims)
+first_text_reason jobs golden_texts path None = codes "\n"
+first_text_reason jobs golden_texts path (Some first) =
+    other_text_reason jobs first (find (has_other_text path (text_or_empty first.text)) golden_texts)
 
 -- the reason that two jobs give the golden file at the path different texts: its first golden text, and the first one that differs from it
 abbrev pub disagreement_text : List Job → List GoldenText → List ℕ → List ℕ
-disagreement_text jobs claims path = first_text_reason jobs claims path (find (is_for_file path) claims)
+disagreement_text jobs golden_texts path = first_text_reason jobs golden_texts path (find (is_for_file path) golden_texts)
 
 -- the reason why a golden file with this outcome is skipped, with the line end
 abbrev pub file_skip_reason : List Job → List GoldenText → List ℕ → GoldenFileOutcome → List ℕ
-file_skip_reason jobs claims path (fate.SkippedBy job) = codes "job \"" ++ printable_text (job_name jobs job)
+file_skip_reason jobs golden_texts path (fate.SkippedBy job) = codes "job \"" ++ printable_text (job_name jobs job)
     ++ codes "\" also names this file and was skipped\n"
-file_skip_reason jobs claims path (fate.Disagree job other) = disagreement_text jobs claims path
-file_skip_reason jobs claims path (fate.Agreed text) = codes "the list and the images are never overwritten\n"
-file_skip_reason jobs claims path fate.Unclaimed = codes "the list and the images are never overwritten\n"
+file_skip_reason jobs golden_texts path (fate.Disagree job other) = disagreement_text jobs golden_texts path
+file_skip_reason jobs golden_texts path (fate.Agreed text) = codes "the list and the images are never overwritten\n"
+file_skip_reason jobs golden_texts path fate.Unclaimed = codes "the list and the images are never overwritten\n"
 
 -- `skipped NAME: `, the beginning of the line about a skipped job or golden file
 abbrev pub skipped_prefix : List ℕ → List ℕ
@@ -101,6 +101,6 @@ skipped_prefix name = codes "skipped " ++ printable_text name ++ codes ": "
 
 -- the line about a skipped golden file; empty if it is not skipped
 unfoldable pub skipped_file_line : ListFile → List GoldenText → GoldenFile → List ℕ
-skipped_file_line list claims file = if is_skipped list file
-    then skipped_prefix file.target.path ++ file_skip_reason list.jobs.now claims file.target.path file.target.outcome
+skipped_file_line list golden_texts file = if is_skipped list file
+    then skipped_prefix file.target.path ++ file_skip_reason list.jobs.now golden_texts file.target.path file.target.outcome
     else []

@@ -21,7 +21,7 @@ pub struct AcceptSummary<'a> {
     pub list: ListFile<'a>,
     pub runs: &'a [Option<JobRun>],
     /// The texts that jobs give their golden files.
-    pub claims: &'a [GoldenText],
+    pub golden_texts: &'a [GoldenText],
     pub files: &'a [GoldenFile],
     /// The new text of the list, and the values that change in it.
     pub new: &'a NewList,
@@ -85,10 +85,10 @@ impl<'a> AcceptSummary<'a> {
     // Appends the lines about the skipped golden files, in order.
     fn push_skipped_file_lines(&self, out: &mut Vec<u8>) -> Result<(), AllocError>
         ensures { OnOk result (out.new.items ≡ out.old.items
-            ++ flat_map (skipped_file_line self.now.list self.now.claims.now) self.now.files.now) }
+            ++ flat_map (skipped_file_line self.now.list self.now.golden_texts.now) self.now.files.now) }
     {
         for file in self.files {
-            push_skipped_file_line(out, &self.list, self.claims, file)?;
+            push_skipped_file_line(out, &self.list, self.golden_texts, file)?;
         }
         Ok(())
     }

@@ -130,16 +130,16 @@ fn golden_kind_text(part: GoldenKind) -> &'static str
 pub(crate) fn push_skipped_file_line(
     out: &mut Vec<u8>,
     list: &ListFile<'_>,
-    claims: &[GoldenText],
+    golden_texts: &[GoldenText],
     file: &GoldenFile,
 ) -> Result<(), AllocError>
-    ensures { OnOk result (out.new.items ≡ out.old.items ++ skipped_file_line list.now claims.now file.now) }
+    ensures { OnOk result (out.new.items ≡ out.old.items ++ skipped_file_line list.now golden_texts.now file.now) }
 {
     if !file.is_skipped(list) {
         return Ok(());
     }
     push_skipped_prefix(out, file.target.path.as_str())?;
-    push_file_skip_reason(out, list.jobs, claims, &file.target)
+    push_file_skip_reason(out, list.jobs, golden_texts, &file.target)
 }
 
 /// Appends `skipped NAME: `, the beginning of the line about a skipped job or golden file.
@@ -160,11 +160,11 @@ pub(crate) fn push_skipped_prefix(out: &mut Vec<u8>, name: &str) -> Result<(), A
 fn push_file_skip_reason(
     out: &mut Vec<u8>,
     jobs: &[Job],
-    claims: &[GoldenText],
+    golden_texts: &[GoldenText],
     target: &Target,
 ) -> Result<(), AllocError>
     ensures { OnOk result (out.new.items
-        ≡ out.old.items ++ file_skip_reason jobs.now claims.now target.now.path target.now.outcome) }
+        ≡ out.old.items ++ file_skip_reason jobs.now golden_texts.now target.now.path target.now.outcome) }
 {
     match &target.outcome {
         GoldenFileOutcome::SkippedBy(job) => push_spans(
@@ -175,7 +175,7 @@ fn push_file_skip_reason(
                 Span::Text("\" also names this file and was skipped\n"),
             ],
         ),
-        GoldenFileOutcome::Disagree(..) => push_disagreement(out, jobs, claims, target.path.as_str()),
+        GoldenFileOutcome::Disagree(..) => push_disagreement(out, jobs, golden_texts, target.path.as_str()),
         GoldenFileOutcome::Agreed(_) | GoldenFileOutcome::Unclaimed => push_text(
             out,
             "the list and the images are never overwritten\n",
@@ -187,17 +187,17 @@ fn push_file_skip_reason(
 fn push_disagreement(
     out: &mut Vec<u8>,
     jobs: &[Job],
-    claims: &[GoldenText],
+    golden_texts: &[GoldenText],
     path: &str,
 ) -> Result<(), AllocError>
-    ensures { OnOk result (out.new.items ≡ out.old.items ++ disagreement_text jobs.now claims.now path.now) }
+    ensures { OnOk result (out.new.items ≡ out.old.items ++ disagreement_text jobs.now golden_texts.now path.now) }
 {
-    match first_text_for_file(path, claims) {
+    match first_text_for_file(path, golden_texts) {
         Some(first) => push_other_text_reason(
             out,
             jobs,
             first,
-            first_other_text(path, text_or_empty(&first.text), claims),
+            first_other_text(path, text_or_empty(&first.text), golden_texts),
         ),
         None => push_text(out, "\n"),
     }

@@ -39,18 +39,18 @@ left_append pattern (first ∷ jobs) (other ∷ marks) job mark same =
     (left_append pattern jobs marks job mark (omega (arith, same)))
 
 -- what a pattern leaves of the marks before a place, and of the one there
-pub left_more : (pattern : Re) (jobs : List Job) (marks : List Bool) (place : ℕ) (job : Job) (mark : Bool)
-    → length marks ≡ length jobs → place < length jobs → get_or jobs place job ≡ job → get_or marks place mark ≡ mark
-    → remaining_selection pattern (take (place + 1) jobs) (take (place + 1) marks)
-    ≡ remaining_selection pattern (take place jobs) (take place marks) ++ stays_selected mark (is_some (find_str pattern job.name 0)) ∷ []
-left_more pattern jobs marks place job mark same within is_job is_mark =
-    let counts : length (take place marks) ≡ length (take place jobs) =
-    omega (arith, same, length-take-le place jobs (omega arith), length-take-le place marks (omega (arith, same))) in
-    ap (λ (js : List Job). remaining_selection pattern js (take (place + 1) marks))
-    (take_more jobs place job within ∙ ap (λ (j : Job). take place jobs ++ j ∷ []) is_job)
-    ∙ (ap (remaining_selection pattern (take place jobs ++ job ∷ []))
-    (take_more marks place mark (omega (arith, same)) ∙ ap (λ (m : Bool). take place marks ++ m ∷ []) is_mark)
-    ∙ left_append pattern (take place jobs) (take place marks) job mark counts)
+pub left_more : (pattern : Re) (jobs : List Job) (marks : List Bool) (index : ℕ) (job : Job) (mark : Bool)
+    → length marks ≡ length jobs → index < length jobs → get_or jobs index job ≡ job → get_or marks index mark ≡ mark
+    → remaining_selection pattern (take (index + 1) jobs) (take (index + 1) marks)
+    ≡ remaining_selection pattern (take index jobs) (take index marks) ++ stays_selected mark (is_some (find_str pattern job.name 0)) ∷ []
+left_more pattern jobs marks index job mark same within is_job is_mark =
+    let counts : length (take index marks) ≡ length (take index jobs) =
+    omega (arith, same, length-take-le index jobs (omega arith), length-take-le index marks (omega (arith, same))) in
+    ap (λ (js : List Job). remaining_selection pattern js (take (index + 1) marks))
+    (take_more jobs index job within ∙ ap (λ (j : Job). take index jobs ++ j ∷ []) is_job)
+    ∙ (ap (remaining_selection pattern (take index jobs ++ job ∷ []))
+    (take_more marks index mark (omega (arith, same)) ∙ ap (λ (m : Bool). take index marks ++ m ∷ []) is_mark)
+    ∙ left_append pattern (take index jobs) (take index marks) job mark counts)
 
 -- what is said of each is said of its text
 pub notes_of_names : (f : List ℕ → List ℕ) (names : List (Bor (List ℕ)))

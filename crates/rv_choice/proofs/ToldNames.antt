@@ -14,14 +14,14 @@ names_append at count (other ∷ jobs) job =
     let places : (at + 1) + length jobs ≡ at + length (other ∷ jobs) = omega arith in
     ap (λ names. first ++ names) (names_append (at + 1) count jobs job)
     ∙ (sym (append_assoc first (names_from (at + 1) count jobs) _)
-    ∙ ap (λ place. (first ++ names_from (at + 1) count jobs) ++ (text_before_name place count ++ job.name)) places)
+    ∙ ap (λ index. (first ++ names_from (at + 1) count jobs) ++ (text_before_name index count ++ job.name)) places)
 
 -- the same of the jobs before a place and the one there
-pub names_more : (count : ℕ) (jobs : List Job) (place : ℕ) (job : Job) → place < length jobs → get_or jobs place job ≡ job
-    → names_from 0 count (take (place + 1) jobs)
-    ≡ names_from 0 count (take place jobs) ++ (text_before_name place count ++ job.name)
-names_more count jobs place job within is =
-    let shown : 0 + length (take place jobs) ≡ place = omega (arith, length-take-le place jobs (omega arith)) in
-    ap (names_from 0 count) (take_more jobs place job within ∙ ap (λ (j : Job). take place jobs ++ j ∷ []) is)
-    ∙ (names_append 0 count (take place jobs) job
-    ∙ ap (λ at. names_from 0 count (take place jobs) ++ (text_before_name at count ++ job.name)) shown)
+pub names_more : (count : ℕ) (jobs : List Job) (index : ℕ) (job : Job) → index < length jobs → get_or jobs index job ≡ job
+    → names_from 0 count (take (index + 1) jobs)
+    ≡ names_from 0 count (take index jobs) ++ (text_before_name index count ++ job.name)
+names_more count jobs index job within is =
+    let shown : 0 + length (take index jobs) ≡ index = omega (arith, length-take-le index jobs (omega arith)) in
+    ap (names_from 0 count) (take_more jobs index job within ∙ ap (λ (j : Job). take index jobs ++ j ∷ []) is)
+    ∙ (names_append 0 count (take index jobs) job
+    ∙ ap (λ at. names_from 0 count (take index jobs) ++ (text_before_name at count ++ job.name)) shown)

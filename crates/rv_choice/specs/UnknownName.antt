@@ -21,15 +21,15 @@ abbrev pub no_such_job_message : List ℕ → List ℕ → List ℕ
 no_such_job_message list name =
     codes "rvtest: " ++ printable_text list ++ codes ": no job named \"" ++ printable_value name
 
--- the text before the name at index `place` in a message with `count` names
+-- the text before the name at index `index` in a message with `count` names
 abbrev pub text_before_name : ℕ → ℕ → List ℕ
-text_before_name place count =
-    if place == 0 then codes "\"; the jobs are \"" else if place + 1 == count then codes "\" and \"" else codes "\", \""
+text_before_name index count =
+    if index == 0 then codes "\"; the jobs are \"" else if index + 1 == count then codes "\" and \"" else codes "\", \""
 
--- the names of jobs in a message with `count` names, beginning with the one at index `place`
+-- the names of jobs in a message with `count` names, beginning with the one at index `index`
 unfoldable pub names_from : ℕ → ℕ → List Job → List ℕ
-names_from place count [] = []
-names_from place count (job ∷ jobs) = (text_before_name place count ++ job.name) ++ names_from (place + 1) count jobs
+names_from index count [] = []
+names_from index count (job ∷ jobs) = (text_before_name index count ++ job.name) ++ names_from (index + 1) count jobs
 
 -- how many of `count` names are not among the first 20; empty if there are no more than 20
 abbrev pub more_names_text : ℕ → List ℕ
@@ -39,15 +39,15 @@ more_names_text count = if nat_lt 20 count then codes " and " ++ decimal (count 
 abbrev pub shown_names : List Job → List ℕ
 shown_names jobs = names_from 0 (length jobs) (take 20 jobs) ++ codes "\"" ++ more_names_text (length jobs)
 
--- the job at index `place` is the one whose name is nearest, and its name is near enough to be suggested
+-- the job at index `index` is the one whose name is nearest, and its name is near enough to be suggested
 abbrev pub IsSuggestedJob : List Job → List ℕ → ℕ → Type 0
-IsSuggestedJob jobs name place = IsJobNameSuggestion jobs name place × IsNearJob jobs name place
+IsSuggestedJob jobs name index = IsJobNameSuggestion jobs name index × IsNearJob jobs name index
 
 -- the hint is the name of the job that was probably meant or, if there is none, the names of the jobs
 abbrev pub IsNameHint : List Job → List ℕ → List ℕ → Type 0
 IsNameHint jobs name hint =
-    ((place : ℕ) × IsSuggestedJob jobs name place × (hint ≡ codes "\"; a similar name exists: \"" ++ job_name jobs place ++ codes "\""))
-    ⊎ (((place : ℕ) → IsSuggestedJob jobs name place → ⊥) × (hint ≡ shown_names jobs))
+    ((index : ℕ) × IsSuggestedJob jobs name index × (hint ≡ codes "\"; a similar name exists: \"" ++ job_name jobs index ++ codes "\""))
+    ⊎ (((index : ℕ) → IsSuggestedJob jobs name index → ⊥) × (hint ≡ shown_names jobs))
 
 -- the message says that no job of the list has this name, with a hint
 abbrev pub IsUnknownNameMessage : List ℕ → List Job → List ℕ → List ℕ → Type 0

@@ -32,8 +32,8 @@ pub(crate) fn selection_by_criteria(
 {
     let mut matcher = matcher_of(alloc, wanted.pattern)?;
     let mut marks = Vec::new(alloc);
-    for place in 0..jobs.len() {
-        marks.push(is_chosen_name(wanted, &mut matcher, jobs[place].name.as_str()))?;
+    for index in 0..jobs.len() {
+        marks.push(is_chosen_name(wanted, &mut matcher, jobs[index].name.as_str()))?;
     }
     Ok(marks)
 }
@@ -50,9 +50,9 @@ pub(crate) fn remaining_selection(
 {
     let mut matcher = excluded.matcher(alloc)?;
     let mut left = Vec::new(alloc);
-    for place in 0..jobs.len() {
-        let is_found = matcher.is_match(jobs[place].name.as_str());
-        left.push(stays_selected(marks[place], is_found))?;
+    for index in 0..jobs.len() {
+        let is_found = matcher.is_match(jobs[index].name.as_str());
+        left.push(stays_selected(marks[index], is_found))?;
     }
     Ok(left)
 }

@@ -60,7 +60,7 @@ fn push_name_hint(
         × (message.new.items ≡ message.old.items ++ hint)) }
 {
     match near_job(alloc, jobs, name)? {
-        Some(place) => push_near_name(message, jobs[place].name.as_str()),
+        Some(index) => push_near_name(message, jobs[index].name.as_str()),
         None => push_names(message, jobs),
     }
 }
@@ -98,35 +98,35 @@ fn push_first_names(message: &mut Vec<u8>, jobs: &[Job], count: usize) -> Result
     requires { length jobs.now ≤ count }
     ensures { OnOk result (message.new.items ≡ message.old.items ++ names_from 0 count jobs.now) }
 {
-    for (place, job) in jobs.iter().enumerate() {
-        push_name(message, place, count, job.name.as_str())?;
+    for (index, job) in jobs.iter().enumerate() {
+        push_name(message, index, count, job.name.as_str())?;
     }
     Ok(())
 }
 
-// Appends the name at index `place` in a message with `count` names, with the text before it.
+// Appends the name at index `index` in a message with `count` names, with the text before it.
 fn push_name<'a>(
     message: &mut Vec<u8>,
-    place: usize,
+    index: usize,
     count: usize,
     name: &'a str,
 ) -> Result<(), AllocError>
-    requires { place < count }
+    requires { index < count }
     ensures { OnOk result (message.new.items
-        ≡ message.old.items ++ (text_before_name place count ++ name.now)) }
+        ≡ message.old.items ++ (text_before_name index count ++ name.now)) }
 {
-    push_text(message, text_before_name(place, count))?;
+    push_text(message, text_before_name(index, count))?;
     push_text(message, name)
 }
 
-// Returns the text before the name at index `place` in a message with `count` names.
-fn text_before_name(place: usize, count: usize) -> &'static str
-    requires { place < count }
-    ensures { result.now ≡ text_before_name place count }
+// Returns the text before the name at index `index` in a message with `count` names.
+fn text_before_name(index: usize, count: usize) -> &'static str
+    requires { index < count }
+    ensures { result.now ≡ text_before_name index count }
 {
-    match place {
+    match index {
         0 => "\"; the jobs are \"",
-        _ if place + 1 == count => "\" and \"",
+        _ if index + 1 == count => "\" and \"",
         _ => "\", \"",
     }
 }

@@ -52,7 +52,7 @@ ran_job answers job s old new start adds =
     subst (λ (r : Result State Refusal). AddsRun job.budget (result_ok r) old new) (sym start) adds
 
 module _ (budget g : ℕ) (s : State) (base : List AddressCounts) (old new : RunsCounter) (fits : budget < 2 ^ 32) (h : CanCountRuns old)
-    (same : base ≡ counts_of old.counter) (early : g ≡ old.counter.codes.generation)
+    (same : base ≡ counts_of old.counter) (early : g ≡ old.counter.cache.generation)
     (counted : HasCountedFrom base g budget s new.counter) (one : new.runs ≡ old.runs + 1) where
   begun_more : (at : ℕ) → executed_at at (counts_of new.counter) ≡ executed_at at (counts_of old.counter) + executed_from at budget (Some s)
   begun_more at = counted.sums.begun at ∙ ap (λ cs. executed_at at cs + executed_from at budget (Some s)) same
@@ -62,7 +62,7 @@ module _ (budget g : ℕ) (s : State) (base : List AddressCounts) (old new : Run
     ready = record {
       tallied = counted.sums.tallied;
       indexed = counted.indexed;
-      codes = counted.codes;
+      cache = counted.cache;
       few = λ at.
           let b = begun_more at in
           let f = h.few at in

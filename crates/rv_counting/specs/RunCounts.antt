@@ -18,9 +18,9 @@ use Rattle.rv_counting.specs.Tallies.{IsIndexed}
 pub record CanCountRuns (c : RunsCounter) : Type 0 where
   pub tallied : AreConsistentCounts (counts_of c.counter)
   pub indexed : IsIndexed c.counter.tally
-  pub codes : HasAllEntries c.counter.codes
+  pub cache : HasAllEntries c.counter.cache
   pub few : (at : ℕ) → executed_at at (counts_of c.counter) ≤ c.runs * 2 ^ 32
-  pub generations : c.counter.codes.generation ≤ 1 + c.runs * 2 ^ 32
+  pub generations : c.counter.cache.generation ≤ 1 + c.runs * 2 ^ 32
 
 -- a run that begins in this state, if there is one, was counted in addition to the others
 pub record AddsRun (budget : ℕ) (start : Option State) (old new : RunsCounter) : Type 0 where

@@ -33,9 +33,9 @@ pub(crate) fn follow_run(
     requires tallied { AreConsistentCounts (counts_of counter.old) }
     requires few { (at : ℕ) → executed_at at (counts_of counter.old) < 2 ^ 61 }
     requires indexed { IsIndexed counter.old.tally }
-    requires right { IsValidCache counter.old.codes (state_of machine) }
-    requires generations { counter.old.codes.generation < 2 ^ 61 }
-    ensures { OnOk result (HasCountedFrom (counts_of counter.old) counter.old.codes.generation budget (state_of machine) counter.new) }
+    requires right { IsValidCache counter.old.cache (state_of machine) }
+    requires generations { counter.old.cache.generation < 2 ^ 61 }
+    ensures { OnOk result (HasCountedFrom (counts_of counter.old) counter.old.cache.generation budget (state_of machine) counter.new) }
 {
     let mut machine = machine;
     let mut left = budget;

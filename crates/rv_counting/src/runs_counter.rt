@@ -56,7 +56,7 @@ impl RunsCounter {
         requires few { self.old.runs < max_jobs }
         ensures { OnOk result (AddsRun budget (Some (state_of machine)) self.old self.new) }
     {
-        self.counter.codes.refetch(machine.bus());
+        self.counter.cache.refetch(machine.bus());
         let machine = follow_run(&mut self.counter, machine, budget)?;
         self.runs += 1;
         Ok(machine)

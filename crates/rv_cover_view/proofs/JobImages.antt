@@ -17,19 +17,19 @@ use Rattle.rv_counting.specs.Trace.{image_bytes, job_at}
 use Rattle.rv_cover_view.specs.JobImages.{AreSmall, ImageFileView, image_of_file, image_of_job, images_of, images_of_files, with_image, with_image_of}
 use Rattle.rv_cover_view.specs.declared.image_file.ImageFile.{ImageFile}
 
-jobs_more : (plan : PlanView) (places : List ℕ) (i place : ℕ) → i < length places → place ≡ get_or places i place
-    → jobs_at plan (take (i + 1) places) ≡ jobs_at plan (take i places) ++ job_at plan place (single_job [] 0 []) ∷ []
-jobs_more plan places i place lt is =
-    ap (jobs_at plan) (take_more places i place lt)
-    ∙ map-append _ (take i places) (get_or places i place ∷ [])
+jobs_more : (plan : PlanView) (places : List ℕ) (i index : ℕ) → i < length places → index ≡ get_or places i index
+    → jobs_at plan (take (i + 1) places) ≡ jobs_at plan (take i places) ++ job_at plan index (single_job [] 0 []) ∷ []
+jobs_more plan places i index lt is =
+    ap (jobs_at plan) (take_more places i index lt)
+    ∙ map-append _ (take i places) (get_or places i index ∷ [])
     ∙ ap (λ (k : ℕ). jobs_at plan (take i places) ++ jobs_at plan (k ∷ [])) (sym is)
 
-pub images_more : (plan : PlanView) (places : List ℕ) (i place : ℕ) → i < length places → place ≡ get_or places i place
+pub images_more : (plan : PlanView) (places : List ℕ) (i index : ℕ) → i < length places → index ≡ get_or places i index
     → images_of plan.answers (jobs_at plan (take (i + 1) places))
-    ≡ with_image_of plan.answers (images_of plan.answers (jobs_at plan (take i places))) (job_at plan place (single_job [] 0 []))
-images_more plan places i place lt is =
-    ap (images_of plan.answers) (jobs_more plan places i place lt is)
-    ∙ fold-append (with_image_of plan.answers) [] (jobs_at plan (take i places)) (job_at plan place (single_job [] 0 []) ∷ [])
+    ≡ with_image_of plan.answers (images_of plan.answers (jobs_at plan (take i places))) (job_at plan index (single_job [] 0 []))
+images_more plan places i index lt is =
+    ap (images_of plan.answers) (jobs_more plan places i index lt is)
+    ∙ fold-append (with_image_of plan.answers) [] (jobs_at plan (take i places)) (job_at plan index (single_job [] 0 []) ∷ [])
 
 pub images_whole : (plan : PlanView) (places : List ℕ) (i : ℕ) → length places ≤ i
     → images_of plan.answers (jobs_at plan (take i places)) ≡ images_of plan.answers (jobs_at plan places)

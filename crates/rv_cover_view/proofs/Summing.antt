@@ -22,25 +22,25 @@ module _ (counts : List AddressCounts) (address : ℕ) (bytes : List ℕ) (code 
   abbrev pub behind : List AddressedCode
   behind = codes_from (length (drop (size_of_code code) bytes)) ((address + size_of_code code) % 0x1_0000_0000) (drop (size_of_code code) bytes)
 
-  pub one_code_more : (amounts one all : CodeTotals) → first_code bytes ≡ Some code
-      → plus amounts (totals_of_codes counts (codes_from (length bytes) address bytes)) ≡ all
+  pub one_code_more : (totals one all : CodeTotals) → first_code bytes ≡ Some code
+      → plus totals (totals_of_codes counts (codes_from (length bytes) address bytes)) ≡ all
       → one ≡ totals_of_codes counts ((address, code) ∷ [])
-      → plus (plus amounts one) (totals_of_codes counts behind) ≡ all
-  one_code_more amounts one all e inv is =
-      plus_parts amounts one (totals_of_codes counts behind)
-      ∙ ap (λ x. plus amounts (plus x (totals_of_codes counts behind))) is
-      ∙ ap (plus amounts) (sym (amounts_of_parts counts ((address, code) ∷ []) behind)
+      → plus (plus totals one) (totals_of_codes counts behind) ≡ all
+  one_code_more totals one all e inv is =
+      plus_parts totals one (totals_of_codes counts behind)
+      ∙ ap (λ x. plus totals (plus x (totals_of_codes counts behind))) is
+      ∙ ap (plus totals) (sym (amounts_of_parts counts ((address, code) ∷ []) behind)
       ∙ ap (totals_of_codes counts) (sym (codes_behind address bytes code e)))
       ∙ inv
 
-  pub one_code_fits : (n from : ℕ) (whole : List ℕ) (amounts one : CodeTotals) → n < 2 ^ 64 → first_code bytes ≡ Some code
-      → plus amounts (totals_of_codes counts (codes_from (length bytes) address bytes)) ≡ totals_of_codes counts (codes_from n from whole)
-      → one ≡ totals_of_codes counts ((address, code) ∷ []) → FitsIn64Bits (plus amounts one)
-  one_code_fits n from whole amounts one few e inv is =
+  pub one_code_fits : (n from : ℕ) (whole : List ℕ) (totals one : CodeTotals) → n < 2 ^ 64 → first_code bytes ≡ Some code
+      → plus totals (totals_of_codes counts (codes_from (length bytes) address bytes)) ≡ totals_of_codes counts (codes_from n from whole)
+      → one ≡ totals_of_codes counts ((address, code) ∷ []) → FitsIn64Bits (plus totals one)
+  one_code_fits n from whole totals one few e inv is =
       let all = codes_from n from whole in
       let l = codes_few n from whole in
-      part_fits (plus amounts one) (totals_of_codes counts behind)
-      (subst FitsIn64Bits (sym (one_code_more amounts one (totals_of_codes counts all) e inv is))
+      part_fits (plus totals one) (totals_of_codes counts behind)
+      (subst FitsIn64Bits (sym (one_code_more totals one (totals_of_codes counts all) e inv is))
       (codes_fit counts all (omega (arith, l, few))))
 
 -- ---- functions
@@ -65,9 +65,9 @@ module _ (counts : List AddressCounts) (fs : List Function) (i : ℕ) (d : Funct
       ∙ flat_map-append codes_of (map named (take i fs)) (named (get_or fs i d) ∷ [])
       ∙ ap (λ ps. codes_before i ++ ps) (flat_map-cons codes_of (named (get_or fs i d)) [] ∙ append-nil (codes_of (named (get_or fs i d))))
 
-  pub one_function_more : (amounts one : CodeTotals) → i < length fs → amounts ≡ totals_of_codes counts (codes_before i)
-      → one ≡ totals_of_codes counts (codes_of (named (get_or fs i d))) → plus amounts one ≡ totals_of_codes counts (codes_before (i + 1))
-  one_function_more amounts one within inv is =
+  pub one_function_more : (totals one : CodeTotals) → i < length fs → totals ≡ totals_of_codes counts (codes_before i)
+      → one ≡ totals_of_codes counts (codes_of (named (get_or fs i d))) → plus totals one ≡ totals_of_codes counts (codes_before (i + 1))
+  one_function_more totals one within inv is =
       ap (λ x. plus x one) inv ∙ ap (plus (totals_of_codes counts (codes_before i))) is
       ∙ sym (amounts_of_parts counts (codes_before i) (codes_of (named (get_or fs i d))))
       ∙ ap (totals_of_codes counts) (sym (one_more within))
@@ -79,11 +79,11 @@ module _ (counts : List AddressCounts) (fs : List Function) (i : ℕ) (d : Funct
       ∙ sum_by-append (λ (g : FunctionView). length (bytes_of g)) (map named (take k fs)) (map named (drop k fs)) in
       omega (arith, e)
 
-  pub one_function_fits : (amounts one : CodeTotals) → i < length fs → code_bytes (map named fs) < 2 ^ 64
-      → amounts ≡ totals_of_codes counts (codes_before i) → one ≡ totals_of_codes counts (codes_of (named (get_or fs i d)))
-      → FitsIn64Bits (plus amounts one)
-  one_function_fits amounts one within few inv is =
+  pub one_function_fits : (totals one : CodeTotals) → i < length fs → code_bytes (map named fs) < 2 ^ 64
+      → totals ≡ totals_of_codes counts (codes_before i) → one ≡ totals_of_codes counts (codes_of (named (get_or fs i d)))
+      → FitsIn64Bits (plus totals one)
+  one_function_fits totals one within few inv is =
       let l = codes_bytes (map named (take (i + 1) fs)) in
       let m = few_before (i + 1) in
-      subst FitsIn64Bits (sym (one_function_more amounts one within inv is))
+      subst FitsIn64Bits (sym (one_function_more totals one within inv is))
       (codes_fit counts (codes_before (i + 1)) (omega (arith, l, m, few)))

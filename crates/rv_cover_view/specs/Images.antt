@@ -13,5 +13,5 @@ pub record IsCoverOf (path : List ℕ) (image : Image) (file : List ℕ) (counts
   pub found : List FunctionView
   pub once : IsEachOnce (functions image file) found
   pub shown : cover.path.now ≡ path
-  pub counted : cover.amounts ≡ totals_of counts found
+  pub counted : cover.totals ≡ totals_of counts found
   pub left : map named cover.never_run.items ≡ never_run counts found

@@ -12,8 +12,8 @@ use Rattle.rv_cover_view.specs.declared.image_cover.ImageCover.{ImageCover}
 -- the coverage of an image: a CSV row if the Bool is true, or else a line with its totals, and a line with the functions that never ran, if
 -- there are any
 abbrev pub image_text : Bool → ImageCover → List ℕ
-image_text true cover = csv_row cover.path.now cover.amounts
-image_text false cover = image_line cover.path.now cover.amounts ++ never_run_line (map named cover.never_run.items)
+image_text true cover = csv_row cover.path.now cover.totals
+image_text false cover = image_line cover.path.now cover.totals ++ never_run_line (map named cover.never_run.items)
 
 -- the header of the report: the CSV header if the Bool is true, or else the heading of a table for people
 abbrev pub header_text : Bool → List ℕ

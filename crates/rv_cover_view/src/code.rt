@@ -15,15 +15,15 @@ pub(crate) fn totals_of_code(address: u32, code: &[u8], counts: &[AddressCounts]
     requires { increase_from 0 counts.now ≡ true }
     ensures { result ≡ totals_of_codes counts.now (codes_from (length code.now) address code.now) }
 {
-    let mut amounts = CodeTotals::none();
+    let mut totals = CodeTotals::none();
     let mut rest = code;
     let mut address = address;
     while let Some(code) = first_code(rest) {
-        amounts = amounts.plus(totals_at(address, code, counts));
+        totals = totals.plus(totals_at(address, code, counts));
         address = address.wrapping_add(code_length(code));
         rest = bytes_after(rest, code);
     }
-    amounts
+    totals
 }
 
 // Returns the coverage of one encoding: each total is 0 or 1.

@@ -65,11 +65,11 @@ fn coverage_of_functions(functions: &[Function<'_>], counts: &[AddressCounts]) -
     requires few { code_bytes (map named functions.now) < 2 ^ 64 }
     ensures { result ≡ totals_of_codes counts.now (flat_map codes_of (map named functions.now)) }
 {
-    let mut amounts = CodeTotals::none();
+    let mut totals = CodeTotals::none();
     for function in functions {
-        amounts = amounts.plus(totals_of_code(function.address, function.code, counts));
+        totals = totals.plus(totals_of_code(function.address, function.code, counts));
     }
-    amounts
+    totals
 }
 
 // Whether an instruction was executed at one of a function's addresses.

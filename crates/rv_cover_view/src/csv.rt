@@ -24,63 +24,63 @@ pub fn push_csv_header(bytes: &mut Vec<u8>) -> Result<(), AllocError>
 pub fn push_csv_row(
     bytes: &mut Vec<u8>,
     path: &[u8],
-    amounts: &CoverageTotals,
+    totals: &CoverageTotals,
 ) -> Result<(), AllocError>
-    ensures { OnOk result (bytes.new.items ≡ bytes.old.items ++ csv_row path.now amounts.now) }
+    ensures { OnOk result (bytes.new.items ≡ bytes.old.items ++ csv_row path.now totals.now) }
 {
     push_csv_field(bytes, path)?;
-    push_csv_functions(bytes, amounts)?;
-    push_csv_instructions(bytes, &amounts.code)?;
-    push_csv_branches(bytes, &amounts.code)?;
+    push_csv_functions(bytes, totals)?;
+    push_csv_instructions(bytes, &totals.code)?;
+    push_csv_branches(bytes, &totals.code)?;
     push_text(bytes, "\n")
 }
 
 // Appends the fields for the numbers of functions.
 #[tactic(auto, unfolding(crate::specs::Csv::csv_functions))]
-fn push_csv_functions(bytes: &mut Vec<u8>, amounts: &CoverageTotals) -> Result<(), AllocError>
-    ensures { OnOk result (bytes.new.items ≡ bytes.old.items ++ csv_functions amounts.now) }
+fn push_csv_functions(bytes: &mut Vec<u8>, totals: &CoverageTotals) -> Result<(), AllocError>
+    ensures { OnOk result (bytes.new.items ≡ bytes.old.items ++ csv_functions totals.now) }
 {
     push_spans(
         bytes,
         &[
             Span::Text(","),
-            Span::Number(amounts.functions),
+            Span::Number(totals.functions),
             Span::Text(","),
-            Span::Number(amounts.functions_run),
+            Span::Number(totals.functions_run),
         ],
     )
 }
 
 // Appends the fields for the numbers of instructions.
 #[tactic(auto, unfolding(crate::specs::Csv::csv_instructions))]
-fn push_csv_instructions(bytes: &mut Vec<u8>, amounts: &CodeTotals) -> Result<(), AllocError>
-    ensures { OnOk result (bytes.new.items ≡ bytes.old.items ++ csv_instructions amounts.now) }
+fn push_csv_instructions(bytes: &mut Vec<u8>, totals: &CodeTotals) -> Result<(), AllocError>
+    ensures { OnOk result (bytes.new.items ≡ bytes.old.items ++ csv_instructions totals.now) }
 {
     push_spans(
         bytes,
         &[
             Span::Text(","),
-            Span::Number(amounts.instructions),
+            Span::Number(totals.instructions),
             Span::Text(","),
-            Span::Number(amounts.instructions_run),
+            Span::Number(totals.instructions_run),
         ],
     )
 }
 
 // Appends the fields for the numbers of conditional branches.
 #[tactic(auto, unfolding(crate::specs::Csv::csv_branches))]
-fn push_csv_branches(bytes: &mut Vec<u8>, amounts: &CodeTotals) -> Result<(), AllocError>
-    ensures { OnOk result (bytes.new.items ≡ bytes.old.items ++ csv_branches amounts.now) }
+fn push_csv_branches(bytes: &mut Vec<u8>, totals: &CodeTotals) -> Result<(), AllocError>
+    ensures { OnOk result (bytes.new.items ≡ bytes.old.items ++ csv_branches totals.now) }
 {
     push_spans(
         bytes,
         &[
             Span::Text(","),
-            Span::Number(amounts.branches_both_ways),
+            Span::Number(totals.branches_both_ways),
             Span::Text(","),
-            Span::Number(amounts.branches_one_way),
+            Span::Number(totals.branches_one_way),
             Span::Text(","),
-            Span::Number(amounts.branches_never),
+            Span::Number(totals.branches_never),
         ],
     )
 }

@@ -18,7 +18,7 @@ pub struct ImageCover<'a> {
     /// The path of the image, which is shown.
     pub path: &'a [u8],
     /// The totals of the image's functions, one for each address.
-    pub amounts: CoverageTotals,
+    pub totals: CoverageTotals,
     /// The functions that never ran, sorted by address.
     pub never_run: Vec<Function<'a>>,
 }
@@ -41,7 +41,7 @@ pub fn cover_of_image<'a>(
     let never_run = never_run(alloc, functions.as_slice(), counts)?;
     Ok(ImageCover {
         path,
-        amounts: cover_of_functions(functions.as_slice(), counts),
+        totals: cover_of_functions(functions.as_slice(), counts),
         never_run,
     })
 }

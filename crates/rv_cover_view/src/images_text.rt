@@ -71,8 +71,8 @@ fn push_image_cover(
     ensures { OnOk result (text.new.items ≡ text.old.items ++ image_text csv cover.now) }
 {
     if csv {
-        return push_csv_row(text, cover.path, &cover.amounts);
+        return push_csv_row(text, cover.path, &cover.totals);
     }
-    push_image_line(alloc, text, cover.path, &cover.amounts)?;
+    push_image_line(alloc, text, cover.path, &cover.totals)?;
     push_never_run_line(text, cover.never_run.as_slice())
 }

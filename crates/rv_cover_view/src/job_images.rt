@@ -26,8 +26,8 @@ pub fn images_of_jobs<'a>(
         ≡ images_of plan.now.answers (jobs_at plan.now places.now)) }
 {
     let mut files = Vec::new(alloc);
-    for place in places {
-        push_image_at(alloc, &mut files, plan, *place)?;
+    for index in places {
+        push_image_at(alloc, &mut files, plan, *index)?;
     }
     Ok(files)
 }
@@ -37,14 +37,14 @@ fn push_image_at<'a>(
     alloc: Global,
     files: &mut Vec<ImageFile<'a>>,
     plan: &'a Plan,
-    place: usize,
+    index: usize,
 ) -> Result<(), AllocError>
-    requires within { place < length plan.now.jobs }
+    requires within { index < length plan.now.jobs }
     requires small { AreSmall plan.now.answers }
     ensures { OnOk result ((d : AJob) → images_of_files files.new.items
-        ≡ with_image_of plan.now.answers (images_of_files files.old.items) (job_at plan.now place d)) }
+        ≡ with_image_of plan.now.answers (images_of_files files.old.items) (job_at plan.now index d)) }
 {
-    let found = image_at(alloc, plan, place)?;
+    let found = image_at(alloc, plan, index)?;
     match found {
         Some(file) => push_image(files, file),
         None => Ok(()),
@@ -70,16 +70,16 @@ fn has_bytes(files: &[ImageFile<'_>], bytes: &[u8]) -> bool
 }
 
 // Returns the image of the job at an index, or `None` if its file was not read or is not an image.
-fn image_at(alloc: Global, plan: &Plan, place: usize) -> Result<Option<ImageFile<'_>>, AllocError>
-    requires within { place < length plan.now.jobs }
+fn image_at(alloc: Global, plan: &Plan, index: usize) -> Result<Option<ImageFile<'_>>, AllocError>
+    requires within { index < length plan.now.jobs }
     requires small { AreSmall plan.now.answers }
     ensures { IfOk result (λ file. (d : AJob) → option_map image_of_file file
-        ≡ image_of_job plan.now.answers (job_at plan.now place d)) }
+        ≡ image_of_job plan.now.answers (job_at plan.now index d)) }
 {
-    let Some(bytes) = image_bytes(plan, place) else {
+    let Some(bytes) = image_bytes(plan, index) else {
         return Ok(None);
     };
-    let job = plan.job(place);
+    let job = plan.job(index);
     let Some(image) = image_of_bytes(alloc, job.isa, bytes)? else {
         return Ok(None);
     };

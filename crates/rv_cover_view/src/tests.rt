@@ -133,11 +133,11 @@ fn functions_are_counted(rt: HostRuntime) -> Result<(), Fail> {
             code: RETURN.as_slice(),
         },
     ];
-    let amounts = cover_of_functions(&functions, &COUNTS);
+    let totals = cover_of_functions(&functions, &COUNTS);
     let idle = never_run(alloc, &functions, &COUNTS)?;
     let mut text = Vec::new(alloc);
     push_cover_header(&mut text)?;
-    push_image_line(alloc, &mut text, b"build/a.elf".as_slice(), &amounts)?;
+    push_image_line(alloc, &mut text, b"build/a.elf".as_slice(), &totals)?;
     push_never_run_line(&mut text, idle.as_slice())?;
     push_never_run_line(&mut text, &[])?;
     if text.as_slice() != TEXT.as_bytes() {
@@ -155,7 +155,7 @@ build/a.elf,2,1,30,20,5,3,1
 // A CSV field that has a comma or a quote is put in quotes, and its own quotes are doubled.
 #[test]
 fn a_field_with_a_comma_or_a_quote_is_quoted(rt: HostRuntime) -> Result<(), Fail> {
-    let amounts = CoverageTotals {
+    let totals = CoverageTotals {
         functions: 2,
         functions_run: 1,
         code: CodeTotals {
@@ -168,8 +168,8 @@ fn a_field_with_a_comma_or_a_quote_is_quoted(rt: HostRuntime) -> Result<(), Fail
     };
     let mut text = Vec::new(rt.alloc());
     push_csv_header(&mut text)?;
-    push_csv_row(&mut text, b"build/a.elf".as_slice(), &amounts)?;
-    push_csv_row(&mut text, b"a \"b\", c.elf".as_slice(), &amounts)?;
+    push_csv_row(&mut text, b"build/a.elf".as_slice(), &totals)?;
+    push_csv_row(&mut text, b"a \"b\", c.elf".as_slice(), &totals)?;
     if text.as_slice() != CSV.as_bytes() {
         return Err("the rows".into());
     }

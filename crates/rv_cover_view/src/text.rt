@@ -26,12 +26,12 @@ pub fn push_image_line(
     alloc: Global,
     bytes: &mut Vec<u8>,
     path: &[u8],
-    amounts: &CoverageTotals,
+    totals: &CoverageTotals,
 ) -> Result<(), AllocError>
-    ensures { OnOk result (bytes.new.items ≡ bytes.old.items ++ image_line path.now amounts.now) }
+    ensures { OnOk result (bytes.new.items ≡ bytes.old.items ++ image_line path.now totals.now) }
 {
-    push_function_columns(alloc, bytes, amounts)?;
-    push_code_columns(alloc, bytes, &amounts.code)?;
+    push_function_columns(alloc, bytes, totals)?;
+    push_code_columns(alloc, bytes, &totals.code)?;
     push_spans(
         bytes,
         &[Span::Text("  "), Span::Printable(path), Span::Text("\n")],
@@ -69,13 +69,13 @@ fn push_further_names(bytes: &mut Vec<u8>, functions: &[Function<'_>]) -> Result
 fn push_function_columns(
     alloc: Global,
     bytes: &mut Vec<u8>,
-    amounts: &CoverageTotals,
+    totals: &CoverageTotals,
 ) -> Result<(), AllocError>
-    ensures { OnOk result (bytes.new.items ≡ bytes.old.items ++ function_columns amounts.now) }
+    ensures { OnOk result (bytes.new.items ≡ bytes.old.items ++ function_columns totals.now) }
 {
-    push_right_aligned(alloc, bytes, 6, amounts.functions_run)?;
+    push_right_aligned(alloc, bytes, 6, totals.functions_run)?;
     push_text(bytes, " of ")?;
-    push_right_aligned(alloc, bytes, 6, amounts.functions)
+    push_right_aligned(alloc, bytes, 6, totals.functions)
 }
 
 // Appends the columns for the numbers of instructions and of conditional branches.
@@ -83,16 +83,16 @@ fn push_function_columns(
 fn push_code_columns(
     alloc: Global,
     bytes: &mut Vec<u8>,
-    amounts: &CodeTotals,
+    totals: &CodeTotals,
 ) -> Result<(), AllocError>
-    ensures { OnOk result (bytes.new.items ≡ bytes.old.items ++ code_columns amounts.now) }
+    ensures { OnOk result (bytes.new.items ≡ bytes.old.items ++ code_columns totals.now) }
 {
-    push_right_aligned(alloc, bytes, 11, amounts.instructions_run)?;
+    push_right_aligned(alloc, bytes, 11, totals.instructions_run)?;
     push_text(bytes, " of ")?;
-    push_right_aligned(alloc, bytes, 9, amounts.instructions)?;
-    push_right_aligned(alloc, bytes, 20, amounts.branches_both_ways)?;
-    push_right_aligned(alloc, bytes, 10, amounts.branches_one_way)?;
-    push_right_aligned(alloc, bytes, 10, amounts.branches_never)
+    push_right_aligned(alloc, bytes, 9, totals.instructions)?;
+    push_right_aligned(alloc, bytes, 20, totals.branches_both_ways)?;
+    push_right_aligned(alloc, bytes, 10, totals.branches_one_way)?;
+    push_right_aligned(alloc, bytes, 10, totals.branches_never)
 }
 
 /// Appends a number, with leading spaces so that it fills `width` characters. A longer number widens the column.

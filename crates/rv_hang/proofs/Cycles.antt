@@ -38,7 +38,7 @@ all_used zero s h = refl
 all_used (suc n) s h = used_rest n s (step_of s) (λ t k. all_used n t k) h
 
 module _ (steps : ℕ) (s : State) (r : Repetition) (complete : (run_of steps s).steps ≡ steps)
-    (again : IsRepetition steps s r) where
+    (matching : IsRepetition steps s r) where
   within_steps : (k : ℕ) → k ≤ steps → (run_of k s).steps ≡ k
   within_steps k h = completes steps k s (omega arith)
 
@@ -46,15 +46,15 @@ module _ (steps : ℕ) (s : State) (r : Repetition) (complete : (run_of steps s)
   one_more : (n : ℕ) → (run_of (r.begin + n) s).steps ≡ r.begin + n
       → (run_of (r.begin + r.period + n) s).steps ≡ r.begin + r.period + n
   one_more n h =
-      let once = steps_more r.begin n s (within_steps r.begin (let w = again.within in omega arith)) in
-      let twice = steps_more (r.begin + r.period) n s (within_steps (r.begin + r.period) again.within) in
-      let same = ap (λ t. (run_of n t).steps) again.again in omega arith
+      let once = steps_more r.begin n s (within_steps r.begin (let w = matching.within in omega arith)) in
+      let twice = steps_more (r.begin + r.period) n s (within_steps (r.begin + r.period) matching.within) in
+      let same = ap (λ t. (run_of n t).steps) matching.matching in omega arith
 
   beyond : (budget : ℕ) → ((k : ℕ) → k < budget → (run_of k s).steps ≡ k) → (steps < budget) ⊎ (budget ≤ steps)
       → (run_of budget s).steps ≡ budget
   beyond budget rest (inr l) = within_steps budget l
   beyond budget rest (inl l) =
-      let w = again.within in let p = again.some in
+      let w = matching.within in let p = matching.some in
       let n = budget - (r.begin + r.period) in
       let sum : r.begin + r.period + n ≡ budget = omega arith in
       subst (λ (k : ℕ). (run_of k s).steps ≡ k) sum (one_more n (rest (r.begin + n) (omega arith)))
@@ -101,10 +101,10 @@ pub record IsBefore (values : HartValues) (p place : ℕ) (s : State) : Type 0 w
   pub has : has_values values (state_after p s) ≡ true
   pub quiet : HaveNoStops p place s
 
-pub record Known (values : HartValues) (begin place : ℕ) (s : State) (again : Option MatchingSteps) : Type 0 where
-  pub some : IfSome again (λ a. IsBefore values a.first place s × IsBefore values a.last place s × (a.first ≤ a.last)
+pub record Known (values : HartValues) (begin place : ℕ) (s : State) (matching : Option MatchingSteps) : Type 0 where
+  pub some : IfSome matching (λ a. IsBefore values a.first place s × IsBefore values a.last place s × (a.first ≤ a.last)
       × (begin ≤ a.first))
-  pub found : (p : ℕ) → begin ≤ p → IsBefore values p place s → is_some again ≡ true
+  pub found : (p : ℕ) → begin ≤ p → IsBefore values p place s → is_some matching ≡ true
 
 pub known_first : (values : HartValues) (begin : ℕ) (s : State) → Known values begin begin s None
 known_first values begin s = record {
@@ -148,9 +148,9 @@ module _ (values : HartValues) (begin place : ℕ) (s t : State) (here : t ≡ s
         (ap is_step_quiet here ∙ b.quiet place (let m = b.before in omega arith) (omega arith)));
   }
 
-  with_values : (again : Option MatchingSteps) → begin ≤ place → is_step_quiet t ≡ true → has_values values t ≡ true
-      → Known values begin place s again
-      → Known values begin (place + 1) s (Some (record { first = first_matching again place; last = place }))
+  with_values : (matching : Option MatchingSteps) → begin ≤ place → is_step_quiet t ≡ true → has_values values t ≡ true
+      → Known values begin place s matching
+      → Known values begin (place + 1) s (Some (record { first = first_matching matching place; last = place }))
   with_values None l q h known = record {
     some = (here_now q h, here_now q h, omega arith, l);
     found = λ p l b. refl;
@@ -165,10 +165,10 @@ module _ (values : HartValues) (begin place : ℕ) (s t : State) (here : t ≡ s
     found = λ p l b. refl;
   }
 
-  without_values : (again : Option MatchingSteps) → is_step_quiet t ≡ true → has_values values t ≡ false
-      → Known values begin place s again → Known values begin (place + 1) s again
-  without_values again q h known = record {
-    some = some again known.some;
+  without_values : (matching : Option MatchingSteps) → is_step_quiet t ≡ true → has_values values t ≡ false
+      → Known values begin place s matching → Known values begin (place + 1) s matching
+  without_values matching q h known = record {
+    some = some matching known.some;
     found = λ p l b. elim (order p place) [
       | inl less ↦ known.found p l (earlier p less b)
       | inr most ↦ let before = b.before in let same : p ≡ place = omega arith in
@@ -177,24 +177,24 @@ module _ (values : HartValues) (begin place : ℕ) (s t : State) (here : t ≡ s
     ];
   }
     where
-      some : (again : Option MatchingSteps)
-          → IfSome again (λ a. IsBefore values a.first place s × IsBefore values a.last place s × (a.first ≤ a.last)
+      some : (matching : Option MatchingSteps)
+          → IfSome matching (λ a. IsBefore values a.first place s × IsBefore values a.last place s × (a.first ≤ a.last)
           × (begin ≤ a.first))
-          → IfSome again (λ a. IsBefore values a.first (place + 1) s × IsBefore values a.last (place + 1) s
+          → IfSome matching (λ a. IsBefore values a.first (place + 1) s × IsBefore values a.last (place + 1) s
           × (a.first ≤ a.last) × (begin ≤ a.first))
       some None k = tt
       some (Some a) k = (later a.first q k.0, later a.last q k.1, k.2, k.3)
 
-  pub known_more : (again : Option MatchingSteps) → begin ≤ place → Known values begin place s again
-      → Known values begin (place + 1) s (matching_steps_after again place values t)
-  known_more again l known = by (is_step_quiet t) (has_values values t) refl refl
+  pub known_more : (matching : Option MatchingSteps) → begin ≤ place → Known values begin place s matching
+      → Known values begin (place + 1) s (matching_steps_after matching place values t)
+  known_more matching l known = by (is_step_quiet t) (has_values values t) refl refl
     where
       by : (q h : Bool) → is_step_quiet t ≡ q → has_values values t ≡ h
           → Known values begin (place + 1) s (cond q (cond h
-          (Some (record { first = first_matching again place; last = place })) again) None)
+          (Some (record { first = first_matching matching place; last = place })) matching) None)
       by false h e f = none_quiet e
-      by true true e f = with_values again l e f known
-      by true false e f = without_values again e f known
+      by true true e f = with_values matching l e f known
+      by true false e f = without_values matching e f known
 
 -- ---- the end
 
@@ -226,17 +226,17 @@ repetition_of values begin steps s a waits complete end known =
     record {
       some = omega arith;
       within = omega arith;
-      again = after_more a.first period s (completes steps a.first s (omega arith))
+      matching = after_more a.first period s (completes steps a.first s (omega arith))
           ∙ ap (state_after period) (same_first ∙ sym same_last)
           ∙ sym (after_more a.last period s (completes steps a.last s (omega arith)))
           ∙ ap (λ k. state_after k s) all ∙ sym same_first;
     }
 
 -- such a place is known
-pub is_known : (values : HartValues) (begin steps p : ℕ) (s : State) (again : Option MatchingSteps)
-    → has_values values (state_after steps s) ≡ true → Known values begin steps s again → begin ≤ p
-    → RepeatsAtEnd steps p s → is_some again ≡ true
-is_known values begin steps p s again end known l last =
+pub is_known : (values : HartValues) (begin steps p : ℕ) (s : State) (matching : Option MatchingSteps)
+    → has_values values (state_after steps s) ≡ true → Known values begin steps s matching → begin ≤ p
+    → RepeatsAtEnd steps p s → is_some matching ≡ true
+is_known values begin steps p s matching end known l last =
     let u = state_after p s in let v = state_after steps s in
     let there = and_parts (v.pc == values.pc) (bytes_eq v.registers values.registers) end in
     known.found p l (record {

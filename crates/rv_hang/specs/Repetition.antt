@@ -17,7 +17,7 @@ has_values values s = s.pc == values.pc && bytes_eq s.registers values.registers
 pub record IsRepetition (steps : ℕ) (s : State) (r : Repetition) : Type 0 where
   pub some : 0 < r.period
   pub within : r.begin + r.period ≤ steps
-  pub again : state_after (r.begin + r.period) s ≡ state_after r.begin s
+  pub matching : state_after (r.begin + r.period) s ≡ state_after r.begin s
 
 -- no step of the run from the state `s`, from step `place` up to step `end`, can change the bus
 abbrev pub HaveNoStops : ℕ → ℕ → State → Type 0
@@ -38,17 +38,17 @@ pub record IsWaitReported (steps : ℕ) (s : State) (r : Repetition) : Type 0 wh
 
 -- ---- a search in progress
 
--- the first step in `again`, or `place` if there is none
+-- the first step in `matching`, or `place` if there is none
 abbrev pub first_matching : Option MatchingSteps → ℕ → ℕ
 first_matching None place = place
-first_matching (Some again) place = again.first
+first_matching (Some matching) place = matching.first
 
 -- the first and the last step before which the hart has these values and after which no step can change the bus, or `None` if there is
 -- none; updated for step `place`, before which the state is `s`
 abbrev pub matching_steps_after : Option MatchingSteps → ℕ → HartValues → State → Option MatchingSteps
-matching_steps_after again place values s =
+matching_steps_after matching place values s =
     if is_step_quiet s then (if has_values values s
-    then Some (record { first = first_matching again place; last = place }) else again)
+    then Some (record { first = first_matching matching place; last = place }) else matching)
     else None
 
 -- the number of steps up to and including the last one that loads from the exhausted input script, updated for step `place`, before which

@@ -41,18 +41,18 @@ pub fn find_repetition(
     let mut ahead = machine;
     let begin = steps - steps.min(within);
     let _ = ahead.run(begin);
-    let mut again = None;
+    let mut matching = None;
     let mut waited = 0;
     for place in begin..steps {
-        again = matching_steps_at(again, &ahead, place, end);
+        matching = matching_steps_at(matching, &ahead, place, end);
         waited = waits_up_to(waited, &ahead, place);
         let _ = ahead.run(1);
     }
-    let again = again?;
+    let matching = matching?;
     Some(Repetition {
-        begin: again.first,
-        period: steps - again.last,
-        waits_for_input: waited > again.first,
+        begin: matching.first,
+        period: steps - matching.last,
+        waits_for_input: waited > matching.first,
     })
 }
 
@@ -64,17 +64,17 @@ struct MatchingSteps {
 }
 
 // Returns the first and the last step before which the hart has the values `end` and after which nothing can change the bus, or `None` if
-// there is none. `again` has these steps up to step `place`, and `machine` is the machine before this step.
-fn matching_steps_at(again: Option<MatchingSteps>, machine: &Machine, place: u32, end: &HartValues) -> Option<MatchingSteps>
-    ensures { result ≡ matching_steps_after again place end.now (state_of machine.now) }
+// there is none. `matching` has these steps up to step `place`, and `machine` is the machine before this step.
+fn matching_steps_at(matching: Option<MatchingSteps>, machine: &Machine, place: u32, end: &HartValues) -> Option<MatchingSteps>
+    ensures { result ≡ matching_steps_after matching place end.now (state_of machine.now) }
 {
     if !is_step_quiet(machine) {
         return None;
     }
     if !end.match_machine(machine) {
-        return again;
+        return matching;
     }
-    let first = again.map_or(place, |again| again.first);
+    let first = matching.map_or(place, |matching| matching.first);
     Some(MatchingSteps { first, last: place })
 }
 

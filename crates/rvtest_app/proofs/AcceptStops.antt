@@ -82,27 +82,27 @@ stop_of_put known words jobs list files why same each = ⊎_elim inl (⊎_elim (
 -- ---- by the claims of runs
 
 -- the targets of these claims are golden files of the list
-golden_paths : (jobs : List Job) (runs : List (Option JobRun)) (claims : List GoldenText) (targets : List Target)
-    → targets ≡ fold (with_target runs claims) [] claims → claims ≡ golden_texts_of_runs 0 jobs runs
+golden_paths : (jobs : List Job) (runs : List (Option JobRun)) (golden_texts : List GoldenText) (targets : List Target)
+    → targets ≡ fold (with_target runs golden_texts) [] golden_texts → golden_texts ≡ golden_texts_of_runs 0 jobs runs
     → All (λ (target : Target). IsGoldenPath jobs target.path) targets
-golden_paths jobs runs claims targets found are = rw (found, are) (targets_are_of_jobs jobs runs)
+golden_paths jobs runs golden_texts targets found are = rw (found, are) (targets_are_of_jobs jobs runs)
 
 pub targets_unread : (known : Option FileContents) (words : AcceptArgs) (jobs : List Job) (runs : List (Option JobRun))
-    (claims : List GoldenText) (targets : List Target) (why : Stop)
-    → targets ≡ fold (with_target runs claims) [] claims → claims ≡ golden_texts_of_runs 0 jobs runs
+    (golden_texts : List GoldenText) (targets : List Target) (why : Stop)
+    → targets ≡ fold (with_target runs golden_texts) [] golden_texts → golden_texts ≡ golden_texts_of_runs 0 jobs runs
     → IsTargetsUnreadStop known (optional_text words.run.root) targets why → IsGoldenUnreadStop known words jobs why
-targets_unread known words jobs runs claims targets why found are =
-    golden_of_targets known words jobs targets why (golden_paths jobs runs claims targets found are)
+targets_unread known words jobs runs golden_texts targets why found are =
+    golden_of_targets known words jobs targets why (golden_paths jobs runs golden_texts targets found are)
 
 pub files_unput : (known : Option FileContents) (words : AcceptArgs) (jobs : List Job) (list : List ℕ)
-    (runs : List (Option JobRun)) (claims : List GoldenText) (files : List GoldenFile) (why : Stop)
-    → list ≡ words.run.list.now → claims ≡ golden_texts_of_runs 0 jobs runs
-    → AreGoldenFiles known (optional_text words.run.root) (fold (with_target runs claims) [] claims) files
+    (runs : List (Option JobRun)) (golden_texts : List GoldenText) (files : List GoldenFile) (why : Stop)
+    → list ≡ words.run.list.now → golden_texts ≡ golden_texts_of_runs 0 jobs runs
+    → AreGoldenFiles known (optional_text words.run.root) (fold (with_target runs golden_texts) [] golden_texts) files
     → IsAcceptanceWriteStop known words.check list files why → IsAcceptingStop known words jobs why
-files_unput known words jobs list runs claims files why same are golden =
+files_unput known words jobs list runs golden_texts files why same are golden =
     stop_of_put known words jobs list files why same
-    (places_of_targets known (optional_text words.run.root) jobs (fold (with_target runs claims) [] claims) files golden
-    (golden_paths jobs runs claims (fold (with_target runs claims) [] claims) refl are))
+    (places_of_targets known (optional_text words.run.root) jobs (fold (with_target runs golden_texts) [] golden_texts) files golden
+    (golden_paths jobs runs golden_texts (fold (with_target runs golden_texts) [] golden_texts) refl are))
 
 -- what happened to a file of these happened in another sense
 pub files_stop : (P Q : List ℕ → Stop → Type 0) (list : List ℕ) (files : List GoldenFile) (why : Stop)

@@ -25,21 +25,21 @@ use Rattle.rvtest_app.specs.Accepts.{AreGoldenFiles, IsAcceptOutcome, IsAcceptSu
 
 -- of the file of the list, its text and its jobs
 pub outcome_told : (known : Option FileContents) (words : AcceptArgs) (list : ListFile) (judged : List (Option JobRun))
-    (claims : List GoldenText) (files : List GoldenFile) (new : NewList) (told : AcceptSummary)
+    (golden_texts : List GoldenText) (files : List GoldenFile) (new : NewList) (told : AcceptSummary)
     → list.path.now ≡ words.run.list.now → AreSkippedFrom judged new.runs.items
-    → claims ≡ golden_texts_of_runs 0 list.jobs.now new.runs.items
-    → AreGoldenFiles known (optional_text words.run.root) (fold (with_target new.runs.items claims) [] claims) files
+    → golden_texts ≡ golden_texts_of_runs 0 list.jobs.now new.runs.items
+    → AreGoldenFiles known (optional_text words.run.root) (fold (with_target new.runs.items golden_texts) [] golden_texts) files
     → IfSome new.text (λ text. (edits : List Edit) × (text.items ≡ edited_rest 0 list.text.now edits))
     → IfSome new.text (λ text. job_list_of text.items ≡ Ok (intended_jobs list.jobs.now new.runs.items))
     → (new.text ≡ None → intended_jobs list.jobs.now new.runs.items ≡ list.jobs.now)
-    → IsAcceptSummaryOf list new.runs.items claims files new told
+    → IsAcceptSummaryOf list new.runs.items golden_texts files new told
     → IsAcceptOutcome known words list.text.now list.jobs.now judged told
-outcome_told known words list judged claims files new told path left are golden edited meant unchanged of = record {
+outcome_told known words list judged golden_texts files new told path left are golden edited meant unchanged of = record {
   path = rw of.0 path;
   text = rw of.0 refl;
   listed = rw of.0 refl;
   runs = rw of.1 left;
-  claims = rw (of.2, of.1) are;
+  golden_texts = rw (of.2, of.1) are;
   files = rw (of.3, of.2, of.1) golden;
   edited = rw of.4 edited;
   intended = rw (of.4, of.1) meant;

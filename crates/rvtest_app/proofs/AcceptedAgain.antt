@@ -105,24 +105,24 @@ content_of store root answers path bytes are read holds =
 
 -- a file of those that are told is that of its target
 abbrev IsOf : Option (List ℕ) → List GoldenText → GoldenFile → Type 0
-IsOf root claims file = (file.resolved_path ≡ resolved_path root file.target.path)
-    × (file.target.outcome ≡ outcome_of_golden_file file.target.path claims)
+IsOf root golden_texts file = (file.resolved_path ≡ resolved_path root file.target.path)
+    × (file.target.outcome ≡ outcome_of_golden_file file.target.path golden_texts)
 
-match_machine : (before : FileContents) (root : Option (List ℕ)) (claims : List GoldenText) (targets : List Target)
+match_machine : (before : FileContents) (root : Option (List ℕ)) (golden_texts : List GoldenText) (targets : List Target)
     (files : List GoldenFile) → AreGoldenFiles (Some before) root targets files
-    → All (λ (target : Target). target.outcome ≡ outcome_of_golden_file target.path claims) targets → All (IsOf root claims) files
-match_machine before root claims [] [] are fates = All-nil (IsOf root claims)
-match_machine before root claims [] (file ∷ files) are fates = absurd are
-match_machine before root claims (target ∷ targets) [] are fates = absurd are
-match_machine before root claims (target ∷ targets) (file ∷ files) are fates =
+    → All (λ (target : Target). target.outcome ≡ outcome_of_golden_file target.path golden_texts) targets → All (IsOf root golden_texts) files
+match_machine before root golden_texts [] [] are fates = All-nil (IsOf root golden_texts)
+match_machine before root golden_texts [] (file ∷ files) are fates = absurd are
+match_machine before root golden_texts (target ∷ targets) [] are fates = absurd are
+match_machine before root golden_texts (target ∷ targets) (file ∷ files) are fates =
     let of = are.0.of in
-    All-cons (IsOf root claims) file files (
+    All-cons (IsOf root golden_texts) file files (
       rw of are.0.leads,
-      rw of (All-head (λ (target : Target). target.outcome ≡ outcome_of_golden_file target.path claims) target targets
+      rw of (All-head (λ (target : Target). target.outcome ≡ outcome_of_golden_file target.path golden_texts) target targets
           fates),
     )
-    (match_machine before root claims targets files are.1
-    (All-tail (λ (target : Target). target.outcome ≡ outcome_of_golden_file target.path claims) target targets fates))
+    (match_machine before root golden_texts targets files are.1
+    (All-tail (λ (target : Target). target.outcome ≡ outcome_of_golden_file target.path golden_texts) target targets fates))
 
 -- where a file is a target, it is told
 is_told : (before : FileContents) (root : Option (List ℕ)) (path : List ℕ) (targets : List Target)
@@ -191,14 +191,14 @@ module _ (words : AcceptArgs) (before after : FileContents) (bytes : List ℕ) (
   abbrev root : Option (List ℕ)
   root = optional_text words.run.root
 
-  abbrev claims : List GoldenText
-  claims = golden_texts_of_runs 0 jobs told.runs.now
+  abbrev golden_texts : List GoldenText
+  golden_texts = golden_texts_of_runs 0 jobs told.runs.now
 
   abbrev targets : List Target
-  targets = fold (with_target told.runs.now claims) [] claims
+  targets = fold (with_target told.runs.now golden_texts) [] golden_texts
 
   files_are : AreGoldenFiles (Some before) root targets told.files.now
-  files_are = rw outcome.claims at outcome.files
+  files_are = rw outcome.golden_texts at outcome.files
 
   files_stood : All (λ (file : GoldenFile). before file.resolved_path ≡ file.old) told.files.now
   files_stood = stood before root targets told.files.now files_are
@@ -232,8 +232,8 @@ module _ (words : AcceptArgs) (before after : FileContents) (bytes : List ℕ) (
 
   -- a golden file that an accepted job names, and that is not left, holds what the job gives it
   golden_text : (job : Job) (path text : List ℕ) → names_golden_file path job ≡ true → has_target path targets ≡ true
-      → (outcome_of_golden_file path claims ≡ fate.Unclaimed → outcome_of_golden_file path claims ≡ fate.Agreed text)
-      → ((other : List ℕ) → outcome_of_golden_file path claims ≡ fate.Agreed other → other ≡ text)
+      → (outcome_of_golden_file path golden_texts ≡ fate.Unclaimed → outcome_of_golden_file path golden_texts ≡ fate.Agreed text)
+      → ((other : List ℕ) → outcome_of_golden_file path golden_texts ≡ fate.Agreed other → other ≡ text)
       → All (λ (file : GoldenFile). names_golden_file file.target.path job ≡ true → is_skipped told.list file ≡ false)
       told.files.now → after (resolved_path root path) ≡ Some text
   golden_text job path text names target unclaimed_is agreed_is left =
@@ -246,13 +246,13 @@ module _ (words : AcceptArgs) (before after : FileContents) (bytes : List ℕ) (
       each = λ k d below is.
           let file : GoldenFile = get_or told.files.now k d in
           let same : path ≡ file.target.path = (bytes_eq-Decides path file.target.path).0 is in
-          let of = match_machine before root claims targets told.files.now files_are
-          (targets_have_fates told.runs.now claims claims []
-          (All-nil (λ (target : Target). target.outcome ≡ outcome_of_golden_file target.path claims))) k d below in
+          let of = match_machine before root golden_texts targets told.files.now files_are
+          (targets_have_fates told.runs.now golden_texts golden_texts []
+          (All-nil (λ (target : Target). target.outcome ≡ outcome_of_golden_file target.path golden_texts))) k d below in
           let kept = left k d below (rw same at names) in
-          let fate_is : outcome_of_golden_file path claims ≡ file.target.outcome =
-          ap (λ path. outcome_of_golden_file path claims) same ∙ sym of.1 in
-          let agrees : file.target.outcome ≡ fate.Agreed text = sym fate_is ∙ agreed_fate text (outcome_of_golden_file path claims)
+          let fate_is : outcome_of_golden_file path golden_texts ≡ file.target.outcome =
+          ap (λ path. outcome_of_golden_file path golden_texts) same ∙ sym of.1 in
+          let agrees : file.target.outcome ≡ fate.Agreed text = sym fate_is ∙ agreed_fate text (outcome_of_golden_file path golden_texts)
           (is_protected told.list file) (rw fate_is kept) unclaimed_is agreed_is in
           let there = golden_files_there told before after store list_stood files_stood alike k d below text agrees kept in
           rw same (subst (λ place. after place ≡ Some text) of.0 there)
@@ -268,10 +268,10 @@ module _ (words : AcceptArgs) (before after : FileContents) (bytes : List ℕ) (
         (console_is_target place jobs told.runs.now job run path at ran accepted named)
         (λ none. true_or_false (bytes_eq path path) (same_bytes path)
         (console_claim_among (λ (claim : GoldenText). is_for_file path claim ≡ false) place jobs told.runs.now job run path
-        (unclaimed path claims none) at ran accepted named))
+        (unclaimed path golden_texts none) at ran accepted named))
         (λ other is. some_same other run.row.console (sym
         (console_claim_among (λ (claim : GoldenText). is_for_file path claim ≡ true → claim.text ≡ Some other) place jobs told.runs.now
-        job run path (agreed path other claims is) at ran accepted named (same_bytes path))))
+        job run path (agreed path other golden_texts is) at ran accepted named (same_bytes path))))
         left
 
     signature_there : (path : List ℕ) → job.expect_signature ≡ Some path
@@ -281,10 +281,10 @@ module _ (words : AcceptArgs) (before after : FileContents) (bytes : List ℕ) (
         (signature_is_target place jobs told.runs.now job run path at ran accepted named)
         (λ none. true_or_false (bytes_eq path path) (same_bytes path)
         (signature_claim_among (λ (claim : GoldenText). is_for_file path claim ≡ false) place jobs told.runs.now job run path
-        (unclaimed path claims none) at ran accepted named))
+        (unclaimed path golden_texts none) at ran accepted named))
         (λ other is. some_same other (lines_of_signature run.row.signature) (sym
         (signature_claim_among (λ (claim : GoldenText). is_for_file path claim ≡ true → claim.text ≡ Some other) place jobs
-        told.runs.now job run path (agreed path other claims is) at ran accepted named (same_bytes path))))
+        told.runs.now job run path (agreed path other golden_texts is) at ran accepted named (same_bytes path))))
         left
 
     -- an image that ran is as it was

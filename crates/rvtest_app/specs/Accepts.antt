@@ -121,10 +121,10 @@ pub record IsAcceptOutcome (known : Option FileContents) (words : AcceptArgs) (b
   -- runs that are accepted in `judged` may be skipped in the summary, but not the other way round
   pub runs : AreSkippedFrom judged told.runs.now
   -- the text that each accepted or skipped run gives to each golden file of its job
-  pub claims : told.claims.now ≡ golden_texts_of_runs 0 jobs told.runs.now
+  pub golden_texts : told.golden_texts.now ≡ golden_texts_of_runs 0 jobs told.runs.now
   -- the golden files of the accepted jobs, with their old contents
   pub files : AreGoldenFiles known (optional_text words.run.root)
-      (fold (with_target told.runs.now told.claims.now) [] told.claims.now) told.files.now
+      (fold (with_target told.runs.now told.golden_texts.now) [] told.golden_texts.now) told.files.now
   -- a new list is the old one with some edits
   pub edited : IfSome told.new.now.text (λ text. (edits : List Edit) × (text.items ≡ edited_rest 0 bytes edits))
   -- a new list parses as the intended jobs
@@ -146,15 +146,15 @@ IsAcceptanceWritten false told status before after =
 
 -- the summary consists of this list, these runs, golden texts and golden files, and this new list
 abbrev pub IsAcceptSummaryOf : ListFile → List (Option JobRun) → List GoldenText → List GoldenFile → NewList → AcceptSummary → Type 0
-IsAcceptSummaryOf list runs claims files new told = (told.list ≡ list) × (told.runs.now ≡ runs) × (told.claims.now ≡ claims)
+IsAcceptSummaryOf list runs golden_texts files new told = (told.list ≡ list) × (told.runs.now ≡ runs) × (told.golden_texts.now ≡ golden_texts)
     × (told.files.now ≡ files) × (told.new.now ≡ new)
 
 -- the summary that consists of this list, these runs, golden texts and golden files, and this new list was written; with `check`, no file
 -- was
-pub record IsOutcomeWritten (check : Bool) (list : ListFile) (runs : List (Option JobRun)) (claims : List GoldenText)
+pub record IsOutcomeWritten (check : Bool) (list : ListFile) (runs : List (Option JobRun)) (golden_texts : List GoldenText)
     (files : List GoldenFile) (new : NewList) (status : ℕ) (before after : CommandOutputs) : Type 0 where
   pub told : AcceptSummary
-  pub of : IsAcceptSummaryOf list runs claims files new told
+  pub of : IsAcceptSummaryOf list runs golden_texts files new told
   pub put : IsAcceptanceWritten check told status before after
 
 -- only a message about golden files outside of the directory was output, to standard error; the message is empty if the outputs report the

@@ -72,7 +72,7 @@ struct BareJobs {
 // What the runs of the jobs change: the texts for golden files, the golden files, and the new list.
 #[derive(Drop)]
 struct Outcomes {
-    claims: Vec<GoldenText>,
+    golden_texts: Vec<GoldenText>,
     files: Vec<GoldenFile>,
     new: NewList,
 }
@@ -305,11 +305,11 @@ fn changes_of_runs<R, D: Inputs>(
     runs: Vec<Option<JobRun>>,
 ) -> Result<Outcomes, Stop>
     ensures runs { IfOk result (λ outcomes. AreSkippedFrom runs.items outcomes.new.runs.items) }
-    ensures claims { IfOk result (λ outcomes. outcomes.claims.items
+    ensures golden_texts { IfOk result (λ outcomes. outcomes.golden_texts.items
         ≡ golden_texts_of_runs 0 list.now.jobs.now outcomes.new.runs.items) }
     ensures files { IfOk result (λ outcomes. AreGoldenFiles (D.contents host.now.inputs.now)
         (optional_text args.now.run.root)
-        (fold (with_target outcomes.new.runs.items outcomes.claims.items) [] outcomes.claims.items) outcomes.files.items) }
+        (fold (with_target outcomes.new.runs.items outcomes.golden_texts.items) [] outcomes.golden_texts.items) outcomes.files.items) }
     ensures edited { IfOk result (λ outcomes. IfSome outcomes.new.text
         (λ new. (edits : List AnEdit) × (new.items ≡ edited_rest 0 list.now.text.now edits))) }
     ensures meant { IfOk result (λ outcomes. IfSome outcomes.new.text
@@ -321,10 +321,10 @@ fn changes_of_runs<R, D: Inputs>(
 {
     let alloc = host.alloc;
     let new = accept_values(alloc, list.text, list.jobs, runs)?;
-    let claims = golden_texts_of_runs(alloc, list.jobs, new.runs.as_slice())?;
-    let targets = targets_of(alloc, new.runs.as_slice(), claims.as_slice())?;
+    let golden_texts = golden_texts_of_runs(alloc, list.jobs, new.runs.as_slice())?;
+    let targets = targets_of(alloc, new.runs.as_slice(), golden_texts.as_slice())?;
     let files = read_golden_files(host.inputs, alloc, args.run.root, targets)?;
-    Ok(Outcomes { claims, files, new })
+    Ok(Outcomes { golden_texts, files, new })
 }
 
 // Writes the lines about all changes and, unless `--check` is given, the changed files. Returns the exit status.
@@ -338,7 +338,7 @@ fn write_accepted<'x, R, D: Inputs, F: Outputs + Drop, O: Sink + Drop, E: Sink +
     ensures low { IfOk result (λ status. status ≤ 1) }
     ensures unwritten { args.now.check ≡ true → to.new.files ≡ to.old.files }
     ensures put { IfOk result (λ status. IsOutcomeWritten args.now.check list.now outcomes.now.new.runs.items
-        outcomes.now.claims.items outcomes.now.files.items outcomes.now.new status
+        outcomes.now.golden_texts.items outcomes.now.files.items outcomes.now.new status
         (outputs_of F.placed O.accepted E.accepted E.failure_count to.old) (outputs_of F.placed O.accepted E.accepted E.failure_count to.new)) }
     ensures stopped { IfErr result (IsAcceptanceWriteStop (D.contents host.now.inputs.now) args.now.check
         list.now.path.now outcomes.now.files.items) }
@@ -346,7 +346,7 @@ fn write_accepted<'x, R, D: Inputs, F: Outputs + Drop, O: Sink + Drop, E: Sink +
     let accepting = AcceptSummary {
         list: *list,
         runs: outcomes.new.runs.as_slice(),
-        claims: outcomes.claims.as_slice(),
+        golden_texts: outcomes.golden_texts.as_slice(),
         files: outcomes.files.as_slice(),
         new: &outcomes.new,
     };

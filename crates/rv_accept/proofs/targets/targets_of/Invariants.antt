@@ -3,4 +3,4 @@ use Rattle.rv_accept.specs.Targets.{with_target}
 use Rattle.rv_accept.proofs.targets.targets_of.Given as goal
 
 abbrev pub invariant-loop-claim : goal.invariant-loop-claim
-invariant-loop-claim l = l.targets.items ≡ fold (with_target l.runs l.claims) [] (take l.claim-index l.claims)
+invariant-loop-claim l = l.targets.items ≡ fold (with_target l.runs l.golden_texts) [] (take l.claim-index l.golden_texts)

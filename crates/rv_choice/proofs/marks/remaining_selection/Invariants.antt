@@ -3,8 +3,8 @@ use Rattle.regex.specs.Strings.{matcher_pattern, regex_pattern}
 use Rattle.rv_choice.specs.Choice.{remaining_selection}
 use Rattle.rv_choice.proofs.marks.remaining_selection.Given as goal
 
-abbrev pub invariant-loop-place : goal.invariant-loop-place
-invariant-loop-place l = record {
-  left : l.left.items ≡ remaining_selection (regex_pattern l.excluded) (take l.place l.jobs) (take l.place l.marks);
+abbrev pub invariant-loop-index : goal.invariant-loop-index
+invariant-loop-index l = record {
+  left : l.left.items ≡ remaining_selection (regex_pattern l.excluded) (take l.index l.jobs) (take l.index l.marks);
   matcher : matcher_pattern l.matcher ≡ regex_pattern l.excluded;
 }

@@ -4,31 +4,31 @@ use Rattle.rv_choice.specs.Choice.{is_chosen_name, selection_by_criteria, patter
 use Rattle.rv_expect.specs.declared_job.Job.{Job}
 use Rattle.rv_choice.proofs.marks.selection_by_criteria.Goals as goal
 
-pub loop-place-init : goal.loop-place-init
+pub loop-index-init : goal.loop-index-init
 unfolding selection_by_criteria
-loop-place-init c = record { marks = c.new-marks.ensures.items; matcher = c.in_ok-matcher.ensures }
+loop-index-init c = record { marks = c.new-marks.ensures.items; matcher = c.in_ok-matcher.ensures }
 
-pub loop-place-preserved : goal.loop-place-preserved
+pub loop-index-preserved : goal.loop-index-preserved
 unfolding selection_by_criteria
-loop-place-preserved c =
+loop-index-preserved c =
     let wanted = c.args.wanted in
     let is = λ (job : Job). is_chosen_name (optional_names wanted.only) (pattern_of wanted.pattern)
     (optional_names wanted.failed) job.name in
     let jobs = c.args.jobs.now in
-    let place = c.loop-place.place in
-    let job = c.index-jobs-place.result in
+    let index = c.loop-index.index in
+    let job = c.index-jobs-index.result in
     record {
       marks = c.in_ok-push.ensures.items
-          ∙ ap (λ (marks : List Bool). marks ++ c.is_chosen_name.result ∷ []) c.loop-place.invariant.marks
-          ∙ ap (λ (mark : Bool). map is (take place jobs) ++ mark ∷ [])
+          ∙ ap (λ (marks : List Bool). marks ++ c.is_chosen_name.result ∷ []) c.loop-index.invariant.marks
+          ∙ ap (λ (mark : Bool). map is (take index jobs) ++ mark ∷ [])
           (c.is_chosen_name.ensures.chosen ∙ ap (λ (name : List ℕ). is_chosen_name (optional_names wanted.only)
           (pattern_of wanted.pattern) (optional_names wanted.failed) name) c.as_str.ensures)
-          ∙ sym (map_more is jobs place job (omega arith));
-      matcher = c.is_chosen_name.ensures.same ∙ c.loop-place.invariant.matcher;
+          ∙ sym (map_more is jobs index job (omega arith));
+      matcher = c.is_chosen_name.ensures.same ∙ c.loop-index.invariant.matcher;
     }
 
 pub returns : goal.returns
 returns c =
     let wanted = c.args.wanted in
-    c.loop-place.invariant.marks ∙ ap (selection_by_criteria (optional_names wanted.only) (pattern_of wanted.pattern)
-    (optional_names wanted.failed)) (take_all c.loop-place.place c.args.jobs.now (omega arith))
+    c.loop-index.invariant.marks ∙ ap (selection_by_criteria (optional_names wanted.only) (pattern_of wanted.pattern)
+    (optional_names wanted.failed)) (take_all c.loop-index.index c.args.jobs.now (omega arith))

@@ -13,7 +13,7 @@ steps-init c =
     let s = state_of c.args.machine in
     let none : n - n ≡ 0 = omega arith in record {
       within = omega arith;
-      counting = subst (λ k. IsCountingFrom (counts_of old) old.codes.generation n k s s old) (sym none) (
+      counting = subst (λ k. IsCountingFrom (counts_of old) old.cache.generation n k s s old) (sym none) (
           record {
             so_far = none_so_far (counts_of old) n s c.requires.tallied;
             indexed = c.requires.indexed;
@@ -27,28 +27,28 @@ pub find_block-block-requires : goal.find_block-block-requires
 find_block-block-requires c =
     let n = c.args.budget in
     let old = c.args.counter.now in
-    ready_on (counts_of old) old.codes.generation n (n - c.steps.left) (state_of c.args.machine) (state_of c.steps.machine) c.steps.counter
+    ready_on (counts_of old) old.cache.generation n (n - c.steps.left) (state_of c.args.machine) (state_of c.steps.machine) c.steps.counter
     c.ranges.budget.fits c.requires.few c.requires.generations c.steps.invariant.counting
 
 pub step_uncached-requires : goal.step_uncached-requires
 step_uncached-requires c =
     let n = c.args.budget in
     let old = c.args.counter.now in
-    ready_on (counts_of old) old.codes.generation n (n - c.steps.left) (state_of c.args.machine) (state_of c.steps.machine) c.steps.counter
+    ready_on (counts_of old) old.cache.generation n (n - c.steps.left) (state_of c.args.machine) (state_of c.steps.machine) c.steps.counter
     c.ranges.budget.fits c.requires.few c.requires.generations c.steps.invariant.counting
 
 pub run_block-requires-clause-ready : goal.run_block-requires-clause-ready
 run_block-requires-clause-ready c =
     let n = c.args.budget in
     let old = c.args.counter.now in
-    ready_on (counts_of old) old.codes.generation n (n - c.steps.left) (state_of c.args.machine) (state_of c.steps.machine) c.steps.counter
+    ready_on (counts_of old) old.cache.generation n (n - c.steps.left) (state_of c.args.machine) (state_of c.steps.machine) c.steps.counter
     c.ranges.budget.fits c.requires.few c.requires.generations c.steps.invariant.counting
 
 pub steps-preserved-then-block-eq0 : goal.steps-preserved-then-block-eq0
 steps-preserved-then-block-eq0 c =
     let n = c.args.budget in
     let old = c.args.counter.now in
-    let g = old.codes.generation in
+    let g = old.cache.generation in
     let left = c.steps.left in
     let start = state_of c.args.machine in
     let w = c.steps.invariant.within in
@@ -64,7 +64,7 @@ pub steps-preserved : goal.steps-preserved
 steps-preserved c =
     let n = c.args.budget in
     let old = c.args.counter.now in
-    let g = old.codes.generation in
+    let g = old.cache.generation in
     let left = c.steps.left in
     let k = c.find_block-block.result.steps in
     let start = state_of c.args.machine in
@@ -84,7 +84,7 @@ returns-then-not-branch c =
     let left = c.steps.left in
     let w = c.steps.invariant.within in
     let some = c.steps-test.true in
-    c.in_ok-step_uncached.ensures.counted.ended c.if-not-branch.true (counts_of old) old.codes.generation n (n - left)
+    c.in_ok-step_uncached.ensures.counted.ended c.if-not-branch.true (counts_of old) old.cache.generation n (n - left)
     (state_of c.args.machine) (omega (arith, w, some)) c.steps.invariant.counting
 
 pub returns-then-branch-block : goal.returns-then-branch-block
@@ -94,7 +94,7 @@ returns-then-branch-block c =
     let left = c.steps.left in
     let w = c.steps.invariant.within in
     let few = c.find_block-block.ensures.few in
-    c.in_ok-run_block.ensures.counted.ended (unequal_tests _ _ c.if-branch-block.true) (counts_of old) old.codes.generation n (n - left)
+    c.in_ok-run_block.ensures.counted.ended (unequal_tests _ _ c.if-branch-block.true) (counts_of old) old.cache.generation n (n - left)
     (state_of c.args.machine) (omega (arith, w, few)) c.steps.invariant.counting
 
 pub returns : goal.returns
@@ -104,5 +104,5 @@ returns c =
     let left = c.steps.left in
     let w = c.steps.invariant.within in
     let over = c.steps-test.false in
-    counted_all_on (counts_of old) old.codes.generation n (n - left) (state_of c.args.machine) (state_of c.steps.machine) c.steps.counter
+    counted_all_on (counts_of old) old.cache.generation n (n - left) (state_of c.args.machine) (state_of c.steps.machine) c.steps.counter
     (omega (arith, w, over)) c.steps.invariant.counting

@@ -7,7 +7,7 @@ use Rattle.rv_counting.proofs.count.follow_run.Given as goal
 abbrev pub invariant-steps : goal.invariant-steps
 invariant-steps l = record {
   within : l.left ≤ l.budget;
-  counting : IsCountingFrom (counts_of l.fn.counter) l.fn.counter.codes.generation l.budget (l.budget - l.left) (state_of l.initial.machine)
+  counting : IsCountingFrom (counts_of l.fn.counter) l.fn.counter.cache.generation l.budget (l.budget - l.left) (state_of l.initial.machine)
       (state_of l.machine) l.counter;
 }
 

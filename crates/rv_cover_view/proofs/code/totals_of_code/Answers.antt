@@ -9,11 +9,11 @@ use Rattle.rv_cover_view.proofs.Parts.{plus_none}
 use Rattle.rv_cover_view.proofs.Summing.{one_code_fits, one_code_more}
 use Rattle.rv_cover_view.proofs.code.totals_of_code.Goals as goal
 
-pub plus-amounts-requires : goal.plus-amounts-requires
-plus-amounts-requires c =
+pub plus-totals-requires : goal.plus-totals-requires
+plus-totals-requires c =
     let few : length c.args.code.now < 2 ^ 64 = search in
     one_code_fits c.args.counts.now c.loop-code.address c.loop-code.rest.now c.in-Some.code (length c.args.code.now) c.args.address
-    c.args.code.now c.loop-code.amounts c.totals_at.result few (sym c.first_code.ensures ∙ c.in-Some.is)
+    c.args.code.now c.loop-code.totals c.totals_at.result few (sym c.first_code.ensures ∙ c.in-Some.is)
     c.loop-code.invariant c.totals_at.ensures
 
 pub bytes_after-rest-requires : goal.bytes_after-rest-requires
@@ -29,13 +29,13 @@ loop-code-smaller c =
 
 pub loop-code-preserved : goal.loop-code-preserved
 loop-code-preserved c =
-    let more = one_code_more c.args.counts.now c.loop-code.address c.loop-code.rest.now c.in-Some.code c.loop-code.amounts
+    let more = one_code_more c.args.counts.now c.loop-code.address c.loop-code.rest.now c.in-Some.code c.loop-code.totals
     c.totals_at.result _ (sym c.first_code.ensures ∙ c.in-Some.is) c.loop-code.invariant c.totals_at.ensures in
-    rw c.plus-amounts.ensures (rw c.bytes_after-rest.ensures (rw c.code_length-address.ensures more))
+    rw c.plus-totals.ensures (rw c.bytes_after-rest.ensures (rw c.code_length-address.ensures more))
 
 pub returns : goal.returns
 returns c =
     let none = no_codes (length c.loop-code.rest.now) c.loop-code.address c.loop-code.rest.now (sym c.first_code.ensures ∙ c.in_default.is) in
-    sym (plus_none c.loop-code.amounts)
-    ∙ ap (λ ps. plus c.loop-code.amounts (totals_of_codes c.args.counts.now ps)) (sym none)
+    sym (plus_none c.loop-code.totals)
+    ∙ ap (λ ps. plus c.loop-code.totals (totals_of_codes c.args.counts.now ps)) (sym none)
     ∙ c.loop-code.invariant

@@ -7,4 +7,4 @@ use Rattle.rv_cover_view.specs.Functions.{named}
 use Rattle.rv_cover_view.proofs.cover.coverage_of_functions.Given as goal
 
 abbrev pub invariant-loop-function : goal.invariant-loop-function
-invariant-loop-function l = l.amounts ≡ totals_of_codes l.counts (flat_map codes_of (map named (take l.function-index l.functions)))
+invariant-loop-function l = l.totals ≡ totals_of_codes l.counts (flat_map codes_of (map named (take l.function-index l.functions)))

@@ -4,7 +4,7 @@ use Rattle.rv_cover_view.proofs.job_images.image_at.Goals as goal
 
 pub invariant_of-result : goal.invariant_of-result
 invariant_of-result c =
-    let job = slice_index_or c.args.plan.now.jobs c.args.place c.job-job.result.now in
+    let job = slice_index_or c.args.plan.now.jobs c.args.index c.job-job.result.now in
     record {
       read = rw c.in-Some-2.is at c.in_ok-image.ensures.read;
       small = small_here c.args.plan.now.answers job c.in-Some.bytes.now c.requires.small

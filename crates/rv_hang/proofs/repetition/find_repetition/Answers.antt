@@ -23,50 +23,50 @@ loop-place-preserved c =
     let begin = c.args.steps - c.min.result in
     let complete = c.requires.complete in
     let reached = c.loop-place.invariant.reached in
-    let known = known_more c.args.end.now begin place s (state_of c.loop-place.ahead) reached c.loop-place.again
+    let known = known_more c.args.end.now begin place s (state_of c.loop-place.ahead) reached c.loop-place.matching
     (omega arith) c.loop-place.invariant.known in
     let waited = waited_more begin place s (state_of c.loop-place.ahead) reached c.loop-place.waited
     c.loop-place.invariant.waited in
     record {
       reached = sym (ap (λ r. r.state) c.run-in-loop-place.ensures) ∙ ap (state_after 1) reached
           ∙ sym (after_more place 1 s (completes c.args.steps place s (omega arith)));
-      known = subst (λ (a : Option MatchingSteps). Known c.args.end.now begin (place + 1) s a) (sym c.matching_steps_at-again.ensures) known;
+      known = subst (λ (a : Option MatchingSteps). Known c.args.end.now begin (place + 1) s a) (sym c.matching_steps_at-matching.ensures) known;
       waited = subst (λ (w : ℕ). Waited begin (place + 1) s w) (sym c.waits_up_to-waited.ensures) waited;
     }
 
-pub returns-in_err-again-clause-found : goal.returns-in_err-again-clause-found
-returns-in_err-again-clause-found c = λ place l last.
+pub returns-in_err-matching-clause-found : goal.returns-in_err-matching-clause-found
+returns-in_err-matching-clause-found c = λ place l last.
     let s = state_of c.args.machine in
     let end : c.loop-place.place ≡ c.args.steps = omega arith in
-    let known = subst (λ (k : ℕ). Known c.args.end.now (c.args.steps - c.min.result) k s c.loop-place.again) end
+    let known = subst (λ (k : ℕ). Known c.args.end.now (c.args.steps - c.min.result) k s c.loop-place.matching) end
     c.loop-place.invariant.known in
-    let some = is_known c.args.end.now (c.args.steps - c.min.result) c.args.steps place s c.loop-place.again
+    let some = is_known c.args.end.now (c.args.steps - c.min.result) c.args.steps place s c.loop-place.matching
     c.requires.end known (omega (arith, c.min.ensures)) last in
-    absurd (both_ways (is_some c.loop-place.again) (ap is_some c.in_err-again.was) some)
+    absurd (both_ways (is_some c.loop-place.matching) (ap is_some c.in_err-matching.was) some)
 
 pub returns-clause-repetition : goal.returns-clause-repetition
 returns-clause-repetition c =
     let s = state_of c.args.machine in
     let end : c.loop-place.place ≡ c.args.steps = omega arith in
-    let known = subst (λ (k : ℕ). Known c.args.end.now (c.args.steps - c.min.result) k s c.loop-place.again) end
+    let known = subst (λ (k : ℕ). Known c.args.end.now (c.args.steps - c.min.result) k s c.loop-place.matching) end
     c.loop-place.invariant.known in
-    repetition_of c.args.end.now (c.args.steps - c.min.result) c.args.steps s c.in_ok-again.again
-    (ltb c.in_ok-again.again.first c.loop-place.waited) c.requires.complete
+    repetition_of c.args.end.now (c.args.steps - c.min.result) c.args.steps s c.in_ok-matching.matching
+    (ltb c.in_ok-matching.matching.first c.loop-place.waited) c.requires.complete
     c.requires.end (subst (λ (a : Option MatchingSteps). Known c.args.end.now (c.args.steps - c.min.result) c.args.steps s a)
-    c.in_ok-again.was known)
+    c.in_ok-matching.was known)
 
 pub returns-clause-waits : goal.returns-clause-waits
 returns-clause-waits c =
     let s = state_of c.args.machine in
     let begin = c.args.steps - c.min.result in
     let end : c.loop-place.place ≡ c.args.steps = omega arith in
-    let known = subst (λ (a : Option MatchingSteps). Known c.args.end.now begin c.loop-place.place s a) c.in_ok-again.was
+    let known = subst (λ (a : Option MatchingSteps). Known c.args.end.now begin c.loop-place.place s a) c.in_ok-matching.was
     c.loop-place.invariant.known in
-    wait_told begin c.args.steps c.in_ok-again.again.first (c.args.steps - c.in_ok-again.again.last) c.loop-place.waited s
+    wait_told begin c.args.steps c.in_ok-matching.matching.first (c.args.steps - c.in_ok-matching.matching.last) c.loop-place.waited s
     known.some.3 (subst (λ (k : ℕ). Waited begin k s c.loop-place.waited) end c.loop-place.invariant.waited)
 
 pub overflow_sub-result : goal.overflow_sub-result
 overflow_sub-result c =
     let known = subst (λ (a : Option MatchingSteps). Known c.args.end.now (c.args.steps - c.min.result) c.loop-place.place
-    (state_of c.args.machine) a) c.in_ok-again.was c.loop-place.invariant.known in
+    (state_of c.args.machine) a) c.in_ok-matching.was c.loop-place.invariant.known in
     let last = known.some.1.before in omega arith

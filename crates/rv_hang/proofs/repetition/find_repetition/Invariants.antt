@@ -8,6 +8,6 @@ use Rattle.rv_hang.proofs.repetition.find_repetition.Given as goal
 abbrev pub invariant-loop-place : goal.invariant-loop-place
 invariant-loop-place l = record {
   reached : state_of l.ahead ≡ state_after l.place (state_of l.fn.machine);
-  known : Known l.end l.begin l.place (state_of l.fn.machine) l.again;
+  known : Known l.end l.begin l.place (state_of l.fn.machine) l.matching;
   waited : Waited l.begin l.place (state_of l.fn.machine) l.waited;
 }

@@ -29,8 +29,8 @@ returns-clause-accepted g c =
       judging = rw c.as_slice-2.ensures.value at c.in_ok-runs.ensures;
       told = put.told;
       outcome = rw (c.as_slice.ensures.value, c.as_slice-2.ensures.value)
-          at (outcome_told known c.args.args.now _ _ outcomes.claims.items outcomes.files.items outcomes.new put.told refl
-          c.in_ok-outcomes.ensures.runs c.in_ok-outcomes.ensures.claims
+          at (outcome_told known c.args.args.now _ _ outcomes.golden_texts.items outcomes.files.items outcomes.new put.told refl
+          c.in_ok-outcomes.ensures.runs c.in_ok-outcomes.ensures.golden_texts
           c.in_ok-outcomes.ensures.files c.in_ok-outcomes.ensures.edited c.in_ok-outcomes.ensures.meant
           c.in_ok-outcomes.ensures.unchanged put.of);
       put = put.put;
@@ -42,7 +42,7 @@ returns-clause-stopped g c =
     let outcomes = c.in_ok-outcomes.outcomes in
     IfErr-map c.write_accepted.result _ _
     (λ why is. inr (files_unput (g.D.Inputs.contents c.args.host.now.inputs.now) c.args.args.now c.args.list.now.jobs _
-    outcomes.new.runs.items outcomes.claims.items outcomes.files.items why refl
-    (rw c.as_slice-2.ensures.value at c.in_ok-outcomes.ensures.claims)
+    outcomes.new.runs.items outcomes.golden_texts.items outcomes.files.items why refl
+    (rw c.as_slice-2.ensures.value at c.in_ok-outcomes.ensures.golden_texts)
     c.in_ok-outcomes.ensures.files is))
     c.write_accepted.ensures.stopped

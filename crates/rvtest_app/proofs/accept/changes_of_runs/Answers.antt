@@ -7,6 +7,6 @@ returns-in_err-files-clause-stopped g c =
     let is = err_from_is_err_and c.from_residual-in_err-files.result c.from_residual-in_err-files.ensures.1 in
     rw (is.1, is.2)
     (targets_unread (g.D.Inputs.contents c.args.host.now.inputs.now) c.args.args.now c.args.list.now.jobs.now
-    c.in_ok-new.new.runs.items c.in_ok-claims.claims.items c.in_ok-targets.targets.items _
+    c.in_ok-new.new.runs.items c.in_ok-golden_texts.golden_texts.items c.in_ok-targets.targets.items _
     (rw (c.as_slice-2.ensures.value, c.as_slice-3.ensures.value) at c.in_ok-targets.ensures)
-    (rw c.as_slice.ensures.value at c.in_ok-claims.ensures) c.in_err-files.ensures.stopped)
+    (rw c.as_slice.ensures.value at c.in_ok-golden_texts.ensures) c.in_err-files.ensures.stopped)

@@ -10,7 +10,7 @@ returns-then-args-clause-put g c = rw c.if-args.true (record {
   told = record {
     list = c.args.list.now;
     runs = c.as_slice.result;
-    claims = c.as_slice-2.result;
+    golden_texts = c.as_slice-2.result;
     files = c.as_slice-3.result;
     new = record { ref_ptr = c.args.outcomes.ref_ptr; now = c.args.outcomes.now.new };
   };
@@ -26,7 +26,7 @@ returns-clause-put g c = rw c.if-args.false (record {
   told = record {
     list = c.args.list.now;
     runs = c.as_slice.result;
-    claims = c.as_slice-2.result;
+    golden_texts = c.as_slice-2.result;
     files = c.as_slice-3.result;
     new = record { ref_ptr = c.args.outcomes.ref_ptr; now = c.args.outcomes.now.new };
   };

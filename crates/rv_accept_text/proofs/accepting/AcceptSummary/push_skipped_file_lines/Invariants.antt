@@ -4,4 +4,4 @@ use Rattle.rv_accept_text.specs.FileLines.{skipped_file_line}
 use Rattle.rv_accept_text.proofs.accepting.AcceptSummary.push_skipped_file_lines.Given as goal
 
 abbrev pub invariant-loop-file : goal.invariant-loop-file
-invariant-loop-file l = l.out.items ≡ l.fn.out.items ++ flat_map (skipped_file_line l.fn.self.list l.fn.self.claims.now) (take l.file-index l.fn.self.files.now)
+invariant-loop-file l = l.out.items ≡ l.fn.out.items ++ flat_map (skipped_file_line l.fn.self.list l.fn.self.golden_texts.now) (take l.file-index l.fn.self.files.now)

@@ -11,7 +11,7 @@ returns c = λ answers.
       ready = record {
         tallied = subst (λ (cs : List AddressCounts). AreConsistentCounts cs) (sym is.none) tt;
         indexed = is.indexed;
-        codes = is.codes;
+        cache = is.cache;
         few = λ at. let e = ap (executed_at at) is.none in omega (arith, e);
         generations = (let f = is.first in omega (arith, f));
       };
