@@ -104,7 +104,7 @@ fn push_golden_texts_of_run(
             alloc,
             golden_texts,
             place,
-            run.skipped.is_none(),
+            run.skip_reason.is_none(),
             (job, &run.row),
         ),
         None => Ok(()),

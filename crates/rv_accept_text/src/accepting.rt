@@ -212,7 +212,7 @@ fn is_skipped_job(run: &Option<JobRun>) -> bool
     ensures { result ≡ is_skipped_job run.now }
 {
     match run {
-        Some(run) => run.is_chosen && run.skipped.is_some(),
+        Some(run) => run.is_chosen && run.skip_reason.is_some(),
         None => false,
     }
 }
