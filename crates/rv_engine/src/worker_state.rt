@@ -1,7 +1,7 @@
 //! What a worker carries over from one job to the next.
 
 ghost use Rattle.rv_rows.specs.Plans.{PlanView};
-ghost use Rattle.rv_rows.specs.Recent.{AreOutcomesOfPlan};
+ghost use Rattle.rv_rows.specs.RecentOutcomes.{AreOutcomesOfPlan};
 
 use rv_rows::{RecentOutcomes, SpareBus};
 use std::alloc::Global;

@@ -19,7 +19,7 @@ pub(crate) struct BatchRows<'a> {
 
 impl Work<Row> for BatchRows<'_> {
     ghost use Rattle.std.specs.Prelude.{◌≡◌, length};
-    ghost use Rattle.rv_rows.specs.Recent.{AreOutcomesOfPlan};
+    ghost use Rattle.rv_rows.specs.RecentOutcomes.{AreOutcomesOfPlan};
     ghost use Rattle.rv_fleet.specs.Batches.{row_of_number};
 
     ghost jobs = { λ s. length s.batch.now.places.now };

@@ -1,7 +1,7 @@
 //! One chunk of a batch.
 
 ghost use Rattle.std.specs.Prelude.{◌≡◌, ◌<◌, IfOk, OnOk};
-ghost use Rattle.rv_rows.specs.Recent.{AreOutcomesOfPlan};
+ghost use Rattle.rv_rows.specs.RecentOutcomes.{AreOutcomesOfPlan};
 ghost use Rattle.rv_fleet.specs.Pieces.{piece_count, numbered_piece, piece_rows};
 
 use crate::gate::Gate;

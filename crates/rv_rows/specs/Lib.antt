@@ -3,7 +3,7 @@ pub mod Outcome
 pub mod Attempt
 pub mod Rows
 pub mod ImageRefusals
-pub mod Recent
+pub mod RecentOutcomes
 pub mod Narrower
 pub mod IntermediateState
 pub mod Verdict

@@ -7,7 +7,7 @@ ghost use Rattle.rv_machine.specs.Machine.{state_of};
 ghost use Rattle.rv_rows.specs.Attempt.{HasReadableSignature, outcome_of_attempt};
 ghost use Rattle.rv_rows.specs.ImageRefusals.{image_refusal_in};
 ghost use Rattle.rv_rows.specs.Outcome.{refusal_in};
-ghost use Rattle.rv_rows.specs.Recent.{AreOutcomesOfPlan, outcome_at};
+ghost use Rattle.rv_rows.specs.RecentOutcomes.{AreOutcomesOfPlan, outcome_at};
 ghost use Rattle.rv_rows.specs.Rows.{content_if_read, expected_console_bytes, same_as_outcome, outcome_in, signature_reference_bytes, row_of, row_of_outcome};
 ghost use Rattle.rv_rows.specs.Rows.{image_in, rows_of, start_state_in};
 ghost use Rattle.rv_rows.specs.Verdict.{are_same_outcomes, matches_same_as};

@@ -2,7 +2,7 @@
 
 ghost use Rattle.std.specs.Prelude.{◌≡◌, IfSome, OnOk, Some};
 ghost use Rattle.rv_jobs.specs.Plans.{PlanView};
-ghost use Rattle.rv_rows.specs.Recent.{AreOutcomesOfPlan, outcome_at};
+ghost use Rattle.rv_rows.specs.RecentOutcomes.{AreOutcomesOfPlan, outcome_at};
 
 use crate::outcome::Outcome;
 use std::alloc::{AllocError, Global};

@@ -23,7 +23,7 @@ pub(crate) struct ReportedRowWork<'b, 't, T: RowReporter> {
 
 impl<T: RowReporter> Work<ReportedRow> for ReportedRowWork<'_, '_, T> {
     ghost use Rattle.std.specs.Prelude.{length};
-    ghost use Rattle.rv_fleet.specs.Recent.{AreOutcomesOfPlan};
+    ghost use Rattle.rv_fleet.specs.RecentOutcomes.{AreOutcomesOfPlan};
     ghost use Rattle.rv_stream.specs.ReportedRows.{IsReportedRow};
 
     ghost jobs = { λ s. length s.batch.now.places.now };

@@ -1,5 +1,5 @@
 use Rattle.std.proofs.Common.{◌≡◌, ◌-◌, drop, take}
-use Rattle.rv_rows.specs.Recent.{AreOutcomesOfPlan}
+use Rattle.rv_rows.specs.RecentOutcomes.{AreOutcomesOfPlan}
 use Rattle.rv_fleet.specs.Batches.{batch_rows}
 use Rattle.rv_fleet.proofs.piece.rows_of_chunk.Given as goal
 

@@ -1,7 +1,7 @@
 use Rattle.std.proofs.Common.{◌≡◌, ◌-◌, map}
 use Rattle.rv_engine.specs.NewPieces.{HasDrawnMore, new_pieces}
 use Rattle.rv_engine.proofs.Public.{above}
-use Rattle.rv_rows.specs.Recent.{AreOutcomesOfPlan}
+use Rattle.rv_rows.specs.RecentOutcomes.{AreOutcomesOfPlan}
 use Rattle.rv_fleet.specs.Pieces.{numbered_piece}
 use Rattle.rv_fleet.proofs.worker.compute_drawn_chunks.Given as goal
 

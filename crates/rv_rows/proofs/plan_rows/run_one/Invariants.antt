@@ -1,5 +1,5 @@
 use Rattle.std.proofs.Common.{◌≡◌, map, take}
-use Rattle.rv_rows.specs.Recent.{AreOutcomesOfPlan}
+use Rattle.rv_rows.specs.RecentOutcomes.{AreOutcomesOfPlan}
 use Rattle.rv_rows.specs.Rows.{row_of}
 use Rattle.rv_rows.proofs.plan_rows.run_one.Given as goal
 

@@ -1,6 +1,6 @@
 use Rattle.std.proofs.Common.{length}
 use Rattle.rv_jobs.specs.Plans.{PlanView}
-use Rattle.rv_rows.specs.Recent.{AreOutcomesOfPlan}
+use Rattle.rv_rows.specs.RecentOutcomes.{AreOutcomesOfPlan}
 use Rattle.rv_rows.proofs.recent_outcomes.RecentOutcomes.make_room.Given as goal
 
 abbrev pub invariant-loop-self : goal.invariant-loop-self
