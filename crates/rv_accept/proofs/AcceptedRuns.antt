@@ -23,15 +23,15 @@ no_row : {A : Type 0} (row : Row) → Some None ≡ Some (Some row) → A
 no_row row is = cc
 
 -- the rows of the numbers from one on that are marked stand where the marks are
-row_among : (row_at : ℕ → Row) (all marks : List Bool) (from place : ℕ) (row : Row)
-    → ((k : ℕ) → slice_index_or all (from + k) false ≡ slice_index_or marks k false)
-    → slice_get (indexed_rows marks (map row_at (filter (λ k. slice_index_or all k false)
-    (range_with_len from (length marks))))) place ≡ Some (Some row)
+row_among : (row_at : ℕ → Row) (all selection : List Bool) (from place : ℕ) (row : Row)
+    → ((k : ℕ) → slice_index_or all (from + k) false ≡ slice_index_or selection k false)
+    → slice_get (indexed_rows selection (map row_at (filter (λ k. slice_index_or all k false)
+    (range_with_len from (length selection))))) place ≡ Some (Some row)
     → row ≡ row_at (from + place)
 unfolding indexed_rows
 row_among row_at all [] from place row same is = cc
-row_among row_at all (marked ∷ marks) from place row same is = go marked head place is
-    (λ k is. rw (more k) (row_among row_at all marks (from + 1) k row behind is))
+row_among row_at all (marked ∷ selection) from place row same is = go marked head place is
+    (λ k is. rw (more k) (row_among row_at all selection (from + 1) k row behind is))
   where
     here : from + 0 ≡ from
     here = omega arith
@@ -43,15 +43,15 @@ row_among row_at all (marked ∷ marks) from place row same is = go marked head 
     head = rw here at (same 0)
 
     rest : List ℕ
-    rest = filter (λ k. slice_index_or all k false) (range_with_len (from + 1) (length marks))
+    rest = filter (λ k. slice_index_or all k false) (range_with_len (from + 1) (length selection))
 
-    behind : (k : ℕ) → slice_index_or all (from + 1 + k) false ≡ slice_index_or marks k false
+    behind : (k : ℕ) → slice_index_or all (from + 1 + k) false ≡ slice_index_or selection k false
     behind k = rw (more k) at (same (suc k))
 
     go : (m : Bool) → slice_index_or all from false ≡ m → (k : ℕ)
-        → slice_get (indexed_rows (m ∷ marks) (map row_at (cond (slice_index_or all from false) (from ∷ rest) rest))) k
+        → slice_get (indexed_rows (m ∷ selection) (map row_at (cond (slice_index_or all from false) (from ∷ rest) rest))) k
         ≡ Some (Some row)
-        → ((k : ℕ) → slice_get (indexed_rows marks (map row_at rest)) k ≡ Some (Some row) → row ≡ row_at (from + suc k))
+        → ((k : ℕ) → slice_get (indexed_rows selection (map row_at rest)) k ≡ Some (Some row) → row ≡ row_at (from + suc k))
         → row ≡ row_at (from + k)
     go true is_marked zero is there = rw here (same_row (row_at from) row (rw is_marked at is))
     go true is_marked (suc k) is there = there k (rw is_marked at is)
@@ -62,14 +62,14 @@ none_more : (k : ℕ) → 0 + k ≡ k
 none_more k = omega arith
 
 -- a row that stands at the place of its job is the row of the job there
-pub row_at_place : (plan : PlanView) (marks : List Bool) (place : ℕ) (row : Row)
-    → slice_get (indexed_rows marks (rows_at plan (selected_indices marks (length marks)))) place ≡ Some (Some row)
+pub row_at_place : (plan : PlanView) (selection : List Bool) (place : ℕ) (row : Row)
+    → slice_get (indexed_rows selection (rows_at plan (selected_indices selection (length selection)))) place ≡ Some (Some row)
     → row ≡ row_of plan (slice_index_or plan.jobs place (single_job [] 0 []))
 unfolding rows_at
-row_at_place plan marks place row is =
+row_at_place plan selection place row is =
     let here : 0 + place ≡ place = omega arith in
-    rw here at (row_among (λ k. row_of plan (slice_index_or plan.jobs k (single_job [] 0 []))) marks marks 0 place row
-    (λ k. ap (λ k. slice_index_or marks k false) (none_more k)) is)
+    rw here at (row_among (λ k. row_of plan (slice_index_or plan.jobs k (single_job [] 0 []))) selection selection 0 place row
+    (λ k. ap (λ k. slice_index_or selection k false) (none_more k)) is)
 
 -- ---- the run
 

@@ -3,19 +3,19 @@ use Rattle.std.proofs.Common.{◌≡◌, ◌+◌, ℕ, Bool, List, [], ◌∷◌
 use Rattle.rv_rows.specs.declared_job.Job.{Job}
 use Rattle.rv_accept.specs.Sharing.{jobs_to_run, with_compared_jobs, with_sharing_jobs}
 
-sharing_count : (all : List Job) (chosen : List Bool) (jobs : List Job) (marks : List Bool) → length marks ≡ length jobs
-    → length (with_sharing_jobs all chosen jobs marks) ≡ length jobs
+sharing_count : (all : List Job) (chosen : List Bool) (jobs : List Job) (selection : List Bool) → length selection ≡ length jobs
+    → length (with_sharing_jobs all chosen jobs selection) ≡ length jobs
 unfolding with_sharing_jobs
-sharing_count all chosen [] marks same = refl
+sharing_count all chosen [] selection same = refl
 sharing_count all chosen (job ∷ jobs) [] same = cc
-sharing_count all chosen (job ∷ jobs) (marked ∷ marks) same = ap suc (sharing_count all chosen jobs marks (omega (arith, same)))
+sharing_count all chosen (job ∷ jobs) (marked ∷ selection) same = ap suc (sharing_count all chosen jobs selection (omega (arith, same)))
 
-compared_count : (place : ℕ) (jobs : List Job) (marks : List Bool) → length marks ≡ length jobs
-    → length (with_compared_jobs place jobs marks) ≡ length jobs
+compared_count : (place : ℕ) (jobs : List Job) (selection : List Bool) → length selection ≡ length jobs
+    → length (with_compared_jobs place jobs selection) ≡ length jobs
 unfolding with_compared_jobs
-compared_count place [] marks same = refl
+compared_count place [] selection same = refl
 compared_count place (job ∷ jobs) [] same = cc
-compared_count place (job ∷ jobs) (marked ∷ marks) same = ap suc (compared_count (place + 1) jobs marks (omega (arith, same)))
+compared_count place (job ∷ jobs) (marked ∷ selection) same = ap suc (compared_count (place + 1) jobs selection (omega (arith, same)))
 
 pub marks_count : (jobs : List Job) (chosen : List Bool) → length chosen ≡ length jobs
     → length (jobs_to_run jobs chosen) ≡ length jobs

@@ -69,7 +69,7 @@ rows_after marked rows = if marked then drop 1 rows else rows
 -- one entry for each job: its row if it is selected, or else `None`; the second list has the rows of the selected jobs, in order
 unfoldable pub indexed_rows : List Bool → List Row → List (Option Row)
 indexed_rows [] rows = []
-indexed_rows (marked ∷ marks) rows = row_if_selected marked rows ∷ indexed_rows marks (rows_after marked rows)
+indexed_rows (marked ∷ selection) rows = row_if_selected marked rows ∷ indexed_rows selection (rows_after marked rows)
 
 -- the row at an index, or `None` if the index is past the end or has no row
 abbrev pub row_or_none : Option (Option Row) → Option Row

@@ -16,27 +16,27 @@ names_golden_file path job = is_same_path path (console_path job.expect_console)
 
 -- whether one of the selected jobs names the golden file at the path
 unfoldable pub is_named_by_selected : List ℕ → List Job → List Bool → Bool
-is_named_by_selected path [] marks = false
+is_named_by_selected path [] selection = false
 is_named_by_selected path (job ∷ jobs) [] = false
-is_named_by_selected path (job ∷ jobs) (marked ∷ marks) =
-    (marked && names_golden_file path job) || is_named_by_selected path jobs marks
+is_named_by_selected path (job ∷ jobs) (marked ∷ selection) =
+    (marked && names_golden_file path job) || is_named_by_selected path jobs selection
 
 -- whether there is a path and one of the selected jobs names the golden file there
 abbrev pub is_file_of_selected : List Job → List Bool → Option (List ℕ) → Bool
-is_file_of_selected jobs marks None = false
-is_file_of_selected jobs marks (Some path) = is_named_by_selected path jobs marks
+is_file_of_selected jobs selection None = false
+is_file_of_selected jobs selection (Some path) = is_named_by_selected path jobs selection
 
 -- whether a job names a golden file that a selected job also names
 abbrev pub shares_with_selected : List Job → List Bool → Job → Bool
-shares_with_selected jobs marks job = is_file_of_selected jobs marks (console_path job.expect_console)
-    || is_file_of_selected jobs marks job.expect_signature
+shares_with_selected jobs selection job = is_file_of_selected jobs selection (console_path job.expect_console)
+    || is_file_of_selected jobs selection job.expect_signature
 
 -- for each job, whether it is chosen or shares a golden file with a chosen job; `all` and `chosen` are for the whole list
 unfoldable pub with_sharing_jobs : List Job → List Bool → List Job → List Bool → List Bool
-with_sharing_jobs all chosen [] marks = []
+with_sharing_jobs all chosen [] selection = []
 with_sharing_jobs all chosen (job ∷ jobs) [] = []
-with_sharing_jobs all chosen (job ∷ jobs) (marked ∷ marks) =
-    (marked || shares_with_selected all chosen job) ∷ with_sharing_jobs all chosen jobs marks
+with_sharing_jobs all chosen (job ∷ jobs) (marked ∷ selection) =
+    (marked || shares_with_selected all chosen job) ∷ with_sharing_jobs all chosen jobs selection
 
 -- whether the second index exists and equals `place`
 abbrev pub is_index : ℕ → Option ℕ → Bool
@@ -45,17 +45,17 @@ is_index place (Some named) = place == named
 
 -- whether one of the selected jobs names the job at the index `place` by `same_as`
 unfoldable pub is_compared_with : ℕ → List Job → List Bool → Bool
-is_compared_with place [] marks = false
+is_compared_with place [] selection = false
 is_compared_with place (job ∷ jobs) [] = false
-is_compared_with place (job ∷ jobs) (marked ∷ marks) =
-    (marked && is_index place job.same_as) || is_compared_with place jobs marks
+is_compared_with place (job ∷ jobs) (marked ∷ selection) =
+    (marked && is_index place job.same_as) || is_compared_with place jobs selection
 
 -- for each job, whether it is selected or a later selected job names it by `same_as`; `place` is the index of the first job
 unfoldable pub with_compared_jobs : ℕ → List Job → List Bool → List Bool
-with_compared_jobs place [] marks = []
+with_compared_jobs place [] selection = []
 with_compared_jobs place (job ∷ jobs) [] = []
-with_compared_jobs place (job ∷ jobs) (marked ∷ marks) =
-    (marked || is_compared_with place jobs marks) ∷ with_compared_jobs (place + 1) jobs marks
+with_compared_jobs place (job ∷ jobs) (marked ∷ selection) =
+    (marked || is_compared_with place jobs selection) ∷ with_compared_jobs (place + 1) jobs selection
 
 -- for each job, whether it must run: it is chosen, it shares a golden file with a chosen job, or one of these jobs names it by `same_as`
 abbrev pub jobs_to_run : List Job → List Bool → List Bool

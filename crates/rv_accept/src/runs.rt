@@ -50,14 +50,14 @@ impl JobRun {
 /// Returns one entry for each job: its row if it is selected, or else `None`. `rows` are the rows of the selected jobs, in order.
 pub fn indexed_rows(
     alloc: Global,
-    marks: &[bool],
+    selection: &[bool],
     rows: Vec<Row>,
 ) -> Result<Vec<Option<Row>>, AllocError>
-    ensures { IfOk result (λ placed. placed.items ≡ indexed_rows marks.now rows.items) }
+    ensures { IfOk result (λ placed. placed.items ≡ indexed_rows selection.now rows.items) }
 {
     let mut placed = Vec::new(alloc);
     let mut rows = rows.into_iter();
-    push_indexed_rows(&mut placed, marks, &mut rows)?;
+    push_indexed_rows(&mut placed, selection, &mut rows)?;
     Ok(placed)
 }
 
@@ -65,16 +65,16 @@ pub fn indexed_rows(
 #[tactic(auto, unfolding(crate::specs::Runs::indexed_rows))]
 fn push_indexed_rows(
     placed: &mut Vec<Option<Row>>,
-    marks: &[bool],
+    selection: &[bool],
     rows: &mut IntoIter<Row>,
 ) -> Result<(), AllocError>
-    ensures { OnOk result (placed.new.items ≡ placed.old.items ++ indexed_rows marks.now (into_iter_items rows.old)) }
+    ensures { OnOk result (placed.new.items ≡ placed.old.items ++ indexed_rows selection.now (into_iter_items rows.old)) }
 {
-    match marks {
-        [marked, marks @ ..] => {
+    match selection {
+        [marked, selection @ ..] => {
             let row = next_row_if_selected(*marked, rows);
             placed.push(row)?;
-            push_indexed_rows(placed, marks, rows)
+            push_indexed_rows(placed, selection, rows)
         }
         [] => Ok(()),
     }

@@ -11,13 +11,13 @@ use std::alloc::{AllocError, Global};
 /// Returns for each job whether it must run: it is chosen, it shares a golden file with a chosen job, or one of these jobs names it by
 /// `same_as`.
 pub fn jobs_to_run(alloc: Global, jobs: &[Job], chosen: &[bool]) -> Result<Vec<bool>, AllocError>
-    ensures { IfOk result (λ marks. marks.items ≡ jobs_to_run jobs.now chosen.now) }
+    ensures { IfOk result (λ selection. selection.items ≡ jobs_to_run jobs.now chosen.now) }
 {
     let mut sharing = Vec::new(alloc);
     push_with_sharing_jobs(&mut sharing, (jobs, chosen), jobs, chosen)?;
-    let mut marks = Vec::new(alloc);
-    push_with_compared_jobs(&mut marks, 0, jobs, sharing.as_slice())?;
-    Ok(marks)
+    let mut selection = Vec::new(alloc);
+    push_with_compared_jobs(&mut selection, 0, jobs, sharing.as_slice())?;
+    Ok(selection)
 }
 
 // Appends for each job whether it is selected or a later selected job names it by `same_as`. `place` is the index of the first job.
@@ -26,15 +26,15 @@ fn push_with_compared_jobs(
     out: &mut Vec<bool>,
     place: usize,
     jobs: &[Job],
-    marks: &[bool],
+    selection: &[bool],
 ) -> Result<(), AllocError>
     requires { place + length jobs.now < 2 ^ 64 }
-    ensures { OnOk result (out.new.items ≡ out.old.items ++ with_compared_jobs place jobs.now marks.now) }
+    ensures { OnOk result (out.new.items ≡ out.old.items ++ with_compared_jobs place jobs.now selection.now) }
 {
-    match (jobs, marks) {
-        ([_job, jobs @ ..], [marked, marks @ ..]) => {
-            out.push(*marked || is_compared_with(place, jobs, marks))?;
-            push_with_compared_jobs(out, place + 1, jobs, marks)
+    match (jobs, selection) {
+        ([_job, jobs @ ..], [marked, selection @ ..]) => {
+            out.push(*marked || is_compared_with(place, jobs, selection))?;
+            push_with_compared_jobs(out, place + 1, jobs, selection)
         }
         ([], _) => Ok(()),
         ([_job, _jobs @ ..], []) => Ok(()),
@@ -43,12 +43,12 @@ fn push_with_compared_jobs(
 
 // Whether one of the selected jobs names the job at the index `place` by `same_as`.
 #[tactic(auto, unfolding(crate::specs::Sharing::is_compared_with))]
-fn is_compared_with(place: usize, jobs: &[Job], marks: &[bool]) -> bool
-    ensures { result ≡ is_compared_with place jobs.now marks.now }
+fn is_compared_with(place: usize, jobs: &[Job], selection: &[bool]) -> bool
+    ensures { result ≡ is_compared_with place jobs.now selection.now }
 {
-    match (jobs, marks) {
-        ([job, jobs @ ..], [marked, marks @ ..]) => {
-            (*marked && is_index(place, job.same_as)) || is_compared_with(place, jobs, marks)
+    match (jobs, selection) {
+        ([job, jobs @ ..], [marked, selection @ ..]) => {
+            (*marked && is_index(place, job.same_as)) || is_compared_with(place, jobs, selection)
         }
         ([], _) => false,
         ([_job, _jobs @ ..], []) => false,
@@ -69,18 +69,18 @@ fn is_index(place: usize, named: Option<usize>) -> bool
 // are chosen.
 #[tactic(auto, unfolding(crate::specs::Sharing::with_sharing_jobs))]
 fn push_with_sharing_jobs(
-    marks: &mut Vec<bool>,
+    selection: &mut Vec<bool>,
     all: (&[Job], &[bool]),
     jobs: &[Job],
     chosen: &[bool],
 ) -> Result<(), AllocError>
-    ensures { OnOk result (marks.new.items
-        ≡ marks.old.items ++ with_sharing_jobs all.entry.0.now all.entry.1.now jobs.now chosen.now) }
+    ensures { OnOk result (selection.new.items
+        ≡ selection.old.items ++ with_sharing_jobs all.entry.0.now all.entry.1.now jobs.now chosen.now) }
 {
     match (jobs, chosen) {
         ([job, jobs @ ..], [is_chosen, chosen @ ..]) => {
-            marks.push(*is_chosen || shares_with_selected(all.0, all.1, job))?;
-            push_with_sharing_jobs(marks, all, jobs, chosen)
+            selection.push(*is_chosen || shares_with_selected(all.0, all.1, job))?;
+            push_with_sharing_jobs(selection, all, jobs, chosen)
         }
         ([], _) => Ok(()),
         ([_job, _jobs @ ..], []) => Ok(()),
@@ -88,31 +88,31 @@ fn push_with_sharing_jobs(
 }
 
 // Whether a job names a golden file that a selected job also names.
-fn shares_with_selected(jobs: &[Job], marks: &[bool], job: &Job) -> bool
-    ensures { result ≡ shares_with_selected jobs.now marks.now job.now }
+fn shares_with_selected(jobs: &[Job], selection: &[bool], job: &Job) -> bool
+    ensures { result ≡ shares_with_selected jobs.now selection.now job.now }
 {
-    is_file_of_selected(jobs, marks, console_path(job))
-        || is_file_of_selected(jobs, marks, signature_path(job))
+    is_file_of_selected(jobs, selection, console_path(job))
+        || is_file_of_selected(jobs, selection, signature_path(job))
 }
 
 // Whether `path` is a path, and a selected job names the golden file there.
-fn is_file_of_selected(jobs: &[Job], marks: &[bool], path: Option<&str>) -> bool
-    ensures { result ≡ is_file_of_selected jobs.now marks.now (option_map (λ path. path.now) path.entry) }
+fn is_file_of_selected(jobs: &[Job], selection: &[bool], path: Option<&str>) -> bool
+    ensures { result ≡ is_file_of_selected jobs.now selection.now (option_map (λ path. path.now) path.entry) }
 {
     match path {
-        Some(path) => is_named_by_selected(path, jobs, marks),
+        Some(path) => is_named_by_selected(path, jobs, selection),
         None => false,
     }
 }
 
 // Whether a selected job names the golden file at the path.
 #[tactic(auto, unfolding(crate::specs::Sharing::is_named_by_selected))]
-fn is_named_by_selected(path: &str, jobs: &[Job], marks: &[bool]) -> bool
-    ensures { result ≡ is_named_by_selected path.now jobs.now marks.now }
+fn is_named_by_selected(path: &str, jobs: &[Job], selection: &[bool]) -> bool
+    ensures { result ≡ is_named_by_selected path.now jobs.now selection.now }
 {
-    match (jobs, marks) {
-        ([job, jobs @ ..], [marked, marks @ ..]) => {
-            (*marked && names_golden_file(path, job)) || is_named_by_selected(path, jobs, marks)
+    match (jobs, selection) {
+        ([job, jobs @ ..], [marked, selection @ ..]) => {
+            (*marked && names_golden_file(path, job)) || is_named_by_selected(path, jobs, selection)
         }
         ([], _) => false,
         ([_job, _jobs @ ..], []) => false,

@@ -27,30 +27,30 @@ found_marks pattern (job ∷ jobs) =
     ap (λ b. b || list_any (λ mark. mark) (selection_by_criteria None (Some pattern) None jobs)) (or_false found)
     ∙ ap (λ b. found || b) (found_marks pattern jobs)
 
-left_append : (pattern : Re) (jobs : List Job) (marks : List Bool) (job : Job) (mark : Bool) → length marks ≡ length jobs
-    → remaining_selection pattern (jobs ++ job ∷ []) (marks ++ mark ∷ [])
-    ≡ remaining_selection pattern jobs marks ++ stays_selected mark (is_some (find_str pattern job.name 0)) ∷ []
+left_append : (pattern : Re) (jobs : List Job) (selection : List Bool) (job : Job) (mark : Bool) → length selection ≡ length jobs
+    → remaining_selection pattern (jobs ++ job ∷ []) (selection ++ mark ∷ [])
+    ≡ remaining_selection pattern jobs selection ++ stays_selected mark (is_some (find_str pattern job.name 0)) ∷ []
 unfolding remaining_selection
 left_append pattern [] [] job mark same = refl
-left_append pattern [] (other ∷ marks) job mark same = absurd (omega (arith, same))
+left_append pattern [] (other ∷ selection) job mark same = absurd (omega (arith, same))
 left_append pattern (first ∷ jobs) [] job mark same = absurd (omega (arith, same))
-left_append pattern (first ∷ jobs) (other ∷ marks) job mark same =
+left_append pattern (first ∷ jobs) (other ∷ selection) job mark same =
     ap (λ left. stays_selected other (is_some (find_str pattern first.name 0)) ∷ left)
-    (left_append pattern jobs marks job mark (omega (arith, same)))
+    (left_append pattern jobs selection job mark (omega (arith, same)))
 
 -- what a pattern leaves of the marks before a place, and of the one there
-pub left_more : (pattern : Re) (jobs : List Job) (marks : List Bool) (index : ℕ) (job : Job) (mark : Bool)
-    → length marks ≡ length jobs → index < length jobs → get_or jobs index job ≡ job → get_or marks index mark ≡ mark
-    → remaining_selection pattern (take (index + 1) jobs) (take (index + 1) marks)
-    ≡ remaining_selection pattern (take index jobs) (take index marks) ++ stays_selected mark (is_some (find_str pattern job.name 0)) ∷ []
-left_more pattern jobs marks index job mark same within is_job is_mark =
-    let counts : length (take index marks) ≡ length (take index jobs) =
-    omega (arith, same, length-take-le index jobs (omega arith), length-take-le index marks (omega (arith, same))) in
-    ap (λ (js : List Job). remaining_selection pattern js (take (index + 1) marks))
+pub left_more : (pattern : Re) (jobs : List Job) (selection : List Bool) (index : ℕ) (job : Job) (mark : Bool)
+    → length selection ≡ length jobs → index < length jobs → get_or jobs index job ≡ job → get_or selection index mark ≡ mark
+    → remaining_selection pattern (take (index + 1) jobs) (take (index + 1) selection)
+    ≡ remaining_selection pattern (take index jobs) (take index selection) ++ stays_selected mark (is_some (find_str pattern job.name 0)) ∷ []
+left_more pattern jobs selection index job mark same within is_job is_mark =
+    let counts : length (take index selection) ≡ length (take index jobs) =
+    omega (arith, same, length-take-le index jobs (omega arith), length-take-le index selection (omega (arith, same))) in
+    ap (λ (js : List Job). remaining_selection pattern js (take (index + 1) selection))
     (take_more jobs index job within ∙ ap (λ (j : Job). take index jobs ++ j ∷ []) is_job)
     ∙ (ap (remaining_selection pattern (take index jobs ++ job ∷ []))
-    (take_more marks index mark (omega (arith, same)) ∙ ap (λ (m : Bool). take index marks ++ m ∷ []) is_mark)
-    ∙ left_append pattern (take index jobs) (take index marks) job mark counts)
+    (take_more selection index mark (omega (arith, same)) ∙ ap (λ (m : Bool). take index selection ++ m ∷ []) is_mark)
+    ∙ left_append pattern (take index jobs) (take index selection) job mark counts)
 
 -- what is said of each is said of its text
 pub notes_of_names : (f : List ℕ → List ℕ) (names : List (Bor (List ℕ)))

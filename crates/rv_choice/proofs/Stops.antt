@@ -54,13 +54,13 @@ stop_of_no_exclusion known words rule jobs stop said =
     ⊎_elim memory (λ refused. exclusion some.0 some.1.0 (inl refused)) some.1.1
 
 emptied_by : (known : Option FileContents) (words : RunArgs) (rule : Rule) (jobs : List Job) (notes : List ℕ) (stop : Stop)
-    (marks : Vec Bool Global) (regex : Regex) → AreRequested known words rule jobs (Some marks.items) notes
+    (selection : Vec Bool Global) (regex : Regex) → AreRequested known words rule jobs (Some selection.items) notes
     → Some (regex_source regex) ≡ borrowed_text words.exclude → HasDefaultOptions regex
-    → IsEmptiedStop words.list.now jobs marks.items regex stop → IsChoiceStop known words rule jobs stop
-emptied_by known words rule jobs notes stop marks regex are source read is =
+    → IsEmptiedStop words.list.now jobs selection.items regex stop → IsChoiceStop known words rule jobs stop
+emptied_by known words rule jobs notes stop selection regex are source read is =
     exclusion (regex_source regex) (sym source) (inr (
       record {
-        requested = marks.items;
+        requested = selection.items;
         notes = notes;
         are = are;
         pattern = regex;
@@ -73,19 +73,19 @@ emptied_by known words rule jobs notes stop marks regex are source read is =
 
 -- memory was wanting, or the pattern leaves no job
 pub stop_of_emptied : (known : Option FileContents) (words : RunArgs) (rule : Rule) (jobs : List Job) (notes : List ℕ)
-    (stop : Stop) (marks : Option (Vec Bool Global)) (excluded : Option Regex) (by : Option (Bor Regex))
-    → AreRequested known words rule jobs (option_map (λ marks. marks.items) marks) notes
+    (stop : Stop) (selection : Option (Vec Bool Global)) (excluded : Option Regex) (by : Option (Bor Regex))
+    → AreRequested known words rule jobs (option_map (λ selection. selection.items) selection) notes
     → option_map regex_source excluded ≡ borrowed_text words.exclude → IfSome excluded HasDefaultOptions
     → option_map (λ regex. regex.now) by ≡ excluded
-    → (stop ≡ why.OutOfMemory) ⊎ IsSomeAnd by (λ regex. IsSomeAnd marks
-    (λ marks. IsEmptiedStop words.list.now jobs marks.items regex.now stop))
+    → (stop ≡ why.OutOfMemory) ⊎ IsSomeAnd by (λ regex. IsSomeAnd selection
+    (λ selection. IsEmptiedStop words.list.now jobs selection.items regex.now stop))
     → IsChoiceStop known words rule jobs stop
-stop_of_emptied known words rule jobs notes stop marks excluded by are source read same (inl is) = memory is
-stop_of_emptied known words rule jobs notes stop (Some marks) excluded (Some regex) are source read same (inr is) =
+stop_of_emptied known words rule jobs notes stop selection excluded by are source read same (inl is) = memory is
+stop_of_emptied known words rule jobs notes stop (Some selection) excluded (Some regex) are source read same (inr is) =
     let from = rw (← same) at source in
-    emptied_by known words rule jobs notes stop marks regex.now are from (rw (← same) at read) is
+    emptied_by known words rule jobs notes stop selection regex.now are from (rw (← same) at read) is
 stop_of_emptied known words rule jobs notes stop None excluded (Some regex) are source read same (inr is) = absurd is
-stop_of_emptied known words rule jobs notes stop marks excluded None are source read same (inr is) = absurd is
+stop_of_emptied known words rule jobs notes stop selection excluded None are source read same (inr is) = absurd is
 
 stop_of_report : (known : Option FileContents) (words : RunArgs) (rule : Rule) (jobs : List Job) (stop : Stop)
     → (stop ≡ why.OutOfMemory) ⊎ IsSomeAnd (borrowed_text words.failed) (λ path. IsRequestedUnreadStop known words.partial path stop)

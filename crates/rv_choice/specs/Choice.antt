@@ -89,18 +89,18 @@ stays_selected mark is_found = mark && not is_found
 
 -- the selection without the jobs whose names the pattern of `--exclude` matches
 unfoldable pub remaining_selection : Re → List Job → List Bool → List Bool
-remaining_selection pattern [] marks = []
+remaining_selection pattern [] selection = []
 remaining_selection pattern (job ∷ jobs) [] = []
-remaining_selection pattern (job ∷ jobs) (mark ∷ marks) =
-    stays_selected mark (is_some (find_str pattern job.name 0)) ∷ remaining_selection pattern jobs marks
+remaining_selection pattern (job ∷ jobs) (mark ∷ selection) =
+    stays_selected mark (is_some (find_str pattern job.name 0)) ∷ remaining_selection pattern jobs selection
 
 -- whether at least one job is selected
 abbrev pub is_any_selected : List Bool → Bool
-is_any_selected marks = list_any (λ mark. mark) marks
+is_any_selected selection = list_any (λ mark. mark) selection
 
--- whether some job is selected in `marks`, but none in `left`
+-- whether some job is selected in `selection`, but none in `left`
 abbrev pub is_emptied : List Bool → List Bool → Bool
-is_emptied marks left = is_any_selected marks && not (is_any_selected left)
+is_emptied selection left = is_any_selected selection && not (is_any_selected left)
 
 -- whether at least one job has this name
 abbrev pub has_job_named : List Job → List ℕ → Bool

@@ -63,7 +63,7 @@ emptied_choice_message list text = codes "rvtest: " ++ printable_text list ++ co
 
 -- the pattern excludes all selected jobs, and the stop reports this
 abbrev pub IsEmptiedStop : List ℕ → List Job → List Bool → Regex → Stop → Type 0
-IsEmptiedStop list jobs marks pattern stop = (is_emptied marks (remaining_selection (regex_pattern pattern) jobs marks) ≡ true)
+IsEmptiedStop list jobs selection pattern stop = (is_emptied selection (remaining_selection (regex_pattern pattern) jobs selection) ≡ true)
     × IsStop 2 (emptied_choice_message list (regex_source pattern)) stop
 
 -- why a command stopped: the text of `--exclude` is not a regular expression, or it excludes all requested jobs

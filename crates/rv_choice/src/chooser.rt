@@ -17,7 +17,7 @@ ghost use Rattle.rv_command.specs.Stops.{IsRequestedUnreadStop, IsStop};
 
 use crate::bad_value::{bad_value_stop, bad_value_text};
 use crate::failed_jobs::{count_jobs_without_row, failed_job_names, failed_job_notes};
-use crate::marks::{Criteria, first_unknown_name, remaining_selection, selection_by_criteria};
+use crate::selection::{Criteria, first_unknown_name, remaining_selection, selection_by_criteria};
 use crate::unknown_name::unknown_name_stop;
 use regex::Regex;
 use rv_command::{
@@ -43,7 +43,7 @@ pub struct Chooser<'x, D> {
 #[derive(Drop)]
 pub struct Choice {
     /// For each job, whether it is chosen. `None` if only the jobs that failed in a report are requested, and none failed.
-    pub marks: Option<Vec<bool>>,
+    pub selection: Option<Vec<bool>>,
     /// The notes about the jobs that failed in a report, as lines.
     pub notes: Vec<u8>,
 }
@@ -51,13 +51,13 @@ pub struct Choice {
 impl Choice {
     // Returns the choice with `note` before its other notes.
     fn with_leading_note(self, note: Vec<u8>) -> Result<Choice, AllocError>
-        ensures marks { IfOk result (λ choice. choice.marks ≡ self.marks) }
+        ensures selection { IfOk result (λ choice. choice.selection ≡ self.selection) }
         ensures notes { IfOk result (λ choice. choice.notes.items ≡ note.items ++ self.notes.items) }
     {
         let mut notes = note;
         notes.extend_from_slice(self.notes.as_slice())?;
         Ok(Choice {
-            marks: self.marks,
+            selection: self.selection,
             notes,
         })
     }
@@ -67,20 +67,20 @@ impl<'x, D: Inputs> Chooser<'x, D> {
     /// Returns the jobs of the list that the arguments choose, with notes about the choice.
     pub fn choose(&self, jobs: &[Job]) -> Result<Choice, Stop>
         ensures chosen { IfOk result (λ choice. IsChoice (D.contents self.now.inputs.now) self.now.args.now
-            self.now.rule jobs.now (option_map (λ marks. marks.items) choice.marks) choice.notes.items) }
+            self.now.rule jobs.now (option_map (λ selection. selection.items) choice.selection) choice.notes.items) }
         ensures stop { IfErr result
             (IsChoiceStop (D.contents self.now.inputs.now) self.now.args.now self.now.rule jobs.now) }
     {
         let excluded = self.requested_exclusion()?;
-        let Choice { marks, notes } = self.requested_selection(jobs)?;
-        let marks = self.without_excluded(excluded.as_ref(), marks, jobs)?;
-        Ok(Choice { marks, notes })
+        let Choice { selection, notes } = self.requested_selection(jobs)?;
+        let selection = self.without_excluded(excluded.as_ref(), selection, jobs)?;
+        Ok(Choice { selection, notes })
     }
 
     // Returns the jobs that the arguments request, before any are excluded.
     fn requested_selection(&self, jobs: &[Job]) -> Result<Choice, Stop>
         ensures wanted { IfOk result (λ choice. AreRequested (D.contents self.now.inputs.now) self.now.args.now
-            self.now.rule jobs.now (option_map (λ marks. marks.items) choice.marks) choice.notes.items) }
+            self.now.rule jobs.now (option_map (λ selection. selection.items) choice.selection) choice.notes.items) }
         ensures stop { IfErr result
             (IsChoiceStop (D.contents self.now.inputs.now) self.now.args.now self.now.rule jobs.now) }
     {
@@ -141,41 +141,41 @@ impl<'x, D: Inputs> Chooser<'x, D> {
     fn without_excluded(
         &self,
         excluded: Option<&Regex>,
-        marks: Option<Vec<bool>>,
+        selection: Option<Vec<bool>>,
         jobs: &[Job],
     ) -> Result<Option<Vec<bool>>, Stop>
-        requires counted { IfSome marks (λ marks. length marks.items ≡ length jobs.now) }
+        requires counted { IfSome selection (λ selection. length selection.items ≡ length jobs.now) }
         ensures left { IfOk result (λ left. IsRemainingSelection (pattern_of excluded.entry) jobs.now
-            (option_map (λ marks. marks.items) marks) (option_map (λ marks. marks.items) left)) }
+            (option_map (λ selection. selection.items) selection) (option_map (λ selection. selection.items) left)) }
         ensures stop { IfErr result (λ stop. (stop ≡ Stop.OutOfMemory)
-            ⊎ IsSomeAnd excluded.entry (λ regex. IsSomeAnd marks
-            (λ marks. IsEmptiedStop self.now.args.now.list.now jobs.now marks.items regex.now stop))) }
+            ⊎ IsSomeAnd excluded.entry (λ regex. IsSomeAnd selection
+            (λ selection. IsEmptiedStop self.now.args.now.list.now jobs.now selection.items regex.now stop))) }
     {
         let Some(excluded) = excluded else {
-            return Ok(marks);
+            return Ok(selection);
         };
-        let Some(marks) = marks else {
+        let Some(selection) = selection else {
             return Ok(None);
         };
-        let left = self.remaining_selection(marks.as_slice(), excluded, jobs)?;
+        let left = self.remaining_selection(selection.as_slice(), excluded, jobs)?;
         Ok(Some(left))
     }
 
     // Returns the selection without the jobs whose names the pattern matches. It is an error if this leaves no jobs.
     fn remaining_selection(
         &self,
-        marks: &[bool],
+        selection: &[bool],
         excluded: &Regex,
         jobs: &[Job],
     ) -> Result<Vec<bool>, Stop>
-        requires counted { length marks.now ≡ length jobs.now }
-        ensures left { IfOk result (λ left. left.items ≡ remaining_selection (regex_pattern excluded.now) jobs.now marks.now) }
-        ensures some { IfOk result (λ left. is_emptied marks.now left.items ≡ false) }
+        requires counted { length selection.now ≡ length jobs.now }
+        ensures left { IfOk result (λ left. left.items ≡ remaining_selection (regex_pattern excluded.now) jobs.now selection.now) }
+        ensures some { IfOk result (λ left. is_emptied selection.now left.items ≡ false) }
         ensures stop { IfErr result (λ stop. (stop ≡ Stop.OutOfMemory)
-            ⊎ IsEmptiedStop self.now.args.now.list.now jobs.now marks.now excluded.now stop) }
+            ⊎ IsEmptiedStop self.now.args.now.list.now jobs.now selection.now excluded.now stop) }
     {
-        let left = remaining_selection(self.alloc, jobs, marks, excluded)?;
-        if is_any_selected(marks) && !is_any_selected(left.as_slice()) {
+        let left = remaining_selection(self.alloc, jobs, selection, excluded)?;
+        if is_any_selected(selection) && !is_any_selected(left.as_slice()) {
             return Err(emptied_choice_stop(self.alloc, self.args.list, excluded.as_str()));
         }
         Ok(left)
@@ -186,15 +186,15 @@ impl<'x, D: Inputs> Chooser<'x, D> {
         requires { is_some pattern ≡ is_some self.now.args.now.pattern }
         ensures chosen { IfOk result (λ choice. AreChosenBy (D.contents self.now.inputs.now)
             (pattern_of pattern.entry) self.now.args.now self.now.rule jobs.now
-            (option_map (λ marks. marks.items) choice.marks) choice.notes.items) }
+            (option_map (λ selection. selection.items) choice.selection) choice.notes.items) }
         ensures unread { IfErr result (λ stop. (stop ≡ Stop.OutOfMemory)
             ⊎ IsSomeAnd (borrowed_text self.now.args.now.failed)
             (λ path. IsRequestedUnreadStop (D.contents self.now.inputs.now) self.now.args.now.partial path stop)) }
     {
         let Some(path) = self.args.failed else {
-            let marks = self.combined_selection(pattern, None, jobs)?;
+            let selection = self.combined_selection(pattern, None, jobs)?;
             return Ok(Choice {
-                marks: Some(marks),
+                selection: Some(selection),
                 notes: Vec::new(self.alloc),
             });
         };
@@ -219,7 +219,7 @@ impl<'x, D: Inputs> Chooser<'x, D> {
     ) -> Result<Choice, Stop>
         ensures chosen { IfOk result (λ choice. AreChosenFrom path.now (failed_job_names self.now.rule rows.now)
             (count_jobs_without_row jobs.now rows.now) (pattern_of pattern.entry) self.now.args.now jobs.now
-            (option_map (λ marks. marks.items) choice.marks) choice.notes.items) }
+            (option_map (λ selection. selection.items) choice.selection) choice.notes.items) }
         ensures memory { IfErr result (λ stop. stop ≡ Stop.OutOfMemory) }
     {
         let failed = failed_job_names(self.alloc, self.rule, rows)?;
@@ -239,15 +239,15 @@ impl<'x, D: Inputs> Chooser<'x, D> {
     ) -> Result<Choice, Stop>
         ensures chosen { IfOk result (λ choice. AreChosenFrom path.now (borrowed_names failed.now)
             missing (pattern_of pattern.entry) self.now.args.now jobs.now
-            (option_map (λ marks. marks.items) choice.marks) choice.notes.items) }
+            (option_map (λ selection. selection.items) choice.selection) choice.notes.items) }
         ensures memory { IfErr result (λ stop. stop ≡ Stop.OutOfMemory) }
     {
         let notes = failed_job_notes(self.alloc, path, jobs, failed, missing)?;
         if failed.is_empty() && self.args.only.is_empty() && pattern.is_none() {
-            return Ok(Choice { marks: None, notes });
+            return Ok(Choice { selection: None, notes });
         }
-        let marks = Some(self.combined_selection(pattern, Some(failed), jobs)?);
-        Ok(Choice { marks, notes })
+        let selection = Some(self.combined_selection(pattern, Some(failed), jobs)?);
+        Ok(Choice { selection, notes })
     }
 
     // Compiles the text of an option as a regular expression. If it is not one, returns an error with the usage of the command.
@@ -272,7 +272,7 @@ impl<'x, D: Inputs> Chooser<'x, D> {
         failed: Option<&[&str]>,
         jobs: &[Job],
     ) -> Result<Vec<bool>, AllocError>
-        ensures { IfOk result (λ marks. marks.items
+        ensures { IfOk result (λ selection. selection.items
             ≡ selection_by_criteria (requested_names self.now.args.now.only.items) (pattern_of pattern.entry)
             (optional_names failed.entry) jobs.now) }
     {
@@ -334,15 +334,15 @@ fn is_found_in_job_names(alloc: Global, pattern: &Regex, jobs: &[Job]) -> Result
         pattern: Some(pattern),
         failed: None,
     };
-    let marks = selection_by_criteria(alloc, jobs, wanted)?;
-    Ok(is_any_selected(marks.as_slice()))
+    let selection = selection_by_criteria(alloc, jobs, wanted)?;
+    Ok(is_any_selected(selection.as_slice()))
 }
 
 // Whether at least one job is selected.
-fn is_any_selected(marks: &[bool]) -> bool
-    ensures { result ≡ is_any_selected marks.now }
+fn is_any_selected(selection: &[bool]) -> bool
+    ensures { result ≡ is_any_selected selection.now }
 {
-    marks.iter().any(|mark| *mark)
+    selection.iter().any(|mark| *mark)
 }
 
 // Returns the error that the pattern of `--match` matches the name of no job in the list.

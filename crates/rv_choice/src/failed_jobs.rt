@@ -5,7 +5,7 @@ ghost use Rattle.rv_choice.specs.Choice.{borrowed_names, failed_job_names, has_r
 ghost use Rattle.rv_choice.specs.FailedJobNotes.{failed_job_notes, missing_rows_note, missing_rows_text, none_failed_note, failed_job_note, removed_job_note};
 ghost use Rattle.rv_choice.specs.FailedJobNotes.{removed_job_notes};
 
-use crate::marks::has_job_named;
+use crate::selection::has_job_named;
 use rv_command::{Span, path_message, path_number_message, push_spans};
 use rv_expect::{Job, Row, Rule, has_passed};
 use std::alloc::{AllocError, Global};

@@ -6,7 +6,7 @@
 mod bad_value;
 mod chooser;
 mod failed_jobs;
-mod marks;
+mod selection;
 mod shard;
 mod unknown_name;
 

@@ -47,10 +47,10 @@ outcome_told known words list judged golden_texts files new told path left are g
 }
 
 -- a list that is read twice gives the same jobs, so there is a mark for each that expects nothing
-pub bare_count : {E : Type 0} (read : Result (List Job) E) (jobs again bare : List Job) (chosen marks : List Bool)
+pub bare_count : {E : Type 0} (read : Result (List Job) E) (jobs again bare : List Job) (chosen selection : List Bool)
     → read ≡ Ok jobs → read ≡ Ok again → bare ≡ map without_expectations again → length chosen ≡ length jobs
-    → marks ≡ jobs_to_run jobs chosen → length marks ≡ length bare
-bare_count read jobs again bare chosen marks listed more are counted marked =
+    → selection ≡ jobs_to_run jobs chosen → length selection ≡ length bare
+bare_count read jobs again bare chosen selection listed more are counted marked =
     let same : jobs ≡ again = cc (listed, more) in
     ap length marked ∙ marks_count jobs chosen counted
     ∙ rw (are, length-map again without_expectations, same) refl

@@ -52,19 +52,19 @@ acceptance_of false = acceptance.Expected
 
 -- `rows` are the rows of the selected jobs of the list `bare`, each at the index of its job, with the files read from the store; `note` is
 -- the note about missing images
-pub record AreRowsOfSelected (known : Option FileContents) (root : Option (List ℕ)) (bare : List Job) (marks : List Bool)
+pub record AreRowsOfSelected (known : Option FileContents) (root : Option (List ℕ)) (bare : List Job) (selection : List Bool)
     (rows : List (Option Row)) (note : List ℕ) : Type 0 where
   pub plan : PlanView
   pub unread : List UnreadablePath
-  pub planned : IsPlanFor (contents_below root known) bare (selected_job_indices marks) plan unread
-  pub are : rows ≡ indexed_rows marks (rows_at plan (selected_job_indices marks))
-  pub noted : note ≡ missing_images_note plan.jobs unread (length (selected_job_indices marks)) root
+  pub planned : IsPlanFor (contents_below root known) bare (selected_job_indices selection) plan unread
+  pub are : rows ≡ indexed_rows selection (rows_at plan (selected_job_indices selection))
+  pub noted : note ≡ missing_images_note plan.jobs unread (length (selected_job_indices selection)) root
 
 -- `rows` are the rows of the selected jobs; nothing but the note about missing images was output, and it went to standard error
-pub record HaveSelectedRun (known : Option FileContents) (root : Option (List ℕ)) (bare : List Job) (marks : List Bool)
+pub record HaveSelectedRun (known : Option FileContents) (root : Option (List ℕ)) (bare : List Job) (selection : List Bool)
     (rows : List (Option Row)) (before after : CommandOutputs) : Type 0 where
   pub note : List ℕ
-  pub are : AreRowsOfSelected known root bare marks rows note
+  pub are : AreRowsOfSelected known root bare selection rows note
   pub told : IsOnlyErrorOutput note before after
 
 -- ---- the files

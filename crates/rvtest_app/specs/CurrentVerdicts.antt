@@ -95,9 +95,9 @@ abbrev pub is_true : Option Bool → Bool
 is_true None = false
 is_true (Some marked) = marked
 
--- whether the selection `marks` selects the job at index `place`; false if the index is out of range
+-- whether the selection `selection` selects the job at index `place`; false if the index is out of range
 abbrev pub is_selected : List Bool → ℕ → Bool
-is_selected marks place = is_true (slice_get marks place)
+is_selected selection place = is_true (slice_get selection place)
 
 -- `candidate` says of the job at index `place` whether it is chosen, and what the verdict on it is
 abbrev pub IsCandidateAt : Option FileContents → Option (List ℕ) → List (Option Row) → List Bool → ℕ → Job → Candidate → Type 0

@@ -24,15 +24,15 @@ name_lines jobs places = flat_map (λ place. name_line (slice_index_or jobs plac
 -- the names of the selected jobs, one per line; empty if no job is selected (`None`)
 abbrev pub chosen_name_lines : List Job → Option (List Bool) → List ℕ
 chosen_name_lines jobs None = []
-chosen_name_lines jobs (Some marks) = name_lines jobs (selected_job_indices marks)
+chosen_name_lines jobs (Some selection) = name_lines jobs (selected_job_indices selection)
 
 -- `names` is the text that `list` prints for the list with the text `bytes`, and `notes` are the notes about the choice of jobs
 pub record IsListOutputOf (known : Option FileContents) (words : RunArgs) (bytes names notes : List ℕ) : Type 0 where
   pub jobs : List Job
   pub listed : job_list_of bytes ≡ Ok jobs
-  pub marks : Option (List Bool)
-  pub chosen : IsChoice known words (failure_rule words.lenient) jobs marks notes
-  pub named : names ≡ chosen_name_lines jobs marks
+  pub selection : Option (List Bool)
+  pub chosen : IsChoice known words (failure_rule words.lenient) jobs selection notes
+  pub named : names ≡ chosen_name_lines jobs selection
 
 -- `names` is the text that `list` prints for the list at the path in the arguments, and `notes` are the notes about the choice of jobs
 pub record IsListOutputAt (known : Option FileContents) (words : RunArgs) (names notes : List ℕ) : Type 0 where

@@ -160,10 +160,10 @@ inputs_of_accept words jobs = failed_report_path words.run ++ flat_map (image_pa
 
 -- the paths of the golden files of the selected jobs, resolved against `root`
 unfoldable pub golden_paths_of_selected : Option (List ℕ) → List Job → List Bool → List (List ℕ)
-golden_paths_of_selected root [] marks = []
+golden_paths_of_selected root [] selection = []
 golden_paths_of_selected root (job ∷ jobs) [] = []
-golden_paths_of_selected root (job ∷ jobs) (marked ∷ marks) =
-    (if marked then golden_paths_of_job root job else []) ++ golden_paths_of_selected root jobs marks
+golden_paths_of_selected root (job ∷ jobs) (marked ∷ selection) =
+    (if marked then golden_paths_of_job root job else []) ++ golden_paths_of_selected root jobs selection
 
 -- whether the path is one of the paths in `read`, the inputs
 abbrev pub is_read : List (List ℕ) → List ℕ → Bool
@@ -174,10 +174,10 @@ abbrev pub is_golden_input : List (List ℕ) → InputPath → Bool
 is_golden_input read golden = is_read read (path_buf_bytes golden.path)
 
 -- `accept` overwrites no input: the list is not another input, and no golden file of a selected job is the list or an input
-pub record AreAcceptFilesNoInputs (words : AcceptArgs) (jobs : List Job) (marks : List Bool) : Type 0 where
+pub record AreAcceptFilesNoInputs (words : AcceptArgs) (jobs : List Job) (selection : List Bool) : Type 0 where
   pub list : IsNoInput (inputs_of_accept words jobs) words.run.list.now
-  pub no_list : list_any (is_read (words.run.list.now ∷ [])) (golden_paths_of_selected (optional_text words.run.root) jobs marks) ≡ false
-  pub no_input : list_any (is_read (inputs_of_accept words jobs)) (golden_paths_of_selected (optional_text words.run.root) jobs marks) ≡ false
+  pub no_list : list_any (is_read (words.run.list.now ∷ [])) (golden_paths_of_selected (optional_text words.run.root) jobs selection) ≡ false
+  pub no_input : list_any (is_read (inputs_of_accept words jobs)) (golden_paths_of_selected (optional_text words.run.root) jobs selection) ≡ false
 
 -- the beginning of a message about a golden file outside of the directory: `head`, and `role`, which describes the file
 abbrev pub outside_prefix : List ℕ → List ℕ → List ℕ

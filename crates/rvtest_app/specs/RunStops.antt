@@ -43,11 +43,11 @@ IsJobRequestStop known words why = IsListUnreadStop known words.list.now why
 -- why a command stopped: the requested jobs were found, but the file of `--known` could not be used
 pub record IsKnownFailuresStop (known : Option FileContents) (words : RunArgs) (why : Stop) : Type 0 where
   pub jobs : List Job
-  pub marks : Option (List Bool)
+  pub selection : Option (List Bool)
   pub shard : Option Shard
   pub old : Option (List Row)
   pub notes : List ℕ
-  pub args : AreRequestedJobs known words jobs marks shard old notes
+  pub args : AreRequestedJobs known words jobs selection shard old notes
   pub unknown : IsKnownStop known words jobs why
 
 -- why a command stopped: this error occurred while a run was shown; `path` is the path of the report

@@ -41,37 +41,37 @@ use Rattle.rvtest_app.specs.WrittenTexts.{IsWrittenAt}
 
 -- the indices of the selected jobs
 abbrev pub selected_job_indices : List Bool → List ℕ
-selected_job_indices marks = selected_indices marks (length marks)
+selected_job_indices selection = selected_indices selection (length selection)
 
--- `marks` selects the jobs to run: the jobs of the shard if one is given, and otherwise the chosen jobs; `notes` are the notes about the
+-- `selection` selects the jobs to run: the jobs of the shard if one is given, and otherwise the chosen jobs; `notes` are the notes about the
 -- choice
 abbrev pub IsRequestedSelection : Option FileContents → Option Shard → RunArgs → List Job → Option (List Bool) → List ℕ
     → Type 0
-IsRequestedSelection known (Some shard) words jobs marks notes =
-    (marks ≡ Some (shard_selection shard.shards shard.number (length jobs))) × (notes ≡ [])
-IsRequestedSelection known None words jobs marks notes =
-    IsChoice known words (failure_rule words.lenient) jobs marks notes
+IsRequestedSelection known (Some shard) words jobs selection notes =
+    (selection ≡ Some (shard_selection shard.shards shard.number (length jobs))) × (notes ≡ [])
+IsRequestedSelection known None words jobs selection notes =
+    IsChoice known words (failure_rule words.lenient) jobs selection notes
 
--- the list at the path in the arguments has the jobs `jobs`; `marks` selects those to run, `shard` is their shard, `old` are the rows that
+-- the list at the path in the arguments has the jobs `jobs`; `selection` selects those to run, `shard` is their shard, `old` are the rows that
 -- the run updates, and `notes` are the notes about the choice
 pub record AreRequestedJobs (known : Option FileContents) (words : RunArgs) (jobs : List Job)
-    (marks : Option (List Bool)) (shard : Option Shard) (old : Option (List Row)) (notes : List ℕ) : Type 0 where
+    (selection : Option (List Bool)) (shard : Option Shard) (old : Option (List Row)) (notes : List ℕ) : Type 0 where
   pub bytes : List ℕ
   pub read : IsTextAt known words.list.now bytes
   pub listed : job_list_of bytes ≡ Ok jobs
   pub sharded : IsShardOf words.shard shard
   pub stamped : IfSome shard (λ shard. (shard.stamp ≡ stamp_for words.stamp bytes) × (shard.jobs ≡ length jobs))
-  pub marked : IsRequestedSelection known shard words jobs marks notes
+  pub marked : IsRequestedSelection known shard words jobs selection notes
   pub into : AreOldRows known words jobs old
 
 -- the requested jobs and the known failures were found, and at least one job is selected to run
 pub record AreJobsToRun (known : Option FileContents) (words : RunArgs) : Type 0 where
   pub jobs : List Job
-  pub marks : List Bool
+  pub selection : List Bool
   pub shard : Option Shard
   pub old : Option (List Row)
   pub notes : List ℕ
-  pub args : AreRequestedJobs known words jobs (Some marks) shard old notes
+  pub args : AreRequestedJobs known words jobs (Some selection) shard old notes
   pub failures : Option KnownJobs
   pub known_to_fail : IsKnownAt known (optional_text words.known) jobs failures
 
@@ -172,22 +172,22 @@ pub record IsRunOfJobs (known : Option FileContents) (words : RunArgs) (failures
 abbrev pub IsRunOfSelected : Option FileContents → RunArgs → Option KnownJobs → List Job → Option (List Bool) → Option Shard
     → Option (List Row) → ℕ → CommandOutputs → CommandOutputs → Type 0
 IsRunOfSelected known words failures jobs None shard old status before after = (status ≡ 0) × (after ≡ before)
-IsRunOfSelected known words failures jobs (Some marks) shard old status before after =
-    IsRunOfJobs known words failures jobs (selected_job_indices marks) shard old status before after
+IsRunOfSelected known words failures jobs (Some selection) shard old status before after =
+    IsRunOfJobs known words failures jobs (selected_job_indices selection) shard old status before after
 
 -- `run` wrote the notes about the choice to standard error, and then ran the requested jobs, with the known failures
 pub record IsRunAt (known : Option FileContents) (words : RunArgs) (status : ℕ) (before after : CommandOutputs) : Type 0 where
   pub jobs : List Job
-  pub marks : Option (List Bool)
+  pub selection : Option (List Bool)
   pub shard : Option Shard
   pub old : Option (List Row)
   pub notes : List ℕ
-  pub args : AreRequestedJobs known words jobs marks shard old notes
+  pub args : AreRequestedJobs known words jobs selection shard old notes
   pub failures : Option KnownJobs
   pub known_to_fail : IsKnownAt known (optional_text words.known) jobs failures
   pub middle : CommandOutputs
   pub told : IsOnlyErrorOutput notes before middle
-  pub ran : IsRunOfSelected known words failures jobs marks shard old status middle after
+  pub ran : IsRunOfSelected known words failures jobs selection shard old status middle after
 
 -- ---- runs that an error ended
 
@@ -220,7 +220,7 @@ IsAbortedRunOfJobs known words failures jobs places shard old before after =
 pub record IsRunPartlyCommittedAt (known : Option FileContents) (words : RunArgs) (before after : Option (List CommittedFile))
     : Type 0 where
   pub found : AreJobsToRun known words
-  pub alone : IsRunPartlyCommitted known words found.failures found.jobs (selected_job_indices found.marks) found.shard found.old before after
+  pub alone : IsRunPartlyCommitted known words found.failures found.jobs (selected_job_indices found.selection) found.shard found.old before after
 
 -- after an error, `run` has committed no file, or only some of the requested output files
 abbrev pub IsAbortedRunAt : Option FileContents → RunArgs → Option (List CommittedFile) → Option (List CommittedFile) → Type 0

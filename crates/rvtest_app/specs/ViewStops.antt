@@ -133,12 +133,12 @@ IsViewFailedStop known words shown jobs places why = (why ≡ stop.OutOfMemory)
 -- why a command stopped: the requested jobs were found, but their view could not be written
 pub record IsViewFailedAtStop (known : Option FileContents) (words : RunArgs) (shown : View) (why : Stop) : Type 0 where
   pub jobs : List Job
-  pub marks : List Bool
+  pub selection : List Bool
   pub shard : Option Shard
   pub old : Option (List Row)
   pub notes : List ℕ
-  pub args : AreRequestedJobs known words jobs (Some marks) shard old notes
-  pub unviewed : IsViewFailedStop known words shown jobs (selected_job_indices marks) why
+  pub args : AreRequestedJobs known words jobs (Some selection) shard old notes
+  pub unviewed : IsViewFailedStop known words shown jobs (selected_job_indices selection) why
 
 -- why a command stopped: the requested jobs could not be found, or their view could not be written
 abbrev pub IsViewStop : Option FileContents → RunArgs → View → Stop → Type 0

@@ -78,18 +78,18 @@ pub record IsViewOfJobs (known : Option FileContents) (words : RunArgs) (shown :
 -- the view of the selected jobs was written; if no job is selected (`None`), nothing was written
 abbrev pub IsViewOfSelected : Option FileContents → RunArgs → View → List Job → Option (List Bool) → CommandOutputs → CommandOutputs → Type 0
 IsViewOfSelected known words shown jobs None before after = after ≡ before
-IsViewOfSelected known words shown jobs (Some marks) before after =
-    IsViewOfJobs known words shown jobs (selected_job_indices marks) before after
+IsViewOfSelected known words shown jobs (Some selection) before after =
+    IsViewOfJobs known words shown jobs (selected_job_indices selection) before after
 
 -- the notes about the choice went to standard error, and then the view of the requested jobs was written; the status is 0
 pub record IsViewWritten (known : Option FileContents) (words : RunArgs) (shown : View) (status : ℕ) (before after : CommandOutputs) : Type 0 where
   pub jobs : List Job
-  pub marks : Option (List Bool)
+  pub selection : Option (List Bool)
   pub shard : Option Shard
   pub old : Option (List Row)
   pub notes : List ℕ
-  pub args : AreRequestedJobs known words jobs marks shard old notes
+  pub args : AreRequestedJobs known words jobs selection shard old notes
   pub middle : CommandOutputs
   pub told : IsOnlyErrorOutput notes before middle
-  pub viewed : IsViewOfSelected known words shown jobs marks middle after
+  pub viewed : IsViewOfSelected known words shown jobs selection middle after
   pub done : status ≡ 0

@@ -58,15 +58,15 @@ struct ChosenList {
     chosen: Option<Vec<bool>>,
     // The notes about the choice.
     notes: Vec<u8>,
-    ghost counted: { ForSome chosen (λ marks. length marks.items ≡ length jobs) },
+    ghost counted: { ForSome chosen (λ selection. length selection.items ≡ length jobs) },
 }
 
 // Jobs without their expectations, and the selection of those that run.
 #[derive(Drop)]
 struct BareJobs {
     jobs: JobList,
-    marks: Vec<bool>,
-    ghost counted: { length marks.items ≡ length jobs },
+    selection: Vec<bool>,
+    ghost counted: { length selection.items ≡ length jobs },
 }
 
 // What the runs of the jobs change: the texts for golden files, the golden files, and the new list.
@@ -152,7 +152,7 @@ fn checked_jobs<R, D, F: Outputs + Drop, O: Sink + Drop, E: Sink + Drop>(
     requires counted { length chosen.now ≡ length list.now.jobs }
     requires listed { job_list_of list.now.text.items ≡ Ok list.now.jobs }
     ensures jobs { IfOk result (λ marked. marked.jobs ≡ map without_expectations list.now.jobs) }
-    ensures marks { IfOk result (λ marked. marked.marks.items
+    ensures selection { IfOk result (λ marked. marked.selection.items
         ≡ jobs_to_run list.now.jobs chosen.now) }
     ensures files { to.new.files ≡ to.old.files }
     ensures outside { OnOk result (AreOutsideFilesReported (outputs_of F.placed O.accepted E.accepted E.failure_count to.old)
@@ -162,8 +162,8 @@ fn checked_jobs<R, D, F: Outputs + Drop, O: Sink + Drop, E: Sink + Drop>(
     ensures stopped { IfErr result IsAcceptOverwriteStop }
 {
     let marked = selected_jobs(host.alloc, args, list, chosen)?;
-    let (jobs, marks) = (list.jobs.as_slice(), marked.marks.as_slice());
-    let outside = reject_accept_overwrites(&to.files, host.alloc, args, jobs, marks)?;
+    let (jobs, selection) = (list.jobs.as_slice(), marked.selection.as_slice());
+    let outside = reject_accept_overwrites(&to.files, host.alloc, args, jobs, selection)?;
     write_message(&mut to.errors, outside.as_slice());
     Ok(marked)
 }
@@ -209,7 +209,7 @@ fn chosen_list<R, D: Inputs>(
     ensures read { IfOk result (λ list. IsTextAt (D.contents host.now.inputs.now) args.now.run.list.now list.text.items) }
     ensures listed { IfOk result (λ list. job_list_of list.text.items ≡ Ok list.jobs) }
     ensures chosen { IfOk result (λ list. IsChoice (D.contents host.now.inputs.now) args.now.run
-        (failure_rule args.now.run.lenient) list.jobs (option_map (λ marks. marks.items) list.chosen) list.notes.items) }
+        (failure_rule args.now.run.lenient) list.jobs (option_map (λ selection. selection.items) list.chosen) list.notes.items) }
     ensures stopped { IfErr result (IsListStop (D.contents host.now.inputs.now) args.now.run) }
 {
     let run = &args.run;
@@ -222,11 +222,11 @@ fn chosen_list<R, D: Inputs>(
         rule: failure_rule(run.lenient),
         command: ChoosingCommand::Accept,
     };
-    let Choice { marks, notes } = chooser.choose(jobs.as_slice())?;
+    let Choice { selection, notes } = chooser.choose(jobs.as_slice())?;
     Ok(ChosenList {
         text,
         jobs,
-        chosen: marks,
+        chosen: selection,
         notes,
     })
 }
@@ -242,14 +242,14 @@ fn selected_jobs(
     requires counted { length chosen.now ≡ length list.now.jobs }
     requires listed { job_list_of list.now.text.items ≡ Ok list.now.jobs }
     ensures jobs { IfOk result (λ marked. marked.jobs ≡ map without_expectations list.now.jobs) }
-    ensures marks { IfOk result (λ marked. marked.marks.items
+    ensures selection { IfOk result (λ marked. marked.selection.items
         ≡ jobs_to_run list.now.jobs chosen.now) }
     ensures memory { IfErr result (λ why. why ≡ Stop.OutOfMemory) }
 {
     let listed = parse_list(alloc, args.run.list, list.text.as_slice())?;
     let jobs = listed.without_expectations();
-    let marks = jobs_to_run(alloc, list.jobs.as_slice(), chosen)?;
-    Ok(BareJobs { jobs, marks })
+    let selection = jobs_to_run(alloc, list.jobs.as_slice(), chosen)?;
+    Ok(BareJobs { jobs, selection })
 }
 
 // Runs the selected jobs, and returns their rows, each at the index of its job.
@@ -267,13 +267,13 @@ fn run_selected<
 ) -> Result<Vec<Option<Row>>, Stop>
     ensures files { to.new.files ≡ to.old.files }
     ensures rows { IfOk result (λ rows. HaveSelectedRun (D.contents host.now.inputs.now)
-        (optional_text args.now.run.root) marked.jobs marked.marks.items rows.items
+        (optional_text args.now.run.root) marked.jobs marked.selection.items rows.items
         (outputs_of F.placed O.accepted E.accepted E.failure_count to.old) (outputs_of F.placed O.accepted E.accepted E.failure_count to.new)) }
     ensures stopped { IfErr result (λ why. (why ≡ Stop.OutOfMemory) ⊎ (why ≡ Stop.NoWorker)) }
 {
-    let BareJobs { jobs, marks, .. } = marked;
+    let BareJobs { jobs, selection, .. } = marked;
     let (alloc, root) = (host.alloc, args.run.root);
-    let places = selected_indices(alloc, marks.as_slice())?;
+    let places = selected_indices(alloc, selection.as_slice())?;
     let mut store = RecordingStore::new(host.inputs, alloc, root);
     let plan = gather_jobs_at(alloc, jobs, places.as_slice(), &mut store)?;
     let count = places.as_slice().len();
@@ -282,7 +282,7 @@ fn run_selected<
     let crew = requested_crew(host.rt, alloc, &args.run);
     let batch = Batch::new(&plan, places.as_slice());
     match run_batch(&crew, &batch) {
-        Ok(rows) => Ok(indexed_rows(alloc, marks.as_slice(), rows.into_vec())?),
+        Ok(rows) => Ok(indexed_rows(alloc, selection.as_slice(), rows.into_vec())?),
         Err(error) => Err(stop_of_run_error(error)),
     }
 }

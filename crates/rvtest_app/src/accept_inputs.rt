@@ -39,16 +39,16 @@ pub(crate) fn reject_accept_overwrites<F: Outputs>(
     alloc: Global,
     args: &AcceptArgs<'_>,
     jobs: &[Job],
-    marks: &[bool],
+    selection: &[bool],
 ) -> Result<Vec<u8>, Stop>
-    ensures apart { OnOk result (IfSome (F.placed files.now) (λ _. AreAcceptFilesNoInputs args.now jobs.now marks.now)) }
+    ensures apart { OnOk result (IfSome (F.placed files.now) (λ _. AreAcceptFilesNoInputs args.now jobs.now selection.now)) }
     ensures inside { IfOk result (λ notes. IfSome (F.placed files.now) (λ _. notes.items ≡ [])) }
     ensures stopped { IfErr result IsAcceptOverwriteStop }
 {
     let root = args.run.root;
     let reads = input_files(files, alloc, args, jobs)?;
     let mut golden = Vec::new(alloc);
-    push_golden_of_selected(alloc, &mut golden, root, jobs, marks)?;
+    push_golden_of_selected(alloc, &mut golden, root, jobs, selection)?;
     reject_golden_overwrites(files, alloc, golden.as_slice(), &reads)?;
     reject_list_overwrite(files, alloc, args.run.list, &reads)?;
     outside_notes(files, alloc, args, golden.as_slice())
@@ -111,17 +111,17 @@ fn push_golden_of_selected<'a>(
     golden: &mut Vec<InputPath<'a>>,
     root: Option<&str>,
     jobs: &'a [Job],
-    marks: &[bool],
+    selection: &[bool],
 ) -> Result<(), AllocError>
     ensures { OnOk result (input_paths golden.new.items
-        ≡ input_paths golden.old.items ++ golden_paths_of_selected (optional_text root.entry) jobs.now marks.now) }
+        ≡ input_paths golden.old.items ++ golden_paths_of_selected (optional_text root.entry) jobs.now selection.now) }
 {
-    match (jobs, marks) {
-        ([job, jobs @ ..], [marked, marks @ ..]) => {
+    match (jobs, selection) {
+        ([job, jobs @ ..], [marked, selection @ ..]) => {
             if *marked {
                 push_golden_paths(alloc, golden, root, job)?;
             }
-            push_golden_of_selected(alloc, golden, root, jobs, marks)
+            push_golden_of_selected(alloc, golden, root, jobs, selection)
         }
         ([], _) => Ok(()),
         ([_job, _jobs @ ..], []) => Ok(()),

@@ -169,10 +169,10 @@ fn push_candidate(candidates: &mut Vec<Candidate>, candidate: Candidate) -> Resu
 }
 
 // Whether the job at index `place` is selected; false if the index is out of range.
-fn is_selected(marks: &[bool], place: usize) -> bool
-    ensures { result ≡ is_selected marks.now place }
+fn is_selected(selection: &[bool], place: usize) -> bool
+    ensures { result ≡ is_selected selection.now place }
 {
-    match marks.get(place) {
+    match selection.get(place) {
         Some(marked) => *marked,
         None => false,
     }

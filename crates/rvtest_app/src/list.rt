@@ -73,20 +73,20 @@ fn chosen_jobs_of_text<D: Inputs>(
         rule: failure_rule(args.lenient),
         command: ChoosingCommand::List,
     };
-    let Choice { marks, notes } = chooser.choose(jobs.as_slice())?;
-    let names = match marks {
-        Some(marks) => selected_name_lines(alloc, jobs.as_slice(), marks.as_slice())?,
+    let Choice { selection, notes } = chooser.choose(jobs.as_slice())?;
+    let names = match selection {
+        Some(selection) => selected_name_lines(alloc, jobs.as_slice(), selection.as_slice())?,
         None => Vec::new(alloc),
     };
     Ok(ListedJobs { names, notes })
 }
 
 // Returns the names of the selected jobs, one per line.
-fn selected_name_lines(alloc: Global, jobs: &[Job], marks: &[bool]) -> Result<Vec<u8>, AllocError>
-    requires { length marks.now ≡ length jobs.now }
-    ensures { IfOk result (λ names. names.items ≡ name_lines jobs.now (selected_job_indices marks.now)) }
+fn selected_name_lines(alloc: Global, jobs: &[Job], selection: &[bool]) -> Result<Vec<u8>, AllocError>
+    requires { length selection.now ≡ length jobs.now }
+    ensures { IfOk result (λ names. names.items ≡ name_lines jobs.now (selected_job_indices selection.now)) }
 {
-    let places = selected_indices(alloc, marks)?;
+    let places = selected_indices(alloc, selection)?;
     let mut names = Vec::new(alloc);
     push_name_lines(&mut names, jobs, places.as_slice())?;
     Ok(names)

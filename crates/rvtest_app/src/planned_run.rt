@@ -15,11 +15,11 @@ use rv_rows::JobList;
 pub(crate) struct RequestedJobs {
     pub(crate) jobs: JobList,
     /// `None` if no job is to run.
-    pub(crate) marks: Option<Vec<bool>>,
+    pub(crate) selection: Option<Vec<bool>>,
     pub(crate) frame: ReportContext,
     /// The notes about the choice.
     pub(crate) notes: Vec<u8>,
-    ghost counted: { ForSome marks (λ marks. length marks.items ≡ length jobs) },
+    ghost counted: { ForSome selection (λ selection. length selection.items ≡ length jobs) },
     ghost whole: { ForSome frame.old (λ rows. length rows ≡ length jobs) },
 }
 
@@ -27,11 +27,11 @@ pub(crate) struct RequestedJobs {
 #[derive(Drop)]
 pub(crate) struct SelectedJobs {
     pub(crate) jobs: JobList,
-    pub(crate) marks: Vec<bool>,
+    pub(crate) selection: Vec<bool>,
     pub(crate) frame: ReportContext,
     /// The jobs that are known to fail, with `--known`.
     pub(crate) known: Option<KnownJobs>,
-    ghost counted: { length marks.items ≡ length jobs },
+    ghost counted: { length selection.items ≡ length jobs },
     ghost whole: { ForSome frame.old (λ rows. length rows ≡ length jobs) },
 }
 

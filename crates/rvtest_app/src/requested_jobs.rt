@@ -29,7 +29,7 @@ impl<'x, R, D: Inputs> ListRun<'x, R, D> {
     pub(crate) fn requested_jobs(&self, command: ChoosingCommand) -> Result<RequestedJobs, Stop>
         requires { self.now.rule ≡ failure_rule self.now.args.now.lenient }
         ensures requested { IfOk result (λ requested. AreRequestedJobs (D.contents self.now.host.now.inputs.now)
-            self.now.args.now requested.jobs (option_map (λ marks. marks.items) requested.marks)
+            self.now.args.now requested.jobs (option_map (λ selection. selection.items) requested.selection)
             requested.frame.shard requested.frame.old requested.notes.items) }
         ensures stopped { IfErr result
             (IsJobRequestStop (D.contents self.now.host.now.inputs.now) self.now.args.now) }
@@ -69,15 +69,15 @@ impl<'x, R, D: Inputs> ListRun<'x, R, D> {
         requires counted { ForSome old (λ rows. length rows ≡ length jobs) }
         ensures old { IfOk result (λ requested. requested.frame.old ≡ old) }
         ensures marked { IfOk result (λ requested. (requested.jobs ≡ jobs) × (requested.frame.shard ≡ Some shard)
-            × (option_map (λ marks. marks.items) requested.marks
+            × (option_map (λ selection. selection.items) requested.selection
             ≡ Some (shard_selection shard.shards shard.number (length jobs))) × (requested.notes.items ≡ [])) }
         ensures memory { IfErr result (λ stop. stop ≡ Stop.OutOfMemory) }
     {
         let alloc = self.host.alloc;
-        let marks = shard_selection(alloc, jobs.as_slice().len(), shard.number, shard.shards)?;
+        let selection = shard_selection(alloc, jobs.as_slice().len(), shard.number, shard.shards)?;
         Ok(RequestedJobs {
             jobs,
-            marks: Some(marks),
+            selection: Some(selection),
             frame: ReportContext {
                 shard: Some(shard),
                 old,
@@ -97,7 +97,7 @@ impl<'x, R, D: Inputs> ListRun<'x, R, D> {
         ensures old { IfOk result (λ requested. requested.frame.old ≡ old) }
         ensures chosen { IfOk result (λ requested. (requested.jobs ≡ jobs) × (requested.frame.shard ≡ None)
             × IsChoice (D.contents self.now.host.now.inputs.now) self.now.args.now self.now.rule jobs
-            (option_map (λ marks. marks.items) requested.marks) requested.notes.items) }
+            (option_map (λ selection. selection.items) requested.selection) requested.notes.items) }
         ensures stopped { IfErr result
             (IsChoiceStop (D.contents self.now.host.now.inputs.now) self.now.args.now self.now.rule jobs) }
     {
@@ -108,10 +108,10 @@ impl<'x, R, D: Inputs> ListRun<'x, R, D> {
             rule: self.rule,
             command,
         };
-        let Choice { marks, notes } = chooser.choose(jobs.as_slice())?;
+        let Choice { selection, notes } = chooser.choose(jobs.as_slice())?;
         Ok(RequestedJobs {
             jobs,
-            marks,
+            selection,
             frame: ReportContext { shard: None, old },
             notes,
         })

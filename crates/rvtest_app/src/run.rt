@@ -74,7 +74,7 @@ where
     let mut to = to;
     let RequestedJobs {
         jobs,
-        marks,
+        selection,
         frame,
         notes,
         ..
@@ -90,11 +90,11 @@ where
         return (to, Err(stop));
     }
     write_message(&mut to.errors, notes.as_slice());
-    match marks {
-        Some(marks) => {
+    match selection {
+        Some(selection) => {
             let marked = SelectedJobs {
                 jobs,
-                marks,
+                selection,
                 frame,
                 known,
             };
@@ -121,22 +121,22 @@ impl<'x, R: Threads + Wait + Sync + Clock, D: Inputs> ListRun<'x, R, D> {
         F::File: Send,
         requires { self.now.rule ≡ failure_rule self.now.args.now.lenient }
         ensures run { IfOk result.1 (λ status. IsRunOfSelected (D.contents self.now.host.now.inputs.now) self.now.args.now
-            marked.known marked.jobs (Some marked.marks.items) marked.frame.shard marked.frame.old status
+            marked.known marked.jobs (Some marked.selection.items) marked.frame.shard marked.frame.old status
             (outputs_of F.placed O.accepted E.accepted E.failure_count to) (outputs_of F.placed O.accepted E.accepted E.failure_count result.0)) }
         ensures undone { OnErr result.1 (IsAbortedRunOfJobs (D.contents self.now.host.now.inputs.now) self.now.args.now
-            marked.known marked.jobs (selected_job_indices marked.marks.items) marked.frame.shard marked.frame.old
+            marked.known marked.jobs (selected_job_indices marked.selection.items) marked.frame.shard marked.frame.old
             (F.placed to.files) (F.placed result.0.files)) }
         ensures stopped { IfErr result.1 (IsRunWriteStop self.now.args.now) }
     {
         let SelectedJobs {
             jobs,
-            marks,
+            selection,
             frame,
             known,
             ..
         } = marked;
         let (alloc, args) = (self.host.alloc, self.args);
-        let places = match selected_indices(alloc, marks.as_slice()) {
+        let places = match selected_indices(alloc, selection.as_slice()) {
             Ok(places) => places,
             Err(error) => return (to, Err(Stop::from(error))),
         };

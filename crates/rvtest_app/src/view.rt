@@ -68,9 +68,9 @@ impl<'x, R: Threads + Wait + Sync, D: Inputs> JobsView<'x, R, D> {
         };
         let requested = run.requested_jobs(command)?;
         write_message(&mut to.errors, requested.notes.as_slice());
-        let RequestedJobs { jobs, marks, .. } = requested;
-        match marks {
-            Some(marks) => self.write_selected(jobs, marks.as_slice(), to),
+        let RequestedJobs { jobs, selection, .. } = requested;
+        match selection {
+            Some(selection) => self.write_selected(jobs, selection.as_slice(), to),
             None => Ok(DONE),
         }
     }
@@ -79,18 +79,18 @@ impl<'x, R: Threads + Wait + Sync, D: Inputs> JobsView<'x, R, D> {
     fn write_selected<F: Outputs + Drop, O: Sink + Drop, E: Sink + Drop>(
         &self,
         jobs: JobList,
-        marks: &[bool],
+        selection: &[bool],
         to: &mut Destinations<F, O, E>,
     ) -> Result<u8, Stop>
-        requires { length marks.now ≡ length jobs }
+        requires { length selection.now ≡ length jobs }
         ensures put { IfOk result (λ status. (status ≡ 0) × IsViewOfJobs (D.contents self.now.host.now.inputs.now)
-            self.now.args.now self.now.view jobs (selected_job_indices marks.now)
+            self.now.args.now self.now.view jobs (selected_job_indices selection.now)
             (outputs_of F.placed O.accepted E.accepted E.failure_count to.old) (outputs_of F.placed O.accepted E.accepted E.failure_count to.new)) }
         ensures stopped { IfErr result (IsViewFailedStop (D.contents self.now.host.now.inputs.now) self.now.args.now
-            self.now.view jobs (selected_job_indices marks.now)) }
+            self.now.view jobs (selected_job_indices selection.now)) }
     {
         let (alloc, inputs) = (self.host.alloc, self.host.inputs);
-        let marked = selected_indices(alloc, marks)?;
+        let marked = selected_indices(alloc, selection)?;
         let places = marked.as_slice();
         let mut store = RecordingStore::new(inputs, alloc, self.args.root);
         let plan = gather_jobs_at(alloc, jobs, places, &mut store)?;

@@ -11,7 +11,7 @@ pub returns-in-Some-clause-undone : goal.returns-in-Some-clause-undone
 returns-in-Some-clause-undone g c =
     let found : AreJobsToRun (g.D.Inputs.contents c.args.host.now.inputs.now) c.args.args.now = record {
       jobs = c.in-Ok.requested.jobs;
-      marks = c.in-Some.marks.items;
+      selection = c.in-Some.selection.items;
       shard = c.in-Ok.requested.frame.shard;
       old = c.in-Ok.requested.frame.old;
       notes = c.in-Ok.requested.notes.items;
@@ -26,7 +26,7 @@ pub returns-in-Some-clause-stopped : goal.returns-in-Some-clause-stopped
 returns-in-Some-clause-stopped g c =
     let found : AreJobsToRun (g.D.Inputs.contents c.args.host.now.inputs.now) c.args.args.now = record {
       jobs = c.in-Ok.requested.jobs;
-      marks = c.in-Some.marks.items;
+      selection = c.in-Some.selection.items;
       shard = c.in-Ok.requested.frame.shard;
       old = c.in-Ok.requested.frame.old;
       notes = c.in-Ok.requested.notes.items;

@@ -10,13 +10,13 @@ returns-in_err-excluded-clause-stop g c =
 
 pub without_excluded-requires : goal.without_excluded-requires
 without_excluded-requires g c = record {
-  counted = wanted_counts _ _ _ _ c.in_ok-marks.field-0.marks _ c.in_ok-marks.ensures.wanted;
+  counted = wanted_counts _ _ _ _ c.in_ok-selection.field-0.selection _ c.in_ok-selection.ensures.wanted;
 }
 
-pub returns-in_err-marks-2-clause-stop : goal.returns-in_err-marks-2-clause-stop
-returns-in_err-marks-2-clause-stop g c =
-    let is = err_from_is_err_and c.from_residual-in_err-marks-2.result c.from_residual-in_err-marks-2.ensures.1 in
+pub returns-in_err-selection-2-clause-stop : goal.returns-in_err-selection-2-clause-stop
+returns-in_err-selection-2-clause-stop g c =
+    let is = err_from_is_err_and c.from_residual-in_err-selection-2.result c.from_residual-in_err-selection-2.ensures.1 in
     rw (is.1, is.2)
-    (stop_of_emptied _ _ _ _ _ _ c.in_ok-marks.field-0.marks c.in_ok-excluded.excluded c.as_ref.result
-    c.in_ok-marks.ensures.wanted c.in_ok-excluded.ensures.source c.in_ok-excluded.ensures.read c.as_ref.ensures.value
-    c.in_err-marks-2.ensures.stop)
+    (stop_of_emptied _ _ _ _ _ _ c.in_ok-selection.field-0.selection c.in_ok-excluded.excluded c.as_ref.result
+    c.in_ok-selection.ensures.wanted c.in_ok-excluded.ensures.source c.in_ok-excluded.ensures.read c.as_ref.ensures.value
+    c.in_err-selection-2.ensures.stop)

@@ -15,7 +15,7 @@ returns-in-Some-clause-put g c =
     IfOk-map c.write_selected.result _ _
     (λ status put. record {
       jobs = c.in_ok-requested.requested.jobs;
-      marks = Some c.in-Some.marks.items;
+      selection = Some c.in-Some.selection.items;
       shard = c.in_ok-requested.requested.frame.shard;
       old = c.in_ok-requested.requested.frame.old;
       notes = c.in_ok-requested.requested.notes.items;
@@ -37,7 +37,7 @@ returns-in-Some-clause-stopped g c =
     IfErr-map c.write_selected.result _ _
     (λ why is. inr (inr (record {
       jobs = c.in_ok-requested.requested.jobs;
-      marks = c.in-Some.marks.items;
+      selection = c.in-Some.selection.items;
       shard = c.in_ok-requested.requested.frame.shard;
       old = c.in_ok-requested.requested.frame.old;
       notes = c.in_ok-requested.requested.notes.items;
@@ -49,7 +49,7 @@ returns-in-Some-clause-stopped g c =
 pub returns-clause-put : goal.returns-clause-put
 returns-clause-put g c = record {
   jobs = c.in_ok-requested.requested.jobs;
-  marks = None;
+  selection = None;
   shard = c.in_ok-requested.requested.frame.shard;
   old = c.in_ok-requested.requested.frame.old;
   notes = c.in_ok-requested.requested.notes.items;

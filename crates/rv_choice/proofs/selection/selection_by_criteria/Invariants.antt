@@ -2,11 +2,11 @@ use Rattle.std.proofs.Common.{◌≡◌, take}
 use Rattle.std.specs.Prelude.{option_map}
 use Rattle.regex.specs.Strings.{matcher_pattern}
 use Rattle.rv_choice.specs.Choice.{selection_by_criteria, pattern_of, optional_names}
-use Rattle.rv_choice.proofs.marks.selection_by_criteria.Given as goal
+use Rattle.rv_choice.proofs.selection.selection_by_criteria.Given as goal
 
 abbrev pub invariant-loop-index : goal.invariant-loop-index
 invariant-loop-index l = record {
-  marks : l.marks.items ≡ selection_by_criteria (optional_names l.wanted.only) (pattern_of l.wanted.pattern)
+  selection : l.selection.items ≡ selection_by_criteria (optional_names l.wanted.only) (pattern_of l.wanted.pattern)
       (optional_names l.wanted.failed) (take l.index l.jobs);
   matcher : option_map matcher_pattern l.matcher ≡ pattern_of l.wanted.pattern;
 }

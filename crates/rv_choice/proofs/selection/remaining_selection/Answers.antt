@@ -5,7 +5,7 @@ use Rattle.regex.specs.Strings.{regex_pattern}
 use Rattle.rv_choice.specs.Choice.{stays_selected, remaining_selection}
 use Rattle.rv_choice.proofs.Names.{left_more}
 use Rattle.rv_expect.specs.declared_job.Job.{Job}
-use Rattle.rv_choice.proofs.marks.remaining_selection.Goals as goal
+use Rattle.rv_choice.proofs.selection.remaining_selection.Goals as goal
 
 pub loop-index-init : goal.loop-index-init
 unfolding remaining_selection
@@ -15,7 +15,7 @@ pub loop-index-preserved : goal.loop-index-preserved
 loop-index-preserved c =
     let pattern = regex_pattern c.args.excluded.now in
     let jobs = c.args.jobs.now in
-    let marks = c.args.marks.now in
+    let selection = c.args.selection.now in
     let index = c.loop-index.index in
     let job = c.index-jobs-index.result in
     let found = c.is_match-is_found.ensures.found
@@ -25,10 +25,10 @@ loop-index-preserved c =
     record {
       left = c.in_ok-push.ensures.items
           ∙ (ap (λ (left : List Bool). left ++ c.stays_selected.result ∷ []) c.loop-index.invariant.left
-          ∙ (ap (λ (m : Bool). remaining_selection pattern (take index jobs) (take index marks) ++ m ∷ [])
+          ∙ (ap (λ (m : Bool). remaining_selection pattern (take index jobs) (take index selection) ++ m ∷ [])
           (c.stays_selected.ensures ∙ ap (stays_selected _) found)
-          ∙ sym (left_more pattern jobs marks index job _ c.requires (omega arith) (sym c.index-jobs-index.is)
-          (get_or_default marks index _ _ (omega (arith, c.requires))))));
+          ∙ sym (left_more pattern jobs selection index job _ c.requires (omega arith) (sym c.index-jobs-index.is)
+          (get_or_default selection index _ _ (omega (arith, c.requires))))));
       matcher = c.is_match-is_found.ensures.same ∙ c.loop-index.invariant.matcher;
     }
 
@@ -37,6 +37,6 @@ returns c =
     let pattern = regex_pattern c.args.excluded.now in
     let index = c.loop-index.index in
     c.loop-index.invariant.left
-    ∙ (ap (λ (jobs : List Job). remaining_selection pattern jobs (take index c.args.marks.now))
+    ∙ (ap (λ (jobs : List Job). remaining_selection pattern jobs (take index c.args.selection.now))
     (take_all index c.args.jobs.now (omega arith))
-    ∙ ap (remaining_selection pattern c.args.jobs.now) (take_all index c.args.marks.now (omega (arith, c.requires))))
+    ∙ ap (remaining_selection pattern c.args.jobs.now) (take_all index c.args.selection.now (omega (arith, c.requires))))

@@ -27,32 +27,32 @@ pub(crate) fn selection_by_criteria(
     jobs: &[Job],
     wanted: Criteria<'_>,
 ) -> Result<Vec<bool>, AllocError>
-    ensures { IfOk result (λ marks. marks.items ≡ selection_by_criteria (optional_names wanted.entry.only)
+    ensures { IfOk result (λ selection. selection.items ≡ selection_by_criteria (optional_names wanted.entry.only)
         (pattern_of wanted.entry.pattern) (optional_names wanted.entry.failed) jobs.now) }
 {
     let mut matcher = matcher_of(alloc, wanted.pattern)?;
-    let mut marks = Vec::new(alloc);
+    let mut selection = Vec::new(alloc);
     for index in 0..jobs.len() {
-        marks.push(is_chosen_name(wanted, &mut matcher, jobs[index].name.as_str()))?;
+        selection.push(is_chosen_name(wanted, &mut matcher, jobs[index].name.as_str()))?;
     }
-    Ok(marks)
+    Ok(selection)
 }
 
 /// Returns the selection without the jobs whose names the pattern `excluded` matches.
 pub(crate) fn remaining_selection(
     alloc: Global,
     jobs: &[Job],
-    marks: &[bool],
+    selection: &[bool],
     excluded: &Regex,
 ) -> Result<Vec<bool>, AllocError>
-    requires { length marks.now ≡ length jobs.now }
-    ensures { IfOk result (λ left. left.items ≡ remaining_selection (regex_pattern excluded.now) jobs.now marks.now) }
+    requires { length selection.now ≡ length jobs.now }
+    ensures { IfOk result (λ left. left.items ≡ remaining_selection (regex_pattern excluded.now) jobs.now selection.now) }
 {
     let mut matcher = excluded.matcher(alloc)?;
     let mut left = Vec::new(alloc);
     for index in 0..jobs.len() {
         let is_found = matcher.is_match(jobs[index].name.as_str());
-        left.push(stays_selected(marks[index], is_found))?;
+        left.push(stays_selected(selection[index], is_found))?;
     }
     Ok(left)
 }
