@@ -76,7 +76,9 @@ fn outcome_of_given_text(
 fn first_skipped_text<'a>(path: &str, golden_texts: &'a [GoldenText]) -> Option<&'a GoldenText>
     ensures { option_map (λ claim. claim.now) result ≡ find (is_of_skipped_job path.now) golden_texts.now }
 {
-    golden_texts.iter().find(|claim| is_of_skipped_job(path, claim))
+    golden_texts
+        .iter()
+        .find(|claim| is_of_skipped_job(path, claim))
 }
 
 /// Returns the first golden text for the file at the path, or `None` if there is none.

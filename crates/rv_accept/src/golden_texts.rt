@@ -45,11 +45,23 @@ fn push_golden_texts(
     let (job, row) = ran;
     if let Some(path) = console_path(job) {
         let text = console_if_accepted(alloc, is_accepted, row)?;
-        push_golden_text(alloc, golden_texts, (place, GoldenKind::Console), path, text)?;
+        push_golden_text(
+            alloc,
+            golden_texts,
+            (place, GoldenKind::Console),
+            path,
+            text,
+        )?;
     }
     if let Some(path) = &job.expect_signature {
         let text = signature_if_accepted(alloc, is_accepted, row)?;
-        push_golden_text(alloc, golden_texts, (place, GoldenKind::Signature), path.as_str(), text)?;
+        push_golden_text(
+            alloc,
+            golden_texts,
+            (place, GoldenKind::Signature),
+            path.as_str(),
+            text,
+        )?;
     }
     Ok(())
 }

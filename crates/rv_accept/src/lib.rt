@@ -25,7 +25,7 @@ pub use ends::{Acceptance, is_accepted_end};
 pub use golden_outcomes::{
     GoldenFileOutcome, first_other_text, first_text_for_file, outcome_of_golden_file,
 };
-pub use golden_texts::{GoldenText, GoldenKind, console_path, golden_texts_of_runs};
+pub use golden_texts::{GoldenKind, GoldenText, console_path, golden_texts_of_runs};
 pub use intended_jobs::are_intended_jobs;
 pub use law::{
     accepted_jobs_meet_their_expectations, accepted_jobs_pass_with_their_files,

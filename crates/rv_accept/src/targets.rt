@@ -4,7 +4,7 @@ ghost use Rattle.std.specs.Prelude.{◌≡◌, [], IfOk, OnOk, fold, option_map,
 ghost use Rattle.rv_accept.specs.Targets.{is_accepted_entry, has_target, target_of, with_target};
 
 use crate::golden_outcomes::{GoldenFileOutcome, outcome_of_golden_file};
-use crate::golden_texts::{GoldenText, GoldenKind};
+use crate::golden_texts::{GoldenKind, GoldenText};
 use crate::runs::JobRun;
 use rv_rows::Text;
 use std::alloc::{AllocError, Global};
@@ -55,7 +55,11 @@ fn add_target(
 }
 
 // Returns the golden file of a golden text, with the outcome for this file.
-fn target_of(alloc: Global, claim: &GoldenText, golden_texts: &[GoldenText]) -> Result<Target, AllocError>
+fn target_of(
+    alloc: Global,
+    claim: &GoldenText,
+    golden_texts: &[GoldenText],
+) -> Result<Target, AllocError>
     ensures { IfOk result (λ target. target ≡ target_of golden_texts.now claim.now) }
 {
     Ok(Target {

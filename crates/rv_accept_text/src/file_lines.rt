@@ -9,7 +9,7 @@ use crate::changed_text::{push_byte_difference, push_text_change, push_word_chan
 use crate::golden_file::{GoldenFile, ListFile};
 use crate::job_lines::job_name;
 use rv_accept::{
-    GoldenFileOutcome, GoldenText, GoldenKind, Target, first_other_text, first_text_for_file,
+    GoldenFileOutcome, GoldenKind, GoldenText, Target, first_other_text, first_text_for_file,
 };
 use rv_rows::{Bytes, Job, Span, push_spans, push_text};
 use std::alloc::AllocError;
@@ -175,7 +175,12 @@ fn push_file_skip_reason(
                 Span::Text("\" also names this file and was skipped\n"),
             ],
         ),
-        GoldenFileOutcome::Disagree(..) => push_disagreement(out, jobs, golden_texts, target.path.as_str()),
+        GoldenFileOutcome::Disagree(..) => push_disagreement(
+            out,
+            jobs,
+            golden_texts,
+            target.path.as_str(),
+        ),
         GoldenFileOutcome::Agreed(_) | GoldenFileOutcome::Unclaimed => push_text(
             out,
             "the list and the images are never overwritten\n",

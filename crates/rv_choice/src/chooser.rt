@@ -244,7 +244,10 @@ impl<'x, D: Inputs> Chooser<'x, D> {
     {
         let notes = failed_job_notes(self.alloc, path, jobs, failed, missing)?;
         if failed.is_empty() && self.args.only.is_empty() && pattern.is_none() {
-            return Ok(Choice { selection: None, notes });
+            return Ok(Choice {
+                selection: None,
+                notes,
+            });
         }
         let selection = Some(self.combined_selection(pattern, Some(failed), jobs)?);
         Ok(Choice { selection, notes })

@@ -8,7 +8,7 @@ ghost use Rattle.rv_gdb.specs.Chunks.{IsByteHandled, IsByteReplyWritten, IsChunk
 ghost use Rattle.rv_session.specs.Incoming.{is_interrupted};
 ghost use Rattle.rv_session.specs.Sessions.{IsSameRun, IsOpenIfRequested};
 
-use crate::ctrl_c::{CTRL_C, AlwaysRaised, SharedInterrupt, NeverRaised};
+use crate::ctrl_c::{AlwaysRaised, CTRL_C, NeverRaised, SharedInterrupt};
 use crate::reads::{check_interrupt, read_ahead, read_chunk};
 use rv_session::{EndText, Interrupt, Session};
 use rv_trace::{Sink, put_all};

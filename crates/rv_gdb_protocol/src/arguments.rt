@@ -3,7 +3,7 @@
 ghost use Rattle.std.specs.Prelude.{◌≡◌};
 ghost use Rattle.rv_gdb_protocol.specs.Requests.{all_registers_write, parse_breakpoint, description, refusal_of_address, image_path, parse_watchpoint, move_within_range, unknown_kind_request, parse_part, plain_move, parse_range, read_file, read_memory, read_register, parse_register, register_of, register_write, signal_move, move_with_signal, parse_stoppoint, stoppoint_range, parse_watch_range, watchpoint_if_valid, write_register, memory_write};
 
-use crate::number::{parse_number, parse_two_numbers, delimiter_index, text_after, parse_value};
+use crate::number::{delimiter_index, parse_number, parse_two_numbers, parse_value, text_after};
 use crate::request::{Move, Part, Range, Refusal, Register, Request, Stoppoint, WatchKind};
 use rv_base::Bytes;
 

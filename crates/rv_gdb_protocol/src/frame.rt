@@ -4,8 +4,8 @@ ghost use Rattle.std.specs.Prelude.{◌≡◌, ◌++◌, OnOk};
 ghost use Rattle.rv_gdb_protocol.specs.Escapes.{escaped};
 ghost use Rattle.rv_gdb_protocol.specs.Checksums.{packet_of, checksum_digits};
 
-use crate::escapes::push_escaped;
 use crate::checksum::checksum_of;
+use crate::escapes::push_escaped;
 use rv_base::Bytes;
 use std::alloc::{AllocError, Global};
 

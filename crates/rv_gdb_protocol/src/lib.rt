@@ -5,6 +5,7 @@
 #![tactic(auto)]
 
 mod arguments;
+mod checksum;
 mod escapes;
 mod frame;
 mod law;
@@ -16,7 +17,6 @@ mod registers;
 mod reply;
 mod request;
 mod stop;
-mod checksum;
 mod target;
 
 pub use escapes::{push_data, push_escaped};

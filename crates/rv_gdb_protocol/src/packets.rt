@@ -7,8 +7,8 @@ ghost use Rattle.rv_gdb_protocol.specs.declared.request.Request.TheVariants as a
 ghost use Rattle.rv_gdb_protocol.specs.Packets.{action_of, bare_action, bare_command, bare_query, description_request, detach, detach_request, file_reading, first_action, accepted_request, image_path_request, is_file_call, request_without_bytes, move_request, other_descriptor_request, query_request, range_action, register_or_memory_request, signal_action, stoppoint_request};
 
 use crate::arguments::{
-    description, image_path, move_with_signal, move_within_range, parse_stoppoint, plain_move, read_file,
-    read_memory, read_register, signal_move, unknown_kind_request, write_register,
+    description, image_path, move_with_signal, move_within_range, parse_stoppoint, plain_move,
+    read_file, read_memory, read_register, signal_move, unknown_kind_request, write_register,
 };
 use crate::number::{text_after, text_before};
 use crate::request::{Move, Refusal, Request};

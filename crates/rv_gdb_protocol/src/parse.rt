@@ -5,9 +5,9 @@ ghost use Rattle.rv_gdb_protocol.specs.Numbers.{parse_bytes};
 ghost use Rattle.rv_gdb_protocol.specs.Packets.{request_with_bytes, command, request_of};
 ghost use Rattle.rv_gdb_protocol.specs.Requests.{open_file, path_to_open, whole_data, write_data, write_digits, memory_write_or_refusal, write_registers};
 
-use crate::arguments::{all_registers_write, parse_range, memory_write};
+use crate::arguments::{all_registers_write, memory_write, parse_range};
 use crate::escapes::push_data;
-use crate::number::{parse_bytes, parse_two_numbers, delimiter_index, text_after};
+use crate::number::{delimiter_index, parse_bytes, parse_two_numbers, text_after};
 use crate::packets::request_without_bytes;
 use crate::request::{Range, Refusal, Request};
 use rv_base::Bytes;
@@ -104,7 +104,9 @@ fn memory_write_or_refusal(range: Range, bytes: Option<Vec<u8>>) -> Request
     ensures { result ≡ memory_write_or_refusal range (option_map (λ bytes. bytes.items) bytes) }
 {
     match bytes {
-        Some(bytes) => { memory_write(range, bytes).unwrap_or(Request::Refused(Refusal::Malformed)) }
+        Some(bytes) => {
+            memory_write(range, bytes).unwrap_or(Request::Refused(Refusal::Malformed))
+        }
         None => Request::Refused(Refusal::Malformed),
     }
 }

@@ -2,8 +2,8 @@
 
 ghost use Rattle.std.specs.Prelude.{◌≡◌, ◌≤◌, IfOk, OnErr, OnOk, Some, fold, length, take};
 
-use crate::frame::{Incoming, PacketPosition};
 use crate::checksum::checksum_verdict;
+use crate::frame::{Incoming, PacketPosition};
 use rv_base::Bytes;
 use std::alloc::{AllocError, Global};
 use std::marker::Model;

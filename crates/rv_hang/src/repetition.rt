@@ -65,7 +65,12 @@ struct MatchingSteps {
 
 // Returns the first and the last step before which the hart has the values `end` and after which nothing can change the bus, or `None` if
 // there is none. `matching` has these steps up to step `place`, and `machine` is the machine before this step.
-fn matching_steps_at(matching: Option<MatchingSteps>, machine: &Machine, place: u32, end: &HartValues) -> Option<MatchingSteps>
+fn matching_steps_at(
+    matching: Option<MatchingSteps>,
+    machine: &Machine,
+    place: u32,
+    end: &HartValues,
+) -> Option<MatchingSteps>
     ensures { result ≡ matching_steps_after matching place end.now (state_of machine.now) }
 {
     if !is_step_quiet(machine) {

@@ -11,7 +11,7 @@ ghost use Rattle.rv_history.specs.declared.bounds.Bounds.TheVariants.{All as All
 ghost use Rattle.rv_history.specs.declared.found.MoveResult.TheVariants.{Interrupted};
 
 use crate::checkpoints::Checkpoints;
-use crate::forward_move::{MoveEnd, ForwardMove};
+use crate::forward_move::{ForwardMove, MoveEnd};
 use crate::found::MoveResult;
 use crate::interrupt::Interrupt;
 use crate::search_back::{SearchedPart, last_stop_after};

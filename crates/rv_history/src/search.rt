@@ -10,7 +10,7 @@ ghost use Rattle.rv_history.specs.declared.stops.Stops.{Stops};
 
 use crate::breaks::next_breakpoint;
 use crate::checkpoints::Checkpoints;
-use crate::forward_move::{MoveEnd, ForwardMove};
+use crate::forward_move::{ForwardMove, MoveEnd};
 use crate::found::MoveResult;
 use crate::interrupt::Interrupt;
 use crate::slices::slice_end;

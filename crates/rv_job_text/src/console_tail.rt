@@ -48,7 +48,11 @@ fn push_console_line(bytes: &mut Vec<u8>, line: &[u8]) -> Result<(), AllocError>
 {
     push_spans(
         bytes,
-        &[Span::Text("     | "), Span::Printable(line), Span::Text("\n")],
+        &[
+            Span::Text("     | "),
+            Span::Printable(line),
+            Span::Text("\n"),
+        ],
     )
 }
 

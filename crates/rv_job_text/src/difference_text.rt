@@ -45,7 +45,10 @@ pub(crate) fn push_prefixed_name(
     ensures { OnOk result (bytes.new.items ≡ bytes.old.items
         ++ (before.now ++ printable_text name.now)) }
 {
-    push_spans(bytes, &[Span::Text(before), Span::Printable(name.as_bytes())])
+    push_spans(
+        bytes,
+        &[Span::Text(before), Span::Printable(name.as_bytes())],
+    )
 }
 
 /// Returns the contents of a file, or no bytes if there are none.

@@ -28,7 +28,11 @@ pub(crate) fn expected_by_lines<'a>(
             let expected = expected_console(&comparison.job.expect_console, comparison.console);
             shown_by_lines(difference, comparison.row.console.as_slice(), expected)
         }
-        UnmetExpectation::Exit | UnmetExpectation::End | UnmetExpectation::Signature(_) | UnmetExpectation::Same(_) | UnmetExpectation::Nothing => None,
+        UnmetExpectation::Exit
+        | UnmetExpectation::End
+        | UnmetExpectation::Signature(_)
+        | UnmetExpectation::Same(_)
+        | UnmetExpectation::Nothing => None,
     }
 }
 

@@ -70,7 +70,10 @@ fn unmet_margin(unmet: UnmetExpectation) -> &'static str
 {
     match unmet {
         UnmetExpectation::Console(_) | UnmetExpectation::Signature(_) => "     ",
-        UnmetExpectation::Exit | UnmetExpectation::End | UnmetExpectation::Same(_) | UnmetExpectation::Nothing => "     expected: ",
+        UnmetExpectation::Exit
+        | UnmetExpectation::End
+        | UnmetExpectation::Same(_)
+        | UnmetExpectation::Nothing => "     expected: ",
     }
 }
 

@@ -8,8 +8,8 @@ ghost use Rattle.rv_junit.specs.Junit.{suite_begin_text, test_case_text, first_l
 ghost use Rattle.rv_junit.specs.Junit.{judged_text, problem_element_name, problem_text, reason_attribute, skipped_attribute, skipped_text};
 ghost use Rattle.rv_job_text.specs.Judgement.{judgement_view, judge_view};
 
-use crate::xml_pieces::{XmlPiece, push_attribute, push_number_attribute, push_xml_pieces};
 use crate::suite::Suite;
+use crate::xml_pieces::{XmlPiece, push_attribute, push_number_attribute, push_xml_pieces};
 use rv_job_text::{Judge, Judgement, did_run, is_error, is_failure, known_count, push_text};
 use rv_stream::Row;
 use std::alloc::{AllocError, Global};

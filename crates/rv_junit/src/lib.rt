@@ -10,8 +10,8 @@ mod failure_texts;
 mod junit;
 mod junit_writer;
 mod law;
-mod xml_pieces;
 mod suite;
+mod xml_pieces;
 
 pub use case_writes::Cases;
 pub use failure_texts::FailureTexts;

@@ -13,7 +13,7 @@ use crate::end_text::EndText;
 use crate::reply::Reply;
 use crate::session::Session;
 use rv_gdb_protocol::{Bytes, Move, Stop, WatchKind, push_stop};
-use rv_history::{Bounds, Ending, MoveResult, Interrupt, WatchHit};
+use rv_history::{Bounds, Ending, Interrupt, MoveResult, WatchHit};
 use std::alloc::{AllocError, Global};
 
 impl Session {
@@ -131,7 +131,11 @@ impl Session {
                 let (place, machine) = (self.history.place(), self.history.machine());
                 end.push_end_text(alloc, place, machine, &mut text)?;
             }
-            MoveResult::Done | MoveResult::Breakpoint | MoveResult::WatchTriggered | MoveResult::RunStart | MoveResult::Interrupted => {}
+            MoveResult::Done
+            | MoveResult::Breakpoint
+            | MoveResult::WatchTriggered
+            | MoveResult::RunStart
+            | MoveResult::Interrupted => {}
         }
         Ok(text)
     }

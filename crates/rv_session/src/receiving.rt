@@ -98,7 +98,12 @@ impl Session {
     }
 
     // Appends the acknowledgement of a packet, if packets are acknowledged, and the reply to its request.
-    fn respond_to_body(&mut self, alloc: Global, out: &mut Vec<u8>, body: &[u8]) -> Result<(), AllocError>
+    fn respond_to_body(
+        &mut self,
+        alloc: Global,
+        out: &mut Vec<u8>,
+        body: &[u8],
+    ) -> Result<(), AllocError>
         ensures { OnOk result (AppendsSome out.old.items out.new.items
             (λ told. IsPacketResponse self.old body.now told self.new)) }
     {

@@ -10,8 +10,8 @@
 mod color_sink;
 mod colors;
 mod law;
-mod output_state;
 mod line_position;
+mod output_state;
 mod progress;
 mod progress_reporter;
 mod tally;

@@ -271,7 +271,11 @@ fn run_selected<
         (outputs_of F.placed O.accepted E.accepted E.failure_count to.old) (outputs_of F.placed O.accepted E.accepted E.failure_count to.new)) }
     ensures stopped { IfErr result (λ why. (why ≡ Stop.OutOfMemory) ⊎ (why ≡ Stop.NoWorker)) }
 {
-    let BareJobs { jobs, selection, .. } = marked;
+    let BareJobs {
+        jobs,
+        selection,
+        ..
+    } = marked;
     let (alloc, root) = (host.alloc, args.run.root);
     let places = selected_indices(alloc, selection.as_slice())?;
     let mut store = RecordingStore::new(host.inputs, alloc, root);
@@ -324,7 +328,11 @@ fn changes_of_runs<R, D: Inputs>(
     let golden_texts = golden_texts_of_runs(alloc, list.jobs, new.runs.as_slice())?;
     let targets = targets_of(alloc, new.runs.as_slice(), golden_texts.as_slice())?;
     let files = read_golden_files(host.inputs, alloc, args.run.root, targets)?;
-    Ok(Outcomes { golden_texts, files, new })
+    Ok(Outcomes {
+        golden_texts,
+        files,
+        new,
+    })
 }
 
 // Writes the lines about all changes and, unless `--check` is given, the changed files. Returns the exit status.

@@ -257,7 +257,10 @@ fn is_same_as(unmet: UnmetExpectation) -> bool
 {
     match unmet {
         UnmetExpectation::Same(_) => true,
-        UnmetExpectation::Exit | UnmetExpectation::End | UnmetExpectation::Console(_) | UnmetExpectation::Signature(_) | UnmetExpectation::Nothing =>
-            false,
+        UnmetExpectation::Exit
+        | UnmetExpectation::End
+        | UnmetExpectation::Console(_)
+        | UnmetExpectation::Signature(_)
+        | UnmetExpectation::Nothing => false,
     }
 }

@@ -193,7 +193,11 @@ fn requested_comparison(steps: bool, slower: Option<u32>) -> CompareMode
 }
 
 // Returns the differences between the rows, with the exit status.
-fn diff_rows(alloc: Global, compare: CompareMode, compared: ComparedReports<'_>) -> Result<CommandResult, Stop>
+fn diff_rows(
+    alloc: Global,
+    compare: CompareMode,
+    compared: ComparedReports<'_>,
+) -> Result<CommandResult, Stop>
     requires old { length compared.old.now < 2 ^ 32 }
     requires new { length compared.new.now < 2 ^ 32 }
     ensures low { IfOk result (λ found. found.status ≤ 1) }

@@ -82,7 +82,11 @@ fn chosen_jobs_of_text<D: Inputs>(
 }
 
 // Returns the names of the selected jobs, one per line.
-fn selected_name_lines(alloc: Global, jobs: &[Job], selection: &[bool]) -> Result<Vec<u8>, AllocError>
+fn selected_name_lines(
+    alloc: Global,
+    jobs: &[Job],
+    selection: &[bool],
+) -> Result<Vec<u8>, AllocError>
     requires { length selection.now ≡ length jobs.now }
     ensures { IfOk result (λ names. names.items ≡ name_lines jobs.now (selected_job_indices selection.now)) }
 {

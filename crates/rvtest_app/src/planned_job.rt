@@ -67,5 +67,11 @@ fn row_after_steps(
     if job.plan.job(job.place).budget < steps {
         return row_at(alloc, &job.plan, job.place);
     }
-    row_from(alloc, &job.plan, job.place, steps, machine.try_clone(alloc)?)
+    row_from(
+        alloc,
+        &job.plan,
+        job.place,
+        steps,
+        machine.try_clone(alloc)?,
+    )
 }

@@ -68,7 +68,11 @@ impl<'x, R: Threads + Wait + Sync, D: Inputs> JobsView<'x, R, D> {
         };
         let requested = run.requested_jobs(command)?;
         write_message(&mut to.errors, requested.notes.as_slice());
-        let RequestedJobs { jobs, selection, .. } = requested;
+        let RequestedJobs {
+            jobs,
+            selection,
+            ..
+        } = requested;
         match selection {
             Some(selection) => self.write_selected(jobs, selection.as_slice(), to),
             None => Ok(DONE),
