@@ -17,8 +17,8 @@ use Rattle.rv_choice.specs.Choice.{count_jobs_without_row, remaining_selection, 
 use Rattle.rv_choice.specs.FailedJobNotes.{failed_job_notes}
 use Rattle.rv_choice.specs.UnknownName.{unknown_name}
 
--- `selection` is the selection by `--only`, by the pattern, and by the names `failed` from the report at `path`, in which `missing` jobs have
--- no row; it may be absent only if nothing but failed jobs is requested, and none failed
+-- `selection` is the selection by `--only`, by the pattern, and by the names `failed` from the report at `path`, in which `missing` jobs
+-- have no row; it may be absent only if nothing but failed jobs is requested, and none failed
 pub record AreChosenFrom (path : List ℕ) (failed : ChosenNames) (missing : ℕ) (pattern : Option Re) (words : RunArgs)
     (jobs : List Job) (selection : Option (List Bool)) (notes : List ℕ) : Type 0 where
   pub told : notes ≡ failed_job_notes path jobs failed missing
@@ -37,7 +37,8 @@ pub record AreChosenFromReport (known : Option FileContents) (path : List ℕ) (
   pub chosen : AreChosenFrom path (failed_job_names rule found.report.rows)
       (count_jobs_without_row jobs found.report.rows) pattern words jobs selection failed
 
--- `selection` is the selection by `--only`, by the pattern and, if a report is given, by its failed rows; without a report there are no notes
+-- `selection` is the selection by `--only`, by the pattern and, if a report is given, by its failed rows; without a report there are no
+-- notes
 abbrev pub AreChosenWithReport : Option FileContents → Option (Bor (List ℕ)) → Option Re → RunArgs → Rule → List Job
     → Option (List Bool) → List ℕ → Type 0
 AreChosenWithReport known None pattern words rule jobs selection notes =
@@ -51,8 +52,8 @@ abbrev pub AreChosenBy : Option FileContents → Option Re → RunArgs → Rule 
 AreChosenBy known pattern words rule jobs selection notes =
     AreChosenWithReport known words.failed pattern words rule jobs selection notes
 
--- `selection` is the selection before any jobs are excluded, and `notes` are the notes about it: each name of `--only` is the name of a job,
--- and the pattern of `--match` matches the name of at least one job
+-- `selection` is the selection before any jobs are excluded, and `notes` are the notes about it: each name of `--only` is the name of a
+-- job, and the pattern of `--match` matches the name of at least one job
 pub record AreRequested (known : Option FileContents) (words : RunArgs) (rule : Rule) (jobs : List Job)
     (selection : Option (List Bool)) (notes : List ℕ) : Type 0 where
   pub named : unknown_name jobs words.only.items ≡ None
