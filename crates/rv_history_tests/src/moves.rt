@@ -1,7 +1,7 @@
 //! Moves among the steps of a run, by the lines of a table.
 use crate::alarm::Alarm;
 use rv_history::{
-    Bounds, Bus, Ending, MoveResult, History, Isa, Map, Misaligned, Region, Sequence, Start, Stops,
+    Bounds, Bus, Ending, History, Isa, Map, Misaligned, MoveResult, Region, Sequence, Start, Stops,
     Watch,
 };
 use samples::{agree, cell_of, has_lines, hex_of, numbers};
