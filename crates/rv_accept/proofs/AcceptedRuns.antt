@@ -2,7 +2,7 @@
 use Rattle.std.proofs.Common.{◌≡◌, ◌+◌, ◌∷◌, [], ℕ, zero, suc, Bool, true, false, List, Option, Some, None, ap, arith, cond, drop, is_some, length, map, not, option_map, refl}
 use Rattle.std.specs.Prelude.{slice_get, slice_index_or}
 use Rattle.std.specs.List.{filter, range_with_len}
-use Rattle.rv_rows.specs.Choices.{selected_indices}
+use Rattle.rv_rows.specs.Selection.{selected_indices}
 use Rattle.rv_rows.specs.Jobs.{single_job}
 use Rattle.rv_rows.specs.Plans.{PlanView}
 use Rattle.rv_rows.specs.declared_job.Job.{Job}

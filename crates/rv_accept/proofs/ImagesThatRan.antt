@@ -8,7 +8,7 @@ use Rattle.rv_rows.specs.declared_elf_error.ImageError.{ImageError}
 use Rattle.rv_rows.specs.declared_image.Image.{Image}
 use Rattle.rv_rows.specs.declared_isa.Isa.{Isa}
 use Rattle.rv_rows.specs.Jobs.{without_expectations}
-use Rattle.rv_rows.specs.Reading.{◌>>=◌}
+use Rattle.rv_rows.specs.Parsing.{◌>>=◌}
 use Rattle.rv_rows.specs.declared_kept.Kept.{Kept}
 use Rattle.rv_rows.specs.declared_kept.Kept.TheVariants as kept
 use Rattle.rv_rows.specs.declared_job.Job.{Job}

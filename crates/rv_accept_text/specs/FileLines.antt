@@ -3,7 +3,7 @@ use Rattle.std.specs.Prelude.{◌++◌, ℕ, List, [], Option, Some, None, codes
 use Rattle.std.specs.List.{find}
 use Rattle.rv_rows.specs.declared_job.Job.{Job}
 use Rattle.rv_rows.specs.Printable.{printable_text}
-use Rattle.rv_rows.specs.Words.{count_text}
+use Rattle.rv_rows.specs.Numbers.{count_text}
 use Rattle.rv_accept.specs.GoldenOutcomes.{has_other_text, is_for_file}
 use Rattle.rv_accept.specs.declared.golden_texts.GoldenText.{GoldenText}
 use Rattle.rv_accept.specs.declared.golden_texts.GoldenKind.{GoldenKind}

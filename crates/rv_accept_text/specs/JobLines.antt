@@ -22,7 +22,7 @@ use Rattle.rv_accept.specs.declared.values.ValueKey.TheVariants as key
 use Rattle.rv_accept_text.specs.ChangedTexts.{text_change}
 use Rattle.rv_accept_text.specs.FileLines.{job_name, skipped_prefix}
 use Rattle.rv_accept_text.specs.declared.new_list.ChangedValue.{ChangedValue}
-use Rattle.rv_rows.specs.Words.{exit_code_text}
+use Rattle.rv_rows.specs.Numbers.{exit_code_text}
 
 -- ---- changed values
 

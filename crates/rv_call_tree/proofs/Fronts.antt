@@ -2,7 +2,7 @@
 use Rattle.std.proofs.Common.{◌≡◌, ◌∙◌, ◌+◌, ◌<◌, ◌≤◌, ◌⊎◌, ℕ, List, [], ◌∷◌, ◌++◌, length, take, get_or, sym, ap, arith, inl, inr, length-append}
 use Rattle.std.proofs.lemmas.List.{take-take, take-append-le, length-take-le, get_or_append_left, get_or-take}
 use Rattle.std.proofs.Math.Seq.{get_or-append_seam}
-use Rattle.rv_call_tree.specs.declared.spot.CallNode.{CallNode}
+use Rattle.rv_call_tree.specs.declared.call_node.CallNode.{CallNode}
 use Rattle.rv_call_tree.specs.Trees.{FollowsInPreorder}
 
 -- the first of the rest stands behind the one path as behind the other

@@ -3,7 +3,7 @@ use Rattle.std.proofs.Common.{◌≡◌, ◌∙◌, ◌==◌, ◌+◌, ◌<◌, 
 use Rattle.std.proofs.lemmas.Bool.{false≢true, or_cases, or_parts}
 use Rattle.std.proofs.lemmas.List.{take_more}
 use Rattle.std.specs.List.{AllByRecursion}
-use Rattle.rv_call_tree.specs.declared.spot.CallNode.{CallNode}
+use Rattle.rv_call_tree.specs.declared.call_node.CallNode.{CallNode}
 use Rattle.rv_call_tree.specs.Profiles.{has_function, ends_some_path, own_steps_of_all, times, with_function, AreFunctionsOf}
 use Rattle.rv_call_tree.specs.Trees.{all_steps, address_if, steps_if}
 use Rattle.rv_call_tree.proofs.Tests.{equal_by, equal_test, turned}

@@ -6,7 +6,7 @@ use Rattle.std.proofs.lemmas.Slice.Eq.{bytes_eq-Decides}
 use Rattle.std.specs.Prelude.{nat_lt}
 use Rattle.std.specs.List.{AllByRecursion}
 use Rattle.std.specs.Str.{bytes_eq}
-use Rattle.rv_call_tree.specs.declared.spot.CallNode.{CallNode}
+use Rattle.rv_call_tree.specs.declared.call_node.CallNode.{CallNode}
 use Rattle.rv_call_tree.specs.declared.sum.NextNode.{NextNode}
 use Rattle.rv_call_tree.specs.declared.sum.CallTreeSumError.{CallTreeSumError}
 use Rattle.rv_call_tree.specs.declared.sum.CallTreeSumError.TheVariants.{OutOfMemory, Count}
@@ -283,7 +283,7 @@ all_added a b sums i j h over_a over_b =
       tree = h.tree;
       some = λ some_a some_b. h.some (subst HasCalls (sym (take_all i a over_a)) some_a)
           (subst HasCalls (sym (take_all j b over_b)) some_b);
-      arrivals = λ path. whole calls_of_node path (λ s t. refl);
+      calls = λ path. whole calls_of_node path (λ s t. refl);
       steps = λ path. whole steps_of path (λ s t. refl);
     }
 
@@ -313,7 +313,7 @@ too_great_of xs ss ys ts sums s t h one other function is great =
       path,
       last_of function (take s.depth (last_path [] sums)) s.function ∙ equal_test s.function function (sym is),
       elim great [
-        | inl arrivals ↦ let m = a calls_of_node in let n = b calls_of_node in inl (omega (arith, arrivals, m, n))
+        | inl calls ↦ let m = a calls_of_node in let n = b calls_of_node in inl (omega (arith, calls, m, n))
         | inr steps ↦ let m = a steps_of in let n = b steps_of in inr (omega (arith, steps, m, n))
       ],
     )

@@ -1,7 +1,7 @@
 -- Spots in two parts.
 use Rattle.std.proofs.Common.{◌≡◌, ◌∙◌, ◌+◌, ◌≤◌, ℕ, List, [], ◌∷◌, ◌++◌, length, take, refl, sym, ap, arith, length-append}
 use Rattle.std.proofs.lemmas.List.{take-take, length-take-le}
-use Rattle.rv_call_tree.specs.declared.spot.CallNode.{CallNode}
+use Rattle.rv_call_tree.specs.declared.call_node.CallNode.{CallNode}
 use Rattle.rv_call_tree.specs.Trees.{path_after, last_path, path_after_first, sum_over_path, sum_over_nodes, HasCalls, FollowInPreorder}
 
 pub last_parts : (front : List ℕ) (xs ys : List CallNode) → last_path front (xs ++ ys) ≡ last_path (last_path front xs) ys

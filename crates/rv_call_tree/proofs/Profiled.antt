@@ -5,7 +5,7 @@ use Rattle.std.proofs.lemmas.List.Sums.{sum_by-cons}
 use Rattle.std.proofs.lemmas.Bool.{cases_lt, le-leb, lt-leb, or_parts}
 use Rattle.std.proofs.lemmas.List.{drop_more, take-take, take-append-le, take_at, length-take-le, get_or_append_left, get_or-take}
 use Rattle.std.proofs.Math.Seq.{get_or-append_seam}
-use Rattle.rv_call_tree.specs.declared.spot.CallNode.{CallNode}
+use Rattle.rv_call_tree.specs.declared.call_node.CallNode.{CallNode}
 use Rattle.rv_call_tree.specs.declared.subtree.Subtree.{Subtree}
 use Rattle.rv_call_tree.specs.Profiles.{has_function, inclusive_steps_after}
 use Rattle.rv_call_tree.specs.Subtrees.{below, with_root_function, subtree, subtrees_from, subtrees_of_function}

@@ -5,7 +5,7 @@ use Rattle.std.proofs.lemmas.List.{length-take-le}
 use Rattle.std.proofs.lemmas.Slice.Eq.{bytes_eq-Decides}
 use Rattle.std.proofs.Math.Seq.{get_or-append_seam}
 use Rattle.std.specs.Str.{bytes_eq}
-use Rattle.rv_call_tree.specs.declared.spot.CallNode.{CallNode}
+use Rattle.rv_call_tree.specs.declared.call_node.CallNode.{CallNode}
 use Rattle.rv_call_tree.specs.Trees.{path_after, calls_of_node, steps_of, sum_over_path, HasCalls, IsTree, FollowsInPreorder, FollowInPreorder}
 use Rattle.rv_call_tree.proofs.Parts.{length_behind}
 
@@ -154,41 +154,41 @@ module _ (front : List ℕ) (s t : CallNode) (ss ts : List CallNode) (a : Follow
       let moved = ap (λ (q : List ℕ). sum_over_path count p q ts) e in
       omega (arith, whole, first, other, moved)
 
-same_spot : (s t : CallNode) → s.depth ≡ t.depth → s.function ≡ t.function → s.arrivals ≡ t.arrivals → s.steps ≡ t.steps
+same_spot : (s t : CallNode) → s.depth ≡ t.depth → s.function ≡ t.function → s.calls ≡ t.calls → s.steps ≡ t.steps
     → s ≡ t
-same_spot s t depth function arrivals steps =
-    λ i. record { depth = depth i; function = function i; arrivals = arrivals i; steps = steps i }
+same_spot s t depth function calls steps =
+    λ i. record { depth = depth i; function = function i; calls = calls i; steps = steps i }
 
 one_tree : (front : List ℕ) (a b : List CallNode) → FollowInPreorder front a → FollowInPreorder front b → HasCalls a → HasCalls b
     → SameCounts calls_of_node front a b → SameCounts steps_of front a b → a ≡ b
-one_tree front [] [] h k some more arrivals steps = refl
-one_tree front (s ∷ ss) [] h k some more arrivals steps =
-    let there = arrivals (path_after front s) in
+one_tree front [] [] h k some more calls steps = refl
+one_tree front (s ∷ ss) [] h k some more calls steps =
+    let there = calls (path_after front s) in
     let of_s = first_has calls_of_node front s ss h in
     let least = some.0 in
     absurd (omega (arith, there, of_s, least))
-one_tree front [] (t ∷ ts) h k some more arrivals steps =
-    let there = arrivals (path_after front t) in
+one_tree front [] (t ∷ ts) h k some more calls steps =
+    let there = calls (path_after front t) in
     let of_t = first_has calls_of_node front t ts k in
     let least = more.0 in
     absurd (omega (arith, there, of_t, least))
-one_tree front (s ∷ ss) (t ∷ ts) h k some more arrivals steps = elim (order (path_after front s) (path_after front t)) [
+one_tree front (s ∷ ss) (t ∷ ts) h k some more calls steps = elim (order (path_after front s) (path_after front t)) [
   | inl same ↦
       let first = same_spot s t (same_depth front s t h.0 k.0 same) (same_function front s t h.0 k.0 same)
-      (same_first_count front s t ss ts h k same calls_of_node arrivals)
+      (same_first_count front s t ss ts h k same calls_of_node calls)
       (same_first_count front s t ss ts h k same steps_of steps) in
       let rest = one_tree (path_after front s) ss ts h.1 (subst (λ (p : List ℕ). FollowInPreorder p ts) (sym same) k.1)
-      some.1 more.1 (same_rest front s t ss ts h k same calls_of_node arrivals) (same_rest front s t ss ts h k same steps_of steps) in
+      some.1 more.1 (same_rest front s t ss ts h k same calls_of_node calls) (same_rest front s t ss ts h k same steps_of steps) in
       λ i. first i ∷ rest i
   | inr apart ↦ elim apart [
     | inl low ↦
-        let there = arrivals (path_after front s) in
+        let there = calls (path_after front s) in
         let of_s = first_has calls_of_node front s ss h in
         let of_t = below_first calls_of_node (path_after front s) front t ts k low in
         let least = some.0 in
         absurd (omega (arith, there, of_s, of_t, least))
     | inr high ↦
-        let there = arrivals (path_after front t) in
+        let there = calls (path_after front t) in
         let of_t = first_has calls_of_node front t ts k in
         let of_s = below_first calls_of_node (path_after front t) front s ss h high in
         let least = more.0 in
@@ -198,4 +198,4 @@ one_tree front (s ∷ ss) (t ∷ ts) h k some more arrivals steps = elim (order 
 
 pub one_tree_of_counts : (a b : List CallNode) → IsTree a → IsTree b → HasCalls a → HasCalls b
     → SameCounts calls_of_node [] a b → SameCounts steps_of [] a b → a ≡ b
-one_tree_of_counts a b h k some more arrivals steps = one_tree [] a b h k some more arrivals steps
+one_tree_of_counts a b h k some more calls steps = one_tree [] a b h k some more calls steps

@@ -1,8 +1,8 @@
 -- Counts for each function, from the nodes of a call tree.
 use Rattle.std.specs.Prelude.{◌≡◌, ◌==◌, ◌+◌, ℕ, Bool, if◌then◌else◌, List, [], ◌∷◌, ◌++◌}
 use Rattle.std.specs.List.{list_any}
-use Rattle.rv_call_tree.specs.declared.profile.FunctionSteps.{FunctionSteps}
-use Rattle.rv_call_tree.specs.declared.spot.CallNode.{CallNode}
+use Rattle.rv_call_tree.specs.declared.function_steps.FunctionSteps.{FunctionSteps}
+use Rattle.rv_call_tree.specs.declared.call_node.CallNode.{CallNode}
 use Rattle.rv_call_tree.specs.Trees.{sum_over_nodes, address_if, own_steps_of, path_after, steps_if}
 
 -- whether a path has the function
@@ -11,7 +11,7 @@ has_function function path = list_any (λ f. f == function) path
 
 -- the number of calls of a function: the sum of the calls of the nodes whose paths end in it
 abbrev pub calls_of_function : ℕ → List CallNode → ℕ
-calls_of_function function spots = sum_over_nodes (λ s. steps_if (s.function == function) s.arrivals) spots
+calls_of_function function spots = sum_over_nodes (λ s. steps_if (s.function == function) s.calls) spots
 
 -- the inclusive steps of a function: the sum of the steps of the nodes whose paths have it, each node counted once; `front` is the path of
 -- the node before these nodes
@@ -24,7 +24,7 @@ inclusive_steps_after function front (s ∷ ss) = steps_if (has_function functio
 pub record AreStepsOf (function : ℕ) (spots : List CallNode) (found : FunctionSteps) : Type 0 where
   pub own : found.own ≡ own_steps_of function spots
   pub inclusive : found.inclusive ≡ inclusive_steps_after function [] spots
-  pub arrivals : found.arrivals ≡ calls_of_function function spots
+  pub calls : found.calls ≡ calls_of_function function spots
 
 -- ---- the functions of nodes
 

@@ -1,7 +1,7 @@
 -- The nodes of a call tree with all their descendants.
 use Rattle.std.specs.Prelude.{◌≡◌, ◌==◌, ◌+◌, ℕ, nat_lt, if◌then◌else◌, List, [], ◌∷◌, length}
 use Rattle.std.specs.List.{filter}
-use Rattle.rv_call_tree.specs.declared.spot.CallNode.{CallNode}
+use Rattle.rv_call_tree.specs.declared.call_node.CallNode.{CallNode}
 use Rattle.rv_call_tree.specs.declared.subtree.Subtree.{Subtree}
 use Rattle.rv_call_tree.specs.Trees.{all_steps}
 
@@ -18,7 +18,7 @@ subtree place s behind = record {
   end = place + 1 + length (below s.depth behind);
   own = s.steps;
   inclusive = s.steps + all_steps (below s.depth behind);
-  arrivals = s.arrivals;
+  calls = s.calls;
 }
 
 -- the subtrees of these nodes, in order; `place` is the index of the first node

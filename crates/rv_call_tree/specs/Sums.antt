@@ -1,6 +1,6 @@
 -- The sum of two call trees: each count of each path is the sum of both counts.
 use Rattle.std.specs.Prelude.{◌≡◌, ◌==◌, ◌+◌, ◌^◌, ◌<◌, ◌≤◌, ◌⊎◌, ℕ, Bool, true, false, ◌&&◌, ◌||◌, nat_lt, if◌then◌else◌, List, [], ◌∷◌}
-use Rattle.rv_call_tree.specs.declared.spot.CallNode.{CallNode}
+use Rattle.rv_call_tree.specs.declared.call_node.CallNode.{CallNode}
 use Rattle.rv_call_tree.specs.declared.sum.NextNode.{NextNode}
 use Rattle.rv_call_tree.specs.declared.sum.CallTreeSumError.{CallTreeSumError}
 use Rattle.rv_call_tree.specs.declared.sum.CallTreeSumError.TheVariants.{OutOfMemory, Count}
@@ -10,14 +10,14 @@ use Rattle.rv_call_tree.specs.Trees.{calls_at, ends_with, steps_at, HasCalls, Is
 pub record IsSumOfCallTrees (a b sum : List CallNode) : Type 0 where
   pub tree : IsTree sum
   pub some : HasCalls a → HasCalls b → HasCalls sum
-  pub arrivals : (path : List ℕ) → calls_at path sum ≡ calls_at path a + calls_at path b
+  pub calls : (path : List ℕ) → calls_at path sum ≡ calls_at path a + calls_at path b
   pub steps : (path : List ℕ) → steps_at path sum ≡ steps_at path a + steps_at path b
 
 -- each number of the node fits in its field
 pub record FitsFields (s : CallNode) : Type 0 where
   pub depth : s.depth < 2 ^ 64
   pub function : s.function < 2 ^ 32
-  pub arrivals : s.arrivals < 2 ^ 64
+  pub calls : s.calls < 2 ^ 64
   pub steps : s.steps < 2 ^ 64
 
 -- the error of adding `a` and `b` is true: the calls or the steps of some path that ends in the reported function add up to 2^64 or more;
@@ -47,7 +47,7 @@ sum_of_nodes s t = record {
   spot = record {
     depth = s.depth;
     function = s.function;
-    arrivals = s.arrivals + t.arrivals;
+    calls = s.calls + t.calls;
     steps = s.steps + t.steps;
   };
   of_a = 1;
@@ -63,11 +63,11 @@ abbrev pub next_of : List CallNode → List CallNode → NextNode
 next_of (s ∷ ss) [] = node_of_first s
 next_of (s ∷ ss) (t ∷ ts) = next_of_nodes s t
 next_of [] (t ∷ ts) = node_of_second t
-next_of [] [] = record { spot = record { depth = 0; function = 0; arrivals = 0; steps = 0 }; of_a = 0; of_b = 0 }
+next_of [] [] = record { spot = record { depth = 0; function = 0; calls = 0; steps = 0 }; of_a = 0; of_b = 0 }
 
 -- the calls or the steps of two nodes add up to 2^64 or more
 abbrev pub CountsOverflow : CallNode → CallNode → Type 0
-CountsOverflow s t = (2 ^ 64 ≤ s.arrivals + t.arrivals) ⊎ (2 ^ 64 ≤ s.steps + t.steps)
+CountsOverflow s t = (2 ^ 64 ≤ s.calls + t.calls) ⊎ (2 ^ 64 ≤ s.steps + t.steps)
 
 -- the error of adding two nodes is true: it reports the function of `s`, and the calls or the steps add up to 2^64 or more
 abbrev pub IsOverflowOfNodes : CallTreeSumError → CallNode → CallNode → Type 0

@@ -2,7 +2,7 @@
 use Rattle.std.specs.Prelude.{◌==◌, ◌+◌, ◌<◌, ◌≤◌, ℕ, Bool, false, if◌then◌else◌, List, [], ◌∷◌, ◌++◌, length, take, slice_index_or}
 use Rattle.std.specs.Coded.{×_prop, Unit-prop, le_prop}
 use Rattle.std.specs.Str.{bytes_eq}
-use Rattle.rv_call_tree.specs.declared.spot.CallNode.{CallNode}
+use Rattle.rv_call_tree.specs.declared.call_node.CallNode.{CallNode}
 
 -- ---- the path of a node
 
@@ -34,7 +34,7 @@ sum_over_path count path front (s ∷ ss) =
 
 -- the number of calls that led to the node
 abbrev pub calls_of_node : CallNode → ℕ
-calls_of_node s = s.arrivals
+calls_of_node s = s.calls
 
 -- the number of instructions executed in the node
 abbrev pub steps_of : CallNode → ℕ
@@ -108,4 +108,4 @@ FollowInPreorder-prop front (s ∷ ss) = ×_prop (FollowsInPreorder-prop front s
 -- a run entered each of the nodes
 abbrev pub HasCalls : List CallNode → Type 0
 HasCalls [] = Unit {0}
-HasCalls (s ∷ ss) = (0 < s.arrivals) × HasCalls ss
+HasCalls (s ∷ ss) = (0 < s.calls) × HasCalls ss

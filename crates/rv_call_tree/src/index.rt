@@ -6,8 +6,8 @@ ghost use Rattle.rv_call_tree.specs.Profiles.{AreStepsOf};
 ghost use Rattle.rv_call_tree.specs.Subtrees.{subtrees_of_function, AreSubtreesByFunction};
 ghost use Rattle.rv_call_tree.specs.Trees.{all_calls, all_steps, IsTree, FollowInPreorder-prop};
 
-use crate::profile::FunctionSteps;
-use crate::spot::CallNode;
+use crate::function_steps::FunctionSteps;
+use crate::call_node::CallNode;
 use crate::subtree::{Subtree, subtrees_of};
 use std::alloc::{AllocError, Global};
 
@@ -29,7 +29,7 @@ impl<'s> CallTreeIndex<'s> {
     pub fn new(alloc: Global, spots: &'s [CallNode]) -> Result<CallTreeIndex<'s>, AllocError>
         requires tree { IsTree spots.now }
         requires steps { all_steps spots.now < 2 ^ 64 }
-        requires arrivals { all_calls spots.now < 2 ^ 64 }
+        requires calls { all_calls spots.now < 2 ^ 64 }
         ensures { IfOk result (λ index. index.spots.now ≡ spots.now) }
     {
         let mut subtrees = subtrees_of(alloc, spots)?;
@@ -45,13 +45,13 @@ impl<'s> CallTreeIndex<'s> {
         let mut found = FunctionSteps {
             own: 0,
             inclusive: 0,
-            arrivals: 0,
+            calls: 0,
         };
         // The end of the last subtree whose steps are counted. Subtrees that begin before it are parts of it.
         let mut end = 0;
         for subtree in self.subtrees_of_function(function) {
             found.own += subtree.own;
-            found.arrivals += subtree.arrivals;
+            found.calls += subtree.calls;
             if end <= subtree.place {
                 found.inclusive += subtree.inclusive;
                 end = subtree.end;

@@ -1,7 +1,7 @@
 //! Laws on call trees, with no code to run.
 
 ghost use Rattle.std.specs.Prelude.{◌≡◌, ℕ, List};
-ghost use Rattle.rv_call_tree.specs.declared.spot.CallNode.{CallNode};
+ghost use Rattle.rv_call_tree.specs.declared.call_node.CallNode.{CallNode};
 ghost use Rattle.rv_call_tree.specs.Profiles.{own_steps_of_all, AreFunctionsOf};
 ghost use Rattle.rv_call_tree.specs.Trees.{all_steps, calls_at, steps_at, HasCalls, IsTree};
 

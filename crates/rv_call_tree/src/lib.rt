@@ -6,15 +6,15 @@
 
 mod index;
 mod law;
-mod profile;
-mod spot;
+mod function_steps;
+mod call_node;
 mod subtree;
 mod sum;
 
 pub use index::CallTreeIndex;
 pub use law::{own_steps_sum_to_all, trees_with_equal_counts_are_equal};
-pub use profile::{FunctionSteps, functions_of};
-pub use spot::{CallNode, CallNodes};
+pub use function_steps::{FunctionSteps, functions_of};
+pub use call_node::{CallNode, CallNodes};
 pub use sum::{CallTreeSumError, sum_of_call_trees};
 
 // From the crates below: what this interface names, and what its callers need with it.

@@ -4,7 +4,7 @@ ghost use Rattle.std.specs.Prelude.{◌≡◌, ◌+◌, ◌^◌, ◌<◌, ◌∷
 ghost use Rattle.rv_call_tree.specs.Subtrees.{subtrees_from};
 ghost use Rattle.rv_call_tree.specs.Trees.{all_steps};
 
-use crate::spot::CallNode;
+use crate::call_node::CallNode;
 use std::alloc::{AllocError, Global};
 
 /// A node and its descendants, which follow it.
@@ -21,7 +21,7 @@ pub(crate) struct Subtree {
     /// The steps of the node and of all its descendants.
     pub(crate) inclusive: u64,
     /// The number of calls that led to the node.
-    pub(crate) arrivals: u64,
+    pub(crate) calls: u64,
 }
 
 /// Returns the subtree of each node, in node order. Takes time linear in the number of nodes.
@@ -60,6 +60,6 @@ fn subtree_at(spots: &[CallNode], place: usize, behind: &[Subtree]) -> Subtree
         end,
         own: spot.steps,
         inclusive,
-        arrivals: spot.arrivals,
+        calls: spot.calls,
     }
 }

@@ -6,7 +6,7 @@ ghost use Rattle.rv_call_tree.specs.Sums.{sum_of_nodes, comes_first, next_of, no
 ghost use Rattle.rv_call_tree.specs.Trees.{IsTree};
 ghost use Rattle.rv_call_tree.specs.declared.sum.CallTreeSumError.TheVariants.{OutOfMemory};
 
-use crate::spot::{CallNode, CallNodes};
+use crate::call_node::{CallNode, CallNodes};
 use std::alloc::{AllocError, Global};
 
 /// Why two call trees could not be added.
@@ -130,14 +130,14 @@ fn sum_of_nodes(spot: CallNode, other: CallNode) -> Result<NextNode, CallTreeSum
     ensures refused { IfErr result (λ error. IsOverflowOfNodes error spot other) }
 {
     match (
-        spot.arrivals.checked_add(other.arrivals),
+        spot.calls.checked_add(other.calls),
         spot.steps.checked_add(other.steps),
     ) {
-        (Some(arrivals), Some(steps)) => Ok(NextNode {
+        (Some(calls), Some(steps)) => Ok(NextNode {
             spot: CallNode {
                 depth: spot.depth,
                 function: spot.function,
-                arrivals,
+                calls,
                 steps,
             },
             of_a: 1,

@@ -9,7 +9,7 @@ use Rattle.rv_choice.specs.Choice.{selection_by_criteria}
 use Rattle.rv_choice.specs.Choice.{remaining_selection}
 use Rattle.rv_choice.specs.ChosenJobs.{AreChosenWithReport, IsRemainingSelection, AreRequested, IsChoice}
 use Rattle.rv_command.specs.declared_run.RunArgs.{RunArgs}
-use Rattle.rv_expect.specs.declared.passing.Rule.{Rule}
+use Rattle.rv_expect.specs.declared.rule.Rule.{Rule}
 use Rattle.rv_expect.specs.declared_job.Job.{Job}
 
 beside_count : (known : Option FileContents) (failed : Option (Bor (List ℕ))) (pattern : Option Re) (words : RunArgs)

@@ -11,7 +11,7 @@ use Rattle.rv_command.specs.Stops.{IsRequestedUnreadStop, stop_with_message}
 use Rattle.rv_command.specs.declared.stop.Lines.TheVariants as lines
 use Rattle.rv_command.specs.declared.stop.Stop.{Stop}
 use Rattle.rv_command.specs.declared.stop.Stop.TheVariants as why
-use Rattle.rv_expect.specs.declared.passing.Rule.{Rule}
+use Rattle.rv_expect.specs.declared.rule.Rule.{Rule}
 use Rattle.rv_expect.specs.declared_job.Job.{Job}
 use Rattle.regex.specs.Strings.{regex_source}
 use Rattle.regex.specs.declared.string.regex.Regex.{Regex}

@@ -13,7 +13,7 @@ use Rattle.rv_choice.specs.BadValues.{IsBadPatternStop}
 use Rattle.rv_command.specs.Stops.{IsRequestedUnreadStop, IsStop}
 use Rattle.rv_command.specs.declared.stop.Stop.{Stop}
 use Rattle.rv_command.specs.declared.stop.Stop.TheVariants as why
-use Rattle.rv_expect.specs.declared.passing.Rule.{Rule}
+use Rattle.rv_expect.specs.declared.rule.Rule.{Rule}
 use Rattle.rv_expect.specs.declared_job.Job.{Job}
 use Rattle.rv_command.specs.Printable.{printable_text, printable_value}
 use Rattle.rv_choice.specs.Choice.{HasDefaultOptions, is_emptied, is_found_in_names, remaining_selection}

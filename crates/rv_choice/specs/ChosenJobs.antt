@@ -9,7 +9,7 @@ use Rattle.rv_command.specs.RvtestArgs.{borrowed_text}
 use Rattle.rv_command.specs.declared_run.RunArgs.{RunArgs}
 use Rattle.rv_command.specs.Messages.{truncation_note}
 use Rattle.rv_command.specs.Texts.{IsReportReadAt}
-use Rattle.rv_expect.specs.declared.passing.Rule.{Rule}
+use Rattle.rv_expect.specs.declared.rule.Rule.{Rule}
 use Rattle.rv_expect.specs.declared_job.Job.{Job}
 use Rattle.rv_expect.specs.declared_partial.PartialReport.{PartialReport}
 use Rattle.rv_choice.specs.Choice.{ChosenNames, HasDefaultOptions, is_emptied, selection_by_criteria, failed_job_names, is_found_in_names}

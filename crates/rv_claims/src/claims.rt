@@ -10,7 +10,7 @@ ghost use Rattle.rv_claims.specs.Passes.{IsWholeHistory, opening_row, IsNewPass}
 ghost use Rattle.rv_claims.specs.Split.{pass_of_error};
 
 use crate::pass::{Pass, SplitError};
-use crate::rule::{CounterRule, Draw, JoinedSeat, Look, NewSeat, Note, Sit};
+use crate::counter_rule::{CounterRule, Draw, JoinedSeat, Look, NewSeat, Note, Sit};
 use crate::view::View;
 use atomic_table::{Closed, Seat, Table};
 use std::alloc::{AllocError, Global};

@@ -7,7 +7,7 @@
 
 mod claims;
 mod pass;
-mod rule;
+mod counter_rule;
 mod view;
 
 pub use claims::Claims;

@@ -1,6 +1,6 @@
 -- The line that is told of a text that begins no report.
 use Rattle.std.proofs.Common.{◌≡◌, ◌⊎◌, ℕ, List, ap, inl, inr, subst, sym}
-use Rattle.rv_rows.specs.LeastLine.{IsFirstInvalidLine}
+use Rattle.rv_rows.specs.FirstInvalidLine.{IsFirstInvalidLine}
 use Rattle.rv_rows.specs.declared_read.ReadError.{ReadError}
 use Rattle.rv_rows.specs.declared_read.ReadError.TheVariants.{Truncated, Line, OutOfMemory}
 

@@ -16,7 +16,7 @@ use Rattle.rv_list_errors.specs.Lines.{AppendsFaultLines}
 use Rattle.rv_rows.specs.JobList.{job_list_of}
 use Rattle.rv_rows.specs.declared_lists_error.JobError.{JobError}
 use Rattle.rv_rows.specs.Differences.{line_feed_count}
-use Rattle.rv_rows.specs.LeastLine.{IsReportPrefix, IsFirstInvalidLine, first_lines}
+use Rattle.rv_rows.specs.FirstInvalidLine.{IsReportPrefix, IsFirstInvalidLine, first_lines}
 use Rattle.rv_rows.specs.declared_saved.SavedReport.{SavedReport}
 use Rattle.rv_command.specs.declared.stop.Lines.{Lines}
 use Rattle.rv_command.specs.declared.stop.Lines.TheVariants as lines

@@ -6,7 +6,7 @@ ghost use Rattle.rv_command.specs.Stops.{IsListFaultStop, IsListUnreadStop};
 ghost use Rattle.rv_command.specs.Texts.{IsTextAt};
 ghost use Rattle.rv_list_errors.specs.FaultHeads.{fault_head};
 ghost use Rattle.rv_list_errors.specs.Lines.{AppendsFaultLines, AppendsLines};
-ghost use Rattle.rv_list_errors.specs.PlacedFaults.{IsFaultMessage, AppendsLinesOfEach};
+ghost use Rattle.rv_list_errors.specs.LocatedFaults.{IsFaultMessage, AppendsLinesOfEach};
 ghost use Rattle.rv_rows.specs.JobList.{job_list_of};
 
 use crate::files::read_file_up_to;

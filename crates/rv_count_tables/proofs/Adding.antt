@@ -40,7 +40,7 @@ first_ahead c cs b others counted above h = record {
   each = (counted, h.each);
   rising = λ lowest p q. rises lowest c others (low lowest c cs p)
       (h.rising (c.address + 1) (behind lowest c cs p) (above lowest q));
-  begun = λ n. let e = h.begun n in omega (arith, e);
+  executed = λ n. let e = h.executed n in omega (arith, e);
   taken = λ n. let e = h.taken n in omega (arith, e);
 }
 
@@ -52,7 +52,7 @@ second_ahead c a cs others counted above h = record {
   each = (counted, h.each);
   rising = λ lowest p q. rises lowest c others (low lowest c cs q)
       (h.rising (c.address + 1) (above lowest p) (behind lowest c cs q));
-  begun = λ n. let e = h.begun n in omega (arith, e);
+  executed = λ n. let e = h.executed n in omega (arith, e);
   taken = λ n. let e = h.taken n in omega (arith, e);
 }
 
@@ -66,15 +66,15 @@ parts s false x y z p q r e f g = (ap (λ (u : Bool). cond u z 0 + r) e) ∙ (le
 
 -- an address of both lists
 pub both_ahead : (c d sum : AddressCounts) (cs ds others : List AddressCounts) → IsValidCount c → IsValidCount d
-    → c.address ≡ d.address → sum.address ≡ c.address → sum.begun ≡ c.begun + d.begun
-    → sum.taken ≡ c.taken + d.taken → sum.begun < 2 ^ 64
+    → c.address ≡ d.address → sum.address ≡ c.address → sum.executed ≡ c.executed + d.executed
+    → sum.taken ≡ c.taken + d.taken → sum.executed < 2 ^ 64
     → CountsAddUp cs ds others → CountsAddUp (c ∷ cs) (d ∷ ds) (sum ∷ others)
-both_ahead c d sum cs ds others counted also one at begun taken fits h = record {
+both_ahead c d sum cs ds others counted also one at executed taken fits h = record {
   each = (
     (record {
       address = let k = counted.address in omega arith;
       even = ap (λ (n : ℕ). n % 2) at ∙ counted.even;
-      begun = let k = counted.begun in omega arith;
+      executed = let k = counted.executed in omega arith;
       fits = fits;
       taken = let k = counted.taken in let m = also.taken in omega arith;
     }),
@@ -84,9 +84,9 @@ both_ahead c d sum cs ds others counted also one at begun taken fits h = record 
       rises lowest sum others (let k = low lowest c cs p in omega arith)
       (h.rising (sum.address + 1) (ap (λ (n : ℕ). increase_from (n + 1) cs) at ∙ behind lowest c cs p)
       (ap (λ (n : ℕ). increase_from (n + 1) ds) (at ∙ one) ∙ behind lowest d ds q));
-  begun = λ n. ap (λ (k : ℕ). cond (k == n) sum.begun 0 + executed_at n others) at
-      ∙ parts (c.address == n) (d.address == n) c.begun d.begun sum.begun _ _ _
-      (ap (λ (k : ℕ). k == n) one) begun (h.begun n);
+  executed = λ n. ap (λ (k : ℕ). cond (k == n) sum.executed 0 + executed_at n others) at
+      ∙ parts (c.address == n) (d.address == n) c.executed d.executed sum.executed _ _ _
+      (ap (λ (k : ℕ). k == n) one) executed (h.executed n);
   taken = λ n. ap (λ (k : ℕ). cond (k == n) sum.taken 0 + taken_at n others) at
       ∙ parts (c.address == n) (d.address == n) c.taken d.taken sum.taken _ _ _
       (ap (λ (k : ℕ). k == n) one) taken (h.taken n);
@@ -142,16 +142,16 @@ node_of_second (x ∷ xs) (y ∷ ys) d each some other less = record {
 
 pub of_both : (a b : List AddressCounts) (d sum : AddressCounts) → AllByRecursion IsValidCount a → AllByRecursion IsValidCount b
     → 0 < length a → 0 < length b → (get_or a 0 d).address ≡ (get_or b 0 d).address
-    → sum.address ≡ (get_or a 0 d).address → sum.begun ≡ (get_or a 0 d).begun + (get_or b 0 d).begun
-    → sum.taken ≡ (get_or a 0 d).taken + (get_or b 0 d).taken → sum.begun < 2 ^ 64
+    → sum.address ≡ (get_or a 0 d).address → sum.executed ≡ (get_or a 0 d).executed + (get_or b 0 d).executed
+    → sum.taken ≡ (get_or a 0 d).taken + (get_or b 0 d).taken → sum.executed < 2 ^ 64
     → IsNextCount a b (record { sum = sum; of_a = 1; of_b = 1 })
-of_both [] b d sum each also some other same address begun taken fits = absurd (omega arith)
-of_both (x ∷ xs) [] d sum each also some other same address begun taken fits = absurd (omega arith)
-of_both (x ∷ xs) (y ∷ ys) d sum each also some other same address begun taken fits = record {
+of_both [] b d sum each also some other same address executed taken fits = absurd (omega arith)
+of_both (x ∷ xs) [] d sum each also some other same address executed taken fits = absurd (omega arith)
+of_both (x ∷ xs) (y ∷ ys) d sum each also some other same address executed taken fits = record {
   of_a = omega arith;
   of_b = omega arith;
   some = omega arith;
-  ahead = λ others h. both_ahead x y sum xs ys others each.0 also.0 same address begun taken fits h;
+  ahead = λ others h. both_ahead x y sum xs ys others each.0 also.0 same address executed taken fits h;
 }
 
 -- ---- the loop: what both lists have ahead
@@ -181,7 +181,7 @@ pub none_adds_up : CountsAddUp [] [] []
 none_adds_up = record {
   each = tt;
   rising = λ lowest p q. p;
-  begun = λ address. refl;
+  executed = λ address. refl;
   taken = λ address. refl;
 }
 
@@ -197,6 +197,6 @@ summed a b sums n m x y p q ahead =
     (subst (λ (s : List AddressCounts). CountsAddUp [] s []) (sym f) none_adds_up) in
     let all : CountsAddUp a b sums = subst (λ (s : List AddressCounts). CountsAddUp a b s) (append-nil sums) (ahead [] none) in record {
       counts = record { each = all.each; rising = all.rising 0 x.rising y.rising };
-      begun = all.begun;
+      executed = all.executed;
       taken = all.taken;
     }

@@ -18,7 +18,7 @@ use Rattle.rv_count_tables.specs.Sum.{sum_error_of, NamesAgree, HasName, HasName
 use Rattle.rv_count_tables.specs.SumSteps.{ImagesAddUp, IsNextImage, ImagesHaveNoSum, ImageHasNoSum}
 use Rattle.rv_call_tree.specs.declared.sum.CallTreeSumError.{CallTreeSumError}
 use Rattle.rv_call_tree.specs.declared.sum.CallTreeSumError.TheVariants as spots
-use Rattle.rv_call_tree.specs.declared.spot.CallNode.{CallNode as ACallNode}
+use Rattle.rv_call_tree.specs.declared.call_node.CallNode.{CallNode as ACallNode}
 use Rattle.rv_call_tree.specs.Sums.{FitsFields, IsSumOfCallTrees, IsOverflowOfTrees}
 use Rattle.rv_call_tree.specs.Trees.{calls_at, steps_at, HasCalls}
 use Rattle.rv_count_tables.proofs.Adding.{parts}
@@ -139,13 +139,13 @@ first_image_ahead x xs b others image above h = record {
       (h.rising (Some x.digest) (images_behind last x xs p) (above last q));
   agree = λ last p q d f. first_agrees x xs b d f (above last q)
       (h.agree (Some x.digest) (images_behind last x xs p) (above last q) d f);
-  begun = λ d n. let e = h.begun d n in omega (arith, e);
+  executed = λ d n. let e = h.executed d n in omega (arith, e);
   taken = λ d n. let e = h.taken d n in omega (arith, e);
   paths = λ d. ap (min_text_of (cond (bytes_eq x.digest d) (Some x.path) None)) (h.paths d)
       ∙ sym (any_first (cond (bytes_eq x.digest d) (Some x.path) None) (next_path d xs) (next_path d b));
   names = λ d f. ap (min_text_of (cond (bytes_eq x.digest d) (name_at f x.functions) None)) (h.names d f)
       ∙ sym (any_first (cond (bytes_eq x.digest d) (name_at f x.functions) None) (truncated_name d f xs) (truncated_name d f b));
-  arrivals = λ d p. let e = h.arrivals d p in omega (arith, e);
+  calls = λ d p. let e = h.calls d p in omega (arith, e);
   steps = λ d p. let e = h.steps d p in omega (arith, e);
 }
 
@@ -159,13 +159,13 @@ second_image_ahead y a ys others image above h = record {
       (h.rising (Some y.digest) (above last p) (images_behind last y ys q));
   agree = λ last p q d f. second_agrees y a ys d f (above last p)
       (h.agree (Some y.digest) (above last p) (images_behind last y ys q) d f);
-  begun = λ d n. let e = h.begun d n in omega (arith, e);
+  executed = λ d n. let e = h.executed d n in omega (arith, e);
   taken = λ d n. let e = h.taken d n in omega (arith, e);
   paths = λ d. ap (min_text_of (cond (bytes_eq y.digest d) (Some y.path) None)) (h.paths d)
       ∙ second_first (next_path d a) (cond (bytes_eq y.digest d) (Some y.path) None) (next_path d ys);
   names = λ d f. ap (min_text_of (cond (bytes_eq y.digest d) (name_at f y.functions) None)) (h.names d f)
       ∙ second_first (truncated_name d f a) (cond (bytes_eq y.digest d) (name_at f y.functions) None) (truncated_name d f ys);
-  arrivals = λ d p. let e = h.arrivals d p in omega (arith, e);
+  calls = λ d p. let e = h.calls d p in omega (arith, e);
   steps = λ d p. let e = h.steps d p in omega (arith, e);
 }
 
@@ -222,9 +222,9 @@ both_images_ahead x y sum xs ys others image also one at path counts names of tr
   agree = λ last p q d f. both_agree x y xs ys d f one (names.agree f) (images_behind last x xs p) (images_behind last y ys q)
       (h.agree (Some x.digest) (images_behind last x xs p)
       (ap (λ (s : List ℕ). digests_increase_from (Some s) ys) one ∙ images_behind last y ys q) d f);
-  begun = λ d n. ap (λ (s : List ℕ). cond (bytes_eq s d) (executed_at n sum.addresses) 0 + executed_in d n others) at
+  executed = λ d n. ap (λ (s : List ℕ). cond (bytes_eq s d) (executed_at n sum.addresses) 0 + executed_in d n others) at
       ∙ parts (bytes_eq x.digest d) (bytes_eq y.digest d) (executed_at n x.addresses) (executed_at n y.addresses)
-      (executed_at n sum.addresses) _ _ _ (ap (λ (s : List ℕ). bytes_eq s d) one) (counts.begun n) (h.begun d n);
+      (executed_at n sum.addresses) _ _ _ (ap (λ (s : List ℕ). bytes_eq s d) one) (counts.executed n) (h.executed d n);
   taken = λ d n. ap (λ (s : List ℕ). cond (bytes_eq s d) (taken_at n sum.addresses) 0 + taken_in d n others) at
       ∙ parts (bytes_eq x.digest d) (bytes_eq y.digest d) (taken_at n x.addresses) (taken_at n y.addresses)
       (taken_at n sum.addresses) _ _ _ (ap (λ (s : List ℕ). bytes_eq s d) one) (counts.taken n) (h.taken d n);
@@ -235,9 +235,9 @@ both_images_ahead x y sum xs ys others image also one at path counts names of tr
       ∙ name_parts (bytes_eq x.digest d) (bytes_eq y.digest d) (name_at f sum.functions) (name_at f x.functions)
       (name_at f y.functions) _ (truncated_name d f xs) (truncated_name d f ys)
       (ap (λ (s : List ℕ). bytes_eq s d) one) (names.each f) (h.names d f);
-  arrivals = λ d p. ap (λ (s : List ℕ). cond (bytes_eq s d) (calls_at p sum.spots) 0 + calls_in_image d p others) at
+  calls = λ d p. ap (λ (s : List ℕ). cond (bytes_eq s d) (calls_at p sum.spots) 0 + calls_in_image d p others) at
       ∙ parts (bytes_eq x.digest d) (bytes_eq y.digest d) (calls_at p x.spots) (calls_at p y.spots)
-      (calls_at p sum.spots) _ _ _ (ap (λ (s : List ℕ). bytes_eq s d) one) (spots.arrivals p) (h.arrivals d p);
+      (calls_at p sum.spots) _ _ _ (ap (λ (s : List ℕ). bytes_eq s d) one) (spots.calls p) (h.calls d p);
   steps = λ d p. ap (λ (s : List ℕ). cond (bytes_eq s d) (steps_at p sum.spots) 0 + steps_in d p others) at
       ∙ parts (bytes_eq x.digest d) (bytes_eq y.digest d) (steps_at p x.spots) (steps_at p y.spots)
       (steps_at p sum.spots) _ _ _ (ap (λ (s : List ℕ). bytes_eq s d) one) (spots.steps p) (h.steps d p);
@@ -419,7 +419,7 @@ come_and_fit (s ∷ ss) h k = (
     depth = k.0.depth;
     function = k.0.function;
     some = h.0;
-    arrivals = k.0.arrivals;
+    calls = k.0.calls;
     steps = k.0.steps;
   },
   come_and_fit ss h.1 k.1,
@@ -494,12 +494,12 @@ none_add_up : ImagesAddUp [] [] []
 none_add_up = record {
   each = tt;
   rising = λ last p q. p;
-  begun = λ digest address. refl;
+  executed = λ digest address. refl;
   taken = λ digest address. refl;
   paths = λ digest. refl;
   agree = λ last p q digest function. tt;
   names = λ digest function. refl;
-  arrivals = λ digest path. refl;
+  calls = λ digest path. refl;
   steps = λ digest path. refl;
 }
 
@@ -520,12 +520,12 @@ pub tables_add_up : (a b sum : CountTable) → IsValidTable a → IsValidTable b
     → length sum.images < 2 ^ 64 → sum.runs < 2 ^ 64 → sum.runs ≡ a.runs + b.runs → IsSumOfTables a b sum
 tables_add_up a b sum first second up few fits runs = record {
   table = record { images = up.each; rising = up.rising None first.rising second.rising; few = few; runs = fits };
-  begun = up.begun;
+  executed = up.executed;
   taken = up.taken;
   paths = up.paths;
   agree = up.agree None first.rising second.rising;
   names = up.names;
-  arrivals = up.arrivals;
+  calls = up.calls;
   steps = up.steps;
   runs = runs;
 }

@@ -12,7 +12,7 @@ use Rattle.rv_count_tables.specs.Text.{address_line, image_line, image_text, lin
 use Rattle.rv_count_tables.specs.ReadSteps.{Entry, Address, Node, IsValidEntry, entry_line, entry_of_node, entries_of, NextLines, after_image_line, before_first_image, after_entry, after_entries, can_be_next_address, AgreesWithName, CanComeNext, IsNotAnEntry, IsNotAnAddress, IsNotANode, function_name, lowest_after, with_name, with_names}
 use Rattle.rv_count_tables.proofs.NamesOfSpots.{agree_more, first_is_last, further, named_fits, one_list_of_first_names, AgreeWithAll}
 use Rattle.rv_call_tree.specs.Profiles.{ends_some_path}
-use Rattle.rv_call_tree.specs.declared.spot.CallNode.{CallNode}
+use Rattle.rv_call_tree.specs.declared.call_node.CallNode.{CallNode}
 use Rattle.rv_call_tree.specs.Trees.{last_path, path_after, FollowInPreorder}
 
 abbrev pub all_entries : List AddressCounts → List FunctionName → List CallNode → List Entry

@@ -6,7 +6,7 @@ use Rattle.std.specs.Prelude.{codes}
 use Rattle.std.specs.List.{AllByRecursion}
 use Rattle.std.specs.Fmt.{decimal}
 use Rattle.hex.specs.Hex.{IsBytes, encode_lower, encode_with, lower_digits}
-use Rattle.rv_text.specs.Words.{word_digits}
+use Rattle.rv_text.specs.Numbers.{word_digits}
 use Rattle.rv_count_tables.specs.declared.table.AddressCounts.{AddressCounts}
 use Rattle.rv_count_tables.specs.declared.table.ImageCounts.{ImageCounts}
 use Rattle.rv_count_tables.specs.declared.table.NamedCallNode.{NamedCallNode}
@@ -14,7 +14,7 @@ use Rattle.rv_count_tables.specs.Lines.{lacks, text_before_byte, text_after_byte
 use Rattle.rv_count_tables.specs.ReadSteps.{Entry, Address, Node, IsValidEntry, entry_line}
 use Rattle.rv_count_tables.specs.Table.{IsValidCount, IsValidImage, IsValidNamedNode, IsValidNode}
 use Rattle.rv_count_tables.specs.Text.{line, address_line, image_line, last_line, node_line, fields_of_node}
-use Rattle.rv_call_tree.specs.declared.spot.CallNode.{CallNode}
+use Rattle.rv_call_tree.specs.declared.call_node.CallNode.{CallNode}
 use Rattle.rv_count_tables.proofs.Pieces.{lacks-append, before_at, after_at}
 use Rattle.rv_count_tables.proofs.Words.{lacks-decimal, lacks-digits, lacks-encode, decimal_number_from, number_of-decimal, hex_number, word_of-digits, bytes_of-encode, eight_digits, digit_is_other, is_no_digit}
 use Rattle.rv_count_tables.proofs.Told.{same_entry}
@@ -25,7 +25,7 @@ regroup x y z = simp append_assoc
 -- ---- the line of an address
 
 abbrev pub address_words : AddressCounts → List ℕ
-address_words c = word_digits c.address ++ codes " " ++ decimal c.begun ++ codes " " ++ decimal c.taken
+address_words c = word_digits c.address ++ codes " " ++ decimal c.executed ++ codes " " ++ decimal c.taken
 
 pub address_is_line : (c : AddressCounts) → address_line c ≡ line (address_words c)
 unfolding address_line
@@ -35,18 +35,18 @@ pub lacks-address : (c : AddressCounts) → IsValidCount c → lacks 10 (address
 lacks-address c h =
     let taken = h.taken in
     let fits = h.fits in
-    lacks-append 10 (word_digits c.address ++ codes " " ++ decimal c.begun ++ codes " ") (decimal c.taken)
-    (lacks-append 10 (word_digits c.address ++ codes " " ++ decimal c.begun) (codes " ")
-    (lacks-append 10 (word_digits c.address ++ codes " ") (decimal c.begun)
+    lacks-append 10 (word_digits c.address ++ codes " " ++ decimal c.executed ++ codes " ") (decimal c.taken)
+    (lacks-append 10 (word_digits c.address ++ codes " " ++ decimal c.executed) (codes " ")
+    (lacks-append 10 (word_digits c.address ++ codes " ") (decimal c.executed)
     (lacks-append 10 (word_digits c.address) (codes " ") (lacks-digits c.address) refl)
-    (lacks-decimal 10 c.begun (omega arith) h.fits)) refl) (lacks-decimal 10 c.taken (omega arith) (omega (arith, taken, fits)))
+    (lacks-decimal 10 c.executed (omega arith) h.fits)) refl) (lacks-decimal 10 c.taken (omega arith) (omega (arith, taken, fits)))
 
 -- what stands behind the address
 abbrev pub numbers_of : AddressCounts → List ℕ
-numbers_of c = decimal c.begun ++ 32 ∷ (decimal c.taken ++ 10 ∷ [])
+numbers_of c = decimal c.executed ++ 32 ∷ (decimal c.taken ++ 10 ∷ [])
 
 address_parts : (c : AddressCounts) → address_line c ≡ (word_digits c.address ++ codes " ") ++ numbers_of c
-address_parts c = address_is_line c ∙ regroup (word_digits c.address ++ codes " ") (decimal c.begun) (decimal c.taken)
+address_parts c = address_is_line c ∙ regroup (word_digits c.address ++ codes " ") (decimal c.executed) (decimal c.taken)
 
 pub address_digits : (c : AddressCounts) → take 8 (address_line c) ≡ word_digits c.address
 address_digits c =
@@ -60,9 +60,9 @@ address_numbers c =
     ap (drop 9) (address_parts c)
     ∙ drop_at (word_digits c.address ++ codes " ") (numbers_of c) 9 (m ∙ ap (λ (k : ℕ). k + 1) n)
 
-pub begun_digits : (c : AddressCounts) → IsValidCount c → text_before_byte 32 (drop 9 (address_line c)) ≡ decimal c.begun
+pub begun_digits : (c : AddressCounts) → IsValidCount c → text_before_byte 32 (drop 9 (address_line c)) ≡ decimal c.executed
 begun_digits c h = ap (text_before_byte 32) (address_numbers c)
-    ∙ before_at 32 (decimal c.begun) (decimal c.taken ++ 10 ∷ []) (lacks-decimal 32 c.begun (omega arith) h.fits)
+    ∙ before_at 32 (decimal c.executed) (decimal c.taken ++ 10 ∷ []) (lacks-decimal 32 c.executed (omega arith) h.fits)
 
 pub taken_digits : (c : AddressCounts) → IsValidCount c
     → text_before_byte 10 (text_after_byte 32 (drop 9 (address_line c))) ≡ decimal c.taken
@@ -70,15 +70,15 @@ taken_digits c h =
     let taken = h.taken in
     let fits = h.fits in
     ap (λ (s : List ℕ). text_before_byte 10 (text_after_byte 32 s)) (address_numbers c)
-    ∙ ap (text_before_byte 10) (after_at 32 (decimal c.begun) (decimal c.taken ++ 10 ∷ [])
-    (lacks-decimal 32 c.begun (omega arith) h.fits))
+    ∙ ap (text_before_byte 10) (after_at 32 (decimal c.executed) (decimal c.taken ++ 10 ∷ [])
+    (lacks-decimal 32 c.executed (omega arith) h.fits))
     ∙ before_at 10 (decimal c.taken) [] (lacks-decimal 10 c.taken (omega arith) (omega (arith, taken, fits)))
 
 -- the counts that a line says
 counts_in : List ℕ → AddressCounts
 counts_in text = record {
   address = hex_number 0 (take 8 text);
-  begun = decimal_number_from 0 (text_before_byte 32 (drop 9 text));
+  executed = decimal_number_from 0 (text_before_byte 32 (drop 9 text));
   taken = decimal_number_from 0 (text_before_byte 10 (text_after_byte 32 (drop 9 text)));
 }
 
@@ -88,7 +88,7 @@ counts_in_line c h =
     let taken = h.taken in
     let fits = h.fits in
     same_entry (counts_in (address_line c)) c (ap (hex_number 0) (address_digits c) ∙ word_of-digits c.address h.address)
-    (ap (decimal_number_from 0) (begun_digits c h) ∙ number_of-decimal c.begun h.fits)
+    (ap (decimal_number_from 0) (begun_digits c h) ∙ number_of-decimal c.executed h.fits)
     (ap (decimal_number_from 0) (taken_digits c h) ∙ number_of-decimal c.taken (omega (arith, taken, fits)))
 
 pub same_address : (c d : AddressCounts) → IsValidCount c → IsValidCount d → address_line c ≡ address_line d → c ≡ d
@@ -191,16 +191,16 @@ unfolding fields_of_node
 lacks-words s h =
     let depth = codes "spot " ++ decimal s.depth in
     let function = depth ++ codes " " ++ word_digits s.function in
-    let arrivals = function ++ codes " " ++ decimal s.arrivals in
-    lacks-append 10 (arrivals ++ codes " ") (decimal s.steps)
-    (lacks-append 10 arrivals (codes " ")
-    (lacks-append 10 (function ++ codes " ") (decimal s.arrivals)
+    let calls = function ++ codes " " ++ decimal s.calls in
+    lacks-append 10 (calls ++ codes " ") (decimal s.steps)
+    (lacks-append 10 calls (codes " ")
+    (lacks-append 10 (function ++ codes " ") (decimal s.calls)
     (lacks-append 10 function (codes " ")
     (lacks-append 10 (depth ++ codes " ") (word_digits s.function)
     (lacks-append 10 depth (codes " ")
     (lacks-append 10 (codes "spot ") (decimal s.depth) refl (lacks-decimal 10 s.depth (omega arith) h.depth)) refl)
     (lacks-digits s.function)) refl)
-    (lacks-decimal 10 s.arrivals (omega arith) h.arrivals)) refl)
+    (lacks-decimal 10 s.calls (omega arith) h.calls)) refl)
     (lacks-decimal 10 s.steps (omega arith) h.steps)
 
 pub lacks-spot : (n : NamedCallNode) → IsValidNamedNode n → lacks 10 (spot_words n) ≡ true
@@ -212,7 +212,7 @@ abbrev pub steps_and_name : NamedCallNode → List ℕ
 steps_and_name n = decimal n.spot.steps ++ 32 ∷ (n.name ++ 10 ∷ [])
 
 abbrev pub numbers_of_spot : NamedCallNode → List ℕ
-numbers_of_spot n = decimal n.spot.arrivals ++ 32 ∷ steps_and_name n
+numbers_of_spot n = decimal n.spot.calls ++ 32 ∷ steps_and_name n
 
 abbrev pub function_of_spot : NamedCallNode → List ℕ
 function_of_spot n = word_digits n.spot.function ++ 32 ∷ numbers_of_spot n
@@ -224,7 +224,7 @@ regroup_more x y z u v w = simp append_assoc
 spot_parts : (n : NamedCallNode) → drop 5 (node_line n) ≡ decimal n.spot.depth ++ 32 ∷ function_of_spot n
 unfolding fields_of_node
 spot_parts n = ap (drop 5) (spot_is_line n
-    ∙ regroup_more (codes "spot ") (decimal n.spot.depth) (word_digits n.spot.function) (decimal n.spot.arrivals) (decimal n.spot.steps) n.name)
+    ∙ regroup_more (codes "spot ") (decimal n.spot.depth) (word_digits n.spot.function) (decimal n.spot.calls) (decimal n.spot.steps) n.name)
 
 pub depth_digits : (n : NamedCallNode) → IsValidNode n.spot → text_before_byte 32 (drop 5 (node_line n)) ≡ decimal n.spot.depth
 depth_digits n h = ap (text_before_byte 32) (spot_parts n)
@@ -247,14 +247,14 @@ spot_numbers n h =
     ∙ drop_at (word_digits n.spot.function ++ codes " ") (numbers_of_spot n) 9 (omega (arith, m, e))
 
 pub arrivals_digits : (n : NamedCallNode) → IsValidNode n.spot
-    → text_before_byte 32 (drop 9 (text_after_byte 32 (drop 5 (node_line n)))) ≡ decimal n.spot.arrivals
+    → text_before_byte 32 (drop 9 (text_after_byte 32 (drop 5 (node_line n)))) ≡ decimal n.spot.calls
 arrivals_digits n h = ap (text_before_byte 32) (spot_numbers n h)
-    ∙ before_at 32 (decimal n.spot.arrivals) (steps_and_name n) (lacks-decimal 32 n.spot.arrivals (omega arith) h.arrivals)
+    ∙ before_at 32 (decimal n.spot.calls) (steps_and_name n) (lacks-decimal 32 n.spot.calls (omega arith) h.calls)
 
 behind_arrivals : (n : NamedCallNode) → IsValidNode n.spot
     → text_after_byte 32 (drop 9 (text_after_byte 32 (drop 5 (node_line n)))) ≡ steps_and_name n
 behind_arrivals n h = ap (text_after_byte 32) (spot_numbers n h)
-    ∙ after_at 32 (decimal n.spot.arrivals) (steps_and_name n) (lacks-decimal 32 n.spot.arrivals (omega arith) h.arrivals)
+    ∙ after_at 32 (decimal n.spot.calls) (steps_and_name n) (lacks-decimal 32 n.spot.calls (omega arith) h.calls)
 
 pub steps_digits : (n : NamedCallNode) → IsValidNode n.spot
     → text_before_byte 32 (text_after_byte 32 (drop 9 (text_after_byte 32 (drop 5 (node_line n))))) ≡ decimal n.spot.steps
@@ -269,9 +269,9 @@ name_text n h =
     (lacks-decimal 32 n.spot.steps (omega arith) h.spot.steps))
     ∙ before_at 10 n.name [] h.name
 
-pub same_spot_of : (s t : CallNode) → s.depth ≡ t.depth → s.function ≡ t.function → s.arrivals ≡ t.arrivals
+pub same_spot_of : (s t : CallNode) → s.depth ≡ t.depth → s.function ≡ t.function → s.calls ≡ t.calls
     → s.steps ≡ t.steps → s ≡ t
-same_spot_of s t d f a n = λ i. record { depth = d i; function = f i; arrivals = a i; steps = n i }
+same_spot_of s t d f a n = λ i. record { depth = d i; function = f i; calls = a i; steps = n i }
 
 -- the spot that a line says
 spot_in : List ℕ → NamedCallNode
@@ -283,7 +283,7 @@ spot_in text =
       spot = record {
         depth = decimal_number_from 0 (text_before_byte 32 words);
         function = hex_number 0 (take 8 function);
-        arrivals = decimal_number_from 0 (text_before_byte 32 numbers);
+        calls = decimal_number_from 0 (text_before_byte 32 numbers);
         steps = decimal_number_from 0 (text_before_byte 32 behind);
       };
       name = text_before_byte 10 (text_after_byte 32 behind);
@@ -296,7 +296,7 @@ spot_in_line n h =
     let one = same_spot_of (spot_in (node_line n)).spot n.spot
     (ap (decimal_number_from 0) (depth_digits n k) ∙ number_of-decimal n.spot.depth k.depth)
     (ap (hex_number 0) (spot_function_digits n k) ∙ word_of-digits n.spot.function k.function)
-    (ap (decimal_number_from 0) (arrivals_digits n k) ∙ number_of-decimal n.spot.arrivals k.arrivals)
+    (ap (decimal_number_from 0) (arrivals_digits n k) ∙ number_of-decimal n.spot.calls k.calls)
     (ap (decimal_number_from 0) (steps_digits n k) ∙ number_of-decimal n.spot.steps k.steps) in
     let text = name_text n h in
     λ i. record { spot = one i; name = text i }

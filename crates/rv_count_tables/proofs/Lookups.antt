@@ -64,14 +64,14 @@ behind_first address c cs n p = (
   },
 )
 
-other_first : (at begun rest address : ℕ) → at < address → cond (at == address) begun 0 + rest ≡ rest
-other_first at begun rest address l = grind (arith, nat_tests)
+other_first : (at executed rest address : ℕ) → at < address → cond (at == address) executed 0 + rest ≡ rest
+other_first at executed rest address l = grind (arith, nat_tests)
 
-higher_first : (at begun rest address : ℕ) → address < at → cond (at == address) begun 0 + rest ≡ rest
-higher_first at begun rest address l = grind (arith, nat_tests)
+higher_first : (at executed rest address : ℕ) → address < at → cond (at == address) executed 0 + rest ≡ rest
+higher_first at executed rest address l = grind (arith, nat_tests)
 
-same_first : (at begun rest address : ℕ) → at ≡ address → rest ≡ 0 → cond (at == address) begun 0 + rest ≡ begun
-same_first at begun rest address e z = grind (arith, nat_tests)
+same_first : (at executed rest address : ℕ) → at ≡ address → rest ≡ 0 → cond (at == address) executed 0 + rest ≡ executed
+same_first at executed rest address e z = grind (arith, nat_tests)
 
 -- an address in front of the lowest has no counts
 below : (address lowest : ℕ) (cs : List AddressCounts) → increase_from lowest cs ≡ true → address < lowest
@@ -81,7 +81,7 @@ below address lowest (c ∷ cs) h l =
     let f = first_and_rest lowest c cs h in
     let under : address < c.address = (let a = f.0 in omega (arith, a)) in
     let r = below address (c.address + 1) cs f.1 (omega arith) in (
-      higher_first c.address c.begun (executed_at address cs) address under ∙ r.0,
+      higher_first c.address c.executed (executed_at address cs) address under ∙ r.0,
       higher_first c.address c.taken (taken_at address cs) address under ∙ r.1,
     )
 
@@ -94,31 +94,31 @@ none_at address lowest (c ∷ cs) zero h p above =
     let f = first_and_rest lowest c cs h in
     let under : address < c.address = above c (omega arith) in
     let r = below address (c.address + 1) cs f.1 (omega arith) in (
-      higher_first c.address c.begun (executed_at address cs) address under ∙ r.0,
+      higher_first c.address c.executed (executed_at address cs) address under ∙ r.0,
       higher_first c.address c.taken (taken_at address cs) address under ∙ r.1,
     )
 none_at address lowest (c ∷ cs) (suc n) h p above =
     let b = behind_first address c cs n p in
     let r = none_at address (c.address + 1) cs n (first_and_rest lowest c cs h).1 b.1 (λ d l. above d (omega arith)) in (
-      other_first c.address c.begun (executed_at address cs) address b.0 ∙ r.0,
+      other_first c.address c.executed (executed_at address cs) address b.0 ∙ r.0,
       other_first c.address c.taken (taken_at address cs) address b.0 ∙ r.1,
     )
 
 -- one that stands there has those of its entry
 pub those_at : (address lowest : ℕ) (cs : List AddressCounts) (n : ℕ) (d : AddressCounts) → increase_from lowest cs ≡ true
     → IsPlaceOf address cs n → n < length cs → (get_or cs n d).address ≡ address
-    → (executed_at address cs ≡ (get_or cs n d).begun) × (taken_at address cs ≡ (get_or cs n d).taken)
+    → (executed_at address cs ≡ (get_or cs n d).executed) × (taken_at address cs ≡ (get_or cs n d).taken)
 those_at address lowest [] n d h p l e = absurd (omega arith)
 those_at address lowest (c ∷ cs) zero d h p l e =
     let f = first_and_rest lowest c cs h in
     let r = below address (c.address + 1) cs f.1 (omega (arith, e)) in (
-      same_first c.address c.begun (executed_at address cs) address e r.0,
+      same_first c.address c.executed (executed_at address cs) address e r.0,
       same_first c.address c.taken (taken_at address cs) address e r.1,
     )
 those_at address lowest (c ∷ cs) (suc n) d h p l e =
     let b = behind_first address c cs n p in
     let r = those_at address (c.address + 1) cs n d (first_and_rest lowest c cs h).1 b.1 (omega arith) e in (
-      other_first c.address c.begun (executed_at address cs) address b.0 ∙ r.0,
+      other_first c.address c.executed (executed_at address cs) address b.0 ∙ r.0,
       other_first c.address c.taken (taken_at address cs) address b.0 ∙ r.1,
     )
 

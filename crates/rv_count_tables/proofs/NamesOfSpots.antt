@@ -13,7 +13,7 @@ use Rattle.rv_count_tables.specs.Text.{line_of_node, name_or_empty, named, node_
 use Rattle.rv_count_tables.specs.ReadSteps.{function_name, inserted, with_name, with_names, AgreesWithName}
 use Rattle.rv_count_tables.proofs.AddingNames.{behind, low, none_below, one_list_of_names, rises}
 use Rattle.rv_call_tree.specs.Profiles.{ends_some_path}
-use Rattle.rv_call_tree.specs.declared.spot.CallNode.{CallNode}
+use Rattle.rv_call_tree.specs.declared.call_node.CallNode.{CallNode}
 
 -- ---- names that a list has
 

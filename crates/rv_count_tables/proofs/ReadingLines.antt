@@ -19,7 +19,7 @@ use Rattle.rv_count_tables.specs.Lines.{lacks, whole_line}
 use Rattle.rv_count_tables.specs.Table.{is_before, is_greater_than_last, digests_increase_from, increase_from, IsValidCount, IsValidImage}
 use Rattle.rv_count_tables.specs.Text.{line, address_line, image_line, image_text, line_of_node}
 use Rattle.rv_count_tables.specs.ReadSteps.{lowest_after, last_digest, before_first_image, after_image_line, place_in, after_entries, entries_of, NextLines, IsNotAnAddress, IsNotAnEntry, IsNotAnImage, AreParsedAddresses, AreParsedImages, AreParsedNodes, IsParsedImage}
-use Rattle.rv_call_tree.specs.declared.spot.CallNode.{CallNode}
+use Rattle.rv_call_tree.specs.declared.call_node.CallNode.{CallNode}
 use Rattle.rv_count_tables.proofs.Pieces.{cases_line, line_at, no_line}
 use Rattle.rv_count_tables.proofs.AddingImages.{image_low, images_behind, images_rise, no_images_rise}
 use Rattle.rv_count_tables.proofs.Entries.{all_entries, empty_entry, nothing_nowhere}

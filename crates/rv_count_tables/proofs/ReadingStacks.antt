@@ -16,7 +16,7 @@ use Rattle.rv_count_tables.specs.ReadSteps.{function_name, with_name, AgreesWith
 use Rattle.rv_count_tables.proofs.LineTexts.{spot_is_line, spot_words}
 use Rattle.rv_count_tables.proofs.NamesOfSpots.{it_has_its_name, names_so_far, no_names_so_far, others_are_named, text_of_named, AreNamesSoFar}
 use Rattle.rv_count_tables.proofs.ReadingLines.{each_push, further_within, lacks_path, line_is_long, lines_push, plain_line, same_words, whole_split}
-use Rattle.rv_call_tree.specs.declared.spot.CallNode.{CallNode}
+use Rattle.rv_call_tree.specs.declared.call_node.CallNode.{CallNode}
 use Rattle.rv_call_tree.specs.Trees.{last_path, path_after, IsTree, FollowsInPreorder}
 use Rattle.rv_call_tree.proofs.Public.{last_parts, stand_of_parts}
 

@@ -212,15 +212,15 @@ refused_end images runs b rest bytes n h fits is number =
         is_table images runs h fits,
         text_of images runs ∙ sym (append-nil text),
       );
-      refused = λ begun.
-          let e = begun.3 ∙ ap (λ (s : List ℕ). s ++ begun.1) here ∙ append_assoc text (b ∷ more.0) begun.1
-          ∙ append_assoc (text_so_far images) (last_line (length images) runs) (b ∷ (more.0 ++ begun.1)) in
-          let r = behind_so_far begun.0 images (last_line (length images) runs ++ b ∷ (more.0 ++ begun.1)) begun.2 h e in
+      refused = λ executed.
+          let e = executed.3 ∙ ap (λ (s : List ℕ). s ++ executed.1) here ∙ append_assoc text (b ∷ more.0) executed.1
+          ∙ append_assoc (text_so_far images) (last_line (length images) runs) (b ∷ (more.0 ++ executed.1)) in
+          let r = behind_so_far executed.0 images (last_line (length images) runs ++ b ∷ (more.0 ++ executed.1)) executed.2 h e in
           let m : 0 + length images ≡ length images = omega arith in
           let few = h.few in
-          refused_behind (0 + length images) runs b (more.0 ++ begun.1)
+          refused_behind (0 + length images) runs b (more.0 ++ executed.1)
           r.es r.more r.runs (omega (arith, few)) fits
-          (ap (λ (k : ℕ). last_line k runs ++ b ∷ (more.0 ++ begun.1)) m ∙ r.all) r.few r.fits;
+          (ap (λ (k : ℕ). last_line k runs ++ b ∷ (more.0 ++ executed.1)) m ∙ r.all) r.few r.fits;
     }
 
 -- ---- a text that is cut off

@@ -11,7 +11,7 @@ use Rattle.rv_count_tables.specs.declared.text.FunctionFields.{FunctionFields}
 use Rattle.rv_count_tables.specs.ParsedNodes.{line_by_index, line_by_fields, line_with_digits, fields_of_function, fields_with_digits, IsIndexOf}
 use Rattle.rv_count_tables.specs.Table.{name_of}
 use Rattle.rv_count_tables.specs.Text.{line_of_node, name_or_empty, node_line, fields_of_node}
-use Rattle.rv_call_tree.specs.declared.spot.CallNode.{CallNode}
+use Rattle.rv_call_tree.specs.declared.call_node.CallNode.{CallNode}
 
 -- a name behind others is that of a function without another
 abbrev or_else : Option (List ℕ) → Option (List ℕ) → Option (List ℕ)
@@ -130,11 +130,11 @@ next_word text more whole words word e f =
 
 pub words_pushed : (text first second third fourth fifth digits : List ℕ) (s : CallNode) → first ≡ text ++ codes "spot"
     → second ≡ first ++ codes " " ++ decimal s.depth → third ≡ second ++ codes " " ++ digits
-    → fourth ≡ third ++ codes " " ++ decimal s.arrivals → fifth ≡ fourth ++ codes " " ++ decimal s.steps
+    → fourth ≡ third ++ codes " " ++ decimal s.calls → fifth ≡ fourth ++ codes " " ++ decimal s.steps
     → fifth ≡ text ++ fields_with_digits digits s
 unfolding fields_with_digits
 words_pushed text first second third fourth fifth digits s e1 e2 e3 e4 e5 =
     let depth = next_word text first second (codes "spot") (decimal s.depth) e1 e2 in
     let function = next_word text second third _ digits depth e3 in
-    let arrivals = next_word text third fourth _ (decimal s.arrivals) function e4 in
-    next_word text fourth fifth _ (decimal s.steps) arrivals e5
+    let calls = next_word text third fourth _ (decimal s.calls) function e4 in
+    next_word text fourth fifth _ (decimal s.steps) calls e5

@@ -11,7 +11,7 @@ use Rattle.rv_count_tables.specs.Table.{has_name, min_text_of, name_at, AreNames
 use Rattle.rv_count_tables.proofs.AddingImages.{all_come_to}
 use Rattle.rv_count_tables.proofs.NamesOfSpots.{first_is, further}
 use Rattle.rv_call_tree.specs.Profiles.{ends_some_path}
-use Rattle.rv_call_tree.specs.declared.spot.CallNode.{CallNode}
+use Rattle.rv_call_tree.specs.declared.call_node.CallNode.{CallNode}
 use Rattle.rv_call_tree.specs.Sums.{IsSumOfCallTrees}
 use Rattle.rv_call_tree.specs.Trees.{calls_at, calls_of_node, sum_over_path, ends_with, path_after, HasCalls}
 
@@ -47,7 +47,7 @@ come_to f front (s ∷ ss) h some = elim (cases_Bool (s.function == f)) [
   | inl t ↦ record {
     path = path_after front s;
     ends = ends_with_last f s.function (take s.depth front) ∙ t;
-    some = here_counts (bytes_eq (path_after front s) (path_after front s)) s.arrivals
+    some = here_counts (bytes_eq (path_after front s) (path_after front s)) s.calls
         (sum_over_path calls_of_node (path_after front s) (path_after front s) ss) (itself (path_after front s)) h.0;
   }
   | inr t ↦
@@ -55,7 +55,7 @@ come_to f front (s ∷ ss) h some = elim (cases_Bool (s.function == f)) [
       record {
         path = k.path;
         ends = k.ends;
-        some = here_or_further (bytes_eq (path_after front s) k.path) s.arrivals
+        some = here_or_further (bytes_eq (path_after front s) k.path) s.calls
             (sum_over_path calls_of_node k.path (path_after front s) ss) k.some;
       }
 ]
@@ -69,7 +69,7 @@ is_last f path front (s ∷ ss) ends some = elim (cases_Bool (bytes_eq (path_aft
       let g : (s.function == f) ≡ true = sym (ends_with_last f s.function (take s.depth front)) ∙ ap (ends_with f) e ∙ ends in
       ap (λ (b : Bool). b || ends_some_path f ss) g
   | inr t ↦ further f s ss (is_last f path (path_after front s) ss ends
-      (further_counts (bytes_eq (path_after front s) path) s.arrivals (sum_over_path calls_of_node path (path_after front s) ss) t some))
+      (further_counts (bytes_eq (path_after front s) path) s.calls (sum_over_path calls_of_node path (path_after front s) ss) t some))
 ]
 
 -- ---- sums
@@ -92,14 +92,14 @@ module _ (a b sum : List CallNode) (h : HasCalls a) (k : HasCalls b) (is : IsSum
       node_of_first : ends_some_path f a ≡ true → ends_some_path f sum ≡ true
       node_of_first some =
           let c = come_to f [] a h some in
-          let e = is.arrivals c.path in
+          let e = is.calls c.path in
           let more = c.some in
           is_last f c.path [] sum c.ends (omega (arith, e, more))
 
       node_of_second : ends_some_path f b ≡ true → ends_some_path f sum ≡ true
       node_of_second some =
           let c = come_to f [] b k some in
-          let e = is.arrivals c.path in
+          let e = is.calls c.path in
           let more = c.some in
           is_last f c.path [] sum c.ends (omega (arith, e, more))
 
@@ -112,7 +112,7 @@ module _ (a b sum : List CallNode) (h : HasCalls a) (k : HasCalls b) (is : IsSum
       of_sum : ends_some_path f sum ≡ true → ends_some_path f a ≡ false → ends_some_path f b ≡ true
       of_sum some none =
           let c = come_to f [] sum (is.some h k) some in
-          let e = is.arrivals c.path in
+          let e = is.calls c.path in
           let more = c.some in
           let nothing = by_first c.path c.ends none in
           is_last f c.path [] b c.ends (omega (arith, e, more, nothing))

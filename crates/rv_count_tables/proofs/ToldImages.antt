@@ -102,11 +102,11 @@ some_is p q e = cc
 
 -- what tells images apart, but for their digests
 pub record AreAlike (is js : List ImageCounts) : Type 0 where
-  pub begun : (digest : List ℕ) (n : ℕ) → executed_in digest n is ≡ executed_in digest n js
+  pub executed : (digest : List ℕ) (n : ℕ) → executed_in digest n is ≡ executed_in digest n js
   pub taken : (digest : List ℕ) (n : ℕ) → taken_in digest n is ≡ taken_in digest n js
   pub paths : (digest : List ℕ) → next_path digest is ≡ next_path digest js
   pub names : (digest : List ℕ) (f : ℕ) → truncated_name digest f is ≡ truncated_name digest f js
-  pub arrivals : (digest path : List ℕ) → calls_in_image digest path is ≡ calls_in_image digest path js
+  pub calls : (digest path : List ℕ) → calls_in_image digest path is ≡ calls_in_image digest path js
   pub steps : (digest path : List ℕ) → steps_in digest path is ≡ steps_in digest path js
 
 -- a number of the first images of both lists
@@ -130,7 +130,7 @@ same_image l m i j is js h k p q d alike =
     ∙ ap (λ (s : List ℕ). next_path s (j ∷ js)) d ∙ path_after_first m j js k) in
     let addresses = one_of i.addresses j.addresses p.counts q.counts
     (λ n. first_count (λ x. executed_at n x.addresses) l m i j is js h k d
-    (sym (begun_is n i.digest (i ∷ is)) ∙ alike.begun i.digest n ∙ begun_is n i.digest (j ∷ js)))
+    (sym (begun_is n i.digest (i ∷ is)) ∙ alike.executed i.digest n ∙ begun_is n i.digest (j ∷ js)))
     (λ n. first_count (λ x. taken_at n x.addresses) l m i j is js h k d
     (sym (taken_is n i.digest (i ∷ is)) ∙ alike.taken i.digest n ∙ taken_is n i.digest (j ∷ js))) in
     let functions = one_list_of_names i.functions j.functions p.names q.names
@@ -139,7 +139,7 @@ same_image l m i j is js h k p q d alike =
     let spots = one_tree_of_counts i.spots j.spots p.spots.tree q.spots.tree (all_come_to i.spots p.spots.each)
     (all_come_to j.spots q.spots.each)
     (λ at. first_count (λ x. calls_at at x.spots) l m i j is js h k d
-    (sym (arrivals_is at i.digest (i ∷ is)) ∙ alike.arrivals i.digest at ∙ arrivals_is at i.digest (j ∷ js)))
+    (sym (arrivals_is at i.digest (i ∷ is)) ∙ alike.calls i.digest at ∙ arrivals_is at i.digest (j ∷ js)))
     (λ at. first_count (λ x. steps_at at x.spots) l m i j is js h k d
     (sym (steps_is at i.digest (i ∷ is)) ∙ alike.steps i.digest at ∙ steps_is at i.digest (j ∷ js))) in
     λ x. record { digest = d x; path = path x; addresses = addresses x; functions = functions x; spots = spots x }
@@ -179,14 +179,14 @@ other_names l m i j is js digest f same h k e = elim (cases_Bool (bytes_eq i.dig
 others_alike : (l m : Option (List ℕ)) (i j : ImageCounts) (is js : List ImageCounts) → digests_increase_from l (i ∷ is) ≡ true
     → digests_increase_from m (j ∷ js) ≡ true → i ≡ j → AreAlike (i ∷ is) (j ∷ js) → AreAlike is js
 others_alike l m i j is js h k one alike = record {
-  begun = λ d n. begun_is n d is ∙ other_counts (λ x. executed_at n x.addresses) d i j is js one
-      (sym (begun_is n d (i ∷ is)) ∙ alike.begun d n ∙ begun_is n d (j ∷ js)) ∙ sym (begun_is n d js);
+  executed = λ d n. begun_is n d is ∙ other_counts (λ x. executed_at n x.addresses) d i j is js one
+      (sym (begun_is n d (i ∷ is)) ∙ alike.executed d n ∙ begun_is n d (j ∷ js)) ∙ sym (begun_is n d js);
   taken = λ d n. taken_is n d is ∙ other_counts (λ x. taken_at n x.addresses) d i j is js one
       (sym (taken_is n d (i ∷ is)) ∙ alike.taken d n ∙ taken_is n d (j ∷ js)) ∙ sym (taken_is n d js);
   paths = λ d. other_paths l m i j is js d one h k (alike.paths d);
   names = λ d f. other_names l m i j is js d f one h k (alike.names d f);
-  arrivals = λ d p. arrivals_is p d is ∙ other_counts (λ x. calls_at p x.spots) d i j is js one
-      (sym (arrivals_is p d (i ∷ is)) ∙ alike.arrivals d p ∙ arrivals_is p d (j ∷ js)) ∙ sym (arrivals_is p d js);
+  calls = λ d p. arrivals_is p d is ∙ other_counts (λ x. calls_at p x.spots) d i j is js one
+      (sym (arrivals_is p d (i ∷ is)) ∙ alike.calls d p ∙ arrivals_is p d (j ∷ js)) ∙ sym (arrivals_is p d js);
   steps = λ d p. steps_is p d is ∙ other_counts (λ x. steps_at p x.spots) d i j is js one
       (sym (steps_is p d (i ∷ is)) ∙ alike.steps d p ∙ steps_is p d (j ∷ js)) ∙ sym (steps_is p d js);
 }
@@ -214,13 +214,13 @@ pub one_table_of : (t u : CountTable) → IsValidTable t → IsValidTable u
     → ((digest : List ℕ) (f : ℕ) → truncated_name digest f t.images ≡ truncated_name digest f u.images)
     → ((digest path : List ℕ) → calls_in_image digest path t.images ≡ calls_in_image digest path u.images)
     → ((digest path : List ℕ) → steps_in digest path t.images ≡ steps_in digest path u.images) → t.runs ≡ u.runs → t ≡ u
-one_table_of t u h k begun taken paths names arrivals steps runs =
+one_table_of t u h k executed taken paths names calls steps runs =
     let alike : AreAlike t.images u.images = record {
-      begun = begun;
+      executed = executed;
       taken = taken;
       paths = paths;
       names = names;
-      arrivals = arrivals;
+      calls = calls;
       steps = steps;
     } in
     let images = one_list t.images u.images None None h.images k.images h.rising k.rising alike in
@@ -230,11 +230,11 @@ one_table_of t u h k begun taken paths names arrivals steps runs =
 
 pub tables_commute : (a b ab ba : CountTable) → IsSumOfTables a b ab → IsSumOfTables b a ba → ab ≡ ba
 tables_commute a b ab ba p q = one_table_of ab ba p.table q.table
-    (λ d n. either_order _ _ (executed_in d n a.images) (executed_in d n b.images) (p.begun d n) (q.begun d n))
+    (λ d n. either_order _ _ (executed_in d n a.images) (executed_in d n b.images) (p.executed d n) (q.executed d n))
     (λ d n. either_order _ _ (taken_in d n a.images) (taken_in d n b.images) (p.taken d n) (q.taken d n))
     (λ d. p.paths d ∙ either (next_path d a.images) (next_path d b.images) ∙ sym (q.paths d))
     (λ d f. p.names d f ∙ either (truncated_name d f a.images) (truncated_name d f b.images) ∙ sym (q.names d f))
-    (λ d n. either_order _ _ (calls_in_image d n a.images) (calls_in_image d n b.images) (p.arrivals d n) (q.arrivals d n))
+    (λ d n. either_order _ _ (calls_in_image d n a.images) (calls_in_image d n b.images) (p.calls d n) (q.calls d n))
     (λ d n. either_order _ _ (steps_in d n a.images) (steps_in d n b.images) (p.steps d n) (q.steps d n))
     (either_order _ _ a.runs b.runs p.runs q.runs)
 
@@ -242,7 +242,7 @@ pub tables_associate : (a b c ab bc first last : CountTable) → IsSumOfTables a
     → IsSumOfTables a bc last → first ≡ last
 tables_associate a b c ab bc first last p q r s = one_table_of first last q.table s.table
     (λ d n. either_first (executed_in d n ab.images) (executed_in d n bc.images) _ _ (executed_in d n a.images)
-    (executed_in d n b.images) (executed_in d n c.images) (p.begun d n) (q.begun d n) (r.begun d n) (s.begun d n))
+    (executed_in d n b.images) (executed_in d n c.images) (p.executed d n) (q.executed d n) (r.executed d n) (s.executed d n))
     (λ d n. either_first (taken_in d n ab.images) (taken_in d n bc.images) _ _ (taken_in d n a.images)
     (taken_in d n b.images) (taken_in d n c.images) (p.taken d n) (q.taken d n) (r.taken d n) (s.taken d n))
     (λ d. q.paths d ∙ ap (λ x. min_text_of x (next_path d c.images)) (p.paths d)
@@ -252,7 +252,7 @@ tables_associate a b c ab bc first last p q r s = one_table_of first last q.tabl
     ∙ any_first (truncated_name d f a.images) (truncated_name d f b.images) (truncated_name d f c.images)
     ∙ sym (ap (min_text_of (truncated_name d f a.images)) (r.names d f)) ∙ sym (s.names d f))
     (λ d n. either_first (calls_in_image d n ab.images) (calls_in_image d n bc.images) _ _ (calls_in_image d n a.images)
-    (calls_in_image d n b.images) (calls_in_image d n c.images) (p.arrivals d n) (q.arrivals d n) (r.arrivals d n) (s.arrivals d n))
+    (calls_in_image d n b.images) (calls_in_image d n c.images) (p.calls d n) (q.calls d n) (r.calls d n) (s.calls d n))
     (λ d n. either_first (steps_in d n ab.images) (steps_in d n bc.images) _ _ (steps_in d n a.images)
     (steps_in d n b.images) (steps_in d n c.images) (p.steps d n) (q.steps d n) (r.steps d n) (s.steps d n))
     (either_first ab.runs bc.runs _ _ a.runs b.runs c.runs p.runs q.runs r.runs s.runs)

@@ -8,7 +8,7 @@ use Rattle.std.specs.Fmt.{decimal}
 use Rattle.std.specs.Int.{w32, to_be_bytes}
 use Rattle.hex.specs.Hex.{IsBytes, encode_lower, encode_with, lower_digits}
 use Rattle.hex.proofs.HexLemmas.{decode_of-encode_lower}
-use Rattle.rv_text.specs.Words.{word_digits}
+use Rattle.rv_text.specs.Numbers.{word_digits}
 use Rattle.rv_count_tables.specs.Lines.{lacks, hex_digit_value, hex_bytes, bytes_if_decoded}
 use Rattle.rv_count_tables.proofs.Pieces.{lacks-append}
 

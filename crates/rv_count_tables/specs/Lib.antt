@@ -13,4 +13,4 @@ pub use Rattle.rv_call_tree.specs.Sums
 pub use Rattle.rv_call_tree.specs.Trees
 pub use Rattle.rv_call_tree.specs.declared.spot as declared_spot
 pub use Rattle.rv_text.specs.Printable
-pub use Rattle.rv_text.specs.Words
+pub use Rattle.rv_text.specs.Numbers

@@ -3,12 +3,12 @@ use Rattle.std.specs.Prelude.{◌≡◌, ◌++◌, ℕ, List, [], Option, Some, 
 use Rattle.std.specs.BTreeMap.{BTreeMap, get}
 use Rattle.std.specs.Fmt.{decimal}
 use Rattle.std.specs.Ordering.{nat_cmp}
-use Rattle.rv_text.specs.Words.{word_digits}
+use Rattle.rv_text.specs.Numbers.{word_digits}
 use Rattle.rv_count_tables.specs.declared.table.FunctionName.{FunctionName}
 use Rattle.rv_count_tables.specs.declared.text.FunctionFields.{FunctionFields}
 use Rattle.rv_count_tables.specs.Table.{name_of}
 use Rattle.rv_count_tables.specs.Text.{line, node_line}
-use Rattle.rv_call_tree.specs.declared.spot.CallNode.{CallNode}
+use Rattle.rv_call_tree.specs.declared.call_node.CallNode.{CallNode}
 
 -- the words that all lines of a function have: the digits of its address, and its name
 abbrev pub fields_of_function : ℕ → List ℕ → FunctionFields
@@ -22,7 +22,7 @@ IsIndexOf names index = (function : ℕ)
 -- the words of a node's line, where the address of the function is written with these digits
 unfoldable pub fields_with_digits : List ℕ → CallNode → List ℕ
 fields_with_digits digits s = codes "spot " ++ decimal s.depth ++ codes " " ++ digits ++ codes " "
-    ++ decimal s.arrivals ++ codes " " ++ decimal s.steps
+    ++ decimal s.calls ++ codes " " ++ decimal s.steps
 
 -- the line of a node with this name, where the address of the function is written with these digits
 unfoldable pub line_with_digits : List ℕ → CallNode → List ℕ → List ℕ

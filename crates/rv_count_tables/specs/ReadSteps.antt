@@ -12,7 +12,7 @@ use Rattle.rv_count_tables.specs.declared.read_stacks.ParsedNodes.{ParsedNodes}
 use Rattle.rv_count_tables.specs.Lines.{whole_line}
 use Rattle.rv_count_tables.specs.Table.{has_name, is_greater_than_last, name_of, digests_increase_from, IsValidCount, IsValidImage, IsValidNamedNode, AreValidCounts, AreValidNames, AreNamesOf, AreValidNodes}
 use Rattle.rv_count_tables.specs.Text.{address_line, image_line, image_text, line_of_node, named, node_line}
-use Rattle.rv_call_tree.specs.declared.spot.CallNode.{CallNode}
+use Rattle.rv_call_tree.specs.declared.call_node.CallNode.{CallNode}
 use Rattle.rv_call_tree.specs.Trees.{last_path, path_after, FollowsInPreorder}
 
 -- ---- names

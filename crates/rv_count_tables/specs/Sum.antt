@@ -15,7 +15,7 @@ use Rattle.rv_call_tree.specs.declared.sum.CallTreeSumError.TheVariants as spots
 -- `sum` has valid counts, and at each address they are the sums of the counts in `a` and `b`
 pub record IsSumOfCounts (a b sum : List AddressCounts) : Type 0 where
   pub counts : AreValidCounts sum
-  pub begun : (address : ℕ) → executed_at address sum ≡ executed_at address a + executed_at address b
+  pub executed : (address : ℕ) → executed_at address sum ≡ executed_at address a + executed_at address b
   pub taken : (address : ℕ) → taken_at address sum ≡ taken_at address a + taken_at address b
 
 -- two names of a function are equal, or one is missing
@@ -35,7 +35,7 @@ pub record IsSumOfNames (a b sum : List FunctionName) : Type 0 where
 -- of both
 pub record IsSumOfTables (a b sum : CountTable) : Type 0 where
   pub table : IsValidTable sum
-  pub begun : (digest : List ℕ) → (address : ℕ)
+  pub executed : (digest : List ℕ) → (address : ℕ)
       → executed_in digest address sum.images ≡ executed_in digest address a.images + executed_in digest address b.images
   pub taken : (digest : List ℕ) → (address : ℕ)
       → taken_in digest address sum.images ≡ taken_in digest address a.images + taken_in digest address b.images
@@ -45,7 +45,7 @@ pub record IsSumOfTables (a b sum : CountTable) : Type 0 where
       → NamesAgree (truncated_name digest function a.images) (truncated_name digest function b.images)
   pub names : (digest : List ℕ) → (function : ℕ)
       → truncated_name digest function sum.images ≡ min_text_of (truncated_name digest function a.images) (truncated_name digest function b.images)
-  pub arrivals : (digest path : List ℕ)
+  pub calls : (digest path : List ℕ)
       → calls_in_image digest path sum.images ≡ calls_in_image digest path a.images + calls_in_image digest path b.images
   pub steps : (digest path : List ℕ)
       → steps_in digest path sum.images ≡ steps_in digest path a.images + steps_in digest path b.images

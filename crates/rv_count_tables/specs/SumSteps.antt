@@ -19,7 +19,7 @@ use Rattle.rv_call_tree.specs.Trees.{calls_at, ends_with, steps_at}
 pub record CountsAddUp (a b sum : List AddressCounts) : Type 0 where
   pub each : AllByRecursion IsValidCount sum
   pub rising : (lowest : ℕ) → increase_from lowest a ≡ true → increase_from lowest b ≡ true → increase_from lowest sum ≡ true
-  pub begun : (address : ℕ) → executed_at address sum ≡ executed_at address a + executed_at address b
+  pub executed : (address : ℕ) → executed_at address sum ≡ executed_at address a + executed_at address b
   pub taken : (address : ℕ) → taken_at address sum ≡ taken_at address a + taken_at address b
 
 -- `next` has the counts of the lowest address in a sum, and how many counts of each list they add up; followed by the sum of the remaining
@@ -55,7 +55,7 @@ pub record ImagesAddUp (a b sum : List ImageCounts) : Type 0 where
   pub each : AllByRecursion IsValidImage sum
   pub rising : (last : Option (List ℕ)) → digests_increase_from last a ≡ true → digests_increase_from last b ≡ true
       → digests_increase_from last sum ≡ true
-  pub begun : (digest : List ℕ) (address : ℕ)
+  pub executed : (digest : List ℕ) (address : ℕ)
       → executed_in digest address sum ≡ executed_in digest address a + executed_in digest address b
   pub taken : (digest : List ℕ) (address : ℕ)
       → taken_in digest address sum ≡ taken_in digest address a + taken_in digest address b
@@ -64,7 +64,7 @@ pub record ImagesAddUp (a b sum : List ImageCounts) : Type 0 where
       → (digest : List ℕ) (function : ℕ) → NamesAgree (truncated_name digest function a) (truncated_name digest function b)
   pub names : (digest : List ℕ) (function : ℕ)
       → truncated_name digest function sum ≡ min_text_of (truncated_name digest function a) (truncated_name digest function b)
-  pub arrivals : (digest path : List ℕ)
+  pub calls : (digest path : List ℕ)
       → calls_in_image digest path sum ≡ calls_in_image digest path a + calls_in_image digest path b
   pub steps : (digest path : List ℕ) → steps_in digest path sum ≡ steps_in digest path a + steps_in digest path b
 

@@ -9,7 +9,7 @@ use Rattle.rv_count_tables.specs.declared.table.FunctionName.{FunctionName}
 use Rattle.rv_count_tables.specs.declared.table.ImageCounts.{ImageCounts}
 use Rattle.rv_count_tables.specs.declared.table.NamedCallNode.{NamedCallNode}
 use Rattle.rv_count_tables.specs.declared.table.CountTable.{CountTable}
-use Rattle.rv_call_tree.specs.declared.spot.CallNode.{CallNode}
+use Rattle.rv_call_tree.specs.declared.call_node.CallNode.{CallNode}
 use Rattle.rv_call_tree.specs.Profiles.{ends_some_path}
 use Rattle.rv_call_tree.specs.Trees.{calls_at, steps_at, IsTree}
 
@@ -18,7 +18,7 @@ use Rattle.rv_call_tree.specs.Trees.{calls_at, steps_at, IsTree}
 -- how often the instruction at an address was executed
 abbrev pub executed_at : ℕ → List AddressCounts → ℕ
 executed_at address [] = 0
-executed_at address (c ∷ cs) = (if c.address == address then c.begun else 0) + executed_at address cs
+executed_at address (c ∷ cs) = (if c.address == address then c.executed else 0) + executed_at address cs
 
 -- how often the instruction at an address was a taken conditional branch
 abbrev pub taken_at : ℕ → List AddressCounts → ℕ
@@ -89,9 +89,9 @@ steps_in digest path (i ∷ is) =
 pub record IsValidCount (c : AddressCounts) : Type 0 where
   pub address : c.address < 2 ^ 32
   pub even : c.address % 2 ≡ 0
-  pub begun : 0 < c.begun
-  pub fits : c.begun < 2 ^ 64
-  pub taken : c.taken ≤ c.begun
+  pub executed : 0 < c.executed
+  pub fits : c.executed < 2 ^ 64
+  pub taken : c.taken ≤ c.executed
 
 -- whether the addresses increase strictly and none is below `lowest`
 unfoldable pub increase_from : ℕ → List AddressCounts → Bool
@@ -123,8 +123,8 @@ pub record AreValidNames (ns : List FunctionName) : Type 0 where
 pub record IsValidNode (s : CallNode) : Type 0 where
   pub depth : s.depth < 2 ^ 64
   pub function : s.function < 2 ^ 32
-  pub some : 0 < s.arrivals
-  pub arrivals : s.arrivals < 2 ^ 64
+  pub some : 0 < s.calls
+  pub calls : s.calls < 2 ^ 64
   pub steps : s.steps < 2 ^ 64
 
 -- the node and the name of its function are valid

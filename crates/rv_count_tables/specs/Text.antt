@@ -3,14 +3,14 @@ use Rattle.std.specs.Prelude.{ℕ, List, [], ◌∷◌, ◌++◌, Option, Some, 
 use Rattle.std.specs.List.{flat_map}
 use Rattle.std.specs.Fmt.{decimal}
 use Rattle.hex.specs.Hex.{encode_lower}
-use Rattle.rv_text.specs.Words.{word_digits}
+use Rattle.rv_text.specs.Numbers.{word_digits}
 use Rattle.rv_count_tables.specs.declared.table.AddressCounts.{AddressCounts}
 use Rattle.rv_count_tables.specs.declared.table.FunctionName.{FunctionName}
 use Rattle.rv_count_tables.specs.declared.table.ImageCounts.{ImageCounts}
 use Rattle.rv_count_tables.specs.declared.table.NamedCallNode.{NamedCallNode}
 use Rattle.rv_count_tables.specs.declared.table.CountTable.{CountTable}
 use Rattle.rv_count_tables.specs.Table.{name_of}
-use Rattle.rv_call_tree.specs.declared.spot.CallNode.{CallNode}
+use Rattle.rv_call_tree.specs.declared.call_node.CallNode.{CallNode}
 
 -- the text as a line, which ends with a line feed
 abbrev pub line : List ℕ → List ℕ
@@ -22,12 +22,12 @@ first_line = line (codes "rvcounts 1")
 
 -- the line `ADDRESS BEGUN TAKEN` of an address
 unfoldable pub address_line : AddressCounts → List ℕ
-address_line c = line (word_digits c.address ++ codes " " ++ decimal c.begun ++ codes " " ++ decimal c.taken)
+address_line c = line (word_digits c.address ++ codes " " ++ decimal c.executed ++ codes " " ++ decimal c.taken)
 
 -- the words `spot DEPTH FUNCTION ARRIVALS STEPS` of a node
 unfoldable pub fields_of_node : CallNode → List ℕ
 fields_of_node s = codes "spot " ++ decimal s.depth ++ codes " " ++ word_digits s.function ++ codes " "
-    ++ decimal s.arrivals ++ codes " " ++ decimal s.steps
+    ++ decimal s.calls ++ codes " " ++ decimal s.steps
 
 -- the line `spot DEPTH FUNCTION ARRIVALS STEPS NAME` of a node
 unfoldable pub node_line : NamedCallNode → List ℕ

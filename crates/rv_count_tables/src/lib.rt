@@ -7,7 +7,7 @@
 //! [`sums_of_counts_commute`] and [`sums_of_counts_associate`].
 #![tactic(auto)]
 
-mod growth;
+mod push_item;
 mod law;
 mod line_parts;
 mod lookup;

@@ -2,7 +2,7 @@
 
 ghost use Rattle.std.specs.Prelude.{◌≡◌, ◌≤◌, ◌<◌, ◌^◌, ℕ, IfOk, take, length};
 ghost use Rattle.std.specs.Fmt.{decimal};
-ghost use Rattle.rv_text.specs.Words.{word_digits};
+ghost use Rattle.rv_text.specs.Numbers.{word_digits};
 ghost use Rattle.rv_count_tables.specs.Lines.{index_of_byte, text_before_byte, text_after_byte, whole_line, hex_digit_value, hex_bytes};
 
 use hex::FromHexError;

@@ -10,7 +10,7 @@ use crate::table::AddressCounts;
 /// Returns the counts of the instruction at an address; they are 0 if it was never executed. `counts` is sorted by address.
 pub fn counts_at(counts: &[AddressCounts], address: u32) -> AddressCounts
     requires { increase_from 0 counts.now ≡ true }
-    ensures { result ≡ record { address = address; begun = executed_at address counts.now; taken = taken_at address counts.now } }
+    ensures { result ≡ record { address = address; executed = executed_at address counts.now; taken = taken_at address counts.now } }
 {
     let place = index_of_address(counts, address);
     if place < counts.len() && counts[place].address == address {
@@ -18,7 +18,7 @@ pub fn counts_at(counts: &[AddressCounts], address: u32) -> AddressCounts
     }
     AddressCounts {
         address,
-        begun: 0,
+        executed: 0,
         taken: 0,
     }
 }

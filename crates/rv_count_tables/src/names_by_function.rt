@@ -4,7 +4,7 @@ ghost use Rattle.std.specs.Prelude.{◌≡◌, [], IfOk, OnOk, option_map};
 ghost use Rattle.rv_count_tables.specs.ReadSteps.{with_name};
 ghost use Rattle.rv_count_tables.specs.Table.{name_of};
 
-use crate::growth::push_item;
+use crate::push_item::push_item;
 use crate::table::{FunctionName, FunctionNames};
 use rv_call_tree::Text;
 use std::alloc::{AllocError, Global};

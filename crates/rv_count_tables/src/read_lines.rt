@@ -11,7 +11,7 @@ ghost use Rattle.rv_count_tables.specs.Table.{IsValidCount, IsValidImage, is_gre
 ghost use Rattle.rv_count_tables.specs.Text.{address_line, image_line, last_line};
 ghost use Rattle.rv_count_tables.specs.ReadSteps.{AreParsedAddresses, AreParsedImages, IsParsedImage, IsNotAnAddress, IsNotAnImage, last_digest};
 
-use crate::growth::push_item;
+use crate::push_item::push_item;
 use crate::line_parts::{
     decimal_number, hex_bytes, hex_word, leading_bytes, text_after_byte, text_before_byte,
     whole_line,
@@ -156,8 +156,8 @@ fn can_come_next(counts: AddressCounts, lowest: u64) -> bool
     ensures { IsTrue result ↔ (IsValidCount counts × (lowest ≤ counts.address)) }
 {
     counts.address % 2 == 0
-        && 0 < counts.begun
-        && counts.taken <= counts.begun
+        && 0 < counts.executed
+        && counts.taken <= counts.executed
         && lowest <= u64::from(counts.address)
 }
 
@@ -168,7 +168,7 @@ fn counts_of_line(line: &[u8]) -> AddressCounts
     let numbers = tail_from(line, 9);
     AddressCounts {
         address: hex_word(leading_bytes(line, 8)),
-        begun: decimal_number(text_before_byte(b' ', numbers)),
+        executed: decimal_number(text_before_byte(b' ', numbers)),
         taken: decimal_number(text_before_byte(b'\n', text_after_byte(b' ', numbers))),
     }
 }

@@ -9,7 +9,7 @@ ghost use Rattle.rv_count_tables.specs.Table.{name_of, IsValidNamedNode, IsValid
 ghost use Rattle.rv_count_tables.specs.Text.{node_line};
 ghost use Rattle.rv_call_tree.specs.Trees.{FollowsInPreorder};
 
-use crate::growth::push_item;
+use crate::push_item::push_item;
 use crate::line_parts::{
     decimal_number, hex_word, leading_bytes, text_after_byte, text_before_byte, whole_line,
 };
@@ -96,7 +96,7 @@ fn next_node(
 fn can_come_next(spot: CallNode, front: &[u32]) -> bool
     ensures { IsTrue result ↔ (IsValidNode spot × FollowsInPreorder front.now spot) }
 {
-    0 < spot.arrivals
+    0 < spot.calls
         && spot.depth <= front.len()
         && (spot.depth == front.len() || front[spot.depth] < spot.function)
 }
@@ -129,7 +129,7 @@ fn node_of_line(alloc: Global, line: &[u8]) -> Result<NamedCallNode, AllocError>
         spot: CallNode {
             depth: decimal_number(text_before_byte(b' ', words)) as usize,
             function: hex_word(leading_bytes(function, 8)),
-            arrivals: decimal_number(text_before_byte(b' ', numbers)),
+            calls: decimal_number(text_before_byte(b' ', numbers)),
             steps: decimal_number(text_before_byte(b' ', behind)),
         },
         name: Text::new(name),

@@ -7,7 +7,7 @@ ghost use Rattle.rv_count_tables.specs.SumSteps.{IsNextCount};
 ghost use Rattle.rv_count_tables.specs.Table.{AreValidCounts, IsValidCount};
 ghost use Rattle.rv_count_tables.specs.declared.sum.SumError.TheVariants.{Count};
 
-use crate::growth::push_item;
+use crate::push_item::push_item;
 use crate::sum::SumError;
 use crate::table::{AddressCounts, Addresses};
 use std::alloc::Global;
@@ -99,17 +99,17 @@ fn sum_at_address(a: AddressCounts, b: AddressCounts) -> Result<AddressCounts, S
     requires a { IsValidCount a }
     requires b { IsValidCount b }
     ensures address { IfOk result (λ sum. sum.address ≡ a.address) }
-    ensures begun { IfOk result (λ sum. sum.begun ≡ a.begun + b.begun) }
+    ensures executed { IfOk result (λ sum. sum.executed ≡ a.executed + b.executed) }
     ensures taken { IfOk result (λ sum. sum.taken ≡ a.taken + b.taken) }
     ensures error { IfErr result (λ error. error ≡ Count a.address) }
-    ensures too_great { IfErr result (λ error. 2 ^ 64 ≤ a.begun + b.begun) }
-    ensures fits { IfOk result (λ sum. sum.begun < 2 ^ 64) }
+    ensures too_great { IfErr result (λ error. 2 ^ 64 ≤ a.executed + b.executed) }
+    ensures fits { IfOk result (λ sum. sum.executed < 2 ^ 64) }
 {
-    match a.begun.checked_add(b.begun) {
+    match a.executed.checked_add(b.executed) {
         // Each count was taken at most as often as executed, so this sum fits, too.
-        Some(begun) => Ok(AddressCounts {
+        Some(executed) => Ok(AddressCounts {
             address: a.address,
-            begun,
+            executed,
             taken: a.taken + b.taken,
         }),
         None => Err(SumError::Count(a.address)),

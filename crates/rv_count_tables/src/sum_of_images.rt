@@ -8,7 +8,7 @@ ghost use Rattle.rv_count_tables.specs.SumSteps.{ImagesAddUp, IsNextImage, Image
 ghost use Rattle.rv_count_tables.specs.Table.{AreNamesOf, AreValidNodes, IsValidImage, is_before, min_text};
 ghost use Rattle.rv_call_tree.specs.Sums.{IsSumOfCallTrees};
 
-use crate::growth::push_item;
+use crate::push_item::push_item;
 use crate::order::{is_before, min_text};
 use crate::sum::SumError;
 use crate::sum_of_counts::sum_of_counts;

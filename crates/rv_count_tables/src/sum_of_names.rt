@@ -7,7 +7,7 @@ ghost use Rattle.rv_count_tables.specs.Sum.{IsSumOfNames, NamesHaveNoSum};
 ghost use Rattle.rv_count_tables.specs.SumSteps.{IsNextName};
 ghost use Rattle.rv_count_tables.specs.Table.{AreValidNames, IsValidName};
 
-use crate::growth::push_item;
+use crate::push_item::push_item;
 use crate::sum::SumError;
 use crate::table::{FunctionName, FunctionNames};
 use rv_call_tree::Text;

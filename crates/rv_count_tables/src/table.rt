@@ -20,7 +20,7 @@ pub struct AddressCounts {
     /// The pc, which is even.
     pub address: u32,
     /// How often the instruction was executed, at least once.
-    pub begun: u64,
+    pub executed: u64,
     /// How often it was a conditional branch that completed and did not continue at the next address.
     pub taken: u64,
 }

@@ -160,7 +160,7 @@ pub(crate) fn push_address_line(
 {
     let digits = hex::encode(alloc, counts.address.to_be_bytes().as_slice())?;
     let address = digits.as_str();
-    let begun = counts.begun;
+    let executed = counts.executed;
     let taken = counts.taken;
     write!(text, "{address} {begun} {taken}\n")
 }
@@ -206,7 +206,7 @@ fn push_fields_with_digits(
     text.push_str("spot")?;
     push_number(text, spot.depth as u64)?;
     push_field(text, digits)?;
-    push_number(text, spot.arrivals)?;
+    push_number(text, spot.calls)?;
     push_number(text, spot.steps)
 }
 

@@ -174,8 +174,8 @@ wanting : (n m : ℕ) (t u : CountTable) (error : SumError) → n + m ≤ max_jo
     → error ≡ OutOfMemory
 wanting n m t u OutOfMemory few h k no_sum = refl
 wanting n m t u (Count address) few h k no_sum =
-    let a = h.begun no_sum.0 address in
-    let b = k.begun no_sum.0 address in
+    let a = h.executed no_sum.0 address in
+    let b = k.executed no_sum.0 address in
     let c = no_sum.1 in
     absurd (omega (arith, few, a, b, c))
 wanting n m t u (Spot function) few h k no_sum =
@@ -183,7 +183,7 @@ wanting n m t u (Spot function) few h k no_sum =
     let path = no_sum.1 in
     absurd
     (elim no_sum.3 [
-      | inl c ↦ let a = h.stacks.arrivals digest path in let b = k.stacks.arrivals digest path in omega (arith, a, b, c)
+      | inl c ↦ let a = h.stacks.calls digest path in let b = k.stacks.calls digest path in omega (arith, a, b, c)
       | inr c ↦ let a = h.stacks.steps digest path in let b = k.stacks.steps digest path in omega (arith, a, b, c)
     ])
 wanting n m t u (Names function) few h k no_sum = absurd (no_two_names t u function h.stacks no_sum)
@@ -201,34 +201,34 @@ take_both (suc n) (suc m) [] = let on : suc n + suc m ≡ suc (n + suc m) = omeg
 take_both (suc n) m (x ∷ xs) =
     let on : suc n + m ≡ suc (n + m) = omega arith in ap (λ k. take k (x ∷ xs)) on ∙ ap (λ ys. x ∷ ys) (take_both n m xs)
 
-module _ (plan : PlanView) (places : List ℕ) (pieces : List IndexRange) (are : AreIndexRanges plan places pieces) where
+module _ (plan : PlanView) (indices : List ℕ) (pieces : List IndexRange) (are : AreIndexRanges plan indices pieces) where
   -- the table of the first pieces
   abbrev OfFirst : ℕ → CountTable → Type 0
-  OfFirst n t = IsTableOfRange plan (take (range_start pieces n) places) t
+  OfFirst n t = IsTableOfRange plan (take (range_start pieces n) indices) t
 
   abbrev OfOne : ℕ → CountTable → Type 0
-  OfOne n t = IsTableOfRange plan (indices_in places (range_at pieces n)) t
+  OfOne n t = IsTableOfRange plan (indices_in indices (range_at pieces n)) t
 
   none_counted : OfFirst 0 no_counts
   none_counted = record { table = none_of_none plan.answers; few = no_counts_are_few 0 }
 
   -- the indices of the first pieces and of one piece more
   joined_places : (n : ℕ) → n < length pieces
-      → take (range_start pieces n) places ++ indices_in places (range_at pieces n) ≡ take (range_start pieces (n + 1)) places
+      → take (range_start pieces n) indices ++ indices_in indices (range_at pieces n) ≡ take (range_start pieces (n + 1)) indices
   joined_places n lt =
       let piece = range_at pieces n in
       let h = are.each n lt in
       let some = h.some in
       let on : n + 1 ≡ suc n = omega arith in
-      let next : range_start pieces (n + 1) ≡ piece.to = ap (λ k. range_start pieces k) on in
-      let more : range_start pieces (n + 1) ≡ piece.from + (piece.to - piece.from) = omega (arith, some, next) in
-      ap (λ m. take m places ++ indices_in places piece) (sym h.starts)
-      ∙ sym (take_both piece.from (piece.to - piece.from) places) ∙ ap (λ m. take m places) (sym more)
+      let next : range_start pieces (n + 1) ≡ piece.end = ap (λ k. range_start pieces k) on in
+      let more : range_start pieces (n + 1) ≡ piece.begin + (piece.end - piece.begin) = omega (arith, some, next) in
+      ap (λ m. take m indices ++ indices_in indices piece) (sym h.starts)
+      ∙ sym (take_both piece.begin (piece.end - piece.begin) indices) ∙ ap (λ m. take m indices) (sym more)
 
   one_counted : (n : ℕ) (t u next : CountTable) → n < length pieces → OfFirst n t → OfOne n u → IsSumOfTables t u next → OfFirst (n + 1) next
   one_counted n t u next lt h one sums =
-      let ps = take (range_start pieces n) places in
-      let qs = indices_in places (range_at pieces n) in
+      let ps = take (range_start pieces n) indices in
+      let qs = indices_in indices (range_at pieces n) in
       let long = length-append ps qs in
       subst (λ rs. IsTableOfRange plan rs next) (joined_places n lt) (
       record {
@@ -239,26 +239,26 @@ module _ (plan : PlanView) (places : List ℕ) (pieces : List IndexRange) (are :
       )
 
   module _ (added : TableSumView) (ran : Result Flow RunError)
-      (received : IsRunDelivered (λ n u. IsTableOfRange plan (indices_in places (range_at pieces n)) u) (length pieces)
+      (received : IsRunDelivered (λ n u. IsTableOfRange plan (indices_in indices (range_at pieces n)) u) (length pieces)
       (λ ts. AreTablesAdded added.sum added.failed (map (λ (u : CountTable). u) ts)) (is_some added.failed ≡ true) ran) where
-    pub all_counted : IfOk (sum_of_run added ran) (IsTableOfJobsAt plan places)
+    pub all_counted : IfOk (sum_of_run added ran) (IsTableOfJobsAt plan indices)
     all_counted =
-        IfOk-weaker (sum_of_run added ran) (OfFirst (length pieces)) (IsTableOfJobsAt plan places)
+        IfOk-weaker (sum_of_run added ran) (OfFirst (length pieces)) (IsTableOfJobsAt plan indices)
         (λ t h. subst (λ ps. IsTableOfJobsAt plan ps t)
-        (ap (λ m. take m places) are.all ∙ take_all (length places) places (omega arith)) h.table)
+        (ap (λ m. take m indices) are.all ∙ take_all (length indices) indices (omega arith)) h.table)
         (run_added OfFirst OfOne (length pieces) none_counted one_counted added ran received)
 
-    memory_if_refused : (error : SumError) → length places ≤ max_jobs → NextRefused OfFirst OfOne (length pieces) error
+    memory_if_refused : (error : SumError) → length indices ≤ max_jobs → NextRefused OfFirst OfOne (length pieces) error
         → error ≡ OutOfMemory
     memory_if_refused error few h =
-        let ps = take (range_start pieces h.count) places in
-        let qs = indices_in places (range_at pieces h.count) in
+        let ps = take (range_start pieces h.count) indices in
+        let qs = indices_in indices (range_at pieces h.count) in
         let long = length-append ps qs in
         let same = ap length (joined_places h.count h.within) in
-        let most = length-take (range_start pieces (h.count + 1)) places in
+        let most = length-take (range_start pieces (h.count + 1)) indices in
         wanting (length ps) (length qs) h.first h.next error (omega (arith, long, same, most, few)) h.node_of_first.few h.of_next.few h.refused
 
-    pub memory_alone : length places ≤ max_jobs → IfErr (sum_of_run added ran) (λ error. error ≡ OutOfMemory)
+    pub memory_alone : length indices ≤ max_jobs → IfErr (sum_of_run added ran) (λ error. error ≡ OutOfMemory)
     memory_alone few =
         IfErr-weaker (sum_of_run added ran) (λ error. (error ≡ OutOfMemory) ⊎ NextRefused OfFirst OfOne (length pieces) error)
         (λ error. error ≡ OutOfMemory)

@@ -10,7 +10,7 @@ use Rattle.rv_trace.specs.Run.{after_fetch, step_of}
 use Rattle.rv_trace.specs.State.{State}
 use Rattle.rv_count_tables.specs.declared.table.AddressCounts.{AddressCounts}
 use Rattle.rv_count_tables.specs.Table.{executed_at, AreValidCounts, IsValidCount}
-use Rattle.rv_counting.specs.Coverage.{fetch_at, is_executed, address_if, behind, executed_in_run, IsConsistentCount, AreCountsOf, AreSortedCounts}
+use Rattle.rv_counting.specs.Coverage.{fetch_at, is_executed, address_if, after_step, executed_in_run, IsConsistentCount, AreCountsOf, AreSortedCounts}
 
 -- ---- a step
 
@@ -45,7 +45,7 @@ never_once true c h = ap address_if h
 never_once false c h = refl
 
 none_behind : (r : Result State Ending) (rest : State → ℕ) → ok_is IsEven r → ((t : State) → IsEven t → rest t ≡ 0)
-    → behind r rest ≡ 0
+    → after_step r rest ≡ 0
 none_behind (Ok t) rest e h = h t e
 none_behind (Err x) rest e h = refl
 
@@ -61,7 +61,7 @@ at_most_once : (b : Bool) → address_if b ≤ 1
 at_most_once true = omega arith
 at_most_once false = omega arith
 
-few_behind : (r : Result State Ending) (rest : State → ℕ) (n : ℕ) → ((t : State) → rest t ≤ n) → behind r rest ≤ n
+few_behind : (r : Result State Ending) (rest : State → ℕ) (n : ℕ) → ((t : State) → rest t ≤ n) → after_step r rest ≤ n
 few_behind (Ok t) rest n h = h t
 few_behind (Err x) rest n h = omega arith
 
@@ -92,9 +92,9 @@ even_if_begun : (c : AddressCounts) (cs : List AddressCounts) → IsConsistentCo
 even_if_begun c cs h none = elim (even_or_odd c.address) [
   | inl even ↦ even
   | inr odd ↦ absurd (
-      let here = ap (λ (t : Bool). cond t c.begun 0) (own_address c.address) in
+      let here = ap (λ (t : Bool). cond t c.executed 0) (own_address c.address) in
       let all = none c.address odd in
-      let some = h.begun in
+      let some = h.executed in
       omega (arith, here, all, some))
 ]
 
@@ -105,7 +105,7 @@ each_even (c ∷ cs) h none = (
   record {
     address = h.0.address;
     even = even_if_begun c cs h.0 none;
-    begun = h.0.begun;
+    executed = h.0.executed;
     fits = h.0.fits;
     taken = h.0.taken;
   },
@@ -117,8 +117,8 @@ all_even cs h none = record { each = each_even cs h.each none; rising = h.rising
 
 -- the counts of a run that begins at an even address
 pub counts_even : (n : ℕ) (s : State) (cs : List AddressCounts) → AreCountsOf n s cs → IsEven s → AreValidCounts cs
-counts_even n s cs h even = all_even cs h.tallied (λ at odd. h.begun at ∙ none_at_odd n at s even odd)
+counts_even n s cs h even = all_even cs h.consistent (λ at odd. h.executed at ∙ none_at_odd n at s even odd)
 
 -- the run counts an address at most once a step
 pub counts_few : (n : ℕ) (s : State) (cs : List AddressCounts) (at : ℕ) → AreCountsOf n s cs → executed_at at cs ≤ n
-counts_few n s cs at h = let few = few_begin n at s in let is = h.begun at in omega (arith, few, is)
+counts_few n s cs at h = let few = few_begin n at s in let is = h.executed at in omega (arith, few, is)

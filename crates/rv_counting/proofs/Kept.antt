@@ -13,7 +13,7 @@ use Rattle.rv_trace.specs.State.{State}
 use Rattle.rv_fleet.specs.declared_row.Refusal.{Refusal}
 use Rattle.rv_trace.specs.Outcome.{start_of}
 use Rattle.rv_trace.specs.Rows.{content_if_read, start_state_in}
-use Rattle.rv_trace.specs.Wholes.{HaveSameResults}
+use Rattle.rv_trace.specs.SameResults.{HaveSameResults}
 use Rattle.rv_count_tables.specs.Printable.{printable_text}
 use Rattle.rv_counting.specs.Coverage.{address_if}
 use Rattle.rv_counting.specs.JobTables.{has_digest, start_state_of_image, executed_from, taken_from, executed_by, taken_by, runs_by, first_path, IsTableOfJobs}
@@ -48,7 +48,7 @@ module _ (some others : List PathResult) where
       → IsTableOfJobs others jobs t
   kept_same jobs t all h = record {
     table = h.table;
-    begun = λ digest address. h.begun digest address
+    executed = λ digest address. h.executed digest address
         ∙ same_sum (executed_by some digest address) (executed_by others digest address) (HaveSameResults some others) jobs
         (λ j k. ap (executed_from address j.budget) (same_over digest j k)) all;
     taken = λ digest address. h.taken digest address

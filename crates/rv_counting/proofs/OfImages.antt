@@ -76,7 +76,7 @@ module _ (answers : List PathResult) where
   pub none_ran : (js : List Job) → sum_by (runs_by answers) js ≡ 0 → IsTableOfJobs answers js no_counts
   none_ran js none = record {
     table = no_counts_is_table;
-    begun = λ digest at. sym (none_of_all (executed_by answers digest at) (λ j h. none_begun j h digest at) js none);
+    executed = λ digest at. sym (none_of_all (executed_by answers digest at) (λ j h. none_begun j h digest at) js none);
     taken = λ digest at. sym (none_of_all (taken_by answers digest at) (λ j h. none_taken j h digest at) js none);
     paths = λ digest. sym (no_first_path digest js none);
     runs = sym none;
@@ -154,12 +154,12 @@ module _ (answers : List PathResult) where
       some_ran some table = subst (IsTableOfJobs answers js) (sym is) (
           record {
             table = subst IsValidTable is table;
-            begun = λ digest at.
+            executed = λ digest at.
                 let b = bytes_eq (sha256 file) digest in
                 let e = sums_to b (executed_by answers digest at) (executed_of answers at)
                 (λ j o. ap (executed_from at j.budget) (over_file digest j o)
                 ∙ picked b (executed_from at j.budget) (result_ok (start_state_in answers j)) refl) js over in
-                let k = ap (λ (n : ℕ). cond b n 0) (sorted.begun at ∙ h.begun at) in
+                let k = ap (λ (n : ℕ). cond b n 0) (sorted.executed at ∙ h.executed at) in
                 omega (arith, e, k);
             taken = λ digest at.
                 let b = bytes_eq (sha256 file) digest in
@@ -179,9 +179,9 @@ module _ (answers : List PathResult) where
       pub few_ran : (n : ℕ) → c.runs ≤ n → IsTableOfFew n t
       few_ran n few = subst (IsTableOfFew n) (sym is) (
           record {
-            begun = λ digest at.
+            executed = λ digest at.
                 let f = h.ready.few at in
-                let e = sorted.begun at in
+                let e = sorted.executed at in
                 let p = picked_few (bytes_eq (sha256 file) digest) (executed_at at cs) (n * 2 ^ 32) (omega (arith, f, e, few)) in
                 omega (arith, p);
             runs = few;
@@ -196,25 +196,25 @@ pub both_ok : (r : Result CountTable AllocError) (P Q R : CountTable → Type 0)
 both_ok (Ok t) P Q R f p q = f t p q
 both_ok (Err why) P Q R f p q = tt
 
-module _ (plan : PlanView) (places : List ℕ) where
+module _ (plan : PlanView) (indices : List ℕ) where
   abbrev pub no_job : Job
   no_job = single_job [] 0 []
 
   abbrev pub job : ℕ → Job
-  job k = job_at plan (get_or places k 0) no_job
+  job k = job_at plan (get_or indices k 0) no_job
 
-  pub nothing_ran : (t : CountTable) → t ≡ no_counts → sum_by (runs_by plan.answers) (jobs_at plan places) ≡ 0
-      → IsTableOfRange plan places t
-  nothing_ran t is none = subst (IsTableOfRange plan places) (sym is)
-      (record { table = none_ran plan.answers (jobs_at plan places) none; few = no_counts_are_few (length places) })
+  pub nothing_ran : (t : CountTable) → t ≡ no_counts → sum_by (runs_by plan.answers) (jobs_at plan indices) ≡ 0
+      → IsTableOfRange plan indices t
+  nothing_ran t is none = subst (IsTableOfRange plan indices) (sym is)
+      (record { table = none_ran plan.answers (jobs_at plan indices) none; few = no_counts_are_few (length indices) })
 
-  module _ (same : HaveOneImage plan places) where
+  module _ (same : HaveOneImage plan indices) where
     each_of : (P : Job → Type 0) (ps : List ℕ) → ((k : ℕ) → k < length ps → P (job_at plan (get_or ps k 0) no_job))
         → AllByRecursion P (jobs_at plan ps)
     each_of P [] h = tt
     each_of P (p ∷ ps) h = (h 0 (omega arith), each_of P ps (λ k lt. h (suc k) (omega (arith, lt))))
 
-    same_bytes : (k : ℕ) → k < length places → image_bytes plan.answers (job k) ≡ image_bytes plan.answers (job 0)
+    same_bytes : (k : ℕ) → k < length indices → image_bytes plan.answers (job k) ≡ image_bytes plan.answers (job 0)
     same_bytes k lt = ap (λ (path : List ℕ). content_if_read (Some (result_or_unreadable plan.answers path))) (same k no_job lt)
 
     -- without an image
@@ -225,25 +225,25 @@ module _ (plan : PlanView) (places : List ℕ) where
         let rest = none_of_each js h.1 in
         omega (arith, first, rest, sum_by-cons (runs_by plan.answers) j js)
 
-    no_run : image_bytes plan.answers (job 0) ≡ None → (k : ℕ) → k < length places → runs_by plan.answers (job k) ≡ 0
+    no_run : image_bytes plan.answers (job 0) ≡ None → (k : ℕ) → k < length indices → runs_by plan.answers (job k) ≡ 0
     no_run none k lt =
         let start = start_state_in plan.answers (job k) in
         ap address_if (not_ok_if_none start (none_if_no_ok start (λ s is. no_bytes (job k) s plan.answers (same_bytes k lt ∙ none) is)))
 
-    pub no_image_ran : (t : CountTable) → t ≡ no_counts → image_bytes plan.answers (job 0) ≡ None → IsTableOfRange plan places t
-    no_image_ran t is none = nothing_ran t is (none_of_each (jobs_at plan places) (each_of _ places (no_run none)))
+    pub no_image_ran : (t : CountTable) → t ≡ no_counts → image_bytes plan.answers (job 0) ≡ None → IsTableOfRange plan indices t
+    no_image_ran t is none = nothing_ran t is (none_of_each (jobs_at plan indices) (each_of _ indices (no_run none)))
 
     -- with an image
     pub image_ran : (file path : List ℕ) (c : RunsCounter) (cs : List AddressCounts) (t : CountTable)
         → image_bytes plan.answers (job 0) ≡ Some file → (job 0).image ≡ path
-        → HasCountedJobs plan.answers (jobs_at plan places) c → 0 < c.runs → IsSorted (counts_of c.counter) cs
-        → t ≡ table_of_runs c.runs path file cs → IsValidTable t → IsTableOfRange plan places t
+        → HasCountedJobs plan.answers (jobs_at plan indices) c → 0 < c.runs → IsSorted (counts_of c.counter) cs
+        → t ≡ table_of_runs c.runs path file cs → IsValidTable t → IsTableOfRange plan indices t
     image_ran file path c cs t bytes image h some sorted is table =
-        let over = each_of (IsOver plan.answers file path) places
+        let over = each_of (IsOver plan.answers file path) indices
         (λ k lt. record { bytes = same_bytes k lt ∙ bytes; image = same k no_job lt ∙ image }) in
-        let few = few_runs plan.answers (jobs_at plan places) in
-        let long = length-map places (λ place. job_at plan place no_job) in
+        let few = few_runs plan.answers (jobs_at plan indices) in
+        let long = length-map indices (λ index. job_at plan index no_job) in
         let runs = h.runs in record {
-          table = some_ran plan.answers file path (jobs_at plan places) over c cs h sorted t is some table;
-          few = few_ran plan.answers file path (jobs_at plan places) over c cs h sorted t is (length places) (omega (arith, few, long, runs));
+          table = some_ran plan.answers file path (jobs_at plan indices) over c cs h sorted t is some table;
+          few = few_ran plan.answers file path (jobs_at plan indices) over c cs h sorted t is (length indices) (omega (arith, few, long, runs));
         }

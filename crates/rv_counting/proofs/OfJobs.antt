@@ -61,7 +61,7 @@ one_image_is_table i runs t is few h = subst IsValidTable (sym is) (
 -- ---- tables without stacks
 
 pub no_counts_have_none : HasNoStacks no_counts
-no_counts_have_none = record { names = λ digest f. refl; arrivals = λ digest path. refl; steps = λ digest path. refl }
+no_counts_have_none = record { names = λ digest f. refl; calls = λ digest path. refl; steps = λ digest path. refl }
 
 no_name_either : (b : Bool) → min_text_of (cond b None None) None ≡ None
 no_name_either true = refl
@@ -74,17 +74,17 @@ none_either false = omega arith
 pub run_has_none : (runs : ℕ) (path file : List ℕ) (cs : List AddressCounts) → HasNoStacks (table_of_runs runs path file cs)
 run_has_none runs path file cs = record {
   names = λ digest f. no_name_either (bytes_eq (sha256 file) digest);
-  arrivals = λ digest at. none_either (bytes_eq (sha256 file) digest);
+  calls = λ digest at. none_either (bytes_eq (sha256 file) digest);
   steps = λ digest at. none_either (bytes_eq (sha256 file) digest);
 }
 
 pub sum_has_none : (t u sum : CountTable) → HasNoStacks t → HasNoStacks u → IsSumOfTables t u sum → HasNoStacks sum
 sum_has_none t u sum h k is = record {
   names = λ digest f. is.names digest f ∙ (λ i. min_text_of (h.names digest f i) (k.names digest f i));
-  arrivals = λ digest path.
-      let s = is.arrivals digest path in
-      let p = h.arrivals digest path in
-      let q = k.arrivals digest path in
+  calls = λ digest path.
+      let s = is.calls digest path in
+      let p = h.calls digest path in
+      let q = k.calls digest path in
       omega (arith, s, p, q);
   steps = λ digest path.
       let s = is.steps digest path in
@@ -134,12 +134,12 @@ pub no_two_names : (t u : CountTable) (f : ℕ) → HasNoStacks t → HaveNoSum 
 no_two_names t u f h have = no_name_in have.0 f have.1 t.images (h.names have.0 f) have.3
 
 pub no_counts_are_few : (n : ℕ) → IsTableOfFew n no_counts
-no_counts_are_few n = record { begun = λ digest address. omega arith; runs = omega arith; stacks = no_counts_have_none }
+no_counts_are_few n = record { executed = λ digest address. omega arith; runs = omega arith; stacks = no_counts_have_none }
 
 pub none_of_none : (answers : List PathResult) → IsTableOfJobs answers [] no_counts
 none_of_none answers = record {
   table = no_counts_is_table;
-  begun = λ digest address. refl;
+  executed = λ digest address. refl;
   taken = λ digest address. refl;
   paths = λ digest. refl;
   runs = refl;
@@ -204,10 +204,10 @@ pub joined : (answers : List PathResult) (js ks : List Job) (t u sum : CountTabl
     → IsTableOfJobs answers ks u → IsSumOfTables t u sum → IsTableOfJobs answers (js ++ ks) sum
 joined answers js ks t u sum h k is = record {
   table = is.table;
-  begun = λ digest address.
-      let s = is.begun digest address in
-      let p = h.begun digest address in
-      let q = k.begun digest address in
+  executed = λ digest address.
+      let s = is.executed digest address in
+      let p = h.executed digest address in
+      let q = k.executed digest address in
       let e = sum_by-append (executed_by answers digest address) js ks in
       omega (arith, s, p, q, e);
   taken = λ digest address.
@@ -232,10 +232,10 @@ joined answers js ks t u sum h k is = record {
 pub few_more : (n m : ℕ) (t u sum : CountTable) → IsTableOfFew n t → IsTableOfFew m u → IsSumOfTables t u sum
     → IsTableOfFew (n + m) sum
 few_more n m t u sum h k is = record {
-  begun = λ digest address.
-      let s = is.begun digest address in
-      let p = h.begun digest address in
-      let q = k.begun digest address in
+  executed = λ digest address.
+      let s = is.executed digest address in
+      let p = h.executed digest address in
+      let q = k.executed digest address in
       omega (arith, s, p, q);
   runs = (let s = is.runs in let p = h.runs in let q = k.runs in omega (arith, s, p, q));
   stacks = sum_has_none t u sum h.stacks k.stacks is;

@@ -112,7 +112,7 @@ module _ (answers : List PathResult) where
       → IsTableOfJobs answers ks t
   reordered js ks t p h = record {
     table = h.table;
-    begun = λ digest address. h.begun digest address ∙ sym (sum_by-IsPermutation (executed_by answers digest address) js ks p);
+    executed = λ digest address. h.executed digest address ∙ sym (sum_by-IsPermutation (executed_by answers digest address) js ks p);
     taken = λ digest address. h.taken digest address ∙ sym (sum_by-IsPermutation (taken_by answers digest address) js ks p);
     paths = λ digest. h.paths digest ∙ first_moved digest js ks p;
     runs = h.runs ∙ sym (sum_by-IsPermutation (runs_by answers) js ks p);
@@ -122,11 +122,11 @@ module _ (answers : List PathResult) where
   pub one_table_of_jobs : (js : List Job) (t u : CountTable) → IsTableOfJobs answers js t → IsTableOfJobs answers js u
       → t ≡ u
   one_table_of_jobs js t u h k = one_table_of t u h.table k.table
-      (λ digest address. h.begun digest address ∙ sym (k.begun digest address))
+      (λ digest address. h.executed digest address ∙ sym (k.executed digest address))
       (λ digest address. h.taken digest address ∙ sym (k.taken digest address))
       (λ digest. h.paths digest ∙ sym (k.paths digest))
       (λ digest f. h.stacks.names digest f ∙ sym (k.stacks.names digest f))
-      (λ digest path. h.stacks.arrivals digest path ∙ sym (k.stacks.arrivals digest path))
+      (λ digest path. h.stacks.calls digest path ∙ sym (k.stacks.calls digest path))
       (λ digest path. h.stacks.steps digest path ∙ sym (k.stacks.steps digest path)) (h.runs ∙ sym k.runs)
 
   -- ---- in parts

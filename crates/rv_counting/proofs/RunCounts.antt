@@ -31,7 +31,7 @@ adds_none budget start c h none = subst (λ (o : Option State). AddsRun budget o
     record {
       ready = h;
       runs = omega arith;
-      begun = λ at. omega arith;
+      executed = λ at. omega arith;
       taken = λ at. omega arith;
     }
     )
@@ -55,12 +55,12 @@ module _ (budget g : ℕ) (s : State) (base : List AddressCounts) (old new : Run
     (same : base ≡ counts_of old.counter) (early : g ≡ old.counter.cache.generation)
     (counted : HasCountedFrom base g budget s new.counter) (one : new.runs ≡ old.runs + 1) where
   begun_more : (at : ℕ) → executed_at at (counts_of new.counter) ≡ executed_at at (counts_of old.counter) + executed_from at budget (Some s)
-  begun_more at = counted.sums.begun at ∙ ap (λ cs. executed_at at cs + executed_from at budget (Some s)) same
+  begun_more at = counted.sums.executed at ∙ ap (λ cs. executed_at at cs + executed_from at budget (Some s)) same
 
   pub adds_run : AddsRun budget (Some s) old new
   adds_run = record {
     ready = record {
-      tallied = counted.sums.tallied;
+      consistent = counted.sums.consistent;
       indexed = counted.indexed;
       cache = counted.cache;
       few = λ at.
@@ -71,7 +71,7 @@ module _ (budget g : ℕ) (s : State) (base : List AddressCounts) (old new : Run
       generations = (let k = counted.generations in let e = h.generations in omega (arith, k, e, early, fits, one));
     };
     runs = one;
-    begun = begun_more;
+    executed = begun_more;
     taken = λ at. counted.sums.taken at ∙ ap (λ cs. taken_at at cs + taken_from at budget (Some s)) same;
   }
 
@@ -90,9 +90,9 @@ one_job_more answers js j old new h adds = record {
       let o = ok_is_some (start_state_in answers j) in
       let e = sum_by_push (runs_by answers) js j in
       omega (arith, a, r, o, e));
-  begun = λ at.
-      let a = adds.begun at in
-      let b = h.begun at in
+  executed = λ at.
+      let a = adds.executed at in
+      let b = h.executed at in
       let e = sum_by_push (executed_of answers at) js j in
       omega (arith, a, b, e);
   taken = λ at.
@@ -102,16 +102,16 @@ one_job_more answers js j old new h adds = record {
       omega (arith, a, b, e);
 }
 
-module _ (plan : PlanView) (places : List ℕ) where
-  pub next_job : (k : ℕ) (old new : RunsCounter) → k < length places → HasCountedJobs plan.answers (jobs_at plan (take k places)) old
-      → ((d : Job) → AddsJob plan.answers (job_at plan (get_or places k 0) d) old new)
-      → HasCountedJobs plan.answers (jobs_at plan (take (k + 1) places)) new
+module _ (plan : PlanView) (indices : List ℕ) where
+  pub next_job : (k : ℕ) (old new : RunsCounter) → k < length indices → HasCountedJobs plan.answers (jobs_at plan (take k indices)) old
+      → ((d : Job) → AddsJob plan.answers (job_at plan (get_or indices k 0) d) old new)
+      → HasCountedJobs plan.answers (jobs_at plan (take (k + 1) indices)) new
   next_job k old new lt h adds =
       let no_job = single_job [] 0 [] in
-      let place = get_or places k 0 in
-      subst (λ ps. HasCountedJobs plan.answers (jobs_at plan ps) new) (sym (take_more places k 0 lt))
-      (subst (λ js. HasCountedJobs plan.answers js new) (sym (map-append (λ place. job_at plan place no_job) (take k places) (place ∷ [])))
-      (one_job_more plan.answers (jobs_at plan (take k places)) (job_at plan place no_job) old new h (adds no_job)))
+      let index = get_or indices k 0 in
+      subst (λ ps. HasCountedJobs plan.answers (jobs_at plan ps) new) (sym (take_more indices k 0 lt))
+      (subst (λ js. HasCountedJobs plan.answers js new) (sym (map-append (λ index. job_at plan index no_job) (take k indices) (index ∷ [])))
+      (one_job_more plan.answers (jobs_at plan (take k indices)) (job_at plan index no_job) old new h (adds no_job)))
 
 -- there are no more runs than jobs
 at_most_one : (r : Result State Refusal) → address_if (is_ok r) ≤ 1
@@ -140,4 +140,4 @@ module _ (answers : List PathResult) (at : ℕ) (odd : at % 2 ≡ 1) where
       let first = none_of_job j in let rest = none_of_jobs js in omega (arith, first, rest, sum_by-cons (executed_of answers at) j js)
 
   pub none_counted_at_odd : (js : List Job) (c : RunsCounter) → HasCountedJobs answers js c → executed_at at (counts_of c.counter) ≡ 0
-  none_counted_at_odd js c h = h.begun at ∙ none_of_jobs js
+  none_counted_at_odd js c h = h.executed at ∙ none_of_jobs js

@@ -6,7 +6,7 @@ use Rattle.rv_trace.specs.Run.{RunResult, step_of, run_of, run_after_step}
 use Rattle.rv_trace.specs.State.{State}
 use Rattle.rv_trace.proofs.Public.{after_none}
 use Rattle.rv_trace.specs.Trace.{state_after}
-use Rattle.rv_counting.specs.Coverage.{fetch_at, is_executed, is_taken_step, address_if, behind, executed_steps, executed_in_run, taken_in_run}
+use Rattle.rv_counting.specs.Coverage.{fetch_at, is_executed, is_taken_step, address_if, after_step, executed_steps, executed_in_run, taken_in_run}
 
 -- ---- the first step of a run
 
@@ -69,12 +69,12 @@ pub record Breaks (m : ℕ) (s : State) : Type 0 where
 -- ---- a number that each step adds to
 
 module _ (f : ℕ → State → ℕ) (g : State → ℕ) (none : (s : State) → f 0 s ≡ 0)
-    (first : (n : ℕ) (s : State) → f (suc n) s ≡ g s + behind (step_of s) (λ t. f n t)) where
+    (first : (n : ℕ) (s : State) → f (suc n) s ≡ g s + after_step (step_of s) (λ t. f n t)) where
   by_first : (n : ℕ) (s t : State) → step_of s ≡ Ok t → f (suc n) s ≡ g s + f n t
-  by_first n s t e = first n s ∙ ap (λ r. g s + behind r (λ u. f n u)) e
+  by_first n s t e = first n s ∙ ap (λ r. g s + after_step r (λ u. f n u)) e
 
   by_end : (n : ℕ) (s : State) (e : Ending) → step_of s ≡ Err e → f (suc n) s ≡ g s
-  by_end n s e is = let h = first n s ∙ ap (λ r. g s + behind r (λ u. f n u)) is in omega (arith, h)
+  by_end n s e is = let h = first n s ∙ ap (λ r. g s + after_step r (λ u. f n u)) is in omega (arith, h)
 
   -- so many steps that completed, and the others
   pub more : (m n : ℕ) (s : State) → (run_of m s).steps ≡ m → f (m + n) s ≡ f m s + f n (state_after m s)
@@ -139,7 +139,7 @@ unfolding executed_in_run
 begun_none at s = refl
 
 pub begun_first : (at n : ℕ) (s : State) → executed_in_run at (suc n) s
-    ≡ address_if (is_executed (fetch_at s) && (s.pc == at)) + behind (step_of s) (λ t. executed_in_run at n t)
+    ≡ address_if (is_executed (fetch_at s) && (s.pc == at)) + after_step (step_of s) (λ t. executed_in_run at n t)
 unfolding executed_in_run
 begun_first at n s = refl
 
@@ -148,7 +148,7 @@ unfolding taken_in_run
 taken_none at s = refl
 
 pub taken_first : (at n : ℕ) (s : State) → taken_in_run at (suc n) s
-    ≡ address_if (is_taken_step (step_of s) s && (s.pc == at)) + behind (step_of s) (λ t. taken_in_run at n t)
+    ≡ address_if (is_taken_step (step_of s) s && (s.pc == at)) + after_step (step_of s) (λ t. taken_in_run at n t)
 unfolding taken_in_run
 taken_first at n s = refl
 
@@ -157,7 +157,7 @@ unfolding executed_steps
 steps_none s = refl
 
 pub begins_first : (n : ℕ) (s : State) → executed_steps (suc n) s
-    ≡ address_if (is_executed (fetch_at s)) + behind (step_of s) (λ t. executed_steps n t)
+    ≡ address_if (is_executed (fetch_at s)) + after_step (step_of s) (λ t. executed_steps n t)
 unfolding executed_steps
 begins_first n s = refl
 

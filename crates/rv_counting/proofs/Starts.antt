@@ -8,7 +8,7 @@ use Rattle.rv_trace.specs.Image.{image_of}
 use Rattle.rv_trace.specs.Loading.{map_check}
 use Rattle.rv_trace.specs.Jobs.{console_path}
 use Rattle.rv_trace.specs.Plans.{result_or_unreadable}
-use Rattle.rv_trace.specs.Reading.{◌>>=◌}
+use Rattle.rv_trace.specs.Parsing.{◌>>=◌}
 use Rattle.rv_trace.specs.declared_answers.PathResult.{PathResult}
 use Rattle.rv_trace.specs.declared_kept.Kept.{Kept}
 use Rattle.rv_trace.specs.declared_kept.Kept.TheVariants as kept

@@ -7,35 +7,35 @@ use Rattle.rv_counting.specs.declared.index_ranges.IndexRange.{IndexRange}
 
 -- the jobs at these indices name one image
 abbrev pub HaveOneImage : PlanView → List ℕ → Type 0
-HaveOneImage plan places = (k : ℕ) (d : Job) → k < length places
-    → (job_at plan (slice_index_or places k 0) d).image ≡ (job_at plan (slice_index_or places 0 0) d).image
+HaveOneImage plan indices = (k : ℕ) (d : Job) → k < length indices
+    → (job_at plan (slice_index_or indices k 0) d).image ≡ (job_at plan (slice_index_or indices 0 0) d).image
 
 -- the piece with this number, counted from 0; an empty one if there is no such piece
 abbrev pub range_at : List IndexRange → ℕ → IndexRange
-range_at pieces k = slice_index_or pieces k (record { from = 0; to = 0 })
+range_at pieces k = slice_index_or pieces k (record { begin = 0; end = 0 })
 
 -- the indices of the batch that are in this piece
 abbrev pub indices_in : List ℕ → IndexRange → List ℕ
-indices_in places piece = slice_range places piece.from piece.to
+indices_in indices piece = slice_range indices piece.begin piece.end
 
 -- where the piece with this number must begin: at the end of the one before it, or at 0
 abbrev pub range_start : List IndexRange → ℕ → ℕ
 range_start pieces zero = 0
-range_start pieces (suc k) = (range_at pieces k).to
+range_start pieces (suc k) = (range_at pieces k).end
 
 -- the piece begins at `from`, is not empty, ends within the batch, and its jobs name one image
-pub record IsIndexRange (plan : PlanView) (places : List ℕ) (from : ℕ) (piece : IndexRange) : Type 0 where
-  pub starts : piece.from ≡ from
-  pub some : piece.from < piece.to
-  pub within : piece.to ≤ length places
-  pub same : HaveOneImage plan (indices_in places piece)
+pub record IsIndexRange (plan : PlanView) (indices : List ℕ) (from : ℕ) (piece : IndexRange) : Type 0 where
+  pub starts : piece.begin ≡ from
+  pub some : piece.begin < piece.end
+  pub within : piece.end ≤ length indices
+  pub same : HaveOneImage plan (indices_in indices piece)
 
 -- the pieces, one after another, have exactly the first `to` indices of the batch
-pub record AreIndexRangesTo (plan : PlanView) (places : List ℕ) (to : ℕ) (pieces : List IndexRange) : Type 0 where
+pub record AreIndexRangesTo (plan : PlanView) (indices : List ℕ) (to : ℕ) (pieces : List IndexRange) : Type 0 where
   pub few : length pieces ≤ to
-  pub each : (k : ℕ) → k < length pieces → IsIndexRange plan places (range_start pieces k) (range_at pieces k)
+  pub each : (k : ℕ) → k < length pieces → IsIndexRange plan indices (range_start pieces k) (range_at pieces k)
   pub all : range_start pieces (length pieces) ≡ to
 
 -- the pieces, one after another, have exactly all indices of the batch
 abbrev pub AreIndexRanges : PlanView → List ℕ → List IndexRange → Type 0
-AreIndexRanges plan places pieces = AreIndexRangesTo plan places (length places) pieces
+AreIndexRanges plan indices pieces = AreIndexRangesTo plan indices (length indices) pieces

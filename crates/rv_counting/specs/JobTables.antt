@@ -76,13 +76,13 @@ table_of_runs runs path bytes addresses = record {
 -- the table has no call trees and no function names
 pub record HasNoStacks (t : CountTable) : Type 0 where
   pub names : (digest : List ℕ) (function : ℕ) → truncated_name digest function t.images ≡ None
-  pub arrivals : (digest path : List ℕ) → calls_in_image digest path t.images ≡ 0
+  pub calls : (digest path : List ℕ) → calls_in_image digest path t.images ≡ 0
   pub steps : (digest path : List ℕ) → steps_in digest path t.images ≡ 0
 
 -- `t` is the table of the jobs: each of its numbers is the sum of the jobs' numbers
 pub record IsTableOfJobs (answers : List PathResult) (jobs : List Job) (t : CountTable) : Type 0 where
   pub table : IsValidTable t
-  pub begun : (digest : List ℕ) (address : ℕ)
+  pub executed : (digest : List ℕ) (address : ℕ)
       → executed_in digest address t.images ≡ sum_by (executed_by answers digest address) jobs
   pub taken : (digest : List ℕ) (address : ℕ)
       → taken_in digest address t.images ≡ sum_by (taken_by answers digest address) jobs
@@ -92,24 +92,24 @@ pub record IsTableOfJobs (answers : List PathResult) (jobs : List Job) (t : Coun
 
 -- the jobs at these indices of a plan
 abbrev pub jobs_at : PlanView → List ℕ → List Job
-jobs_at plan places = map (λ place. slice_index_or plan.jobs place (single_job [] 0 [])) places
+jobs_at plan indices = map (λ index. slice_index_or plan.jobs index (single_job [] 0 [])) indices
 
 -- `t` is the table of the jobs at these indices of a plan
 abbrev pub IsTableOfJobsAt : PlanView → List ℕ → CountTable → Type 0
-IsTableOfJobsAt plan places t = IsTableOfJobs plan.answers (jobs_at plan places) t
+IsTableOfJobsAt plan indices t = IsTableOfJobs plan.answers (jobs_at plan indices) t
 
 -- ---- sums that fit
 
 -- the numbers of the table are as small as this many jobs can make them, and it has no call trees
 pub record IsTableOfFew (jobs : ℕ) (t : CountTable) : Type 0 where
-  pub begun : (digest : List ℕ) (address : ℕ) → executed_in digest address t.images ≤ jobs * 2 ^ 32
+  pub executed : (digest : List ℕ) (address : ℕ) → executed_in digest address t.images ≤ jobs * 2 ^ 32
   pub runs : t.runs ≤ jobs
   pub stacks : HasNoStacks t
 
 -- `t` is the table of the jobs at some indices, and has at most one run for each of them
-pub record IsTableOfRange (plan : PlanView) (places : List ℕ) (t : CountTable) : Type 0 where
-  pub table : IsTableOfJobsAt plan places t
-  pub few : IsTableOfFew (length places) t
+pub record IsTableOfRange (plan : PlanView) (indices : List ℕ) (t : CountTable) : Type 0 where
+  pub table : IsTableOfJobsAt plan indices t
+  pub few : IsTableOfFew (length indices) t
 
 -- ---- parts
 
@@ -126,7 +126,7 @@ SumsTo sum (u ∷ us) t = (next : CountTable) × IsSumOfTables sum u next × Sum
 
 -- there is one table for each shard of the jobs at these indices, in order; a shard has the indices that leave the same remainder when
 -- divided by the number of shards
-pub record AreTablesOfShards (plan : PlanView) (shards : ℕ) (places : List ℕ) (ts : List CountTable) : Type 0 where
+pub record AreTablesOfShards (plan : PlanView) (shards : ℕ) (indices : List ℕ) (ts : List CountTable) : Type 0 where
   pub count : length ts ≡ shards
   pub each : (k : ℕ) (d : CountTable) → k < shards
-      → IsTableOfJobsAt plan (filter (λ place. place % shards == k) places) (slice_index_or ts k d)
+      → IsTableOfJobsAt plan (filter (λ index. index % shards == k) indices) (slice_index_or ts k d)

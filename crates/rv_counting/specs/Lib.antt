@@ -6,7 +6,7 @@ pub mod JobTables
 pub mod RunCounts
 pub mod BatchRanges
 pub mod TableSums
-pub use Rattle.rv_fleet.specs.Choices
+pub use Rattle.rv_fleet.specs.JobIndices
 pub use Rattle.rv_fleet.specs.Results
 pub use Rattle.rv_fleet.specs.declared_engine
 pub use Rattle.rv_fleet.specs.declared_listener

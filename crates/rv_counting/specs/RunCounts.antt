@@ -16,8 +16,8 @@ use Rattle.rv_counting.specs.Tallies.{IsIndexed}
 
 -- another run can be counted: there are few counts, and few generations of the code
 pub record CanCountRuns (c : RunsCounter) : Type 0 where
-  pub tallied : AreConsistentCounts (counts_of c.counter)
-  pub indexed : IsIndexed c.counter.tally
+  pub consistent : AreConsistentCounts (counts_of c.counter)
+  pub indexed : IsIndexed c.counter.counts_by_address
   pub cache : HasAllEntries c.counter.cache
   pub few : (at : ℕ) → executed_at at (counts_of c.counter) ≤ c.runs * 2 ^ 32
   pub generations : c.counter.cache.generation ≤ 1 + c.runs * 2 ^ 32
@@ -26,7 +26,7 @@ pub record CanCountRuns (c : RunsCounter) : Type 0 where
 pub record AddsRun (budget : ℕ) (start : Option State) (old new : RunsCounter) : Type 0 where
   pub ready : CanCountRuns new
   pub runs : new.runs ≡ old.runs + address_if (is_some start)
-  pub begun : (at : ℕ) → executed_at at (counts_of new.counter) ≡ executed_at at (counts_of old.counter) + executed_from at budget start
+  pub executed : (at : ℕ) → executed_at at (counts_of new.counter) ≡ executed_at at (counts_of old.counter) + executed_from at budget start
   pub taken : (at : ℕ) → taken_at at (counts_of new.counter) ≡ taken_at at (counts_of old.counter) + taken_from at budget start
 
 -- the run of a job was counted in addition to the others, unless the job is refused
@@ -45,5 +45,5 @@ taken_of answers at job = taken_from at job.budget (result_ok (start_state_in an
 pub record HasCountedJobs (answers : List PathResult) (jobs : List Job) (c : RunsCounter) : Type 0 where
   pub ready : CanCountRuns c
   pub runs : c.runs ≡ sum_by (runs_by answers) jobs
-  pub begun : (at : ℕ) → executed_at at (counts_of c.counter) ≡ sum_by (executed_of answers at) jobs
+  pub executed : (at : ℕ) → executed_at at (counts_of c.counter) ≡ sum_by (executed_of answers at) jobs
   pub taken : (at : ℕ) → taken_at at (counts_of c.counter) ≡ sum_by (taken_of answers at) jobs

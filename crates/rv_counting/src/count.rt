@@ -30,27 +30,27 @@ pub(crate) fn follow_run(
     machine: Machine,
     budget: u32,
 ) -> Result<Machine, AllocError>
-    requires tallied { AreConsistentCounts (counts_of counter.old) }
+    requires consistent { AreConsistentCounts (counts_of counter.old) }
     requires few { (at : ℕ) → executed_at at (counts_of counter.old) < 2 ^ 61 }
-    requires indexed { IsIndexed counter.old.tally }
-    requires right { IsValidCache counter.old.cache (state_of machine) }
+    requires indexed { IsIndexed counter.old.counts_by_address }
+    requires valid { IsValidCache counter.old.cache (state_of machine) }
     requires generations { counter.old.cache.generation < 2 ^ 61 }
     ensures { OnOk result (HasCountedFrom (counts_of counter.old) counter.old.cache.generation budget (state_of machine) counter.new) }
 {
     let mut machine = machine;
-    let mut left = budget;
-    'steps: while left > 0 {
-        let block = counter.find_block(&machine, left);
+    let mut remaining = budget;
+    'steps: while remaining > 0 {
+        let block = counter.find_block(&machine, remaining);
         if block.steps == 0 {
             if !counter.step_uncached(&mut machine)?.completed {
                 return Ok(machine);
             }
-            left -= 1;
+            remaining -= 1;
         } else {
             if counter.run_block(&mut machine, block)?.steps != block.steps {
                 return Ok(machine);
             }
-            left -= block.steps;
+            remaining -= block.steps;
         }
     }
     Ok(machine)

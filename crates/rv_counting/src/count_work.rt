@@ -6,7 +6,7 @@ ghost use Rattle.rv_counting.specs.BatchRanges.{AreIndexRanges};
 
 use crate::index_ranges::IndexRange;
 use crate::table_of_jobs::table_of_jobs_at;
-use crate::table_sum::HasProgramHeaders;
+use crate::table_sum::HasTable;
 use rv_count_tables::CountTable;
 use rv_fleet::{Batch, Work, WorkerState};
 use std::alloc::{AllocError, Global};
@@ -39,7 +39,7 @@ impl JobsTable {
     }
 }
 
-impl HasProgramHeaders for JobsTable {
+impl HasTable for JobsTable {
     ghost table = { λ s. s };
 
     // Returns the table of the job.
@@ -86,8 +86,8 @@ impl Work<JobsTable> for CountWork<'_> {
         worker_state: &mut WorkerState,
     ) -> Result<JobsTable, AllocError> {
         let piece = self.pieces[number];
-        let places = &self.batch.places[piece.from..piece.to];
-        let table = table_of_jobs_at(alloc, self.batch.plan, places, &mut worker_state.spare)?;
+        let indices = &self.batch.places[piece.begin..piece.end];
+        let table = table_of_jobs_at(alloc, self.batch.plan, indices, &mut worker_state.spare)?;
         Ok(JobsTable::new(table))
     }
 }

@@ -1,7 +1,7 @@
 //! The pieces of a batch whose jobs are counted together.
 
 ghost use Rattle.std.specs.Prelude.{◌≡◌, ◌+◌, ◌<◌, ◌≤◌, IfOk, length};
-ghost use Rattle.rv_fleet.specs.Choices.{AreJobIndices};
+ghost use Rattle.rv_fleet.specs.JobIndices.{AreJobIndices};
 ghost use Rattle.rv_counting.specs.BatchRanges.{AreIndexRanges, IsIndexRange};
 
 use rv_trace::Plan;
@@ -10,8 +10,8 @@ use std::alloc::{AllocError, Global};
 /// Consecutive indices of a batch: from the first up to, but not including, the second.
 #[derive(Clone, Copy)]
 pub(crate) struct IndexRange {
-    pub(crate) from: usize,
-    pub(crate) to: usize,
+    pub(crate) begin: usize,
+    pub(crate) end: usize,
 }
 
 /// The maximum number of jobs in a piece.
@@ -24,33 +24,33 @@ const RANGES_PER_WORKER: usize = 8;
 pub(crate) fn ranges_of_images(
     alloc: Global,
     plan: &Plan,
-    places: &[usize],
+    indices: &[usize],
     workers: u32,
 ) -> Result<Vec<IndexRange>, AllocError>
-    requires within { AreJobIndices plan.now places.now }
+    requires within { AreJobIndices plan.now indices.now }
     requires workers { 0 < workers }
-    ensures { IfOk result (λ pieces. AreIndexRanges plan.now places.now pieces.items) }
+    ensures { IfOk result (λ pieces. AreIndexRanges plan.now indices.now pieces.items) }
 {
-    let most = (places.len() / (workers as usize * RANGES_PER_WORKER)).clamp(1, MAX_JOBS_IN_RANGE);
+    let max_jobs = (indices.len() / (workers as usize * RANGES_PER_WORKER)).clamp(1, MAX_JOBS_IN_RANGE);
     let mut pieces = Vec::new(alloc);
     let mut from = 0;
-    while from < places.len() {
-        let to = range_end(plan, places, from, most);
-        pieces.push(IndexRange { from, to })?;
+    while from < indices.len() {
+        let to = range_end(plan, indices, from, max_jobs);
+        pieces.push(IndexRange { begin: from, end: to })?;
         from = to;
     }
     Ok(pieces)
 }
 
-// Returns the end of the piece of at most `most` jobs that begins at an index.
-fn range_end(plan: &Plan, places: &[usize], from: usize, most: usize) -> usize
-    requires within { AreJobIndices plan.now places.now }
-    requires some { from < length places.now }
-    ensures { IsIndexRange plan.now places.now from (record { from = from; to = result }) }
+// Returns the end of the piece of at most `max_jobs` jobs that begins at an index.
+fn range_end(plan: &Plan, indices: &[usize], from: usize, max_jobs: usize) -> usize
+    requires within { AreJobIndices plan.now indices.now }
+    requires some { from < length indices.now }
+    ensures { IsIndexRange plan.now indices.now from (record { begin = from; end = result }) }
 {
-    let image = plan.job(places[from]).image.as_str();
+    let image = plan.job(indices[from]).image.as_str();
     let mut to = from + 1;
-    while to < places.len() && to - from < most && plan.job(places[to]).image.as_str() == image {
+    while to < indices.len() && to - from < max_jobs && plan.job(indices[to]).image.as_str() == image {
         to += 1;
     }
     to

@@ -14,7 +14,7 @@ ghost use Rattle.rv_trace.specs.Plans.{PlanView};
 ghost use Rattle.rv_trace.specs.declared_ending.Ending.{Ending};
 ghost use Rattle.rv_trace.specs.Run.{run_of, step_of};
 ghost use Rattle.rv_trace.specs.State.{State};
-ghost use Rattle.rv_trace.specs.Wholes.{HaveSameResults};
+ghost use Rattle.rv_trace.specs.SameResults.{HaveSameResults};
 ghost use Rattle.rv_counting.specs.Coverage.{fetch_at, is_executed, address_if, is_executed_at_end, executed_total, AreCountsOf};
 ghost use Rattle.rv_counting.specs.JobTables.{AreTablesOfParts, AreTablesOfShards, IsTableOfJobs, IsTableOfJobsAt, SumsTo};
 
@@ -58,9 +58,9 @@ pub fn tables_of_parts_sum_to_that_of_the_list()
 /// Proves that the tables of all shards, added in any order, give the table of the whole list, and that the sum has the text of that table.
 /// A shard has the jobs whose indices leave one remainder when divided by the number of shards.
 pub fn tables_of_shards_sum_to_that_of_all()
-    ensures { (plan : PlanView) (shards : ℕ) (places : List ℕ) (ts : List CountTable) (sum whole : CountTable)
-        → 0 < shards → AreTablesOfShards plan shards places ts → SumsTo no_counts ts sum
-        → IsTableOfJobsAt plan places whole → table_text sum ≡ table_text whole }
+    ensures { (plan : PlanView) (shards : ℕ) (indices : List ℕ) (ts : List CountTable) (sum whole : CountTable)
+        → 0 < shards → AreTablesOfShards plan shards indices ts → SumsTo no_counts ts sum
+        → IsTableOfJobsAt plan indices whole → table_text sum ≡ table_text whole }
 {}
 
 /// Proves that jobs have equal tables for any two sets of file contents that give each job the same result, such as the contents of all

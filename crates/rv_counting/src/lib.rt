@@ -34,7 +34,7 @@ pub use law::{
 };
 pub use step::{is_branch, is_executed_at_end};
 pub use table_of_jobs::{digest_of, empty_table, images_of_one, shown_text};
-pub use table_sum::{HasProgramHeaders, TableSum};
+pub use table_sum::{HasTable, TableSum};
 
 // From the crates below: what this interface names, and what its callers need with it.
 pub use rv_count_tables::table_text;

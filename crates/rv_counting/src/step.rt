@@ -12,7 +12,7 @@ use rv_trace::{Code, Ending, FaultKind, Machine, Op, code_length, instr_of};
 /// branch.
 #[derive(Clone, Copy)]
 pub(crate) struct StepCount {
-    pub(crate) begun: bool,
+    pub(crate) executed: bool,
     pub(crate) completed: bool,
     pub(crate) taken: bool,
 }
@@ -26,13 +26,13 @@ pub(crate) fn count_step(machine: &mut Machine, code: Option<Code>) -> StepCount
     let outcome = machine.run(1);
     if outcome.steps == 0 {
         return StepCount {
-            begun: is_executed_at_end(outcome.ending),
+            executed: is_executed_at_end(outcome.ending),
             completed: false,
             taken: false,
         };
     }
     StepCount {
-        begun: true,
+        executed: true,
         completed: true,
         taken: is_taken_code(code, pc, machine.pc()),
     }

@@ -8,7 +8,7 @@ ghost use Rattle.rv_count_tables.specs.declared.table.AddressCounts.{AddressCoun
 ghost use Rattle.rv_count_tables.specs.Lines.{lacks};
 ghost use Rattle.rv_count_tables.specs.Sum.{no_counts};
 ghost use Rattle.rv_count_tables.specs.Table.{executed_at, IsValidTable};
-ghost use Rattle.rv_fleet.specs.Choices.{AreJobIndices};
+ghost use Rattle.rv_fleet.specs.JobIndices.{AreJobIndices};
 ghost use Rattle.rv_trace.specs.declared_job.Job.{Job as AJob};
 ghost use Rattle.rv_count_tables.specs.Limits.{max_jobs};
 ghost use Rattle.rv_count_tables.specs.Printable.{printable_text};
@@ -33,26 +33,26 @@ use std::alloc::{AllocError, Global};
 pub(crate) fn table_of_jobs_at(
     alloc: Global,
     plan: &Plan,
-    places: &[usize],
+    indices: &[usize],
     spare: &mut SpareBus,
 ) -> Result<CountTable, AllocError>
-    requires some { 0 < length places.now }
-    requires few { length places.now ≤ max_jobs }
-    requires within { AreJobIndices plan.now places.now }
-    requires same { HaveOneImage plan.now places.now }
-    ensures { IfOk result (IsTableOfRange plan.now places.now) }
+    requires some { 0 < length indices.now }
+    requires few { length indices.now ≤ max_jobs }
+    requires within { AreJobIndices plan.now indices.now }
+    requires same { HaveOneImage plan.now indices.now }
+    ensures { IfOk result (IsTableOfRange plan.now indices.now) }
 {
-    let Some(bytes) = image_bytes(plan, places[0]) else {
+    let Some(bytes) = image_bytes(plan, indices[0]) else {
         return Ok(empty_table(alloc));
     };
     let mut counter = RunsCounter::new(alloc)?;
-    for k in 0..places.len() {
-        count_job_at(alloc, plan, places[k], &mut counter, spare)?;
+    for k in 0..indices.len() {
+        count_job_at(alloc, plan, indices[k], &mut counter, spare)?;
     }
     if counter.runs == 0 {
         return Ok(empty_table(alloc));
     }
-    let path = plan.job(places[0]).image.as_str();
+    let path = plan.job(indices[0]).image.as_str();
     table_of_runs(alloc, path, bytes, counter)
 }
 
@@ -60,24 +60,24 @@ pub(crate) fn table_of_jobs_at(
 fn count_job_at(
     alloc: Global,
     plan: &Plan,
-    place: usize,
+    index: usize,
     counter: &mut RunsCounter,
     spare: &mut SpareBus,
 ) -> Result<(), AllocError>
-    requires within { place < length plan.now.jobs }
+    requires within { index < length plan.now.jobs }
     requires ready { CanCountRuns counter.old }
     requires few { counter.old.runs < max_jobs }
-    ensures { OnOk result ((d : AJob) → AddsJob plan.now.answers (job_at plan.now place d) counter.old counter.new) }
+    ensures { OnOk result ((d : AJob) → AddsJob plan.now.answers (job_at plan.now index d) counter.old counter.new) }
 {
-    let Some(bytes) = image_bytes(plan, place) else {
+    let Some(bytes) = image_bytes(plan, index) else {
         return Ok(());
     };
-    let Some(image) = image_of_bytes(alloc, plan.job(place).isa, bytes)? else {
+    let Some(image) = image_of_bytes(alloc, plan.job(index).isa, bytes)? else {
         return Ok(());
     };
     let job_image = JobImage {
         plan,
-        place,
+        place: index,
         image: &image,
     };
     counter.count_job(alloc, &job_image, spare)
@@ -108,7 +108,7 @@ fn table_of_runs(
     ensures table { IfOk result IsValidTable }
 {
     let RunsCounter { counter, runs } = counter;
-    let addresses = counter.tally.into_addresses();
+    let addresses = counter.counts_by_address.into_addresses();
     let digest = digest_of(alloc, bytes)?;
     let path = shown_text(alloc, path.as_bytes())?;
     let images = images_of_one(

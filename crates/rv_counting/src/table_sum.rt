@@ -11,7 +11,7 @@ use std::alloc::Global;
 use std::marker::Model;
 
 /// A result that has a table of counts.
-pub trait HasProgramHeaders {
+pub trait HasTable {
     ghost use Rattle.std.specs.Prelude.{◌≡◌};
     ghost use Rattle.rv_count_tables.specs.Table.{IsValidTable};
     ghost use Rattle.rv_count_tables.specs.declared.table.CountTable.{CountTable as Counted};
@@ -71,17 +71,17 @@ impl TableSum {
     }
 }
 
-impl<H: HasProgramHeaders + Drop> Listener<H> for TableSum {
+impl<T: HasTable + Drop> Listener<T> for TableSum {
     ghost use Rattle.std.specs.Prelude.{◌≡◌, true, is_some, map};
     ghost use Rattle.rv_counting.specs.TableSums.{AreTablesAdded};
 
-    ghost has_received = { λ s results. AreTablesAdded s.sum s.failed (map H.table results) };
+    ghost has_received = { λ s results. AreTablesAdded s.sum s.failed (map T.table results) };
 
     ghost stops = { λ s. is_some s.failed ≡ true };
 
     // Adds the table of the next result to the sum. Stops if the two have no sum.
-    fn receive(&mut self, made: H) -> Flow {
-        match sum_of_tables(self.alloc, &self.sum, made.table()) {
+    fn receive(&mut self, item: T) -> Flow {
+        match sum_of_tables(self.alloc, &self.sum, item.table()) {
             Ok(sum) => {
                 self.sum = sum;
                 Flow::Continue

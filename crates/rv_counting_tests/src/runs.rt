@@ -72,7 +72,7 @@ fn told(alloc: Global, machine: Machine, budget: u32) -> Result<String, AllocErr
     for counts in addresses.as_slice() {
         let comma = if text.is_empty() { "" } else { ", " };
         let (address, begun, taken) = (counts.address, counts.begun, counts.taken);
-        write!(text, "{comma}{address:08x} {begun} {taken}")?;
+        write!(text, "{comma}{address:08x} {executed} {taken}")?;
     }
     Ok(text)
 }

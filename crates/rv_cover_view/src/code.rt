@@ -35,8 +35,8 @@ fn totals_at(address: u32, code: Code, counts: &[AddressCounts]) -> CodeTotals
         return CodeTotals::none();
     };
     let counts = counts_at(counts, address);
-    let was_executed = 0 < counts.begun;
-    let both_ways = 0 < counts.taken && counts.taken < counts.begun;
+    let was_executed = 0 < counts.executed;
+    let both_ways = 0 < counts.taken && counts.taken < counts.executed;
     let is_branch = is_branch(instr.op);
     CodeTotals {
         instructions: 1,

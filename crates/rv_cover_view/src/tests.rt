@@ -29,37 +29,37 @@ const RETURN: [u8; 2] = [0x82, 0x80];
 const COUNTS: [AddressCounts; 7] = [
     AddressCounts {
         address: 0x8000_0000,
-        begun: 1,
+        executed: 1,
         taken: 0,
     },
     AddressCounts {
         address: 0x8000_0004,
-        begun: 3,
+        executed: 3,
         taken: 0,
     },
     AddressCounts {
         address: 0x8000_0008,
-        begun: 3,
+        executed: 3,
         taken: 2,
     },
     AddressCounts {
         address: 0x8000_0020,
-        begun: 2,
+        executed: 2,
         taken: 2,
     },
     AddressCounts {
         address: 0x8000_0024,
-        begun: 5,
+        executed: 5,
         taken: 0,
     },
     AddressCounts {
         address: 0x8000_0028,
-        begun: 2,
+        executed: 2,
         taken: 1,
     },
     AddressCounts {
         address: 0x8000_0042,
-        begun: 1,
+        executed: 1,
         taken: 0,
     },
 ];

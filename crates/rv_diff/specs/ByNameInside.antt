@@ -2,7 +2,7 @@
 use Rattle.std.specs.Prelude.{◌≡◌, ℕ, List, option_map}
 use Rattle.std.specs.HashMap.{get_by}
 use Rattle.std.specs.Str.{bytes_eq}
-use Rattle.rv_diff.specs.declared.by_name.RowsByName.TheInside.{Inside}
+use Rattle.rv_diff.specs.declared.rows_by_name.RowsByName.TheInside.{Inside}
 use Rattle.rv_diff.specs.RowsByName.{row_named}
 
 -- the invariant of the fields of `RowsByName`: the map has the first row with each name

@@ -8,7 +8,7 @@ ghost use Rattle.rv_diff.specs.Diff.{count_line, diff_text, difference_counts, d
 ghost use Rattle.rv_diff.specs.Diff.{change_counts_text, changes_of_row, differ_text, differing_text, is_changed, not_compared_text, step_sums};
 ghost use Rattle.rv_diff.specs.Diff.{rows_in_both, sums_text, total_steps};
 
-use crate::by_name::RowsByName;
+use crate::rows_by_name::RowsByName;
 use crate::change::{Change, CompareMode, change_of};
 use crate::differences::push_change_lines;
 use rv_rows::{Row, Span, push_spans, push_text};

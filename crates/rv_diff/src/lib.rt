@@ -6,7 +6,7 @@
 //! [`jobs_differ_iff_some_line`].
 #![tactic(auto)]
 
-mod by_name;
+mod rows_by_name;
 mod change;
 mod diff;
 mod differences;

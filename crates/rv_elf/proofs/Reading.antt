@@ -14,8 +14,8 @@ use Rattle.rv_elf.specs.declared.program_headers.ProgramHeader.{ProgramHeader}
 use Rattle.rv_elf.specs.Rows.{first_error_of, accepted}
 use Rattle.rv_elf.specs.Image.{program_header_table, segments, loaded_segments, is_load, is_loaded_header, is_segment_past_file, is_dynamic, has_bad_sizes}
 use Rattle.rv_elf.specs.Image.{e_entry, unchecked_image, image_of, IsImageOf}
-use Rattle.rv_elf.specs.ImageParts.{header_rows, program_header_rows, image_rows, header_check, program_header_check, segments_and_entry_check}
-use Rattle.rv_elf.specs.ImageParts.{image_after_header}
+use Rattle.rv_elf.specs.ImageChecks.{header_rows, program_header_rows, image_rows, header_check, program_header_check, segments_and_entry_check}
+use Rattle.rv_elf.specs.ImageChecks.{image_after_header}
 use Rattle.rv_elf.proofs.FirstRow.{none_refuses, refusal_stays, none_refused}
 
 -- ---- the parts of reading

@@ -1,7 +1,7 @@
 pub mod Fields
 pub mod Rows
 pub mod Image
-pub mod ImageParts
+pub mod ImageChecks
 pub mod ErrorNames
 pub mod Loading
 pub mod Sections

@@ -1,7 +1,7 @@
 //! The checks of the ELF header, and of the location of the program header table.
 ghost use Rattle.std.specs.Prelude.{◌≡◌, ◌≤◌, OnOk, length};
 ghost use Rattle.rv_elf.specs.Image.{has_magic, has_bad_version, has_bad_program_table, HasProgramHeaders};
-ghost use Rattle.rv_elf.specs.ImageParts.{header_check};
+ghost use Rattle.rv_elf.specs.ImageChecks.{header_check};
 
 use crate::error::ImageError;
 use crate::fields::{

@@ -3,7 +3,7 @@ ghost use Rattle.std.specs.Prelude.{◌≡◌, ◌≢◌, ◌≤◌, IfOk, Match
 ghost use Rattle.rv_isa.specs.Extensions.{has_extension, RV32C};
 ghost use Rattle.rv_elf.specs.Image.{image_of, segments, HasProgramHeaders, IsImageOf};
 ghost use Rattle.rv_elf.specs.Functions.{is_executable};
-ghost use Rattle.rv_elf.specs.ImageParts.{image_after_header, segments_and_entry_check};
+ghost use Rattle.rv_elf.specs.ImageChecks.{image_after_header, segments_and_entry_check};
 ghost use Rattle.rv_elf.specs.declared.error.ImageError.TheVariants.{OutOfMemory};
 
 use crate::error::ImageError;

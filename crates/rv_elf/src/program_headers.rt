@@ -3,7 +3,7 @@ ghost use Rattle.std.specs.Prelude.{◌≡◌, ◌+◌, ◌*◌, ◌<◌, ◌≤
 ghost use Rattle.std.specs.List.{list_any, range_with_len};
 ghost use Rattle.rv_elf.specs.Image.{segment_at, program_header_at, program_header_table, is_dynamic, has_bad_sizes, is_segment_past_file};
 ghost use Rattle.rv_elf.specs.Image.{loaded_segments, HasProgramHeaders};
-ghost use Rattle.rv_elf.specs.ImageParts.{program_header_check};
+ghost use Rattle.rv_elf.specs.ImageChecks.{program_header_check};
 
 use crate::error::ImageError;
 use crate::fields::{

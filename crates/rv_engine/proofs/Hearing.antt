@@ -5,8 +5,8 @@ use Rattle.std.proofs.lemmas.Grind.{div_ceil_times}
 use Rattle.std.proofs.lemmas.List.{get_or_append_left, length-append}
 use Rattle.std.proofs.Math.Seq.{get_or-append_seam}
 use Rattle.std.specs.Prelude.{Option, Some, None}
-use Rattle.rv_engine.specs.declared.in_order.End.{End}
-use Rattle.rv_engine.specs.declared.in_order.End.TheVariants.{Failed, Stopped}
+use Rattle.rv_engine.specs.declared.delivery.End.{End}
+use Rattle.rv_engine.specs.declared.delivery.End.TheVariants.{Failed, Stopped}
 use Rattle.rv_engine.specs.declared.listener.Flow.{Flow}
 use Rattle.rv_engine.specs.declared.listener.Flow.TheVariants.{Continue, Stop}
 use Rattle.rv_engine.specs.Results.{OutputsAreAllowed, HasReceived, HasReceivedSome, IsDelivered, HasReceivedUntil, IsChunk, chunk_count}

@@ -4,8 +4,8 @@ use Rattle.std.specs.Prelude.{Result, Ok, Err}
 use Rattle.std.specs.Int.{div_ceil}
 use Rattle.std.specs.declared.alloc.Global.{Global}
 use Rattle.rv_engine.specs.declared.engine.RunError.{RunError}
-use Rattle.rv_engine.specs.declared.in_order.End.{End}
-use Rattle.rv_engine.specs.declared.in_order.End.TheVariants.{Failed, Stopped}
+use Rattle.rv_engine.specs.declared.delivery.End.{End}
+use Rattle.rv_engine.specs.declared.delivery.End.TheVariants.{Failed, Stopped}
 use Rattle.rv_engine.specs.declared.listener.Flow.{Flow}
 use Rattle.rv_engine.specs.declared.listener.Flow.TheVariants.{Continue, Stop}
 

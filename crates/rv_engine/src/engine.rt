@@ -5,11 +5,11 @@ ghost use Rattle.rv_engine.specs.Results.{ArePending, OutputsAreAllowed, IsRunDe
 ghost use Rattle.rv_engine.specs.declared.engine.RunError.TheVariants.{OutOfMemory};
 
 use crate::crew::Crew;
-use crate::in_order::{
+use crate::delivery::{
     DeliveryState, End, RunSpec, Undelivered, deliver_chunk, empty_pending, take_pending,
 };
 use crate::listener::{Flow, Listener};
-use crate::piece::{chunk_count, compute_chunk};
+use crate::chunk::{chunk_count, compute_chunk};
 use crate::threads::run_workers;
 use crate::work::Work;
 use crate::worker::WorkerContext;

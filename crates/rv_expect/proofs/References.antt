@@ -13,7 +13,7 @@ use Rattle.hex.specs.Hex.{IsBytes, decode_sized, encode_lower, encode_with}
 use Rattle.hex.specs.declared.error.FromHexError.{FromHexError}
 use Rattle.hex.proofs.HexLemmas.{decode_of-ok, decode_sized-encode_lower, decode_sized-ok, decode_sized-twice}
 use Rattle.rv_rows.specs.Report.{word_line}
-use Rattle.rv_rows.specs.Words.{word_digits}
+use Rattle.rv_rows.specs.Numbers.{word_digits}
 use Rattle.rv_expect.specs.Reference.{IsFirstBadLine, IsReferenceOf, IsWord, read_reference, with_reference_line, word_if_line, word_of_line}
 use Rattle.rv_expect.specs.declared.reference.Reference.{Reference}
 use Rattle.rv_expect.specs.declared.reference.Reference.TheVariants.{Words, BadLine}

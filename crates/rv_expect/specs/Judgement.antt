@@ -3,11 +3,11 @@ use Rattle.std.specs.Prelude.{ℕ, Bool, true, false, List, Option, Some, None, 
 use Rattle.rv_expect.specs.declared.known_jobs.KnownJobs.{KnownJobs}
 use Rattle.rv_expect.specs.KnownJobs.{reason_of}
 use Rattle.rv_rows.specs.declared_row.Row.{Row}
-use Rattle.rv_expect.specs.Passing.{has_passed}
+use Rattle.rv_expect.specs.Rule.{has_passed}
 use Rattle.rv_expect.specs.declared.judgement.Judge.{Judge}
 use Rattle.rv_expect.specs.declared.judgement.Judgement.{Judgement}
 use Rattle.rv_expect.specs.declared.judgement.Judgement.TheVariants as counted
-use Rattle.rv_expect.specs.declared.passing.Rule.{Rule}
+use Rattle.rv_expect.specs.declared.rule.Rule.{Rule}
 
 -- how a run counts rows: a rule, and the known failures, if a file lists them
 pub record JudgeView : Type 0 where

@@ -6,11 +6,11 @@ pub mod Comparisons
 pub mod Unmet
 pub mod UnmetExpectations
 pub mod UnmetInPlan
-pub mod Passing
+pub mod Rule
 pub mod Judgement
 pub mod FailureKinds
 pub mod MetExpectations
-pub mod Problem
+pub mod FailureOrError
 pub mod TwoEnds
 pub use Rattle.rv_rows.specs.declared_job
 pub use Rattle.rv_rows.specs.declared_partial

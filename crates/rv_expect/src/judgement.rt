@@ -7,7 +7,7 @@ ghost use Rattle.rv_expect.specs.Judgement.{judgement, judge_by_rule, judge_view
 ghost use Rattle.rv_expect.specs.KnownJobs.{reason_of};
 
 use crate::known_jobs::KnownJobs;
-use crate::passing::{Rule, has_passed};
+use crate::rule::{Rule, has_passed};
 use rv_rows::Row;
 
 /// How a run counts its rows: a rule, and the known failures.

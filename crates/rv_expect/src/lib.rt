@@ -21,8 +21,8 @@ mod known_lines;
 mod known_reader;
 mod law;
 mod met_expectations;
-mod passing;
-mod problem;
+mod rule;
+mod failure_or_error;
 mod reference;
 mod same_as_job;
 mod two_ends;
@@ -40,8 +40,8 @@ pub use law::{
     unmet_is_what_does_not_hold, unmet_of_a_plan_is_what_does_not_hold,
 };
 pub use met_expectations::{Expectation, is_expectation_met};
-pub use passing::{Rule, has_passed};
-pub use problem::{is_error, is_failure};
+pub use rule::{Rule, has_passed};
+pub use failure_or_error::{is_error, is_failure};
 pub use reference::signature_words_or_empty;
 pub use same_as_job::row_of_same_as_job;
 pub use two_ends::{expects_two_ends, two_ends_fail};

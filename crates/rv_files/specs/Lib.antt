@@ -1,6 +1,6 @@
 pub mod Input
-pub mod UnreadPaths
-pub mod Saving
+pub mod UnreadablePaths
+pub mod FileErrors
 pub mod CommittedFiles
 pub mod MemoryFiles
 pub mod IoErrors

@@ -29,7 +29,7 @@ impl From<AllocError> for FileError {
 
 impl From<io::Error> for FileError {
     ghost use Rattle.std.specs.IoError.{error_kind};
-    ghost use Rattle.rv_files.specs.Saving.{file_error};
+    ghost use Rattle.rv_files.specs.FileErrors.{file_error};
 
     ghost from_gives = { λ refused error. error ≡ file_error (error_kind refused) };
 

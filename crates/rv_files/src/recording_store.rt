@@ -4,7 +4,7 @@ ghost use Rattle.std.specs.Prelude.{◌≡◌, ◌≤◌, ◌<◌, ◌++◌, ◌
 ghost use Rattle.std.specs.Prelude.{IfErr, IfOk, IfSome, IsSomeAnd, MatchResult, OnErr, OnOk};
 ghost use Rattle.std.specs.Option.{option_copied};
 ghost use Rattle.rv_base.specs.Limits.{max_file_size};
-ghost use Rattle.rv_files.specs.UnreadPaths.{HasNoContentsIfUnreadable, contents_below, unreadable_path, unreadable_paths_after};
+ghost use Rattle.rv_files.specs.UnreadablePaths.{HasNoContentsIfUnreadable, contents_below, unreadable_path, unreadable_paths_after};
 
 use crate::file_store::ReadWholeError;
 use crate::inputs::{Inputs, read_whole_up_to};

@@ -3,7 +3,7 @@
 ghost use Rattle.std.specs.Prelude.{◌≡◌, IfOk};
 ghost use Rattle.std.specs.Option.{option_copied};
 ghost use Rattle.std.specs.Path.{path_buf_bytes};
-ghost use Rattle.rv_files.specs.UnreadPaths.{resolved_path};
+ghost use Rattle.rv_files.specs.UnreadablePaths.{resolved_path};
 
 use std::alloc::{AllocError, Global};
 use std::path::{Path, PathBuf};

@@ -3,7 +3,7 @@ use Rattle.std.proofs.Common.{◌≡◌, ℕ, zero, suc, ◌<◌, ◌≤◌, Lis
 use Rattle.std.proofs.Common.{◌∙◌, ◌+◌}
 use Rattle.std.specs.List.{All}
 use Rattle.rv_rows.specs.Plans.{PlanView}
-use Rattle.rv_fleet.specs.Choices.{AreJobIndices}
+use Rattle.rv_fleet.specs.JobIndices.{AreJobIndices}
 use Rattle.rv_rows.specs.Rows.{rows_at}
 use Rattle.std.specs.List.Sorted.{IsStrictlyIncreasing}
 use Rattle.rv_rows.specs.declared_row.Row.{Row}

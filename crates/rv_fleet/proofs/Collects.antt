@@ -18,7 +18,7 @@ use Rattle.rv_fleet.specs.CollectedChunks.{IsIndexRange, AreIndexRanges}
 use Rattle.rv_engine.specs.Draws.{numbers}
 use Rattle.rv_engine.specs.Passes.{CounterView}
 use Rattle.rv_fleet.specs.Pieces.{piece_count, numbered_piece, piece_count_of_rows}
-use Rattle.rv_fleet.specs.Promised.{KeepsPromise}
+use Rattle.rv_fleet.specs.WorkerPromises.{KeepsPromise}
 use Rattle.rv_rows.specs.Rows.{row_of}
 use Rattle.rv_fleet.proofs.Chunks.{chunks_all}
 

@@ -3,7 +3,7 @@
 ghost use Rattle.std.specs.Prelude.{◌≡◌, ◌≤◌, length};
 ghost use Rattle.std.specs.List.Sorted.{IsStrictlyIncreasing};
 ghost use Rattle.rv_rows.specs.Limits.{max_jobs};
-ghost use Rattle.rv_fleet.specs.Choices.{AreJobIndices};
+ghost use Rattle.rv_fleet.specs.JobIndices.{AreJobIndices};
 
 use rv_rows::Plan;
 

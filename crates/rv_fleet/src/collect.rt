@@ -4,7 +4,7 @@ ghost use Rattle.std.specs.Prelude.{◌≡◌, ◌<◌, IfOk, IfSome};
 ghost use Rattle.rv_fleet.specs.Batches.{batch_rows};
 ghost use Rattle.rv_fleet.specs.CollectedChunks.{AreIndexRanges, IsIndexRange, AreChunkSlots};
 ghost use Rattle.rv_fleet.specs.Pieces.{piece_count, piece_rows};
-ghost use Rattle.rv_fleet.specs.Promised.{AllKeepPromise};
+ghost use Rattle.rv_fleet.specs.WorkerPromises.{AllKeepPromise};
 
 use crate::gate::Gate;
 use crate::piece::{Piece, compute_chunk};

@@ -9,7 +9,7 @@ use crate::batch::Batch;
 use crate::collect::rows_of_all_chunks;
 use crate::gate::Gate;
 use crate::pieces::Pieces;
-use crate::places::all_indices;
+use crate::all_indices::all_indices;
 use crate::threads::compute_chunks;
 use rv_engine::Crew;
 use rv_rows::{Plan, Report};

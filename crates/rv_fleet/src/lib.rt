@@ -12,7 +12,7 @@ mod fleet;
 mod gate;
 mod piece;
 mod pieces;
-mod places;
+mod all_indices;
 mod threads;
 mod worker;
 mod worker_promise;

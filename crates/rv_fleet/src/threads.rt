@@ -5,8 +5,8 @@ ghost use Rattle.rv_rows.specs.Rows.{rows_at};
 ghost use Rattle.rv_fleet.specs.Batches.{batch_rows};
 ghost use Rattle.rv_fleet.specs.CollectedChunks.{AreChunkSlots};
 ghost use Rattle.rv_fleet.specs.Pieces.{piece_count};
-ghost use Rattle.rv_fleet.specs.Promised.{AreFresh, KeepsPromise, AllKeepPromise};
-ghost use Rattle.rv_fleet.specs.Started.{CanStart};
+ghost use Rattle.rv_fleet.specs.WorkerPromises.{AreFresh, KeepsPromise, AllKeepPromise};
+ghost use Rattle.rv_fleet.specs.StartedThreads.{CanStart};
 
 use crate::batch::Batch;
 use crate::collect::{CollectedChunks, collect_chunks};

@@ -6,13 +6,13 @@ ghost use Rattle.rv_engine.specs.NewPieces.{HasDrawnMore, new_pieces};
 ghost use Rattle.rv_engine.specs.Passes.{has_ended};
 ghost use Rattle.rv_fleet.specs.Batches.{batch_rows};
 ghost use Rattle.rv_fleet.specs.Pieces.{piece_count, piece_at, numbered_piece, piece_count_of_plan};
-ghost use Rattle.rv_fleet.specs.Promised.{KeepsPromise};
+ghost use Rattle.rv_fleet.specs.WorkerPromises.{KeepsPromise};
 
 use crate::batch::Batch;
 use crate::gate::Gate;
 use crate::piece::{Piece, compute_chunk};
 use crate::pieces::Pieces;
-use crate::places::all_indices;
+use crate::all_indices::all_indices;
 use crate::worker_promise::WorkerResult;
 use rv_engine::{Claims, Pass, WorkerState};
 use rv_rows::Plan;

@@ -24,7 +24,7 @@ pub(crate) struct WorkerPromise<'a> {
 
 impl<'a> Promise<WorkerResult> for WorkerPromise<'a> {
     ghost use Rattle.rv_rows.specs.Rows.{rows_at};
-    ghost use Rattle.rv_fleet.specs.Promised.{KeepsPromise};
+    ghost use Rattle.rv_fleet.specs.WorkerPromises.{KeepsPromise};
 
     ghost kept_by = { λ p worked.
         KeepsPromise (rows_at p.plan.now p.places.now) p.group p.claims.now worked };

@@ -1,7 +1,7 @@
 //! Draws, cached outcomes, fleets and streams, by the lines of tables: the setup, the requests and, in the last cell, the expected results.
 ghost use Rattle.std.specs.Prelude.{◌<◌, ◌≤◌, IfOk, None};
 ghost use Rattle.std.specs.List.Sorted.{IsStrictlyIncreasing};
-ghost use Rattle.rv_fleet.specs.Choices.{AreJobIndices};
+ghost use Rattle.rv_fleet.specs.JobIndices.{AreJobIndices};
 
 use rv_fleet::{Plan, Row, gather, read_jobs, selected_indices};
 use rv_stream::{ReadError, Store};

@@ -5,7 +5,7 @@ use Rattle.rv_rows.specs.declared_elf_error.ImageError.{ImageError}
 use Rattle.rv_rows.specs.Image.{image_of}
 use Rattle.rv_rows.specs.Jobs.{console_path}
 use Rattle.rv_rows.specs.Plans.{result_or_unreadable}
-use Rattle.rv_rows.specs.Reading.{◌>>=◌}
+use Rattle.rv_rows.specs.Parsing.{◌>>=◌}
 use Rattle.rv_rows.specs.declared_answers.PathResult.{PathResult}
 use Rattle.rv_rows.specs.declared_kept.Kept.{Kept}
 use Rattle.rv_rows.specs.declared_kept.Kept.TheVariants as kept

@@ -10,7 +10,7 @@ use Rattle.rv_rows.specs.declared_row.Row.{Row}
 use Rattle.rv_rows.specs.declared_row.RowEnd.{RowEnd}
 use Rattle.rv_rows.specs.declared_row.RowEnd.TheVariants.{Budget}
 use Rattle.rv_rows.specs.Report.{line}
-use Rattle.rv_text.specs.Words.{count_text}
+use Rattle.rv_text.specs.Numbers.{count_text}
 
 -- the note that a loop waits for input after the end of the script; empty if it does not
 abbrev pub waiting_text : Bool → List ℕ

@@ -17,7 +17,7 @@ use Rattle.rv_rows.specs.declared_job.Symbols.{Symbols}
 use Rattle.rv_text.specs.Printable.{printable_text}
 use Rattle.rv_rows.specs.declared_map.Region.{Region}
 use Rattle.rv_rows.specs.Regions.{is_in_one_region}
-use Rattle.rv_text.specs.Words.{word_digits}
+use Rattle.rv_text.specs.Numbers.{word_digits}
 
 -- ---- addresses
 

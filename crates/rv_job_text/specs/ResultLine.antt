@@ -5,7 +5,7 @@ use Rattle.rv_rows.specs.declared_row.Row.{Row}
 use Rattle.rv_rows.specs.declared_row.RowEnd.{RowEnd}
 use Rattle.rv_rows.specs.declared_row.RowEnd.TheVariants as ending
 use Rattle.rv_rows.specs.Report.{line, refusal_name}
-use Rattle.rv_text.specs.Words.{count_text, exit_code_text, word_digits}
+use Rattle.rv_text.specs.Numbers.{count_text, exit_code_text, word_digits}
 use Rattle.rv_expect.specs.Judgement.{JudgementView, failed, known, now_passes, passed}
 use Rattle.rv_text.specs.Printable.{printable_text}
 use Rattle.rv_text.specs.Symbol.{symbol_in_brackets}

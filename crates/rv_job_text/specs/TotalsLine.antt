@@ -7,7 +7,7 @@ use Rattle.rv_rows.specs.Plans.{PlanView}
 use Rattle.rv_rows.specs.Faults.{fault_name}
 use Rattle.rv_rows.specs.declared_row.Row.{Row}
 use Rattle.rv_rows.specs.Report.{line}
-use Rattle.rv_text.specs.Words.{count_text}
+use Rattle.rv_text.specs.Numbers.{count_text}
 use Rattle.rv_expect.specs.Judgement.{JudgeView, fails, is_known_failure, is_passed, judgement}
 use Rattle.rv_expect.specs.declared.failure_kind.FailureKind.{FailureKind}
 use Rattle.rv_expect.specs.declared.failure_kind.FailureKind.TheVariants as failure

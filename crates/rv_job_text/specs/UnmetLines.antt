@@ -25,7 +25,7 @@ use Rattle.rv_rows.specs.declared_row.Row.{Row}
 use Rattle.rv_rows.specs.declared_row.RowEnd.{RowEnd}
 use Rattle.rv_rows.specs.declared_row.RowEnd.TheVariants as ending
 use Rattle.rv_rows.specs.Report.{line, refusal_name}
-use Rattle.rv_text.specs.Words.{count_text, exit_code_text, word_digits}
+use Rattle.rv_text.specs.Numbers.{count_text, exit_code_text, word_digits}
 use Rattle.rv_job_text.specs.ConsoleLines.{NamedText, console_lines, expected_by_lines}
 
 -- ---- the exit code and the end

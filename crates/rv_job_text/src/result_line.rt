@@ -4,7 +4,7 @@ ghost use Rattle.std.specs.Prelude.{◌≡◌, ◌++◌, OnOk, codes, option_map
 ghost use Rattle.rv_expect.specs.Judgement.{judgement_view};
 ghost use Rattle.rv_rows.specs.Faults.{fault_name};
 ghost use Rattle.rv_rows.specs.Report.{refusal_name};
-ghost use Rattle.rv_text.specs.Words.{exit_code_text, word_digits};
+ghost use Rattle.rv_text.specs.Numbers.{exit_code_text, word_digits};
 ghost use Rattle.rv_job_text.specs.ResultLine.{judged_ending_text, judgement_word, known_reason_text, now_passes_text, optional_reason_text, result_ending_text};
 ghost use Rattle.rv_text.specs.Symbol.{symbol_in_brackets};
 ghost use Rattle.rv_job_text.specs.ResultLine.{result_line, after_steps_text};

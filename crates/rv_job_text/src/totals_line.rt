@@ -1,7 +1,7 @@
 //! The last line, which counts the rows.
 
 ghost use Rattle.std.specs.Prelude.{◌≡◌, ◌<◌, ◌≤◌, ◌^◌, ◌++◌, OnOk, codes, length};
-ghost use Rattle.rv_text.specs.Words.{count_text};
+ghost use Rattle.rv_text.specs.Numbers.{count_text};
 ghost use Rattle.rv_job_text.specs.TotalsLine.{failed_count, hidden_text, job_word, known_count, known_count_text, passed_count, passed_counts_text, run_totals_line, total_steps, totals_line, totals_text};
 ghost use Rattle.rv_expect.specs.Judgement.{judge_view};
 

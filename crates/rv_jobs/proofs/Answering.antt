@@ -12,7 +12,7 @@ use Rattle.std.proofs.lemmas.List.Elements.{All-push}
 use Rattle.rv_lists.specs.declared.job.Job.{Job}
 use Rattle.rv_jobs.specs.declared.kept.Kept.{Kept}
 use Rattle.rv_jobs.specs.declared.kept.Kept.TheVariants.{Unreadable}
-use Rattle.rv_jobs.specs.declared.answers.PathResult.{PathResult}
+use Rattle.rv_jobs.specs.declared.path_results.PathResult.{PathResult}
 use Rattle.rv_jobs.specs.declared.path_reading.ResultIndices.{ResultIndices}
 use Rattle.rv_lists.specs.Names.{index_in}
 use Rattle.rv_lists.specs.Files.{FileContents}
@@ -21,7 +21,7 @@ use Rattle.rv_lists.specs.Counts.{one_more}
 use Rattle.rv_lists.specs.Jobs.{console_path}
 use Rattle.rv_jobs.specs.Plans.{paths_of, results_with, with_path, with_path_if_any, with_job_paths, result_of_path}
 use Rattle.rv_jobs.specs.Plans.{AgreeWithContents, result_or_unreadable, unreadable_count, after_increments}
-use Rattle.rv_jobs.specs.Placed.{AreResultIndices, IsFound}
+use Rattle.rv_jobs.specs.ResultIndices.{AreResultIndices, IsFound}
 use Rattle.rv_lists.proofs.Public.{place_below, place_last}
 use Rattle.std.proofs.lemmas.Slice.Eq.{bytes_eq-Decides}
 

@@ -10,8 +10,8 @@ use Rattle.rv_lists.specs.declared.job.Job.{Job}
 use Rattle.rv_jobs.specs.declared.path_reading.ResultIndices.{ResultIndices}
 use Rattle.rv_lists.specs.Jobs.{AreValidJobs, console_path, single_job}
 use Rattle.rv_lists.specs.Names.{index_in}
-use Rattle.rv_jobs.specs.Placed.{AreResultIndices}
-use Rattle.rv_jobs.specs.declared.answers.PathResult.{PathResult}
+use Rattle.rv_jobs.specs.ResultIndices.{AreResultIndices}
+use Rattle.rv_jobs.specs.declared.path_results.PathResult.{PathResult}
 use Rattle.rv_jobs.specs.declared.kept.Kept.TheVariants.{Unreadable}
 use Rattle.rv_jobs.specs.Plans.{with_path, with_path_if_any, with_job_paths, paths_used, same_as_jobs, jobs_needed_at, jobs_needed_for}
 use Rattle.rv_jobs.specs.Plans.{paths_of, result_of_path, HasResults}

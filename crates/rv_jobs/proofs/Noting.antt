@@ -9,7 +9,7 @@ use Rattle.std.proofs.Common.{◌+◌, ◌++◌}
 use Rattle.rv_lists.specs.declared.job.Job.{Job}
 use Rattle.rv_jobs.specs.declared.path_reading.ResultIndices.{ResultIndices}
 use Rattle.rv_jobs.specs.declared.path_reading.Found.{Found}
-use Rattle.rv_jobs.specs.Placed.{AreResultIndices, AreRecorded, IsFound}
+use Rattle.rv_jobs.specs.ResultIndices.{AreResultIndices, AreRecorded, IsFound}
 use Rattle.rv_jobs.specs.Plans.{with_job_paths}
 use Rattle.rv_jobs.proofs.Answering.{placed_later}
 use Rattle.rv_jobs.proofs.Needing.{placed_old}

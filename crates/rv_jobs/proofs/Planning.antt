@@ -8,7 +8,7 @@ use Rattle.rv_jobs.specs.declared.path_reading.Found.{Found}
 use Rattle.rv_jobs.specs.declared.plan.Plan.TheInside.{Inside}
 use Rattle.rv_lists.specs.Jobs.{single_job}
 use Rattle.rv_lists.specs.Names.{index_in}
-use Rattle.rv_jobs.specs.Placed.{IsFound}
+use Rattle.rv_jobs.specs.ResultIndices.{IsFound}
 use Rattle.rv_jobs.specs.PlanInside.{IsValidPlan, paths_read, plan_view}
 use Rattle.rv_jobs.specs.Plans.{PlanView, paths_of, result_or_unreadable}
 use Rattle.rv_jobs.proofs.Answering.{paths-with, path_below}

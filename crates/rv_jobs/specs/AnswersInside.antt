@@ -2,8 +2,8 @@
 use Rattle.std.specs.Prelude.{◌≡◌, ℕ, List, map, length}
 use Rattle.std.specs.HashMap.{get_by}
 use Rattle.std.specs.Str.{bytes_eq}
-use Rattle.rv_jobs.specs.declared.answers.PathResult.{PathResult}
-use Rattle.rv_jobs.specs.declared.answers.PathResults.TheInside.{Inside}
+use Rattle.rv_jobs.specs.declared.path_results.PathResult.{PathResult}
+use Rattle.rv_jobs.specs.declared.path_results.PathResults.TheInside.{Inside}
 use Rattle.rv_lists.specs.Names.{index_in}
 use Rattle.rv_jobs.specs.Plans.{results_with}
 

@@ -3,7 +3,7 @@ use Rattle.std.specs.Prelude.{◌≡◌, List, ℕ, length}
 use Rattle.rv_jobs.specs.declared.plan.Plan.TheInside.{Inside}
 use Rattle.rv_jobs.specs.declared.kept.Kept.TheVariants.{Unreadable}
 use Rattle.rv_lists.specs.Jobs.{AreValidJobs}
-use Rattle.rv_jobs.specs.Placed.{ArePartialResultIndicesOfJobs}
+use Rattle.rv_jobs.specs.ResultIndices.{ArePartialResultIndicesOfJobs}
 use Rattle.rv_jobs.specs.Plans.{PlanView, paths_used, jobs_needed_for, results_with}
 
 -- the paths that were read for a plan, in order of first use

@@ -7,7 +7,7 @@ use Rattle.std.specs.Str.{bytes_eq}
 use Rattle.rv_lists.specs.declared.job.Job.{Job}
 use Rattle.rv_jobs.specs.declared.kept.Kept.{Kept}
 use Rattle.rv_jobs.specs.declared.kept.Kept.TheVariants.{Unreadable}
-use Rattle.rv_jobs.specs.declared.answers.PathResult.{PathResult}
+use Rattle.rv_jobs.specs.declared.path_results.PathResult.{PathResult}
 use Rattle.rv_lists.specs.Names.{index_in}
 use Rattle.rv_lists.specs.Jobs.{console_path, single_job}
 use Rattle.rv_lists.specs.Files.{FileContents}

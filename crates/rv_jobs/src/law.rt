@@ -1,7 +1,7 @@
 //! A law of plans, with no code to run.
 
 ghost use Rattle.std.specs.Prelude.{ℕ, ◌≡◌, ◌<◌, List, length, slice_index_or};
-ghost use Rattle.rv_jobs.specs.declared.answers.PathResult.{PathResult};
+ghost use Rattle.rv_jobs.specs.declared.path_results.PathResult.{PathResult};
 ghost use Rattle.rv_lists.specs.declared.job.Job.{Job as AJob};
 ghost use Rattle.rv_jobs.specs.Plans.{HasResults, paths_of, paths_used};
 

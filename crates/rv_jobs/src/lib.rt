@@ -5,15 +5,15 @@
 //! `rv_lists`, which this crate re-exports.
 #![tactic(auto)]
 
-mod answers;
-mod choice;
+mod path_results;
+mod selection;
 mod kept;
 mod law;
 mod path_reading;
 mod plan;
 
-pub use answers::PathResult;
-pub use choice::selected_indices;
+pub use path_results::PathResult;
+pub use selection::selected_indices;
 pub use kept::Kept;
 pub use law::used_paths_have_results;
 pub use plan::{Plan, gather, gather_jobs};

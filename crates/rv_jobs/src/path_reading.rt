@@ -7,9 +7,9 @@ ghost use Rattle.rv_lists.specs.Jobs.{AreValidJobs, console_path, single_job};
 ghost use Rattle.rv_lists.specs.Names.{index_in};
 ghost use Rattle.rv_jobs.specs.Plans.{paths_of, with_job_paths, with_path_if_any, jobs_needed_at};
 ghost use Rattle.rv_jobs.specs.Plans.{AgreeWithContents, unreadable_count, after_increments};
-ghost use Rattle.rv_jobs.specs.Placed.{AreResultIndices, AreRecorded, IsFound, ArePartialResultIndicesOfJobs};
+ghost use Rattle.rv_jobs.specs.ResultIndices.{AreResultIndices, AreRecorded, IsFound, ArePartialResultIndicesOfJobs};
 
-use crate::answers::PathResults;
+use crate::path_results::PathResults;
 use rv_lists::{Job, Store};
 use std::alloc::{AllocError, Global};
 

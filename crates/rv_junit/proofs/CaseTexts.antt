@@ -10,7 +10,7 @@ use Rattle.rv_stream.specs.Streams.{row_text_list, joined_row_texts}
 use Rattle.rv_job_text.specs.declared_xml.XmlContext.TheVariants.{Element}
 use Rattle.rv_job_text.specs.TextWords.{count_text}
 use Rattle.rv_job_text.specs.Xml.{xml_text}
-use Rattle.rv_job_text.specs.Problem.{is_error, is_failure}
+use Rattle.rv_job_text.specs.FailureOrError.{is_error, is_failure}
 use Rattle.rv_junit.specs.XmlPieces.{attribute, number_attribute}
 use Rattle.rv_job_text.specs.TotalsLine.{known_count}
 use Rattle.rv_junit.specs.Junit.{judged_text, junit_text, output_text, skipped_attribute, steps_properties, suite_begin_text, suite_end_text}

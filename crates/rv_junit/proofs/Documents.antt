@@ -8,7 +8,7 @@ use Rattle.hex.specs.Hex.{IsBytes}
 use Rattle.rv_stream.specs.declared_row.Row.{Row}
 use Rattle.rv_job_text.specs.Verdict.{did_run}
 use Rattle.rv_job_text.specs.Judgement.{JudgementView, JudgeView, failed, judgement_by_known, judged_in_file, judged_unknown, judgement, known, now_passes, passed}
-use Rattle.rv_job_text.specs.Passing.{has_passed}
+use Rattle.rv_job_text.specs.Rule.{has_passed}
 use Rattle.rv_job_text.specs.KnownJobs.{known_job_of, reason_of}
 use Rattle.rv_job_text.specs.declared_known_jobs.KnownJob.{KnownJob}
 use Rattle.rv_job_text.specs.declared_known_jobs.KnownJobs.{KnownJobs}
@@ -17,7 +17,7 @@ use Rattle.rv_job_text.specs.TotalsLine.{known_count}
 use Rattle.rv_job_text.specs.declared_xml.XmlContext.TheVariants.{Attribute, Element}
 use Rattle.rv_junit.specs.XmlPieces.{attribute, number_attribute}
 use Rattle.rv_junit.specs.Junit.{IsWrittenRow, suite_begin_text, test_case_text, test_cases_text, suite_end_text, first_line}
-use Rattle.rv_job_text.specs.Problem.{is_error, is_failure}
+use Rattle.rv_job_text.specs.FailureOrError.{is_error, is_failure}
 use Rattle.rv_junit.specs.Junit.{AreReasonsBytes, HasBytesAsReason, judged_text, junit_text, output_text, problem_element_name, skipped_text}
 use Rattle.rv_junit.specs.Junit.{problem_text, steps_properties, steps_property, text_up_to}
 use Rattle.rv_job_text.specs.TextWords.{count_text}

@@ -7,7 +7,7 @@ use Rattle.std.proofs.lemmas.List.{get_or-map, get_or_append_left, length-append
 use Rattle.std.proofs.Math.Seq.{get_or-append_seam}
 use Rattle.rv_job_text.specs.Judgement.{JudgeView, fails}
 use Rattle.rv_stream.specs.declared_row.Row.{Row}
-use Rattle.rv_stream.specs.Seen.{HasSeenRows, IsReportAt}
+use Rattle.rv_stream.specs.SeenRows.{HasSeenRows, IsReportAt}
 use Rattle.rv_stream.specs.declared.reported_row.ReportedRow.{ReportedRow}
 use Rattle.rv_junit.specs.KnownLines.{AreFailureTexts, AreLinesOf, IsFailureText}
 

@@ -7,7 +7,7 @@ use Rattle.rv_stream.specs.declared_row.Row.{Row}
 use Rattle.rv_job_text.specs.Verdict.{did_run}
 use Rattle.rv_job_text.specs.Judgement.{JudgementView, JudgeView, failed, is_failing, is_known_failure, is_passed, judgement, known, now_passes, passed}
 use Rattle.rv_job_text.specs.TotalsLine.{known_count, passed_count}
-use Rattle.rv_job_text.specs.Problem.{is_error, is_failure}
+use Rattle.rv_job_text.specs.FailureOrError.{is_error, is_failure}
 
 one_of_four : (judged : JudgementView) (ran : Bool) (failures errors skips passes count : ℕ)
     → failures + errors + skips + passes ≡ count

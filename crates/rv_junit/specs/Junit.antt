@@ -9,7 +9,7 @@ use Rattle.rv_job_text.specs.Verdict.{did_run}
 use Rattle.rv_job_text.specs.ConsoleTail.{is_line_feed}
 use Rattle.rv_job_text.specs.Judgement.{JudgementView, JudgeView, failed, judgement, known, now_passes, passed}
 use Rattle.rv_job_text.specs.TotalsLine.{known_count}
-use Rattle.rv_job_text.specs.Problem.{is_error, is_failure}
+use Rattle.rv_job_text.specs.FailureOrError.{is_error, is_failure}
 use Rattle.rv_job_text.specs.declared_xml.XmlContext.TheVariants.{Element}
 use Rattle.rv_job_text.specs.TextWords.{count_text}
 use Rattle.rv_job_text.specs.Xml.{xml_text}

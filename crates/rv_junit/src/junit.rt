@@ -3,7 +3,7 @@
 ghost use Rattle.std.specs.Prelude.{◌≡◌, ◌++◌, IfOk, OnOk, codes, count_by, position, string_bytes};
 ghost use Rattle.std.specs.List.{flat_map};
 ghost use Rattle.rv_job_text.specs.ConsoleTail.{is_line_feed};
-ghost use Rattle.rv_job_text.specs.Problem.{is_error, is_failure};
+ghost use Rattle.rv_job_text.specs.FailureOrError.{is_error, is_failure};
 ghost use Rattle.rv_junit.specs.Junit.{suite_begin_text, test_case_text, first_line, steps_properties, steps_property};
 ghost use Rattle.rv_junit.specs.Junit.{judged_text, problem_element_name, problem_text, reason_attribute, skipped_attribute, skipped_text};
 ghost use Rattle.rv_job_text.specs.Judgement.{judgement_view, judge_view};

@@ -6,7 +6,7 @@ ghost use Rattle.hex.specs.Hex.{IsBytes};
 ghost use Rattle.rv_stream.specs.declared_row.Row.{Row};
 ghost use Rattle.rv_job_text.specs.Judgement.{JudgeView};
 ghost use Rattle.rv_job_text.specs.TotalsLine.{known_count, passed_count};
-ghost use Rattle.rv_job_text.specs.Problem.{is_error, is_failure};
+ghost use Rattle.rv_job_text.specs.FailureOrError.{is_error, is_failure};
 ghost use Rattle.rv_junit.specs.Junit.{AreReasonsBytes, IsWrittenRow, junit_text};
 ghost use Rattle.rv_job_text.specs.Xml.{IsXmlCharacters};
 

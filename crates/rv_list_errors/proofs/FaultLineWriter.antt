@@ -11,7 +11,7 @@ use Rattle.rv_lists.specs.JobList.{document_of}
 use Rattle.rv_lists.specs.declared.error.JobError.{JobError}
 use Rattle.rv_list_errors.specs.FaultHeads.{fault_head, job_names, location_in_document}
 use Rattle.rv_list_errors.specs.Lines.{BeginsWith, AppendsFaultLines, EachMessageBeginsWith, printable_line}
-use Rattle.rv_list_errors.specs.PlacedFaults.{IsFaultMessage, IsFaultMessageInDocument, IsFaultMessageInList, AppendsLinesOfEach, AppendsSomeLines}
+use Rattle.rv_list_errors.specs.LocatedFaults.{IsFaultMessage, IsFaultMessageInDocument, IsFaultMessageInList, AppendsLinesOfEach, AppendsSomeLines}
 
 -- so many lines
 abbrev pub PutsSo : (List ℕ → Type 0) → ℕ → List ℕ → List ℕ → Type 0

@@ -8,7 +8,7 @@ use Rattle.toml.specs.Parse.{parse_document}
 use Rattle.rv_lists.specs.JobList.{document_of}
 use Rattle.rv_lists.specs.declared.error.JobError.{JobError}
 use Rattle.rv_list_errors.specs.FaultHeads.{elements_of_job, fault_head, fault_location, job_names, location_in_document}
-use Rattle.rv_list_errors.specs.FaultsTold.{ExplainsFaultIn, IsFaultLineOfText}
+use Rattle.rv_list_errors.specs.FaultMessages.{ExplainsFaultIn, IsFaultLineOfText}
 use Rattle.rv_list_errors.specs.JobFaults.{HasHeadAndTail, ExplainsJobFault, element_at}
 use Rattle.rv_list_errors.specs.Lines.{BeginsWith}
 use Rattle.rv_list_locations.specs.JobLocations.{job_lines}

@@ -1,13 +1,13 @@
 pub mod FaultHeads
 pub mod Lines
-pub mod PlacedFaults
+pub mod LocatedFaults
 pub mod NearestJob
 pub mod NearNames
 pub mod Explanation
 pub mod UnknownKeys
 pub mod Expectations
 pub mod JobFaults
-pub mod FaultsTold
+pub mod FaultMessages
 pub use Rattle.rv_list_locations.specs.JobLocations
 pub use Rattle.rv_list_locations.specs.LinesAndColumns
 pub use Rattle.rv_text.specs.Printable

@@ -4,12 +4,12 @@ ghost use Rattle.std.specs.Prelude.{◌≡◌, ◌<◌, ◌++◌, IfOk, OnOk, co
 ghost use Rattle.std.specs.Fmt.{decimal};
 ghost use Rattle.rv_list_errors.specs.FaultHeads.{borrowed_names};
 ghost use Rattle.rv_list_errors.specs.Lines.{BeginsWith, printable_line};
-ghost use Rattle.rv_list_errors.specs.PlacedFaults.{IsLocatedMessage, IsFaultMessage, IsFaultMessageInList, AppendsLinesOfEach, AppendsSomeLines};
-ghost use Rattle.rv_list_errors.specs.PlacedFaults.{located_head};
+ghost use Rattle.rv_list_errors.specs.LocatedFaults.{IsLocatedMessage, IsFaultMessage, IsFaultMessageInList, AppendsLinesOfEach, AppendsSomeLines};
+ghost use Rattle.rv_list_errors.specs.LocatedFaults.{located_head};
 
 use crate::fault_text::{list_fault_message, push_job_number_and_name};
 use crate::faults::{push_faults, suggestion_for_fault};
-use crate::found_faults::{LocatedFault, faults_of_job};
+use crate::located_faults::{LocatedFault, faults_of_job};
 use crate::list::List;
 use crate::names::Suggestion;
 use rv_list_locations::{Cursor, Location, job_texts};

@@ -2,7 +2,7 @@
 
 ghost use Rattle.std.specs.Prelude.{◌++◌, OnOk, length};
 ghost use Rattle.rv_list_errors.specs.FaultHeads.{fault_head, location_in_view};
-ghost use Rattle.rv_list_errors.specs.FaultsTold.{IsFaultLineOfText};
+ghost use Rattle.rv_list_errors.specs.FaultMessages.{IsFaultLineOfText};
 ghost use Rattle.rv_list_errors.specs.JobFaults.{HasHeadAndTail, ExplainsFaultInView};
 ghost use Rattle.rv_list_errors.specs.Lines.{AppendsFaultLines, AppendsLineOfEach, AppendsLines};
 

@@ -18,7 +18,7 @@ use crate::explanations::{
 };
 use crate::key_faults::FaultyJob;
 use crate::keys::push_unknown_job_key;
-use crate::kinds::push_wrong_type;
+use crate::value_types::push_wrong_type;
 use crate::list::List;
 use crate::message::Message;
 use crate::names::{Suggestion, push_name_fault, push_unknown_same_as};

@@ -9,7 +9,7 @@ use crate::explanations::{
 };
 use crate::job_fault::{BOTH_INPUTS, are_hex_digit_pairs, isa_explanation, push_duplicate_name};
 use crate::keys::{has_region_with_unknown_key, push_unknown_key_of_job, push_unknown_region_key};
-use crate::kinds::{is_value_of_type, push_value_of_wrong_type};
+use crate::value_types::{is_value_of_type, push_value_of_wrong_type};
 use crate::list::List;
 use crate::message::Message;
 use crate::names::{Suggestion, push_unknown_same_as};

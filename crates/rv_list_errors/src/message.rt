@@ -7,7 +7,7 @@ ghost use Rattle.toml.specs.View.{view};
 ghost use Rattle.rv_list_errors.specs.NearNames.{Adds, quoted, text_distance};
 ghost use Rattle.rv_list_errors.specs.Explanation.{AppendsTextThat, IsShownValue};
 ghost use Rattle.rv_text.specs.Printable.{printable_value};
-ghost use Rattle.rv_text.specs.Words.{word_digits};
+ghost use Rattle.rv_text.specs.Numbers.{word_digits};
 
 use rv_text::{push_number, push_printable_value, push_text, push_word_digits};
 use std::alloc::{AllocError, Global};

@@ -1,6 +1,6 @@
 pub mod LinesAndColumns
 pub mod JobLocations
-pub mod JobBegins
+pub mod JobStarts
 pub mod JobKeys
 pub mod NamedKeys
 pub mod ValueSpans

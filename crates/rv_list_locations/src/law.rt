@@ -2,7 +2,7 @@
 
 ghost use Rattle.std.specs.Prelude.{ℕ, List};
 ghost use Rattle.std.specs.List.{All};
-ghost use Rattle.rv_list_locations.specs.JobBegins.{IsLineOfJob};
+ghost use Rattle.rv_list_locations.specs.JobStarts.{IsLineOfJob};
 ghost use Rattle.rv_list_locations.specs.JobLocations.{job_lines};
 
 /// Proves that on each line that [`job_line_numbers`](crate::job_line_numbers) returns, a header `[[job]]` or an element of an array `job`

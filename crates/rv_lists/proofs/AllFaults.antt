@@ -13,7 +13,7 @@ use Rattle.rv_lists.specs.declared.error.What.TheVariants as what
 use Rattle.rv_lists.specs.declared.error.JobError.{JobError}
 use Rattle.rv_lists.specs.declared.job.Job.{Job}
 use Rattle.rv_lists.specs.Keys.{has_unknown_job_or_region_key, has_wrong_type}
-use Rattle.rv_lists.specs.Reading.{◌>>=◌, fault_if, with_job_number}
+use Rattle.rv_lists.specs.Parsing.{◌>>=◌, fault_if, with_job_number}
 use Rattle.rv_lists.specs.JobList.{job_from_table, name_from_table, image_from_table, budget_from_table, script_from_table, map_from_table, load_from_table}
 use Rattle.rv_base.specs.Names.{index_in}
 use Rattle.rv_lists.specs.JobList.{signature_from_table, exit_from_table, reference_from_table, console_from_table, end_from_table, same_as_from_table, isa_from_table}

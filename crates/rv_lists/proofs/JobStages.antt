@@ -9,7 +9,7 @@ use Rattle.rv_lists.specs.declared.job.Job.{Job}
 use Rattle.rv_lists.specs.declared.job.ExpectedConsole.{ExpectedConsole}
 use Rattle.rv_lists.specs.declared.job.Symbols.{Symbols}
 use Rattle.rv_lists.specs.declared.run_keys.RunOptions.{RunOptions}
-use Rattle.rv_lists.specs.declared.results.ExpectedResults.{ExpectedResults}
+use Rattle.rv_lists.specs.declared.expected_results.ExpectedResults.{ExpectedResults}
 use Rattle.rv_lists.specs.declared.setup.Setup.{Setup}
 use Rattle.rv_elf.specs.declared.loading.LoadAt.{LoadAt}
 use Rattle.rv_machine.specs.declared_map.Region.{Region}
@@ -19,7 +19,7 @@ use Rattle.rv_base.specs.Names.{index_in}
 use Rattle.rv_lists.specs.JobList.{signature_from_table, exit_from_table, reference_from_table, console_from_table, end_from_table, same_as_from_table, isa_from_table}
 use Rattle.rv_lists.specs.JobList.{misaligned_from_table}
 use Rattle.rv_lists.specs.JobSteps.{job_from_remaining_keys, run_options_from_table, setup_from_table, expected_results_from_table}
-use Rattle.rv_lists.specs.Reading.{◌>>=◌}
+use Rattle.rv_lists.specs.Parsing.{◌>>=◌}
 
 under : {A B : Type 0} (r : Result A What) (f g : A → Result B What) → ((x : A) → f x ≡ g x) → (r >>= f) ≡ (r >>= g)
 under (Ok x) f g same = same x

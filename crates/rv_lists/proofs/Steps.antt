@@ -14,7 +14,7 @@ use Rattle.rv_machine.specs.declared_map.Region.{Region}
 use Rattle.rv_lists.specs.declared.error.What.{What}
 use Rattle.rv_lists.specs.declared.job.Job.{Job}
 use Rattle.rv_base.specs.Limits.{max_jobs}
-use Rattle.rv_lists.specs.Reading.{◌>>=◌, with_prefix}
+use Rattle.rv_lists.specs.Parsing.{◌>>=◌, with_prefix}
 use Rattle.rv_lists.specs.JobList.{document_of, has_no_jobs, has_too_many_jobs, job_from_element, jobs_of_elements, names_of_jobs, region_from_element}
 use Rattle.rv_lists.specs.JobList.{regions_from_elements, is_signature_symbol, signature_symbol, symbols_from_names}
 use Rattle.rv_base.specs.Limits.{is_within}

@@ -36,7 +36,7 @@ use Rattle.rv_base.specs.Limits.{is_within, max_budget, max_symbol_len}
 use Rattle.rv_base.specs.Limits.{max_console_len, max_jobs, max_path_len, max_script_len}
 use Rattle.rv_base.specs.Names.{is_name, index_in}
 use Rattle.rv_lists.specs.Jobs.{default_regions}
-use Rattle.rv_lists.specs.Reading.{◌>>=◌, fault_if, valid_value, parsed_or_default, with_job_number}
+use Rattle.rv_lists.specs.Parsing.{◌>>=◌, fault_if, valid_value, parsed_or_default, with_job_number}
 use Rattle.rv_lists.specs.Keys.{any_unknown_key, is_list_key, item_count, text_at_key, number_at_key}
 use Rattle.rv_lists.specs.Keys.{boolean_at_key, array_at_key, has_wrong_type, has_unknown_job_or_region_key}
 

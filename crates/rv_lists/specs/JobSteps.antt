@@ -4,12 +4,12 @@ use Rattle.toml.specs.Data.{Members}
 use Rattle.rv_lists.specs.declared.error.What.{What}
 use Rattle.rv_lists.specs.declared.job.Job.{Job}
 use Rattle.rv_lists.specs.declared.run_keys.RunOptions.{RunOptions}
-use Rattle.rv_lists.specs.declared.results.ExpectedResults.{ExpectedResults}
+use Rattle.rv_lists.specs.declared.expected_results.ExpectedResults.{ExpectedResults}
 use Rattle.rv_lists.specs.declared.setup.Setup.{Setup}
 use Rattle.rv_lists.specs.JobList.{script_from_table, map_from_table, load_from_table, signature_from_table, exit_from_table}
 use Rattle.rv_lists.specs.JobList.{reference_from_table, console_from_table}
 use Rattle.rv_lists.specs.JobList.{end_from_table, same_as_from_table, isa_from_table, misaligned_from_table}
-use Rattle.rv_lists.specs.Reading.{◌>>=◌}
+use Rattle.rv_lists.specs.Parsing.{◌>>=◌}
 
 -- the expected end, the job of `same_as`, the instruction set, and the treatment of misaligned accesses of a job, or the first error;
 -- `earlier` are the names of the earlier jobs

@@ -1,4 +1,4 @@
-pub mod Reading
+pub mod Parsing
 pub mod Keys
 pub mod KeysInside
 pub mod Jobs

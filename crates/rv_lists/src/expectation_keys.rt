@@ -3,7 +3,7 @@
 
 ghost use Rattle.std.specs.Prelude.{◌≡◌};
 ghost use Rattle.toml.specs.View.{table_view};
-ghost use Rattle.rv_lists.specs.Reading.{MatchesUnlessOutOfMemory};
+ghost use Rattle.rv_lists.specs.Parsing.{MatchesUnlessOutOfMemory};
 ghost use Rattle.rv_lists.specs.JobList.{exit_from_table, reference_from_table, console_from_text, console_from_path, console_from_table};
 ghost use Rattle.rv_lists.specs.JobList.{end_from_text, end_from_table};
 

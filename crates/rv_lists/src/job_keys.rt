@@ -2,7 +2,7 @@
 
 ghost use Rattle.std.specs.Prelude.{◌≡◌, IfOk, None, length};
 ghost use Rattle.toml.specs.View.{view, table_view};
-ghost use Rattle.rv_lists.specs.Reading.{MatchesUnlessOutOfMemory};
+ghost use Rattle.rv_lists.specs.Parsing.{MatchesUnlessOutOfMemory};
 ghost use Rattle.rv_lists.specs.Jobs.{IsValidJobAt};
 ghost use Rattle.rv_lists.specs.JobList.{name_from_table, image_from_table, budget_from_table, names_of_jobs, job_from_table, job_from_element};
 ghost use Rattle.rv_base.specs.Names.{index_in};
@@ -13,8 +13,8 @@ use crate::earlier_jobs::EarlierJobs;
 use crate::error::What;
 use crate::job::Job;
 use crate::keys::{number_at_key, text_at_key};
-use crate::kinds::{has_unknown_job_or_region_key, has_wrong_type};
-use crate::results::{ExpectedResults, expected_results_from_table};
+use crate::value_types::{has_unknown_job_or_region_key, has_wrong_type};
+use crate::expected_results::{ExpectedResults, expected_results_from_table};
 use crate::run_keys::{RunOptions, run_options_from_table};
 use crate::setup::{Setup, setup_from_table};
 use crate::texts::is_same_path;

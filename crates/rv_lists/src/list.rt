@@ -5,7 +5,7 @@ ghost use Rattle.std.specs.Prelude.{vec_len, option_map};
 ghost use Rattle.toml.specs.View.{view, table_view, array_view, items_view};
 ghost use Rattle.rv_lists.specs.declared.error.What.TheVariants.{OutOfMemory};
 ghost use Rattle.rv_base.specs.Limits.{max_jobs};
-ghost use Rattle.rv_lists.specs.Reading.{MatchesJobsUnlessOutOfMemory};
+ghost use Rattle.rv_lists.specs.Parsing.{MatchesJobsUnlessOutOfMemory};
 ghost use Rattle.rv_lists.specs.JobList.{has_no_jobs, has_too_many_jobs, job_elements, jobs_of_elements, jobs_of_document};
 ghost use Rattle.rv_lists.specs.JobList.{job_list_of};
 

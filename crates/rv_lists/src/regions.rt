@@ -3,7 +3,7 @@
 ghost use Rattle.std.specs.Prelude.{◌≡◌, ◌≢◌, MatchResult, Ok, Err};
 ghost use Rattle.rv_lists.specs.declared.error.What.TheVariants.{OutOfMemory};
 ghost use Rattle.toml.specs.View.{view, table_view, items_view};
-ghost use Rattle.rv_lists.specs.Reading.{MatchesUnlessOutOfMemory};
+ghost use Rattle.rv_lists.specs.Parsing.{MatchesUnlessOutOfMemory};
 ghost use Rattle.rv_lists.specs.JobList.{region_word, region_from_table, region_from_element, regions_from_elements, map_from_elements};
 ghost use Rattle.rv_lists.specs.JobList.{map_from_table};
 

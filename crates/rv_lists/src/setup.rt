@@ -7,7 +7,7 @@ ghost use Rattle.rv_lists.specs.declared.error.What.TheVariants.{OutOfMemory};
 ghost use Rattle.rv_base.specs.Limits.{max_script_len};
 ghost use Rattle.rv_lists.specs.JobList.{script_from_bytes, script_from_decoded, script_from_table, load_from_text, load_from_table};
 ghost use Rattle.rv_lists.specs.JobSteps.{setup_from_table};
-ghost use Rattle.rv_lists.specs.Reading.{MatchesUnlessOutOfMemory};
+ghost use Rattle.rv_lists.specs.Parsing.{MatchesUnlessOutOfMemory};
 
 use crate::error::What;
 use crate::keys::text_at_key;

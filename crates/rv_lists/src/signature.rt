@@ -5,7 +5,7 @@ ghost use Rattle.std.specs.Prelude.{option_and_then};
 ghost use Rattle.std.specs.List.{list_all};
 ghost use Rattle.toml.specs.Data.{as_str, get_item};
 ghost use Rattle.toml.specs.View.{table_view, items_view};
-ghost use Rattle.rv_lists.specs.Reading.{MatchesUnlessOutOfMemory};
+ghost use Rattle.rv_lists.specs.Parsing.{MatchesUnlessOutOfMemory};
 ghost use Rattle.rv_lists.specs.JobList.{is_signature_symbol, signature_symbol, symbols_from_names, signature_from_table};
 
 use crate::error::What;

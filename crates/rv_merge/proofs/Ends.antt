@@ -15,8 +15,8 @@ use Rattle.rv_merge.specs.declared.error.Flaw.{Flaw}
 use Rattle.rv_merge.specs.declared.error.Flaw.TheVariants as flaw
 use Rattle.rv_merge.specs.declared.error.MergeError.{MergeError}
 use Rattle.rv_merge.specs.declared.error.MergeError.TheVariants as error
-use Rattle.rv_merge.specs.GatheredParts.{HaveSources, Holds, IsComplete, IsPartAdded, ExplainsIncomplete, LacksSource}
-use Rattle.rv_merge.specs.GatheredParts.{rows_from_slots}
+use Rattle.rv_merge.specs.MergeState.{HaveSources, Holds, IsComplete, IsPartAdded, ExplainsIncomplete, LacksSource}
+use Rattle.rv_merge.specs.MergeState.{rows_from_slots}
 use Rattle.rv_merge.specs.Parts.{AreValidRows, AreParts, ArePartsOfRun, IsReportAt, IsSearchedPart, Run, run_of_shard, shard_in, nth_text}
 use Rattle.rv_merge.specs.Refusals.{HasRepeatedName, IsMissingShard, IsRepeatedName, HasMergeError}
 use Rattle.rv_merge.proofs.OneList.{job_from_table, numbers_of_shard, one_shard_of, row_in, some_part}

@@ -19,7 +19,7 @@ use Rattle.rv_rows.specs.Differences.{IsSameReadError, AgreeBeforeError, first_r
 use Rattle.rv_rows.specs.LenientReport.{lenient_report}
 use Rattle.rv_merge.specs.declared.error.Flaw.{Flaw}
 use Rattle.rv_merge.specs.declared.error.Flaw.TheVariants as flaw
-use Rattle.rv_merge.specs.GatheredParts.{Holds, IsExtentFlaw, IsRunFlaw, IsSource, IsPartAdded, IsTextOf, filled_slots}
+use Rattle.rv_merge.specs.MergeState.{Holds, IsExtentFlaw, IsRunFlaw, IsSource, IsPartAdded, IsTextOf, filled_slots}
 use Rattle.rv_merge.specs.Parts.{IsReportAt, Run, run_of_shard, shard_in, nth_text}
 use Rattle.rv_merge.specs.Refusals.{AreDifferentReports, HasFlaw, IsUnread}
 use Rattle.rv_merge.proofs.OneList.{HasNumbers, numbers_of_shard}

@@ -10,7 +10,7 @@ use Rattle.rv_rows.specs.declared_job.Job.{Job}
 use Rattle.rv_rows.specs.Limits.{max_jobs}
 use Rattle.rv_rows.specs.declared_lists_error.What.TheVariants as what
 use Rattle.rv_rows.specs.Keys.{any_unknown_key, item_count, has_unknown_job_or_region_key, has_wrong_type, is_list_key}
-use Rattle.rv_rows.specs.Reading.{◌>>=◌, fault_if, valid_value, with_job_number}
+use Rattle.rv_rows.specs.Parsing.{◌>>=◌, fault_if, valid_value, with_job_number}
 use Rattle.rv_rows.specs.JobList.{name_from_table, names_of_jobs, image_from_table, budget_from_table, script_from_table, map_from_table}
 use Rattle.rv_rows.specs.Names.{is_name, index_in}
 use Rattle.rv_rows.specs.JobList.{load_from_table, signature_from_table, exit_from_table, reference_from_table, console_from_table, end_from_table, same_as_from_table, isa_from_table}

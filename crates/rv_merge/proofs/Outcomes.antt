@@ -17,7 +17,7 @@ use Rattle.rv_rows.specs.Loading.{map_check, map_rows}
 use Rattle.rv_rows.specs.Symbols.{symbol_of, symbol_rows, signature_check, is_bad_signature_range}
 use Rattle.rv_rows.specs.declared_job.Job.{Job}
 use Rattle.rv_rows.specs.declared_job.Symbols.{Symbols}
-use Rattle.rv_rows.specs.Reading.{◌>>=◌}
+use Rattle.rv_rows.specs.Parsing.{◌>>=◌}
 use Rattle.rv_rows.specs.declared_kept.Kept.{Kept}
 use Rattle.rv_rows.specs.declared_kept.Kept.TheVariants as kept
 use Rattle.rv_rows.specs.declared_row.Refusal.{Refusal}

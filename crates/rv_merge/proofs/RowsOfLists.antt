@@ -18,7 +18,7 @@ use Rattle.rv_rows.specs.declared_row.Row.{Row}
 use Rattle.rv_rows.specs.declared_row.RowEnd.{RowEnd}
 use Rattle.rv_rows.specs.declared_row.RowEnd.TheVariants as ending
 use Rattle.rv_rows.specs.Rows.{row_of, rows_of}
-use Rattle.rv_rows.specs.Wholes.{plan_of_jobs}
+use Rattle.rv_rows.specs.SameResults.{plan_of_jobs}
 use Rattle.rv_rows.specs.Saved.{IsValidSignature, IsValidEnd, IsValidRow, max_words, are_distinct, row_names}
 use Rattle.rv_merge.specs.Parts.{AreValidRows}
 use Rattle.rv_merge.specs.Numbers.{EndHasWordNumbers, HasNumbers, HasWords}

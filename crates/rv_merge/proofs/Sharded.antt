@@ -15,11 +15,11 @@ use Rattle.rv_rows.specs.Names.{is_name}
 use Rattle.rv_rows.specs.Limits.{max_jobs}
 use Rattle.rv_rows.specs.Jobs.{single_job}
 use Rattle.rv_rows.specs.declared_answers.PathResult.{PathResult}
-use Rattle.rv_rows.specs.Choices.{selected_indices}
+use Rattle.rv_rows.specs.Selection.{selected_indices}
 use Rattle.rv_rows.specs.Plans.{PlanView, jobs_needed_for}
 use Rattle.rv_rows.specs.declared_row.Row.{Row}
 use Rattle.rv_rows.specs.Rows.{row_of, rows_at, rows_of}
-use Rattle.rv_rows.specs.Wholes.{HaveSameResults, plan_of_jobs}
+use Rattle.rv_rows.specs.SameResults.{HaveSameResults, plan_of_jobs}
 use Rattle.rv_rows.specs.declared_saved.Extent.TheVariants as extent
 use Rattle.rv_rows.specs.declared_saved.Shard.{Shard}
 use Rattle.rv_rows.specs.Saved.{IsValidRow, IsValidReport, are_evenly_spaced, matches_job_numbers, is_valid_shard, row_names, saved_text}

@@ -10,7 +10,7 @@ use Rattle.rv_rows.specs.Differences.{IsSameReadError, AgreeBeforeError, first_r
 use Rattle.rv_rows.specs.LenientReport.{lenient_report}
 use Rattle.rv_rows.specs.Saved.{IsValidReport, saved_text}
 use Rattle.rv_merge.specs.declared.error.Flaw.{Flaw}
-use Rattle.rv_merge.specs.GatheredParts.{IsExtentFlaw}
+use Rattle.rv_merge.specs.MergeState.{IsExtentFlaw}
 use Rattle.rv_merge.specs.Parts.{bytes_of_texts, nth_text}
 use Rattle.rv_merge.specs.Refusals.{HasFlaw, IsUnread}
 use Rattle.rv_merge.proofs.Gathering.{has_other_kind, is_unread}

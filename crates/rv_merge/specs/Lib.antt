@@ -2,4 +2,4 @@ pub mod Numbers
 pub mod Parts
 pub mod Refusals
 pub mod Shards
-pub mod GatheredParts
+pub mod MergeState

@@ -8,7 +8,7 @@ use Rattle.rv_rows.specs.Limits.{max_jobs}
 use Rattle.rv_rows.specs.declared_answers.PathResult.{PathResult}
 use Rattle.rv_rows.specs.Plans.{PlanView, jobs_needed_for}
 use Rattle.rv_rows.specs.Rows.{rows_at}
-use Rattle.rv_rows.specs.Wholes.{HaveSameResults, plan_of_jobs}
+use Rattle.rv_rows.specs.SameResults.{HaveSameResults, plan_of_jobs}
 use Rattle.rv_rows.specs.declared_saved.Extent.TheVariants as extent
 use Rattle.rv_rows.specs.declared_saved.SavedReport.{SavedReport}
 use Rattle.rv_rows.specs.Saved.{saved_text}

@@ -9,8 +9,8 @@
 #![tactic(auto)]
 
 mod error;
-mod gathered_parts;
-mod law;
+mod merge_state;
+mod parts_law;
 mod list_rows_law;
 mod merge;
 mod names;
@@ -19,7 +19,7 @@ mod shards;
 mod whole_list_law;
 
 pub use error::{Flaw, MergeError};
-pub use law::shards_give_the_parts_of_the_whole;
+pub use parts_law::shards_give_the_parts_of_the_whole;
 pub use list_rows_law::rows_form_a_list;
 pub use merge::merge_parts;
 pub use shards::shard_selection;

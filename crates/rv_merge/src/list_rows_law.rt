@@ -9,7 +9,7 @@ ghost use Rattle.rv_rows.specs.JobList.{job_list_of};
 ghost use Rattle.rv_merge.specs.Parts.{AreValidRows};
 ghost use Rattle.rv_rows.specs.Saved.{IsWord};
 ghost use Rattle.rv_rows.specs.Rows.{rows_of};
-ghost use Rattle.rv_rows.specs.Wholes.{plan_of_jobs};
+ghost use Rattle.rv_rows.specs.SameResults.{plan_of_jobs};
 ghost use Rattle.rv_merge.specs.Numbers.{EndHasWordNumbers, HasNumbers, HasWords};
 
 use rv_rows::{Bytes, Row, RowEnd, Words};

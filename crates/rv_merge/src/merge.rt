@@ -5,11 +5,11 @@ ghost use Rattle.std.specs.Prelude.{slice_index_or};
 ghost use Rattle.rv_rows.specs.declared_row.Row.{Row};
 ghost use Rattle.rv_merge.specs.Parts.{AreParts, bytes_of_texts};
 ghost use Rattle.rv_merge.specs.Refusals.{IsRowsOrOutOfMemory, HasMergeError};
-ghost use Rattle.rv_merge.specs.GatheredParts.{HaveSources, IsMergeStateAfter, IsComplete};
-ghost use Rattle.rv_merge.specs.GatheredParts.{ExplainsIncomplete, rows_from_slots};
+ghost use Rattle.rv_merge.specs.MergeState.{HaveSources, IsMergeStateAfter, IsComplete};
+ghost use Rattle.rv_merge.specs.MergeState.{ExplainsIncomplete, rows_from_slots};
 
 use crate::error::{Flaw, MergeError};
-use crate::gathered_parts::{MergeState, add_part, initial_state};
+use crate::merge_state::{MergeState, add_part, initial_state};
 use crate::names::first_repeated_name;
 use crate::part::part_at;
 use rv_rows::{Row, Rows};

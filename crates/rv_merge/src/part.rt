@@ -3,7 +3,7 @@
 ghost use Rattle.std.specs.Prelude.{◌≡◌, ◌<◌, IfOk, IfErr, length};
 ghost use Rattle.rv_merge.specs.Parts.{bytes_of_texts, nth_text};
 ghost use Rattle.rv_merge.specs.Refusals.{HasMergeError, HasFlaw};
-ghost use Rattle.rv_merge.specs.GatheredParts.{IsTextOf, IsExtentFlaw, report_of_part};
+ghost use Rattle.rv_merge.specs.MergeState.{IsTextOf, IsExtentFlaw, report_of_part};
 
 use crate::error::{Flaw, MergeError};
 use rv_rows::{Extent, Numbers, ReadError, Rows, SavedReport, Shard, read_report};

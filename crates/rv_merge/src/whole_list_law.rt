@@ -7,9 +7,9 @@ ghost use Rattle.rv_rows.specs.JobList.{job_list_of};
 ghost use Rattle.rv_merge.specs.Parts.{AreParts, Run};
 ghost use Rattle.rv_merge.specs.Shards.{AreShardTexts, IsRunOf};
 ghost use Rattle.rv_rows.specs.Rows.{rows_of};
-ghost use Rattle.rv_rows.specs.Wholes.{plan_of_jobs};
+ghost use Rattle.rv_rows.specs.SameResults.{plan_of_jobs};
 
-use crate::law::shards_give_the_parts_of_the_whole;
+use crate::parts_law::shards_give_the_parts_of_the_whole;
 use crate::list_rows_law::rows_form_a_list;
 use rv_rows::Row;
 

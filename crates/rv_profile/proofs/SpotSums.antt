@@ -31,7 +31,7 @@ sums_more : (spots : List CallNode) (k : ℕ) (d : CallNode) → k < length spot
     → sums_of (take (k + 1) spots) ≡ with_node (sums_of (take k spots)) (get_or spots k d)
 sums_more spots k d within = λ i. record {
   steps = counted_more steps_of spots k d within i;
-  arrivals = counted_more calls_of_node spots k d within i;
+  calls = counted_more calls_of_node spots k d within i;
 }
 
 -- ---- both are numbers of 64 bits

@@ -3,7 +3,7 @@ use Rattle.std.specs.Prelude.{◌++◌, ℕ, List, codes}
 use Rattle.std.specs.Fmt.{decimal}
 use Rattle.std.specs.List.{flat_map}
 use Rattle.rv_cover_view.specs.Csv.{csv_field}
-use Rattle.rv_count_tables.specs.Words.{word_digits}
+use Rattle.rv_count_tables.specs.Numbers.{word_digits}
 use Rattle.rv_profile.specs.Profile.{FunctionCounts}
 
 -- the first line of the CSV, with the column names
@@ -13,7 +13,7 @@ csv_header = codes "image,function,address,self,inclusive,calls\n"
 -- the rest of a CSV row after the function's name: its address and its counts, each after a comma, and a line feed
 unfoldable pub csv_numbers : FunctionCounts → List ℕ
 csv_numbers p = codes "," ++ word_digits p.function ++ codes "," ++ decimal p.own ++ codes "," ++ decimal p.inclusive
-    ++ codes "," ++ decimal p.arrivals ++ codes "\n"
+    ++ codes "," ++ decimal p.calls ++ codes "\n"
 
 -- the CSV row of a function of the image with this path
 unfoldable pub csv_row : List ℕ → FunctionCounts → List ℕ

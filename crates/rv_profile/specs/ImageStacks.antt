@@ -33,15 +33,15 @@ has_stacks table = list_any (λ counted. has_nodes counted.spots) table.images
 
 -- the sum of the steps and the sum of the calls of all nodes
 abbrev pub sums_of : List CallNode → Sums
-sums_of spots = record { steps = all_steps spots; arrivals = all_calls spots }
+sums_of spots = record { steps = all_steps spots; calls = all_calls spots }
 
 -- the sums, to which the steps and the calls of one more node are added
 abbrev pub with_node : Sums → CallNode → Sums
-with_node sums s = record { steps = sums.steps + s.steps; arrivals = sums.arrivals + s.arrivals }
+with_node sums s = record { steps = sums.steps + s.steps; calls = sums.calls + s.calls }
 
 -- whether both sums fit in 64 bits
 abbrev pub fit_in_64_bits : Sums → Bool
-fit_in_64_bits sums = nat_lt sums.steps (2 ^ 64) && nat_lt sums.arrivals (2 ^ 64)
+fit_in_64_bits sums = nat_lt sums.steps (2 ^ 64) && nat_lt sums.calls (2 ^ 64)
 
 -- the sums, or `None` if one of them does not fit in 64 bits
 abbrev pub if_fitting : Sums → Option Sums

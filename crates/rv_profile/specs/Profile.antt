@@ -17,7 +17,7 @@ pub record FunctionCounts : Type 0 where
   pub own : ℕ
   pub inclusive : ℕ
   -- the number of calls
-  pub arrivals : ℕ
+  pub calls : ℕ
 
 -- the counts in a call tree of the function with this name and address
 abbrev pub function_counts : List CallNode → FunctionName → FunctionCounts
@@ -26,7 +26,7 @@ function_counts spots named = record {
   function = named.function;
   own = own_steps_of named.function spots;
   inclusive = inclusive_steps_after named.function [] spots;
-  arrivals = calls_of_function named.function spots;
+  calls = calls_of_function named.function spots;
 }
 
 -- whether `p` comes before `q` in a profile: it has more own steps, or equally many and a lower address
@@ -59,7 +59,7 @@ function_counts_of function = record {
   function = function.function;
   own = function.steps.own;
   inclusive = function.steps.inclusive;
-  arrivals = function.steps.arrivals;
+  calls = function.steps.calls;
 }
 
 -- the counts of functions, converted from the Rust values to the records that contracts use, in order

@@ -20,7 +20,7 @@ abbrev pub columns_of : Sums → Columns
 columns_of sums = record {
   own = width 13 sums.steps;
   inclusive = width 11 sums.steps;
-  arrivals = width 10 sums.arrivals;
+  calls = width 10 sums.calls;
 }
 
 -- the word, preceded by spaces up to `width` characters
@@ -34,7 +34,7 @@ share_header width word = right_aligned_word width word ++ codes "       %"
 -- the header with the names of the columns
 unfoldable pub column_header : Columns → List ℕ
 column_header c = share_header c.own (codes "self") ++ share_header c.inclusive (codes "inclusive")
-    ++ right_aligned_word c.arrivals (codes "calls") ++ codes "  function\n"
+    ++ right_aligned_word c.calls (codes "calls") ++ codes "  function\n"
 
 -- ---- shares
 
@@ -62,7 +62,7 @@ steps_line path steps = printable_text path ++ codes ": " ++ decimal steps ++ st
 
 -- the line of a function, given the widths of the columns and the steps of its image
 unfoldable pub function_line : Columns → ℕ → FunctionCounts → List ℕ
-function_line c steps p = share c.own p.own steps ++ share c.inclusive p.inclusive steps ++ right c.arrivals p.arrivals
+function_line c steps p = share c.own p.own steps ++ share c.inclusive p.inclusive steps ++ right c.calls p.calls
     ++ codes "  " ++ printable_name p.name ++ codes "\n"
 
 -- the lines of functions, given the widths of the columns and the steps of their image

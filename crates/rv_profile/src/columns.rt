@@ -12,7 +12,7 @@ use std::alloc::{AllocError, Global};
 pub(crate) struct Columns {
     pub(crate) own: usize,
     pub(crate) inclusive: usize,
-    pub(crate) arrivals: usize,
+    pub(crate) calls: usize,
 }
 
 /// Returns the widths of the columns for an image, given the sums of its steps and calls.
@@ -22,7 +22,7 @@ pub(crate) fn columns_of(alloc: Global, sums: Sums) -> Result<Columns, AllocErro
     Ok(Columns {
         own: width(alloc, 13, sums.steps)?,
         inclusive: width(alloc, 11, sums.steps)?,
-        arrivals: width(alloc, 10, sums.arrivals)?,
+        calls: width(alloc, 10, sums.calls)?,
     })
 }
 

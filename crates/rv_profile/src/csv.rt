@@ -61,7 +61,7 @@ fn push_csv_numbers(bytes: &mut Vec<u8>, function: &FunctionProfile<'_>) -> Resu
             Span::Text(","),
             Span::Number(function.steps.inclusive),
             Span::Text(","),
-            Span::Number(function.steps.arrivals),
+            Span::Number(function.steps.calls),
             Span::Text("\n"),
         ],
     )

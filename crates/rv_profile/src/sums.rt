@@ -9,7 +9,7 @@ use rv_count_tables::CallNode;
 #[derive(Clone, Copy)]
 pub(crate) struct Sums {
     pub(crate) steps: u64,
-    pub(crate) arrivals: u64,
+    pub(crate) calls: u64,
 }
 
 impl Sums {
@@ -19,7 +19,7 @@ impl Sums {
     {
         Some(Sums {
             steps: self.steps.checked_add(spot.steps)?,
-            arrivals: self.arrivals.checked_add(spot.arrivals)?,
+            calls: self.calls.checked_add(spot.calls)?,
         })
     }
 }
@@ -30,7 +30,7 @@ pub(crate) fn sums_of(spots: &[CallNode]) -> Option<Sums>
 {
     let mut sums = Sums {
         steps: 0,
-        arrivals: 0,
+        calls: 0,
     };
     for spot in spots {
         sums = sums.with_node(*spot)?;

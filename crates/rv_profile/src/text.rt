@@ -44,7 +44,7 @@ pub(crate) fn push_column_header(bytes: &mut Vec<u8>, columns: Columns) -> Resul
 {
     push_share_header(bytes, columns.own, "self")?;
     push_share_header(bytes, columns.inclusive, "inclusive")?;
-    push_right_aligned_word(bytes, columns.arrivals, "calls")?;
+    push_right_aligned_word(bytes, columns.calls, "calls")?;
     push_text(bytes, "  function\n")
 }
 
@@ -81,7 +81,7 @@ pub(crate) fn push_function_line(
     let counted = function.steps;
     push_share(alloc, bytes, columns.own, counted.own, steps)?;
     push_share(alloc, bytes, columns.inclusive, counted.inclusive, steps)?;
-    push_right_aligned(alloc, bytes, columns.arrivals, counted.arrivals)?;
+    push_right_aligned(alloc, bytes, columns.calls, counted.calls)?;
     push_spans(
         bytes,
         &[

@@ -15,7 +15,7 @@ use Rattle.rv_report.specs.Differences.{AgreeBeforeError, IsSameReadError, read_
 use Rattle.rv_report.proofs.Told.{tells}
 use Rattle.rv_report.proofs.Cut.{said_can_be}
 use Rattle.rv_report.proofs.Reports.{says_itself}
-use Rattle.rv_report.specs.LeastLine.{IsFirstError, IsReportPrefix}
+use Rattle.rv_report.specs.FirstInvalidLine.{IsFirstError, IsReportPrefix}
 use Rattle.rv_report.proofs.LeastTold.{told_is_least, begun_is_cut}
 
 pub can_be : (bytes : List ℕ) (r : SavedReport) → r ≡ lenient_report bytes → IsValidReport r

@@ -29,7 +29,7 @@ use Rattle.rv_report.proofs.Grown.{chosen}
 use Rattle.rv_report.proofs.RowLines.{numbered_lines, saved_lines, joined_numbered, joined_saved, saved_is_lines}
 use Rattle.rv_report.proofs.CollectedRows.{Covers, take_past}
 use Rattle.rv_report.proofs.KeptReport.{said_by, kept_cut}
-use Rattle.rv_report.proofs.LeastLine.{said_begins}
+use Rattle.rv_report.proofs.FirstInvalidLine.{said_begins}
 use Rattle.rv_report.proofs.CutWord.{take_none}
 use Rattle.rv_report.proofs.CutText.{AlikeLine, alike_cut, passed_lines, same_word}
 use Rattle.rv_report.proofs.NextRow.{says_alone}

@@ -3,7 +3,7 @@ use Rattle.std.proofs.Common.{◌≡◌, ◌∙◌, ◌+◌, ◌*◌, ◌/◌, �
 use Rattle.std.proofs.Common.{take, slice_index, refl, sym, ap, arith, subst}
 use Rattle.std.proofs.lemmas.Bool.{and_parts, and_from}
 use Rattle.hex.specs.Hex.{encode_with, lower_digits}
-use Rattle.rv_text.specs.Words.{word_digits}
+use Rattle.rv_text.specs.Numbers.{word_digits}
 use Rattle.rv_report.specs.LenientReport.{with_digit, hex_number, hex_word, with_zero_digits, is_hex_digit, are_hex_digits}
 use Rattle.rv_report.proofs.Words.{digit_is}
 

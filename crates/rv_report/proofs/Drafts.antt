@@ -21,8 +21,8 @@ use Rattle.rv_report.specs.declared.row.RowEnd.{RowEnd}
 use Rattle.rv_report.specs.declared.row.RowEnd.TheVariants as ending
 use Rattle.rv_report.specs.declared.row.Verdict.{Verdict}
 use Rattle.rv_report.specs.declared.row.Verdict.TheVariants.{Unasked}
-use Rattle.rv_report.specs.declared.gathering.Stage.{Stage}
-use Rattle.rv_report.specs.declared.gathering.Stage.TheVariants as stage
+use Rattle.rv_report.specs.declared.lenient_rows.Stage.{Stage}
+use Rattle.rv_report.specs.declared.lenient_rows.Stage.TheVariants as stage
 use Rattle.rv_report.specs.declared.saved.Extent.{Extent}
 use Rattle.rv_report.specs.declared.saved.Extent.TheVariants.{Whole}
 use Rattle.rv_report.specs.LenientReport.{lines, name_or_dash, job_number_of_line, job_name_of_line, text_after_byte, decimal_number_from, decimal_number, with_digit}

@@ -10,13 +10,13 @@ use Rattle.rv_report.specs.declared.saved.SavedReport.{SavedReport}
 use Rattle.rv_report.specs.LenientReport.{lenient_report}
 use Rattle.rv_report.specs.Saved.{IsValidReport, saved_text}
 use Rattle.rv_report.specs.Differences.{line_feed_count, word_after_byte, can_begin_report_line, line_after_byte, read_error_from, read_error_at, AgreeBeforeError}
-use Rattle.rv_report.specs.LeastLine.{first_lines, IsReportPrefix, IsFirstError}
+use Rattle.rv_report.specs.FirstInvalidLine.{first_lines, IsReportPrefix, IsFirstError}
 use Rattle.rv_report.proofs.Pieces.{lacks}
 use Rattle.rv_report.proofs.Cut.{said_can_be}
 use Rattle.rv_report.proofs.CutReport.{lines_cut}
 use Rattle.rv_report.proofs.Told.{tells}
 use Rattle.rv_report.proofs.LineLists.{joined}
-use Rattle.rv_report.proofs.LeastLine.{split_lines, lines_stay, feeds_of, past_feed, past_byte}
+use Rattle.rv_report.proofs.FirstInvalidLine.{split_lines, lines_stay, feeds_of, past_feed, past_byte}
 
 -- ---- no line before the first difference is told
 

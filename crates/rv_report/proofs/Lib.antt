@@ -20,7 +20,7 @@ pub mod PartialSignature
 pub mod PartialRow
 pub mod CollectedRows
 pub mod KeptReport
-pub mod LeastLine
+pub mod FirstInvalidLine
 pub mod LeastTold
 mod PartialReports
 pub mod CutText

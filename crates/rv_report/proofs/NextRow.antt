@@ -9,14 +9,14 @@ use Rattle.std.proofs.lemmas.Bool.{and_parts, and_from, not-true}
 use Rattle.std.proofs.lemmas.Bool.Decides.{nat_tests}
 use Rattle.std.proofs.lemmas.List.{map-append}
 use Rattle.hex.specs.Hex.{encode_lower}
-use Rattle.rv_text.specs.Words.{word_digits}
+use Rattle.rv_text.specs.Numbers.{word_digits}
 use Rattle.rv_base.specs.Limits.{max_jobs}
 use Rattle.rv_machine.specs.Faults.{fault_name}
 use Rattle.rv_report.specs.declared.row.Row.{Row}
 use Rattle.rv_report.specs.declared.row.RowEnd.{RowEnd}
 use Rattle.rv_report.specs.declared.row.RowEnd.TheVariants as ending
 use Rattle.rv_report.specs.declared.row.Verdict.{Verdict}
-use Rattle.rv_report.specs.declared.gathering.Stage.TheVariants as stage
+use Rattle.rv_report.specs.declared.lenient_rows.Stage.TheVariants as stage
 use Rattle.rv_report.specs.Report.{refusal_name, verdict_name, dash_if_empty}
 use Rattle.rv_report.specs.LenientReport.{lines, is_hex_word, hex_word, are_hex_digits, verdict_of_line, ReaderStateView, state_between_rows, with_finished_row, with_stage_done}
 use Rattle.rv_report.specs.LenientReport.{unfinished_row, after_word_or_verdict_line, with_line, with_lines, with_unfinished_row}

@@ -10,13 +10,13 @@ use Rattle.rv_report.specs.declared.row.Row.{Row}
 use Rattle.rv_report.specs.declared.saved.Extent.TheVariants as extent
 use Rattle.rv_report.specs.declared.saved.SavedReport.{SavedReport}
 use Rattle.rv_report.specs.Differences.{line_feed_count}
-use Rattle.rv_report.specs.LeastLine.{IsReportPrefix}
+use Rattle.rv_report.specs.FirstInvalidLine.{IsReportPrefix}
 use Rattle.rv_report.specs.LenientReport.{lenient_report}
 use Rattle.rv_report.specs.Partial.{BeginsWith, HasCompleteRows, first_rows, first_rows_text, complete_lines}
 use Rattle.rv_report.specs.Report.{row_text}
 use Rattle.rv_report.specs.Saved.{IsValidRow, IsValidReport, are_distinct, are_increasing, matches_job_numbers, numbered_rows_text, row_names}
 use Rattle.rv_report.proofs.Cut.{length-taken, said_can_be}
-use Rattle.rv_report.proofs.LeastLine.{lines_stay}
+use Rattle.rv_report.proofs.FirstInvalidLine.{lines_stay}
 use Rattle.rv_report.proofs.Loops.{numbered_more}
 
 -- ---- the first rows are a report

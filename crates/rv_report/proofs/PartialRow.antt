@@ -4,7 +4,7 @@ use Rattle.std.proofs.Common.{length, take, sym, ap, arith, subst, append_assoc}
 use Rattle.rv_base.specs.Limits.{max_jobs}
 use Rattle.rv_report.specs.declared.row.Row.{Row}
 use Rattle.rv_report.specs.declared.row.RowEnd.{RowEnd}
-use Rattle.rv_report.specs.declared.gathering.Stage.TheVariants as stage
+use Rattle.rv_report.specs.declared.lenient_rows.Stage.TheVariants as stage
 use Rattle.rv_report.specs.LenientReport.{lines, ReaderStateView, with_unfinished_row}
 use Rattle.rv_report.specs.Saved.{IsValidRow}
 use Rattle.rv_report.proofs.Words.{lacks-decimal}

@@ -7,9 +7,9 @@ use Rattle.std.specs.Fmt.{decimal}
 use Rattle.std.proofs.lemmas.Bool.Decides.{nat_tests}
 use Rattle.std.proofs.lemmas.List.{take-append-le, take-map, map-append, length-map}
 use Rattle.std.proofs.lemmas.List.Folds.{flat_map-map}
-use Rattle.rv_text.specs.Words.{word_digits}
+use Rattle.rv_text.specs.Numbers.{word_digits}
 use Rattle.rv_report.specs.declared.row.Row.{Row}
-use Rattle.rv_report.specs.declared.gathering.Stage.TheVariants as stage
+use Rattle.rv_report.specs.declared.lenient_rows.Stage.TheVariants as stage
 use Rattle.rv_report.specs.Report.{line}
 use Rattle.rv_report.specs.LenientReport.{lines, decimal_number, decimal_number_from, ReaderStateView, with_line, with_unfinished_row}
 use Rattle.rv_report.specs.Saved.{IsWord, IsValidSignature, max_words}

@@ -9,8 +9,8 @@ use Rattle.std.proofs.lemmas.List.{length-replicate}
 use Rattle.rv_report.specs.declared.row.Row.{Row}
 use Rattle.rv_report.specs.declared.row.Verdict.{Verdict}
 use Rattle.rv_report.specs.declared.row.Verdict.TheVariants.{Unasked}
-use Rattle.rv_report.specs.declared.gathering.Stage.{Stage}
-use Rattle.rv_report.specs.declared.gathering.Stage.TheVariants as stage
+use Rattle.rv_report.specs.declared.lenient_rows.Stage.{Stage}
+use Rattle.rv_report.specs.declared.lenient_rows.Stage.TheVariants as stage
 use Rattle.rv_report.specs.LenientReport.{decimal_number, is_hex_word, hex_word, hex_bytes, row_ending_of_line, verdict_of_line}
 use Rattle.rv_report.specs.LenientReport.{ReaderStateView, state_between_rows, with_finished_row, with_stage_done, unfinished_row, padded_words}
 use Rattle.rv_report.specs.LenientReport.{after_end_line, after_steps_line, after_console_line, after_signature_line, after_word_or_verdict_line, with_line, with_lines, with_unfinished_row}

@@ -9,7 +9,7 @@ use Rattle.std.specs.Fmt.{decimal}
 use Rattle.std.specs.Int.{w32, to_be_bytes}
 use Rattle.hex.specs.Hex.{IsBytes, encode_lower, encode_with, lower_digits}
 use Rattle.hex.proofs.HexLemmas.{decode_of-encode_lower}
-use Rattle.rv_text.specs.Words.{word_digits}
+use Rattle.rv_text.specs.Numbers.{word_digits}
 use Rattle.rv_report.specs.LenientReport.{with_zero_digits, are_hex_digits}
 use Rattle.rv_report.specs.LenientReport.{decimal_number_from, decimal_number, with_digit, hex_number, hex_word, hex_digit_value, is_hex_digit, is_hex_word}
 use Rattle.rv_report.specs.LenientReport.{hex_bytes, bytes_if_decoded}

@@ -20,8 +20,8 @@ use Rattle.rv_report.specs.declared.row.RowEnd.{RowEnd}
 use Rattle.rv_report.specs.declared.row.RowEnd.TheVariants as ending
 use Rattle.rv_report.specs.declared.row.Verdict.{Verdict}
 use Rattle.rv_report.specs.declared.row.Verdict.TheVariants as verdict
-use Rattle.rv_report.specs.declared.gathering.Stage.{Stage}
-use Rattle.rv_report.specs.declared.gathering.Stage.TheVariants as stage
+use Rattle.rv_report.specs.declared.lenient_rows.Stage.{Stage}
+use Rattle.rv_report.specs.declared.lenient_rows.Stage.TheVariants as stage
 use Rattle.rv_report.specs.declared.saved.Extent.{Extent}
 use Rattle.rv_report.specs.declared.saved.Extent.TheVariants as extent
 use Rattle.rv_report.specs.declared.saved.SavedReport.{SavedReport}

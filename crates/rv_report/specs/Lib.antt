@@ -3,7 +3,7 @@ pub mod Saved
 pub mod LenientReport
 pub mod View
 pub mod Differences
-pub mod LeastLine
+pub mod FirstInvalidLine
 pub mod Partial
 pub use Rattle.rv_base.specs.Counts
 pub use Rattle.rv_base.specs.Limits
@@ -20,4 +20,4 @@ pub use Rattle.rv_machine.specs.Run
 pub use Rattle.rv_machine.specs.declared.ending as declared_ending
 pub use Rattle.rv_text.specs.Printable
 pub use Rattle.rv_text.specs.Spans
-pub use Rattle.rv_text.specs.Words
+pub use Rattle.rv_text.specs.Numbers

@@ -2,7 +2,7 @@
 use Rattle.std.specs.Prelude.{◌≡◌, ◌+◌, ◌<◌, ◌≤◌, ℕ, Bool, true, false, List, ◌++◌, length, take}
 use Rattle.rv_base.specs.Limits.{max_jobs}
 use Rattle.rv_report.specs.Differences.{line_feed_count}
-use Rattle.rv_report.specs.LeastLine.{first_lines}
+use Rattle.rv_report.specs.FirstInvalidLine.{first_lines}
 use Rattle.rv_report.specs.Saved.{IsValidReport, numbered_rows_text, saved_text}
 use Rattle.rv_report.specs.declared.saved.Extent.TheVariants as extent
 use Rattle.rv_report.specs.declared.saved.SavedReport.{SavedReport}

@@ -1,6 +1,6 @@
 -- The state of reading a report, independent of how it is stored in memory.
 use Rattle.std.specs.Prelude.{string_bytes}
-use Rattle.rv_report.specs.declared.gathering.ReaderState.{ReaderState}
+use Rattle.rv_report.specs.declared.lenient_rows.ReaderState.{ReaderState}
 use Rattle.rv_report.specs.LenientReport.{ReaderStateView}
 
 -- the state of reading a report that the fields of `ReaderState` represent

@@ -7,7 +7,7 @@ ghost use Rattle.rv_report.specs.declared.saved.SavedReport.{SavedReport};
 ghost use Rattle.rv_report.specs.Saved.{IsValidReport, saved_text};
 ghost use Rattle.rv_report.specs.Differences.{line_feed_count};
 ghost use Rattle.rv_report.specs.LenientReport.{lenient_report};
-ghost use Rattle.rv_report.specs.LeastLine.{first_lines, IsReportPrefix};
+ghost use Rattle.rv_report.specs.FirstInvalidLine.{first_lines, IsReportPrefix};
 
 /// Proves that two valid reports with the same text are equal.
 pub fn one_text_one_report()

@@ -5,7 +5,7 @@ ghost use Rattle.rv_report.specs.LenientReport.{increasing_count, extent_or_sele
 ghost use Rattle.rv_base.specs.Limits.{max_jobs};
 ghost use Rattle.rv_report.specs.Saved.{IsValidReport};
 
-use crate::gathering::read_rows;
+use crate::lenient_rows::read_rows;
 use crate::names::count_before_repeated_name;
 use crate::report::Rows;
 use crate::saved::{Extent, Numbers, SavedReport};

@@ -8,7 +8,7 @@
 #![tactic(auto)]
 
 mod fields;
-mod gathering;
+mod lenient_rows;
 mod law;
 mod lenient_reader;
 mod lines;

@@ -2,7 +2,7 @@
 
 ghost use Rattle.std.specs.Prelude.{◌≡◌, ◌⊎◌, ◌<◌, ◌≤◌, ◌+◌, ℕ, IfErr, IfOk, OnErr, length};
 ghost use Rattle.rv_base.specs.Limits.{max_jobs};
-ghost use Rattle.rv_report.specs.LeastLine.{IsReportPrefix, IsFirstInvalidLine};
+ghost use Rattle.rv_report.specs.FirstInvalidLine.{IsReportPrefix, IsFirstInvalidLine};
 ghost use Rattle.rv_report.specs.LenientReport.{lenient_report};
 ghost use Rattle.rv_report.specs.Partial.{BeginsWith, IsReadAs, first_rows, first_rows_text};
 ghost use Rattle.rv_report.specs.Saved.{HasDistinctJobs, IsValidReport};

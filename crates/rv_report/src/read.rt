@@ -6,7 +6,7 @@ ghost use Rattle.rv_report.specs.Saved.{IsValidReport, saved_text};
 ghost use Rattle.rv_report.specs.Differences.{line_feed_count, word_after_byte, word_after_letter, begins_last_line, begins_row, can_begin_report_line, read_error_from};
 ghost use Rattle.rv_report.specs.Differences.{read_error_at, AgreeBeforeError, IsOkOrOutOfMemory, IsSameReadError};
 ghost use Rattle.rv_report.specs.LenientReport.{lenient_report};
-ghost use Rattle.rv_report.specs.LeastLine.{IsFirstError, IsReportPrefix};
+ghost use Rattle.rv_report.specs.FirstInvalidLine.{IsFirstError, IsReportPrefix};
 ghost use Rattle.rv_report.specs.declared.read.ReadError.TheVariants.{OutOfMemory, Truncated};
 ghost use Rattle.rv_report.specs.declared.read.FirstWordState.TheVariants as word;
 

@@ -4,7 +4,7 @@
 ghost use Rattle.std.specs.Prelude.{◌≡◌, ◌++◌, OnOk, bytes_eq, string_bytes};
 ghost use Rattle.std.specs.List.{flat_map};
 ghost use Rattle.rv_report.specs.Report.{word_line};
-ghost use Rattle.rv_text.specs.Words.{word_digits};
+ghost use Rattle.rv_text.specs.Numbers.{word_digits};
 
 use std::alloc::{AllocError, Global};
 

@@ -2,6 +2,6 @@ pub mod FlatImages
 pub mod Signatures
 pub mod Loadables
 pub mod Narrower
-pub mod Wholes
+pub mod SameResults
 pub mod RestsOfRuns
 pub mod Public

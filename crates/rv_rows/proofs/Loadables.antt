@@ -24,7 +24,7 @@ use Rattle.rv_rows.specs.declared.outcome.SignatureRange.{SignatureRange}
 use Rattle.rv_rows.specs.Outcome.{end_of_signature, loadable_image, loaded_state, range_if_requested, signature_range}
 use Rattle.rv_rows.specs.Outcome.{image_file_or_refusal, reference_or_refusal}
 use Rattle.rv_rows.specs.Rows.{content_if_read, image_if_read}
-use Rattle.rv_jobs.specs.Reading.{◌>>=◌}
+use Rattle.rv_jobs.specs.Parsing.{◌>>=◌}
 
 -- a second step that was reached: the first gave a value
 stepped : {E A B : Type 0} (r : Result A E) (f : A → Result B E) (y : B) → (r >>= f) ≡ Ok y → (x : A)

@@ -16,14 +16,14 @@ use Rattle.rv_machine.specs.declared.ending.Ending.{Ending}
 use Rattle.rv_machine.specs.declared.ending.Ending.TheVariants as machine
 use Rattle.rv_machine.specs.Run.{RunResult, run_of}
 use Rattle.rv_machine.specs.State.{State}
-use Rattle.rv_machine.specs.Sets.{is_independent_of_isa as ends_in_any_set}
+use Rattle.rv_machine.specs.IsaDependence.{is_independent_of_isa as ends_in_any_set}
 use Rattle.rv_machine.proofs.Public.{run_wider}
 use Rattle.rv_rows.specs.declared.outcome.LoadableImage.{LoadableImage}
 use Rattle.rv_report.specs.declared.row.Refusal.{Refusal}
 use Rattle.rv_report.specs.declared.row.Row.{Row}
 use Rattle.rv_rows.specs.Narrower.{widened_job, widened_jobs, widened_plan, is_end_independent_of_isa}
 use Rattle.rv_rows.specs.Outcome.{row_end, image_file_or_refusal, file_outcome_of, loadable_image, loaded_state}
-use Rattle.rv_jobs.specs.Reading.{◌>>=◌}
+use Rattle.rv_jobs.specs.Parsing.{◌>>=◌}
 use Rattle.rv_rows.specs.Outcome.{outcome_if_loadable, outcome_if_readable, outcome_of, outcome_of_run}
 use Rattle.rv_rows.specs.Rows.{same_as_outcome, outcome_in, row_of, rows_of}
 use Rattle.rv_rows.specs.Verdict.{verdict_of}

@@ -1,6 +1,6 @@
 -- Why a job is refused because of its image, whatever its other files.
 use Rattle.std.specs.Prelude.{List, Option, None}
-use Rattle.rv_jobs.specs.declared.answers.PathResult.{PathResult}
+use Rattle.rv_jobs.specs.declared.path_results.PathResult.{PathResult}
 use Rattle.rv_jobs.specs.declared_job.Job.{Job}
 use Rattle.rv_jobs.specs.Plans.{result_or_unreadable}
 use Rattle.rv_report.specs.declared.row.Refusal.{Refusal}

@@ -7,7 +7,7 @@ pub mod RecentOutcomes
 pub mod Narrower
 pub mod IntermediateState
 pub mod Verdict
-pub mod Wholes
+pub mod SameResults
 pub use Rattle.rv_elf.specs.Image
 pub use Rattle.rv_elf.specs.Loading
 pub use Rattle.rv_elf.specs.Rows as ElfRows
@@ -17,7 +17,7 @@ pub use Rattle.rv_elf.specs.declared.error as declared_elf_error
 pub use Rattle.rv_elf.specs.declared.image as declared_image
 pub use Rattle.rv_elf.specs.declared.loading as declared_loading
 pub use Rattle.rv_elf.specs.declared.symbol_search as declared_symbol_search
-pub use Rattle.rv_jobs.specs.Choices
+pub use Rattle.rv_jobs.specs.Selection
 pub use Rattle.rv_jobs.specs.Faults as ListsFaults
 pub use Rattle.rv_jobs.specs.JobList
 pub use Rattle.rv_jobs.specs.Jobs
@@ -25,7 +25,7 @@ pub use Rattle.rv_jobs.specs.Kept
 pub use Rattle.rv_jobs.specs.Keys
 pub use Rattle.rv_jobs.specs.ListFaults
 pub use Rattle.rv_jobs.specs.Plans
-pub use Rattle.rv_jobs.specs.Reading
+pub use Rattle.rv_jobs.specs.Parsing
 pub use Rattle.rv_jobs.specs.declared.answers as declared_answers
 pub use Rattle.rv_jobs.specs.declared.kept as declared_kept
 pub use Rattle.rv_jobs.specs.declared_error as declared_lists_error
@@ -43,7 +43,7 @@ pub use Rattle.rv_machine.specs.declared_map
 pub use Rattle.rv_machine.specs.declared_isa
 pub use Rattle.rv_report.specs.Counts
 pub use Rattle.rv_report.specs.Differences
-pub use Rattle.rv_report.specs.LeastLine
+pub use Rattle.rv_report.specs.FirstInvalidLine
 pub use Rattle.rv_report.specs.LenientReport
 pub use Rattle.rv_report.specs.Limits
 pub use Rattle.rv_report.specs.Names
@@ -53,7 +53,7 @@ pub use Rattle.rv_report.specs.Report
 pub use Rattle.rv_report.specs.Saved
 pub use Rattle.rv_report.specs.Sinks
 pub use Rattle.rv_report.specs.Spans
-pub use Rattle.rv_report.specs.Words
+pub use Rattle.rv_report.specs.Numbers
 pub use Rattle.rv_report.specs.declared.partial as declared_partial
 pub use Rattle.rv_report.specs.declared.read as declared_read
 pub use Rattle.rv_report.specs.declared.report as declared_report

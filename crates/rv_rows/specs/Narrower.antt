@@ -3,7 +3,7 @@ use Rattle.std.specs.Prelude.{ℕ, zero, suc, Bool, true, false, not, List, [], 
 use Rattle.rv_machine.specs.declared_isa.Isa.TheVariants.{Imc}
 use Rattle.rv_jobs.specs.declared_job.Job.{Job}
 use Rattle.rv_jobs.specs.Plans.{PlanView}
-use Rattle.rv_machine.specs.Sets.{depends_on_isa}
+use Rattle.rv_machine.specs.IsaDependence.{depends_on_isa}
 use Rattle.rv_report.specs.declared.row.RowEnd.{RowEnd}
 use Rattle.rv_report.specs.declared.row.RowEnd.TheVariants.{Exit, Fault, Budget, Refused}
 

@@ -8,7 +8,7 @@ use Rattle.rv_elf.specs.Loading.{map_check, initial_memory}
 use Rattle.rv_elf.specs.Symbols.{signature_check, symbol_of}
 use Rattle.rv_jobs.specs.declared_job.Job.{Job}
 use Rattle.rv_jobs.specs.declared_job.Symbols.{Symbols}
-use Rattle.rv_jobs.specs.Reading.{◌>>=◌}
+use Rattle.rv_jobs.specs.Parsing.{◌>>=◌}
 use Rattle.rv_jobs.specs.declared.kept.Kept.{Kept}
 use Rattle.rv_jobs.specs.declared.kept.Kept.TheVariants as kept
 use Rattle.rv_machine.specs.declared_map.Region.{Region}

@@ -12,7 +12,7 @@ ghost use Rattle.rv_rows.specs.IntermediateState.{IsIntermediateState};
 ghost use Rattle.rv_rows.specs.Outcome.{file_outcome_of, loadable_image, outcome_of_run, start_if_loadable};
 ghost use Rattle.rv_rows.specs.Rows.{outcome_in, row_of, start_state_in};
 
-use crate::attempt::{ended_run, image_file_or_refusal, loadable_image};
+use crate::job_run::{ended_run, image_file_or_refusal, loadable_image};
 use crate::outcome::{Attempt, EndedRun, SignatureRange};
 use crate::plan_rows::{matches_same_as, row_with_verdict};
 use crate::recent_outcomes::RecentOutcomes;

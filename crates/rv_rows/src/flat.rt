@@ -5,7 +5,7 @@ ghost use Rattle.rv_machine.specs.Bus.{byte_at};
 ghost use Rattle.rv_machine.specs.Machine.{state_of};
 ghost use Rattle.rv_rows.specs.Flat.{flat_byte, flat_contents, flat_outcome_of, flat_row_of, flat_state, max_image_size};
 
-use crate::attempt::ended_run;
+use crate::job_run::ended_run;
 use crate::outcome::{Outcome, refused_outcome};
 use crate::plan_rows::row_of_outcome;
 use rv_machine::{Bus, Isa, Machine, Map, Misaligned};

@@ -2,14 +2,14 @@
 
 ghost use Rattle.std.specs.Prelude.{ℕ, ◌≡◌, List, IsTrue, Some, slice_get};
 ghost use Rattle.std.specs.List.{All};
-ghost use Rattle.rv_jobs.specs.declared.answers.PathResult.{PathResult};
+ghost use Rattle.rv_jobs.specs.declared.path_results.PathResult.{PathResult};
 ghost use Rattle.rv_jobs.specs.declared_job.Job.{Job};
 ghost use Rattle.rv_jobs.specs.Jobs.{AreValidJobs};
 ghost use Rattle.rv_jobs.specs.Plans.{PlanView, jobs_needed_for};
 ghost use Rattle.rv_report.specs.declared.row.Row.{Row};
 ghost use Rattle.rv_rows.specs.Narrower.{is_end_independent_of_isa, widened_plan};
 ghost use Rattle.rv_rows.specs.Rows.{rows_at, rows_of};
-ghost use Rattle.rv_rows.specs.Wholes.{HaveSameResults, plan_of_jobs};
+ghost use Rattle.rv_rows.specs.SameResults.{HaveSameResults, plan_of_jobs};
 
 /// Proves that a smaller instruction set only adds faults and refusals. Take a plan, and the plan in which one job has RV32IMC instead of
 /// its own instruction set. If the job's row in the first plan is not a refusal and not a fault `illegal` or `fetch-misaligned`, then the

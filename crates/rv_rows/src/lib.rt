@@ -7,7 +7,7 @@
 //! `rv_report`, which this crate re-exports.
 #![tactic(auto)]
 
-mod attempt;
+mod job_run;
 mod complete_run;
 mod flat;
 mod law;

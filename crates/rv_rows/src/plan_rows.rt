@@ -12,7 +12,7 @@ ghost use Rattle.rv_rows.specs.Rows.{content_if_read, expected_console_bytes, sa
 ghost use Rattle.rv_rows.specs.Rows.{image_in, rows_of, start_state_in};
 ghost use Rattle.rv_rows.specs.Verdict.{are_same_outcomes, matches_same_as};
 
-use crate::attempt::{image_file_or_refusal, machine_of_image, refusal_of_job, run_image};
+use crate::job_run::{image_file_or_refusal, machine_of_image, refusal_of_job, run_image};
 use crate::outcome::{Attempt, Outcome};
 use crate::recent_outcomes::{MOST, RecentOutcomes};
 use crate::spare_bus::SpareBus;

@@ -5,7 +5,7 @@ use Rattle.std.proofs.lemmas.Bool.Decides.{nat_tests}
 use Rattle.std.specs.Prelude.{nat_le}
 use Rattle.rv_count_tables.specs.declared.table.AddressCounts.{AddressCounts}
 use Rattle.rv_count_tables.specs.Table.{executed_at, increase_from}
-use Rattle.rv_counting.specs.Coverage.{behind, executed_in_run, fetch_at, is_executed, address_if, AreCountsOf}
+use Rattle.rv_counting.specs.Coverage.{after_step, executed_in_run, fetch_at, is_executed, address_if, AreCountsOf}
 use Rattle.rv_counting.specs.declared_ending.Ending.{Ending}
 use Rattle.rv_counting.specs.Run.{step_of}
 use Rattle.rv_counting.specs.State.{State}
@@ -84,7 +84,7 @@ module _ (function : ℕ → ℕ) (f : ℕ) where
       let p = low lowest c cs rising in
       let under = p.0 in
       let turned = unequal_above a c.address (omega (arith, h, under)) in
-      let here = ap (λ (b : Bool). cond b c.begun 0) turned in
+      let here = ap (λ (b : Bool). cond b c.executed 0) turned in
       let rest = none_below a (c.address + 1) cs (omega (arith, h, under)) p.1 in
       omega (arith, here, rest)
 
@@ -94,14 +94,14 @@ module _ (function : ℕ → ℕ) (f : ℕ) where
   counts_are_over lowest [] h = refl
   counts_are_over lowest (c ∷ cs) h =
       let p = low lowest c cs h in
-      let own : executed_at c.address (c ∷ cs) ≡ c.begun =
-      let first = ap (λ (b : Bool). cond b c.begun 0) (equal c.address) in
+      let own : executed_at c.address (c ∷ cs) ≡ c.executed =
+      let first = ap (λ (b : Bool). cond b c.executed 0) (equal c.address) in
       let others = none_below c.address (c.address + 1) cs (omega arith) p.1 in
       omega (arith, first, others) in
       let here = ap (λ (n : ℕ). cond (function c.address == f) n 0) own in
-      let split = over_sum (λ a. cond (c.address == a) c.begun 0) (λ a. executed_at a cs) cs in
-      let none = none_from (λ a. cond (c.address == a) c.begun 0) (c.address + 1) cs p.1
-      (λ a above. ap (λ (b : Bool). cond b c.begun 0) (unequal c.address a (omega (arith, above)))) in
+      let split = over_sum (λ a. cond (c.address == a) c.executed 0) (λ a. executed_at a cs) cs in
+      let none = none_from (λ a. cond (c.address == a) c.executed 0) (c.address + 1) cs p.1
+      (λ a above. ap (λ (b : Bool). cond b c.executed 0) (unequal c.address a (omega (arith, above)))) in
       let rest = counts_are_over (c.address + 1) cs p.1 in
       omega (arith, here, split, none, rest)
 
@@ -136,15 +136,15 @@ module _ (function : ℕ → ℕ) (f : ℕ) where
             let apart_too : (c.address == a) ≡ false = apart_test c.address a other in
             let none = ap (λ (t : Bool). cond (function c.address == f) (address_if t) 0) apart
             ∙ nothing_if (function c.address == f) in
-            let gone = ap (λ (t : Bool). cond t c.begun 0) apart_too in
+            let gone = ap (λ (t : Bool). cond t c.executed 0) apart_too in
             let rest = once_there a (c.address + 1) cs p.1 (omega (arith, some, gone)) in
             omega (arith, none, rest)
       ]
 
   -- an instruction that begins or not
-  one_begun : (begun : Bool) (pc : ℕ) (cs : List AddressCounts) → increase_from 0 cs ≡ true
-      → (begun ≡ true → 0 < executed_at pc cs)
-      → over (λ a. address_if (begun && (pc == a))) cs ≡ address_if (begun && (function pc == f))
+  one_begun : (executed : Bool) (pc : ℕ) (cs : List AddressCounts) → increase_from 0 cs ≡ true
+      → (executed ≡ true → 0 < executed_at pc cs)
+      → over (λ a. address_if (executed && (pc == a))) cs ≡ address_if (executed && (function pc == f))
   one_begun true pc cs h some = once_there pc 0 cs h (some refl)
   one_begun false pc cs h some = over_none cs
 
@@ -152,16 +152,16 @@ module _ (function : ℕ → ℕ) (f : ℕ) where
 
   -- what begins within fewer steps begins within more
   behind_more : (address n : ℕ) (r : Result State Ending) (t : State) → r ≡ Ok t
-      → behind r (λ u. executed_in_run address n u) ≡ executed_in_run address n t
-  behind_more address n r t is = ap (λ (q : Result State Ending). behind q (λ u. executed_in_run address n u)) is
+      → after_step r (λ u. executed_in_run address n u) ≡ executed_in_run address n t
+  behind_more address n r t is = ap (λ (q : Result State Ending). after_step q (λ u. executed_in_run address n u)) is
 
   first_begun : (address n : ℕ) (s : State) → executed_in_run address (suc n) s
-      ≡ address_if (is_executed (fetch_at s) && (s.pc == address)) + behind (step_of s) (λ t. executed_in_run address n t)
+      ≡ address_if (is_executed (fetch_at s) && (s.pc == address)) + after_step (step_of s) (λ t. executed_in_run address n t)
   unfolding executed_in_run
   first_begun address n s = refl
 
   first_in_function : (n : ℕ) (s : State) → executed_in_function function f (suc n) s
-      ≡ address_if (is_executed (fetch_at s) && (function s.pc == f)) + behind (step_of s) (λ t. executed_in_function function f n t)
+      ≡ address_if (is_executed (fetch_at s) && (function s.pc == f)) + after_step (step_of s) (λ t. executed_in_function function f n t)
   unfolding executed_in_function
   first_in_function n s = refl
 
@@ -176,8 +176,8 @@ module _ (function : ℕ → ℕ) (f : ℕ) where
   over_behind : (cs : List AddressCounts) (n : ℕ) (r : Result State Ending)
       → ((t : State) → ((a : ℕ) → 0 < executed_in_run a n t → 0 < executed_at a cs)
       → over (λ a. executed_in_run a n t) cs ≡ executed_in_function function f n t)
-      → ((a : ℕ) → 0 < behind r (λ t. executed_in_run a n t) → 0 < executed_at a cs)
-      → over (λ a. behind r (λ t. executed_in_run a n t)) cs ≡ behind r (λ t. executed_in_function function f n t)
+      → ((a : ℕ) → 0 < after_step r (λ t. executed_in_run a n t) → 0 < executed_at a cs)
+      → over (λ a. after_step r (λ t. executed_in_run a n t)) cs ≡ after_step r (λ t. executed_in_function function f n t)
   over_behind cs n (Ok t) rest some = rest t some
   over_behind cs n (Err e) rest some = over_none cs
 
@@ -188,10 +188,10 @@ module _ (function : ℕ → ℕ) (f : ℕ) where
       ∙ over_none cs ∙ sym (none_in_function s)
   over_run cs h (suc n) s some =
       let split = over_same (λ a. executed_in_run a (suc n) s)
-      (λ a. address_if (is_executed (fetch_at s) && (s.pc == a)) + behind (step_of s) (λ t. executed_in_run a n t)) (λ a. first_begun a n s) cs
-      ∙ over_sum (λ a. address_if (is_executed (fetch_at s) && (s.pc == a))) (λ a. behind (step_of s) (λ t. executed_in_run a n t)) cs in
-      let here = one_begun (is_executed (fetch_at s)) s.pc cs h (λ begun.
-      let one = ap (λ (b : Bool). address_if (b && (s.pc == s.pc))) begun ∙ ap address_if (equal s.pc) in
+      (λ a. address_if (is_executed (fetch_at s) && (s.pc == a)) + after_step (step_of s) (λ t. executed_in_run a n t)) (λ a. first_begun a n s) cs
+      ∙ over_sum (λ a. address_if (is_executed (fetch_at s) && (s.pc == a))) (λ a. after_step (step_of s) (λ t. executed_in_run a n t)) cs in
+      let here = one_begun (is_executed (fetch_at s)) s.pc cs h (λ executed.
+      let one = ap (λ (b : Bool). address_if (b && (s.pc == s.pc))) executed ∙ ap address_if (equal s.pc) in
       let first = first_begun s.pc n s in
       some s.pc (omega (arith, one, first))) in
       let rest = over_behind cs n (step_of s) (λ t there. over_run cs h n t there) (λ a there.
@@ -203,6 +203,6 @@ pub own_counts : (function : ℕ → ℕ) (f n : ℕ) (s : State) (cs : List Add
     → AreCountsOf n s cs → AreStacksOf function n s spots → own_steps_of f spots ≡ counts_of_function function f cs
 own_counts function f n s cs spots counts stacks =
     stacks.own f
-    ∙ sym (counts_are_over function f 0 cs counts.tallied.rising
-    ∙ over_same function f (λ a. executed_at a cs) (λ a. executed_in_run a n s) counts.begun cs
-    ∙ over_run function f cs counts.tallied.rising n s (λ a there. let is = counts.begun a in omega (arith, is, there)))
+    ∙ sym (counts_are_over function f 0 cs counts.consistent.rising
+    ∙ over_same function f (λ a. executed_at a cs) (λ a. executed_in_run a n s) counts.executed cs
+    ∙ over_run function f cs counts.consistent.rising n s (λ a there. let is = counts.executed a in omega (arith, is, there)))

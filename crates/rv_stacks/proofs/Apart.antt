@@ -88,24 +88,24 @@ module _ (digest : List ℕ) where
   no_steps path [] = refl
   no_steps path (i ∷ is) = zero_picked (bytes_eq i.digest digest) (steps_in digest path (bare is)) (no_steps path is)
 
-counts_of_jobs : (plan : PlanView) (places : List ℕ) (t : CountTable) → IsOfJobs plan.answers (jobs_at plan places) t
-    → IsTableOfJobsAt plan places (without_stacks t)
-counts_of_jobs plan places t h = record {
+counts_of_jobs : (plan : PlanView) (indices : List ℕ) (t : CountTable) → IsOfJobs plan.answers (jobs_at plan indices) t
+    → IsTableOfJobsAt plan indices (without_stacks t)
+counts_of_jobs plan indices t h = record {
   table = bare_is_table t h.table;
-  begun = λ digest address. same_begun digest address t.images ∙ h.begun digest address;
+  executed = λ digest address. same_begun digest address t.images ∙ h.executed digest address;
   taken = λ digest address. same_taken digest address t.images ∙ h.taken digest address;
   paths = λ digest. same_path digest t.images ∙ h.paths digest;
   runs = h.runs;
   stacks = record {
     names = λ digest f. no_name digest f t.images;
-    arrivals = λ digest path. no_arrivals digest path t.images;
+    calls = λ digest path. no_arrivals digest path t.images;
     steps = λ digest path. no_steps digest path t.images;
   };
 }
 
-pub counts_alone : (plan : PlanView) (places : List ℕ) (t : CountTable) → IsTableWithStacks plan places t
-    → IsTableOfJobsAt plan places (without_stacks t)
-counts_alone plan places t is = counts_of_jobs plan places t (of_places plan places t is)
+pub counts_alone : (plan : PlanView) (indices : List ℕ) (t : CountTable) → IsTableWithStacks plan indices t
+    → IsTableOfJobsAt plan indices (without_stacks t)
+counts_alone plan indices t is = counts_of_jobs plan indices t (of_places plan indices t is)
 
 -- ---- the stacks alone
 
@@ -186,17 +186,17 @@ module _ (digest : List ℕ) where
   same_steps path (i ∷ is) =
       ap (λ (n : ℕ). cond (bytes_eq i.digest digest) (steps_at path i.spots) 0 + n) (same_steps path is)
 
-stacks_of_jobs : (plan : PlanView) (places : List ℕ) (t : CountTable) → IsOfJobs plan.answers (jobs_at plan places) t
-    → AreStacksOfJobsAt plan places (stacks_alone t)
-stacks_of_jobs plan places t h = record {
+stacks_of_jobs : (plan : PlanView) (indices : List ℕ) (t : CountTable) → IsOfJobs plan.answers (jobs_at plan indices) t
+    → AreStacksOfJobsAt plan indices (stacks_alone t)
+stacks_of_jobs plan indices t h = record {
   table = stacks_are_table t h.table;
-  begun = λ digest address. no_begun digest address t.images;
+  executed = λ digest address. no_begun digest address t.images;
   taken = λ digest address. no_taken digest address t.images;
   paths = λ digest. stacked_path digest t.images ∙ h.paths digest;
-  arrivals = λ digest path. same_arrivals digest path t.images ∙ h.arrivals digest path;
+  calls = λ digest path. same_arrivals digest path t.images ∙ h.calls digest path;
   steps = λ digest path. same_steps digest path t.images ∙ h.steps digest path;
   names = λ digest f.
-      each_so (IsNamedBy plan.answers t digest f) (IsNamedBy plan.answers (stacks_alone t) digest f) (jobs_at plan places)
+      each_so (IsNamedBy plan.answers t digest f) (IsNamedBy plan.answers (stacks_alone t) digest f) (jobs_at plan indices)
       (λ job named path ends some. same_name digest f t.images ∙ named path ends some) (h.names digest f);
   runs = refl;
   budgets = h.budgets;
@@ -205,7 +205,7 @@ stacks_of_jobs plan places t h = record {
 both_sum : (t : CountTable) → IsValidTable t → IsSumOfTables (without_stacks t) (stacks_alone t) t
 both_sum t table = record {
   table = table;
-  begun = λ digest address.
+  executed = λ digest address.
       let p = same_begun digest address t.images in
       let q = no_begun digest address t.images in
       omega (arith, p, q);
@@ -218,7 +218,7 @@ both_sum t table = record {
   agree = λ digest f.
       subst (λ (o : Option (List ℕ)). NamesAgree o (truncated_name digest f (stacked t.images))) (sym (no_name digest f t.images)) tt;
   names = λ digest f. sym (λ i. min_text_of (no_name digest f t.images i) (same_name digest f t.images i));
-  arrivals = λ digest path.
+  calls = λ digest path.
       let p = no_arrivals digest path t.images in
       let q = same_arrivals digest path t.images in
       omega (arith, p, q);
@@ -230,12 +230,12 @@ both_sum t table = record {
 }
 
 -- a table of both is the sum of what it has of each
-pub counts_and_stacks : (plan : PlanView) (places : List ℕ) (t : CountTable) → IsOfJobs plan.answers (jobs_at plan places) t
-    → IsTableWithStacks plan places t
-counts_and_stacks plan places t h = record {
+pub counts_and_stacks : (plan : PlanView) (indices : List ℕ) (t : CountTable) → IsOfJobs plan.answers (jobs_at plan indices) t
+    → IsTableWithStacks plan indices t
+counts_and_stacks plan indices t h = record {
   counts = without_stacks t;
   stacks = stacks_alone t;
-  counted = counts_of_jobs plan places t h;
-  stacked = stacks_of_jobs plan places t h;
+  counted = counts_of_jobs plan indices t h;
+  stacked = stacks_of_jobs plan indices t h;
   sum = both_sum t h.table;
 }

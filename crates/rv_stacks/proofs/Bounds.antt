@@ -5,7 +5,7 @@ use Rattle.rv_calls.specs.declared.frames.Frame.{Frame}
 use Rattle.rv_calls.specs.declared.transfer.Transfer.{Transfer}
 use Rattle.rv_calls.specs.Calls.{transfer_of}
 use Rattle.rv_calls.specs.Stack.{after_transfer}
-use Rattle.rv_counting.specs.Coverage.{behind, executed_in_run, fetch_at, is_executed, address_if}
+use Rattle.rv_counting.specs.Coverage.{after_step, executed_in_run, fetch_at, is_executed, address_if}
 use Rattle.rv_counting.specs.JobTables.{executed_from}
 use Rattle.rv_counting.specs.declared_ending.Ending.{Ending}
 use Rattle.rv_counting.specs.Run.{step_of}
@@ -17,7 +17,7 @@ pub once_at_most : (b : Bool) → address_if b ≤ 1
 once_at_most true = omega arith
 once_at_most false = omega arith
 
-behind_at_most : (r : Result State Ending) (rest : State → ℕ) (n : ℕ) → ((t : State) → rest t ≤ n) → behind r rest ≤ n
+behind_at_most : (r : Result State Ending) (rest : State → ℕ) (n : ℕ) → ((t : State) → rest t ≤ n) → after_step r rest ≤ n
 behind_at_most (Ok t) rest n h = h t
 behind_at_most (Err e) rest n h = omega arith
 

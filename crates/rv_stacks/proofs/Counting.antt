@@ -5,7 +5,7 @@ use Rattle.std.specs.Str.{bytes_eq}
 use Rattle.rv_calls.specs.declared.frames.Frame.{Frame}
 use Rattle.rv_calls.specs.Calls.{transfer_of}
 use Rattle.rv_calls.specs.Stack.{after_transfer}
-use Rattle.rv_counting.specs.Coverage.{behind, executed_steps, completes, fetch_at, is_executed, address_if, IsStateAfter}
+use Rattle.rv_counting.specs.Coverage.{after_step, executed_steps, completes, fetch_at, is_executed, address_if, IsStateAfter}
 use Rattle.rv_counting.specs.declared_ending.Ending.{Ending}
 use Rattle.rv_counting.specs.Run.{step_of}
 use Rattle.rv_counting.specs.State.{State}
@@ -20,12 +20,12 @@ use Rattle.rv_stacks.specs.StackSteps.{AreNodesOf, HasEnteredFirst, AreStacksSoF
 -- ---- one step ahead
 
 pub all_next : (n i : ℕ) (s : State) → i < n → executed_steps (n - i) s
-    ≡ address_if (is_executed (fetch_at s)) + behind (step_of s) (λ t. executed_steps (n - (i + 1)) t)
+    ≡ address_if (is_executed (fetch_at s)) + after_step (step_of s) (λ t. executed_steps (n - (i + 1)) t)
 unfolding executed_steps
 all_next n i s h = let e : n - i ≡ suc (n - (i + 1)) = omega arith in ap (λ (m : ℕ). executed_steps m s) e
 
 pub own_next : (function : ℕ → ℕ) (f n i : ℕ) (s : State) → i < n → executed_in_function function f (n - i) s
-    ≡ address_if (is_executed (fetch_at s) && (function s.pc == f)) + behind (step_of s) (λ t. executed_in_function function f (n - (i + 1)) t)
+    ≡ address_if (is_executed (fetch_at s) && (function s.pc == f)) + after_step (step_of s) (λ t. executed_in_function function f (n - (i + 1)) t)
 unfolding executed_in_function
 own_next function f n i s h =
     let e : n - i ≡ suc (n - (i + 1)) = omega arith in ap (λ (m : ℕ). executed_in_function function f m s) e
@@ -37,13 +37,13 @@ no_own function f n i s h = let e : n - i ≡ 0 = omega arith in ap (λ (m : ℕ
 pub steps_next : (function : ℕ → ℕ) (path : List ℕ) (n i : ℕ) (frames : List Frame) (s : State) → i < n
     → steps_in function path (n - i) frames s
     ≡ address_if (is_executed (fetch_at s) && bytes_eq (path_at function frames s.pc) path)
-    + behind (step_of s) (λ t. steps_in function path (n - (i + 1)) (after_transfer frames (transfer_of s t)) t)
+    + after_step (step_of s) (λ t. steps_in function path (n - (i + 1)) (after_transfer frames (transfer_of s t)) t)
 unfolding steps_in
 steps_next function path n i frames s h =
     let e : n - i ≡ suc (n - (i + 1)) = omega arith in ap (λ (m : ℕ). steps_in function path m frames s) e
 
 pub arrivals_next : (function : ℕ → ℕ) (path : List ℕ) (n i : ℕ) (frames : List Frame) (s : State) → i < n
-    → calls_in function path (n - i) frames s ≡ behind (step_of s)
+    → calls_in function path (n - i) frames s ≡ after_step (step_of s)
     (λ t. calls_by function path frames (transfer_of s t)
     + calls_in function path (n - (i + 1)) (after_transfer frames (transfer_of s t)) t)
 unfolding calls_in
@@ -67,11 +67,11 @@ unfolding executed_steps
 none_begun n i s h = let e : n - i ≡ 0 = omega arith in ap (λ (m : ℕ). executed_steps m s) e
 
 behind_completed : (r : Result State Ending) (s t : State) (rest : State → ℕ) → true ≡ completes r → IsStateAfter r s t
-    → behind r rest ≡ rest t
+    → after_step r rest ≡ rest t
 behind_completed (Ok u) s t rest h k = ap rest (sym k)
 behind_completed (Err e) s t rest h k = absurd (false≢true (sym h))
 
-behind_ended : (r : Result State Ending) (rest : State → ℕ) → false ≡ completes r → behind r rest ≡ 0
+behind_ended : (r : Result State Ending) (rest : State → ℕ) → false ≡ completes r → after_step r rest ≡ 0
 behind_ended (Ok u) rest h = absurd (false≢true h)
 behind_ended (Err e) rest h = refl
 
@@ -100,9 +100,9 @@ none_so_far function n s walk h =
           let k = ap (λ (m : ℕ). steps_in function path m [] s) e in
           let none = h.steps path in
           omega (arith, k, none);
-      arrivals = λ path.
+      calls = λ path.
           let k = ap (λ (m : ℕ). calls_in function path m [] s) e in
-          let one = h.arrivals path in
+          let one = h.calls path in
           omega (arith, k, one);
     }
 
@@ -141,13 +141,13 @@ module _ (function : ℕ → ℕ) (n i : ℕ) (start s t : State) (frames after 
             let e = ap (λ (fs : List Frame). steps_in function path (n - (i + 1)) fs t) same in
             let all = h.steps path in
             omega (arith, b, k, d, e, all);
-        arrivals = λ path.
+        calls = λ path.
             let b = step.goes.2 path in
             let k = arrivals_next function path n i frames s under in
             let d = behind_completed (step_of s) s t (λ u. calls_by function path frames (transfer_of s u)
             + calls_in function path (n - (i + 1)) (after_transfer frames (transfer_of s u)) u) step.completed step.state in
             let e = ap (λ (fs : List Frame). calls_in function path (n - (i + 1)) fs t) same in
-            let all = h.arrivals path in
+            let all = h.calls path in
             omega (arith, b, k, d, e, all);
       }
 
@@ -160,12 +160,12 @@ module _ (function : ℕ → ℕ) (n i : ℕ) (start s t : State) (frames after 
         (λ u. steps_in function path (n - (i + 1)) (after_transfer frames (transfer_of s u)) u) step.completed in
         let all = h.steps path in
         omega (arith, b, k, d, all);
-    arrivals = λ path.
+    calls = λ path.
         let b = step.goes path in
         let k = arrivals_next function path n i frames s under in
         let d = behind_ended (step_of s) (λ u. calls_by function path frames (transfer_of s u)
         + calls_in function path (n - (i + 1)) (after_transfer frames (transfer_of s u)) u) step.completed in
-        let all = h.arrivals path in
+        let all = h.calls path in
         omega (arith, b, k, d, all);
     own = λ f.
         let b = step.own f in
@@ -185,8 +185,8 @@ pub used_up : (function : ℕ → ℕ) (n i : ℕ) (start s : State) (frames : L
 used_up function n i start s frames walk h over = record {
   steps = λ path.
       let k = no_steps function path n i frames s over in let all = h.steps path in omega (arith, k, all);
-  arrivals = λ path.
-      let k = no_arrivals function path n i frames s over in let all = h.arrivals path in omega (arith, k, all);
+  calls = λ path.
+      let k = no_arrivals function path n i frames s over in let all = h.calls path in omega (arith, k, all);
   own = λ f. let k = no_own function f n i s over in let all = h.own f in omega (arith, k, all);
   all = (let k = none_begun n i s over in let all = h.all in omega (arith, k, all));
 }
@@ -198,7 +198,7 @@ stacks_of_nodes function n s nodes spots h k = record {
   tree = k.tree;
   some = k.some;
   steps = λ path. k.steps path ∙ h.steps path;
-  arrivals = λ path. k.arrivals path ∙ h.arrivals path;
+  calls = λ path. k.calls path ∙ h.calls path;
   own = λ f. k.own f ∙ h.own f;
   all = k.all_steps ∙ h.all;
 }

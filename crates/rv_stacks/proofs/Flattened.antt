@@ -29,7 +29,7 @@ sum_more : (count : CallNode → ℕ) (ss : List CallNode) (s : CallNode) → su
 sum_more count [] s = omega arith
 sum_more count (x ∷ xs) s = let rest = sum_more count xs s in omega (arith, rest)
 
-some_more : (ss : List CallNode) (s : CallNode) → HasCalls ss → 0 < s.arrivals → HasCalls (ss ++ s ∷ [])
+some_more : (ss : List CallNode) (s : CallNode) → HasCalls ss → 0 < s.calls → HasCalls (ss ++ s ∷ [])
 some_more [] s h k = (k, tt)
 some_more (x ∷ xs) s h k = (h.0, some_more xs s h.1 k)
 
@@ -44,7 +44,7 @@ module _ (nodes : List WalkNode) (old new : PreorderBuilder) (number : ℕ) (nod
     (is : node ≡ get_or nodes (number - 1) node) (deep : depth ≡ length old.path.items)
     (path : new.path.items ≡ old.path.items ++ node.function ∷ []) (trail : new.trail.items ≡ old.trail.items ++ number ∷ [])
     (spot_is : new.spots.items ≡ old.spots.items
-    ++ record { depth = depth; function = node.function; arrivals = node.arrivals; steps = node.steps } ∷ []) where
+    ++ record { depth = depth; function = node.function; calls = node.calls; steps = node.steps } ∷ []) where
   abbrev front : List ℕ
   front = last_path [] old.spots.items
 
@@ -52,16 +52,16 @@ module _ (nodes : List WalkNode) (old new : PreorderBuilder) (number : ℕ) (nod
   parent = get_or old.trail.items (length old.path.items) 0
 
   abbrev spot : CallNode
-  spot = record { depth = depth; function = node.function; arrivals = node.arrivals; steps = node.steps }
+  spot = record { depth = depth; function = node.function; calls = node.calls; steps = node.steps }
 
   abbrev emptied : WalkNode
-  emptied = record { parent = node.parent; function = node.function; arrivals = 0; steps = 0 }
+  emptied = record { parent = node.parent; function = node.function; calls = 0; steps = 0 }
 
   next : IsNextChild parent old.from number nodes
   next = each 0
 
   some : 0 < number
-  some = let b = next.behind in omega (arith, b)
+  some = let b = next.after_parent in omega (arith, b)
 
   one : number - 1 + 1 ≡ number
   one = let s = some in omega (arith, s)
@@ -76,7 +76,7 @@ module _ (nodes : List WalkNode) (old new : PreorderBuilder) (number : ℕ) (nod
 
   of_number : path_of number nodes ≡ old.path.items ++ node.function ∷ []
   of_number =
-      path_with nodes number some next.within parent node (next.above (number - 1) node one) next.behind
+      path_with nodes number some next.within parent node (next.has_parent (number - 1) node one) next.after_parent
       ∙ ap (λ (p : List ℕ). p ++ (get_or nodes (number - 1) node).function ∷ []) of_parent
       ∙ ap (λ (x : WalkNode). old.path.items ++ x.function ∷ []) (sym is)
 
@@ -104,14 +104,14 @@ module _ (nodes : List WalkNode) (old new : PreorderBuilder) (number : ℕ) (nod
             omega (arith, below, at, over, own);
       }
 
-  arrives : 0 < spot.arrivals
+  arrives : 0 < spot.calls
   arrives =
       let there = next.some (number - 1) node one in
-      let own = ap (λ (x : WalkNode). x.arrivals) is in
+      let own = ap (λ (x : WalkNode). x.calls) is in
       omega (arith, there, own)
 
-  flat : IsPreorderBuilder (set nodes (number - 1) emptied) new
-  flat =
+  is_preorder : IsPreorderBuilder (set nodes (number - 1) emptied) new
+  builder =
       let last = ap length of_last in record {
         tree = subst (λ (ss : List CallNode). IsTree ss) (sym spot_is) (stand_of_parts [] old.spots.items (spot ∷ []) h.tree (stands, tt));
         some = subst (λ (ss : List CallNode). HasCalls ss) (sym spot_is) (some_more old.spots.items spot h.some arrives);
@@ -138,14 +138,14 @@ module _ (nodes : List WalkNode) (old new : PreorderBuilder) (number : ℕ) (nod
       let here = ap (w (path_of number nodes)) is in
       omega (arith, all, here, is_more, none)
 
-  pub moved : MovesCounts nodes old (set nodes (number - 1) (record { parent = node.parent; function = node.function; arrivals = 0; steps = 0 })) new
+  pub moved : MovesCounts nodes old (set nodes (number - 1) (record { parent = node.parent; function = node.function; calls = 0; steps = 0 })) new
   moved = record {
-    flat = flat;
-    arrivals = λ at.
+    is_preorder = is_preorder;
+    calls = λ at.
         let extended_block = ap (spots.calls_at at) spot_is ∙ counted_more calls_of_node at [] old.spots.items spot in
-        let kept = moved_weight (λ p n. cond (bytes_eq p at) n.arrivals 0) (spots.calls_at at old.spots.items)
-        (cond (bytes_eq (path_after front spot) at) spot.arrivals 0)
-        (ap (λ (p : List ℕ). cond (bytes_eq p at) node.arrivals 0) of_both) (no_weight (bytes_eq (path_of number nodes) at)) in
+        let kept = moved_weight (λ p n. cond (bytes_eq p at) n.calls 0) (spots.calls_at at old.spots.items)
+        (cond (bytes_eq (path_after front spot) at) spot.calls 0)
+        (ap (λ (p : List ℕ). cond (bytes_eq p at) node.calls 0) of_both) (no_weight (bytes_eq (path_of number nodes) at)) in
         omega (arith, extended_block, kept);
     steps = λ at.
         let extended_block = ap (spots.steps_at at) spot_is ∙ counted_more steps_of at [] old.spots.items spot in
@@ -166,8 +166,8 @@ module _ (nodes : List WalkNode) (old new : PreorderBuilder) (number : ℕ) (nod
 -- nothing moves on the way back
 pub went_back : (nodes : List WalkNode) (old new : PreorderBuilder) → ReturnsToParent nodes old new → MovesCounts nodes old nodes new
 went_back nodes old new h = record {
-  flat = h.flat;
-  arrivals = λ path. ap (λ (ss : List CallNode). spots.calls_at path ss + calls_at path nodes) h.spots;
+  is_preorder = h.is_preorder;
+  calls = λ path. ap (λ (ss : List CallNode). spots.calls_at path ss + calls_at path nodes) h.spots;
   steps = λ path. ap (λ (ss : List CallNode). spots.steps_at path ss + steps_at path nodes) h.spots;
   own = λ f. ap (λ (ss : List CallNode). spots.own_steps_of f ss + own_steps_of f nodes) h.spots;
   all_steps = ap (λ (ss : List CallNode). spots.all_steps ss + all_steps nodes) h.spots;
@@ -175,9 +175,9 @@ went_back nodes old new h = record {
 
 -- ---- from the first on
 
-pub no_spot : (nodes : List WalkNode) (flat : PreorderBuilder) → flat.path.items ≡ [] → flat.trail.items ≡ 0 ∷ [] → flat.spots.items ≡ []
-    → IsPreorderBuilder nodes flat
-no_spot nodes flat path trail spots_are =
+pub no_spot : (nodes : List WalkNode) (builder : PreorderBuilder) → builder.path.items ≡ [] → builder.trail.items ≡ 0 ∷ [] → builder.spots.items ≡ []
+    → IsPreorderBuilder nodes builder
+no_spot nodes builder path trail spots_are =
     let long = ap length path in
     let one = ap length trail in
     let none = ap (λ (ss : List CallNode). length (last_path [] ss)) spots_are in
@@ -191,25 +191,25 @@ no_spot nodes flat path trail spots_are =
             let at : k ≡ 0 = omega (arith, less, one) in
             ap (λ (n : ℕ). path_of n nodes) (first k d at)
             ∙ first_paths ([] ∷ []) nodes 0 [] (omega arith)
-            ∙ sym (ap (λ (j : ℕ). take j flat.path.items) at);
+            ∙ sym (ap (λ (j : ℕ). take j builder.path.items) at);
       };
       within = omega (arith, long);
-      front = path ∙ sym (ap (λ (j : ℕ). take j (last_path [] flat.spots.items)) long);
+      front = path ∙ sym (ap (λ (j : ℕ). take j (last_path [] builder.spots.items)) long);
       rising = λ d less. absurd (omega (arith, less, none));
     }
 
 -- what is left of nodes, and what is in spots, is what was counted
-pub record Conserves (start left : List WalkNode) (flat : PreorderBuilder) : Type 0 where
-  pub standing : IsPreorderBuilder left flat
-  pub arrivals : (path : List ℕ) → spots.calls_at path flat.spots.items + calls_at path left ≡ calls_at path start
-  pub steps : (path : List ℕ) → spots.steps_at path flat.spots.items + steps_at path left ≡ steps_at path start
-  pub own : (f : ℕ) → spots.own_steps_of f flat.spots.items + own_steps_of f left ≡ own_steps_of f start
-  pub all_steps : spots.all_steps flat.spots.items + all_steps left ≡ all_steps start
+pub record Conserves (start remaining : List WalkNode) (builder : PreorderBuilder) : Type 0 where
+  pub standing : IsPreorderBuilder remaining builder
+  pub calls : (path : List ℕ) → spots.calls_at path builder.spots.items + calls_at path remaining ≡ calls_at path start
+  pub steps : (path : List ℕ) → spots.steps_at path builder.spots.items + steps_at path remaining ≡ steps_at path start
+  pub own : (f : ℕ) → spots.own_steps_of f builder.spots.items + own_steps_of f remaining ≡ own_steps_of f start
+  pub all_steps : spots.all_steps builder.spots.items + all_steps remaining ≡ all_steps start
 
-pub none_moved : (nodes : List WalkNode) (flat : PreorderBuilder) → IsPreorderBuilder nodes flat → flat.spots.items ≡ [] → Conserves nodes nodes flat
-none_moved nodes flat h none = record {
+pub none_moved : (nodes : List WalkNode) (builder : PreorderBuilder) → IsPreorderBuilder nodes builder → builder.spots.items ≡ [] → Conserves nodes nodes builder
+none_moved nodes builder h none = record {
   standing = h;
-  arrivals = λ path. let e = ap (λ (ss : List CallNode). spots.calls_at path ss) none in omega (arith, e);
+  calls = λ path. let e = ap (λ (ss : List CallNode). spots.calls_at path ss) none in omega (arith, e);
   steps = λ path. let e = ap (λ (ss : List CallNode). spots.steps_at path ss) none in omega (arith, e);
   own = λ f. let e = ap (λ (ss : List CallNode). spots.own_steps_of f ss) none in omega (arith, e);
   all_steps = (let e = ap (λ (ss : List CallNode). spots.all_steps ss) none in omega (arith, e));
@@ -218,8 +218,8 @@ none_moved nodes flat h none = record {
 pub one_moved : (start before after : List WalkNode) (old new : PreorderBuilder) → Conserves start before old → MovesCounts before old after new
     → Conserves start after new
 one_moved start before after old new h m = record {
-  standing = m.flat;
-  arrivals = λ path. m.arrivals path ∙ h.arrivals path;
+  standing = m.is_preorder;
+  calls = λ path. m.calls path ∙ h.calls path;
   steps = λ path. m.steps path ∙ h.steps path;
   own = λ f. m.own f ∙ h.own f;
   all_steps = m.all_steps ∙ h.all_steps;
@@ -227,13 +227,13 @@ one_moved start before after old new h m = record {
 
 -- ---- at the end
 
-no_counts : (n : WalkNode) → is_empty n ≡ true → (n.arrivals ≡ 0) × (n.steps ≡ 0)
+no_counts : (n : WalkNode) → is_empty n ≡ true → (n.calls ≡ 0) × (n.steps ≡ 0)
 no_counts n h =
-    let both = and_parts (n.arrivals == 0) (n.steps == 0) h in
-    (eqb-true n.arrivals 0 both.0, eqb-true n.steps 0 both.1)
+    let both = and_parts (n.calls == 0) (n.steps == 0) h in
+    (eqb-true n.calls 0 both.0, eqb-true n.steps 0 both.1)
 
 empty_weight : (w : List ℕ → WalkNode → ℕ) (ps : List (List ℕ)) (ns : List WalkNode)
-    → ((p : List ℕ) (n : WalkNode) → (n.arrivals ≡ 0) × (n.steps ≡ 0) → w p n ≡ 0) → list_all is_empty ns ≡ true
+    → ((p : List ℕ) (n : WalkNode) → (n.calls ≡ 0) × (n.steps ≡ 0) → w p n ≡ 0) → list_all is_empty ns ≡ true
     → weighted_sum_after w ps ns ≡ 0
 empty_weight w ps [] none h = refl
 empty_weight w ps (n ∷ ns) none h =
@@ -246,27 +246,27 @@ zero_if : (b : Bool) (n : ℕ) → n ≡ 0 → cond b n 0 ≡ 0
 zero_if true n h = h
 zero_if false n h = refl
 
-pub all_moved : (start left : List WalkNode) (flat : PreorderBuilder) → Conserves start left flat → list_all is_empty left ≡ true
-    → ArePreorderOf start flat.spots.items
-all_moved start left flat h empty = record {
+pub all_moved : (start remaining : List WalkNode) (builder : PreorderBuilder) → Conserves start remaining builder → list_all is_empty remaining ≡ true
+    → ArePreorderOf start builder.spots.items
+all_moved start remaining builder h empty = record {
   tree = h.standing.tree;
   some = h.standing.some;
-  arrivals = λ path.
-      let all = h.arrivals path in
-      let none = empty_weight (λ p n. cond (bytes_eq p path) n.arrivals 0) ([] ∷ []) left
-      (λ p n e. zero_if (bytes_eq p path) n.arrivals e.0) empty in
+  calls = λ path.
+      let all = h.calls path in
+      let none = empty_weight (λ p n. cond (bytes_eq p path) n.calls 0) ([] ∷ []) remaining
+      (λ p n e. zero_if (bytes_eq p path) n.calls e.0) empty in
       omega (arith, all, none);
   steps = λ path.
       let all = h.steps path in
-      let none = empty_weight (λ p n. cond (bytes_eq p path) n.steps 0) ([] ∷ []) left
+      let none = empty_weight (λ p n. cond (bytes_eq p path) n.steps 0) ([] ∷ []) remaining
       (λ p n e. zero_if (bytes_eq p path) n.steps e.1) empty in
       omega (arith, all, none);
   own = λ f.
       let all = h.own f in
-      let none = empty_weight (λ p n. steps_if (n.function == f) n.steps) ([] ∷ []) left
+      let none = empty_weight (λ p n. steps_if (n.function == f) n.steps) ([] ∷ []) remaining
       (λ p n e. zero_if (n.function == f) n.steps e.1) empty in
       omega (arith, all, none);
   all_steps = (let all = h.all_steps in
-      let none = empty_weight (λ p n. n.steps) ([] ∷ []) left (λ p n e. e.1) empty in
+      let none = empty_weight (λ p n. n.steps) ([] ∷ []) remaining (λ p n e. e.1) empty in
       omega (arith, all, none));
 }

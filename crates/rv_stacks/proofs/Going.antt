@@ -36,7 +36,7 @@ module _ (old new : Walk) (depth function x : ℕ) (within : depth < length old.
       record {
         walk = back.walk;
         path = path;
-        arrivals = λ at.
+        calls = λ at.
             let moved = ap (calls_at at) back.nodes in
             let none = ap (λ (b : Bool). address_if (not b && bytes_eq (take depth old.path.items ++ function ∷ []) at)) test in
             omega (arith, moved, none);
@@ -53,8 +53,8 @@ module _ (old new : Walk) (depth function x : ℕ) (within : depth < length old.
       unequal_test (get_or old.path.items depth 0) function (λ e. other (sym at_depth ∙ e)) in record {
         walk = arrives.walk;
         path = arrives.path;
-        arrivals = λ at.
-            let more = arrives.arrivals at in
+        calls = λ at.
+            let more = arrives.calls at in
             let once = ap (λ (b : Bool). address_if (not b && bytes_eq (take depth old.path.items ++ function ∷ []) at)) test in
             omega (arith, more, once);
         steps = arrives.steps;

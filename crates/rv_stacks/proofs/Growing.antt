@@ -18,21 +18,21 @@ root = [] ∷ []
 -- ---- a child
 
 abbrev nothing : WalkNode
-nothing = record { parent = 0; function = 0; arrivals = 0; steps = 0 }
+nothing = record { parent = 0; function = 0; calls = 0; steps = 0 }
 
 pub found_child : (parent function number : ℕ) (nodes : List WalkNode) → IsChild parent function number nodes
     → HasChild parent function nodes number nodes
 found_child parent function number nodes h =
-    let behind = h.behind in
+    let after_parent = h.after_parent in
     let some : 0 < number = omega (arith, behind) in
     let one : number - 1 + 1 ≡ number = omega (arith, some) in record {
       some = some;
       within = h.within;
       longer = omega arith;
-      path = path_with nodes number some h.within parent nothing (h.above (number - 1) nothing one) behind
+      path = path_with nodes number some h.within parent nothing (h.has_parent (number - 1) nothing one) behind
           ∙ ap (λ (f : ℕ). path_of parent nodes ++ f ∷ []) (h.own (number - 1) nothing one);
       paths = λ k less. refl;
-      arrivals = λ path. refl;
+      calls = λ path. refl;
       steps = λ path. refl;
       own = λ f. refl;
       all_calls = refl;
@@ -45,7 +45,7 @@ no_weight false = refl
 
 module _ (parent function : ℕ) (nodes : List WalkNode) (within : parent < length nodes + 1) where
   abbrev fresh : WalkNode
-  fresh = record { parent = parent; function = function; arrivals = 0; steps = 0 }
+  fresh = record { parent = parent; function = function; calls = 0; steps = 0 }
 
   abbrev extended_block : List WalkNode
   extended_block = nodes ++ fresh ∷ []
@@ -57,7 +57,7 @@ module _ (parent function : ℕ) (nodes : List WalkNode) (within : parent < leng
       omega (arith, more, zero)
 
   pub made_child : (number : ℕ) → number ≡ length nodes + 1
-      → HasChild parent function nodes number (nodes ++ record { parent = parent; function = function; arrivals = 0; steps = 0 } ∷ [])
+      → HasChild parent function nodes number (nodes ++ record { parent = parent; function = function; calls = 0; steps = 0 } ∷ [])
   made_child number is =
       let one = length-append nodes (fresh ∷ []) in
       let long = long_paths ([] ∷ []) nodes in
@@ -71,10 +71,10 @@ module _ (parent function : ℕ) (nodes : List WalkNode) (within : parent < leng
         paths = λ k less.
             ap (λ (ps : List (List ℕ)). get_or ps k []) (paths_more ([] ∷ []) nodes fresh)
             ∙ get_or_append_left (paths_of nodes) (path_below (paths_of nodes) fresh ∷ []) [] k (omega (arith, less, long));
-        arrivals = λ path. same_weight (λ p n. cond (bytes_eq p path) n.arrivals 0) (λ p. no_weight (bytes_eq p path));
+        calls = λ path. same_weight (λ p n. cond (bytes_eq p path) n.calls 0) (λ p. no_weight (bytes_eq p path));
         steps = λ path. same_weight (λ p n. cond (bytes_eq p path) n.steps 0) (λ p. no_weight (bytes_eq p path));
         own = λ f. same_weight (λ p n. steps_if (n.function == f) n.steps) (λ p. no_weight (function == f));
-        all_calls = same_weight (λ p n. n.arrivals) (λ p. refl);
+        all_calls = same_weight (λ p n. n.calls) (λ p. refl);
         all_steps = same_weight (λ p n. n.steps) (λ p. refl);
       }
 
@@ -90,9 +90,9 @@ last_of f (y ∷ []) x = refl
 last_of f (y ∷ z ∷ zs) x = last_of f (z ∷ zs) x
 
 -- the functions of a node end with its own
-ends_at : (ps : List (List ℕ)) (ns : List WalkNode) (place : ℕ) (d : WalkNode) (f : ℕ) → place < length ns
-    → ends_with f (get_or (paths_appended ps ns) (length ps + place) []) ≡ ((get_or ns place d).function == f)
-ends_at ps [] place d f within = absurd (omega (arith, within))
+ends_at : (ps : List (List ℕ)) (ns : List WalkNode) (index : ℕ) (d : WalkNode) (f : ℕ) → index < length ns
+    → ends_with f (get_or (paths_appended ps ns) (length ps + index) []) ≡ ((get_or ns index d).function == f)
+ends_at ps [] index d f within = absurd (omega (arith, within))
 ends_at ps (m ∷ ms) zero d f within =
     let longer = ps ++ path_below ps m ∷ [] in
     let one = length-append ps (path_below ps m ∷ []) in
@@ -101,12 +101,12 @@ ends_at ps (m ∷ ms) zero d f within =
     ∙ ap (ends_with f) (first_paths longer ms (length ps) [] (omega (arith, one))
     ∙ get_or-append_seam ps (path_below ps m) [] [])
     ∙ last_of f (get_or ps m.parent []) m.function
-ends_at ps (m ∷ ms) (suc place) d f within =
+ends_at ps (m ∷ ms) (suc index) d f within =
     let longer = ps ++ path_below ps m ∷ [] in
     let one = length-append ps (path_below ps m ∷ []) in
-    let at : length ps + suc place ≡ length longer + place = omega (arith, one) in
+    let at : length ps + suc index ≡ length longer + index = omega (arith, one) in
     ap (λ (k : ℕ). ends_with f (get_or (paths_appended longer ms) k [])) at
-    ∙ ends_at longer ms place d f (omega (arith, within))
+    ∙ ends_at longer ms index d f (omega (arith, within))
 
 module _ (nodes : List WalkNode) (number : ℕ) (some : 0 < number) (within : number < length nodes + 1) (old : WalkNode)
     (is : old ≡ get_or nodes (number - 1) old) where
@@ -144,30 +144,30 @@ module _ (nodes : List WalkNode) (number : ℕ) (some : 0 < number) (within : nu
       ∙ ap (λ (x : WalkNode). x.function == f) (sym is)
 
   pub arrived_once : EntersOnce number nodes
-      (set nodes (number - 1) (record { parent = old.parent; function = old.function; arrivals = old.arrivals + 1; steps = old.steps }))
+      (set nodes (number - 1) (record { parent = old.parent; function = old.function; calls = old.calls + 1; steps = old.steps }))
   arrived_once =
-      let n : WalkNode = record { parent = old.parent; function = old.function; arrivals = old.arrivals + 1; steps = old.steps } in record {
+      let n : WalkNode = record { parent = old.parent; function = old.function; calls = old.calls + 1; steps = old.steps } in record {
         kept = kept n refl refl;
-        arrivals = λ path. more (λ p x. cond (bytes_eq p path) x.arrivals 0) n (address_if (bytes_eq (path_of number nodes) path)) refl refl
-            (sum_if (bytes_eq (path_of number nodes) path) old.arrivals 1);
+        calls = λ path. more (λ p x. cond (bytes_eq p path) x.calls 0) n (address_if (bytes_eq (path_of number nodes) path)) refl refl
+            (sum_if (bytes_eq (path_of number nodes) path) old.calls 1);
         steps = λ path. same (λ p x. cond (bytes_eq p path) x.steps 0) n refl refl refl;
         own = λ f. same (λ p x. steps_if (x.function == f) x.steps) n refl refl refl;
-        all_calls = more (λ p x. x.arrivals) n 1 refl refl refl;
+        all_calls = more (λ p x. x.calls) n 1 refl refl refl;
         all_steps = same (λ p x. x.steps) n refl refl refl;
       }
 
   pub stepped_more : (k : ℕ) → StepsMore k number nodes
-      (set nodes (number - 1) (record { parent = old.parent; function = old.function; arrivals = old.arrivals; steps = old.steps + k }))
+      (set nodes (number - 1) (record { parent = old.parent; function = old.function; calls = old.calls; steps = old.steps + k }))
   stepped_more k =
-      let n : WalkNode = record { parent = old.parent; function = old.function; arrivals = old.arrivals; steps = old.steps + k } in record {
+      let n : WalkNode = record { parent = old.parent; function = old.function; calls = old.calls; steps = old.steps + k } in record {
         kept = kept n refl refl;
-        arrivals = λ path. same (λ p x. cond (bytes_eq p path) x.arrivals 0) n refl refl refl;
+        calls = λ path. same (λ p x. cond (bytes_eq p path) x.calls 0) n refl refl refl;
         steps = λ path. more (λ p x. cond (bytes_eq p path) x.steps 0) n (times_if k (bytes_eq (path_of number nodes) path)) refl refl
             (sum_if (bytes_eq (path_of number nodes) path) old.steps k);
         own = λ f. more (λ p x. steps_if (x.function == f) x.steps) n (times_if k (old.function == f)) refl refl
             (sum_if (old.function == f) old.steps k)
             ∙ ap (λ (b : Bool). own_steps_of f nodes + times_if k b) (sym (ends_here f));
-        all_calls = same (λ p x. x.arrivals) n refl refl refl;
+        all_calls = same (λ p x. x.calls) n refl refl refl;
         all_steps = more (λ p x. x.steps) n k refl refl refl;
       }
 
@@ -238,9 +238,9 @@ arrived old mid new parent depth function number made back here child once path 
             (subst (λ (t : List ℕ). IsTrail new.nodes.items (mid.path.items ++ own) t) (sym trail) grown_trail);
       };
       path = path ∙ ap (λ (p : List ℕ). p ++ own) back.path;
-      arrivals = λ at.
-          let a = once.arrivals at in
-          let b = child.arrivals at in
+      calls = λ at.
+          let a = once.calls at in
+          let b = child.calls at in
           let c = ap (calls_at at) back.nodes in
           let d = ap (λ (p : List ℕ). address_if (bytes_eq p at)) now in
           omega (arith, a, b, c, d);

@@ -36,7 +36,7 @@ last_of_list f front (s ∷ ss) h some = elim (cases_Bool (s.function == f)) [
       record {
         path = path;
         ends = last_of f (take s.depth front) s.function ∙ t;
-        some = here_counts (bytes_eq path path) s.arrivals (sum_over_path calls_of_node path path ss)
+        some = here_counts (bytes_eq path path) s.calls (sum_over_path calls_of_node path path ss)
             ((bytes_decides path path).1 refl) h.0.some;
       }
   | inr t ↦
@@ -44,7 +44,7 @@ last_of_list f front (s ∷ ss) h some = elim (cases_Bool (s.function == f)) [
       record {
         path = k.path;
         ends = k.ends;
-        some = further_counts (bytes_eq (path_after front s) k.path) s.arrivals
+        some = further_counts (bytes_eq (path_after front s) k.path) s.calls
             (sum_over_path calls_of_node k.path (path_after front s) ss) k.some;
       }
 ]

@@ -91,7 +91,7 @@ can_stand (s ∷ ss) h some = (
     depth = h.0.depth;
     function = h.0.function;
     some = some.0;
-    arrivals = h.0.arrivals;
+    calls = h.0.calls;
     steps = h.0.steps;
   },
   can_stand ss h.1 some.1,
@@ -113,5 +113,5 @@ last_if_come f path front (s ∷ ss) ends some = elim (cases_Bool (bytes_eq (pat
   | inr t ↦
       or_with (s.function == f) (ends_some_path f ss)
       (last_if_come f path (path_after front s) ss ends
-      (added (bytes_eq (path_after front s) path) s.arrivals (sum_over_path calls_of_node path (path_after front s) ss) t some))
+      (added (bytes_eq (path_after front s) path) s.calls (sum_over_path calls_of_node path (path_after front s) ss) t some))
 ]

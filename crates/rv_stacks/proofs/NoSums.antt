@@ -27,8 +27,8 @@ use Rattle.rv_stacks.proofs.WithStacks.{of_places, IsOfJobs}
 -- ---- the jobs at some places
 
 record IsSmall (n : ℕ) (t : CountTable) : Type 0 where
-  pub begun : (digest : List ℕ) (address : ℕ) → executed_in digest address t.images ≤ n * 2 ^ 34
-  pub arrivals : (digest path : List ℕ) → calls_in_image digest path t.images ≤ n * 2 ^ 34
+  pub executed : (digest : List ℕ) (address : ℕ) → executed_in digest address t.images ≤ n * 2 ^ 34
+  pub calls : (digest path : List ℕ) → calls_in_image digest path t.images ≤ n * 2 ^ 34
   pub steps : (digest path : List ℕ) → steps_in digest path t.images ≤ n * 2 ^ 34
   pub runs : t.runs ≤ n * 2 ^ 34
 
@@ -56,24 +56,24 @@ small_sum P f few (x ∷ xs) h =
     let rest = small_sum P f few xs h.1 in
     omega (arith, parts, here, rest)
 
-module _ (plan : PlanView) (places : List ℕ) (budgets : AllByRecursion (RunsWithinABudget plan.answers) (jobs_at plan places)) where
+module _ (plan : PlanView) (indices : List ℕ) (budgets : AllByRecursion (RunsWithinABudget plan.answers) (jobs_at plan indices)) where
   few_jobs : (f : Job → ℕ) → ((job : Job) → RunsWithinABudget plan.answers job → f job ≤ 2 ^ 34)
-      → sum_by f (jobs_at plan places) ≤ length places * 2 ^ 34
+      → sum_by f (jobs_at plan indices) ≤ length indices * 2 ^ 34
   few_jobs f few =
-      let sum = small_sum (RunsWithinABudget plan.answers) f few (jobs_at plan places) budgets in
-      let long = length-map places (λ (place : ℕ). get_or plan.jobs place (single_job [] 0 [])) in
+      let sum = small_sum (RunsWithinABudget plan.answers) f few (jobs_at plan indices) budgets in
+      let long = length-map indices (λ (index : ℕ). get_or plan.jobs index (single_job [] 0 [])) in
       omega (arith, sum, long)
 
-  small_table : (t : CountTable) → IsOfJobs plan.answers (jobs_at plan places) t → IsSmall (length places) t
+  small_table : (t : CountTable) → IsOfJobs plan.answers (jobs_at plan indices) t → IsSmall (length indices) t
   small_table t h = record {
-    begun = λ digest address.
-        let e = h.begun digest address in
+    executed = λ digest address.
+        let e = h.executed digest address in
         let few = few_jobs (executed_by plan.answers digest address)
         (λ job. few_if_run plan.answers job digest (executed_from address)
         (λ n o. let b = begun_at_most address n o in omega (arith, b)) (λ n. refl)) in
         omega (arith, e, few);
-    arrivals = λ digest path.
-        let e = h.arrivals digest path in
+    calls = λ digest path.
+        let e = h.calls digest path in
         let few = few_jobs (calls_by_job plan.answers digest path)
         (λ job. few_if_run plan.answers job digest (calls_from (function_of_job plan.answers job) path)
         (arrivals_at_most (function_of_job plan.answers job) path) (λ n. refl)) in
@@ -90,10 +90,10 @@ module _ (plan : PlanView) (places : List ℕ) (budgets : AllByRecursion (RunsWi
         omega (arith, e, few));
   }
 
-small : (plan : PlanView) (places : List ℕ) (t : CountTable) → IsTableWithStacks plan places t → IsSmall (length places) t
-small plan places t is =
-    let h = of_places plan places t is in
-    small_table plan places h.budgets t h
+small : (plan : PlanView) (indices : List ℕ) (t : CountTable) → IsTableWithStacks plan indices t → IsSmall (length indices) t
+small plan indices t is =
+    let h = of_places plan indices t is in
+    small_table plan indices h.budgets t h
 
 -- ---- why there is no sum
 
@@ -101,8 +101,8 @@ told : (n m : ℕ) (t u : CountTable) (error : SumError) → n + m ≤ 8192 → 
     → IsOfNamesOrMemory error
 told n m t u OutOfMemory few h k no_sum = inl refl
 told n m t u (Count address) few h k no_sum =
-    let a = h.begun no_sum.0 address in
-    let b = k.begun no_sum.0 address in
+    let a = h.executed no_sum.0 address in
+    let b = k.executed no_sum.0 address in
     let c = no_sum.1 in
     absurd (omega (arith, few, a, b, c))
 told n m t u (Spot function) few h k no_sum =
@@ -110,7 +110,7 @@ told n m t u (Spot function) few h k no_sum =
     let path = no_sum.1 in
     absurd
     (elim no_sum.3 [
-      | inl c ↦ let a = h.arrivals digest path in let b = k.arrivals digest path in omega (arith, few, a, b, c)
+      | inl c ↦ let a = h.calls digest path in let b = k.calls digest path in omega (arith, few, a, b, c)
       | inr c ↦ let a = h.steps digest path in let b = k.steps digest path in omega (arith, few, a, b, c)
     ])
 told n m t u (Names function) few h k no_sum = inr (function, refl)
@@ -119,15 +119,15 @@ told n m t u Runs few h k no_sum =
     let b = k.runs in
     absurd (omega (arith, few, a, b, no_sum))
 
-told_of_next : (plan : PlanView) (places : List ℕ) (error : SumError) → length places ≤ max_jobs → IsNextTableNotAdded plan places error
+told_of_next : (plan : PlanView) (indices : List ℕ) (error : SumError) → length indices ≤ max_jobs → IsNextTableNotAdded plan indices error
     → IsOfNamesOrMemory error
-told_of_next plan places error few h =
-    let before = take h.count places in
-    let long = length-take h.count places in
+told_of_next plan indices error few h =
+    let before = take h.count indices in
+    let long = length-take h.count indices in
     let lt = h.within in
     told (length before) 1 h.first h.next error (omega (arith, few, long, lt)) (small plan before h.first h.node_of_first)
-    (small plan (get_or places h.count 0 ∷ []) h.next h.of_next) h.refused
+    (small plan (get_or indices h.count 0 ∷ []) h.next h.of_next) h.refused
 
-pub no_other_reason : (plan : PlanView) (places : List ℕ) (error : SumError) → length places ≤ max_jobs
-    → HaveNoTableWithStacks plan places error → IsOfNamesOrMemory error
-no_other_reason plan places error few = ⊎_elim inl (told_of_next plan places error few)
+pub no_other_reason : (plan : PlanView) (indices : List ℕ) (error : SumError) → length indices ≤ max_jobs
+    → HaveNoTableWithStacks plan indices error → IsOfNamesOrMemory error
+no_other_reason plan indices error few = ⊎_elim inl (told_of_next plan indices error few)

@@ -35,11 +35,11 @@ first_paths ps (m ∷ ms) k d h =
     ∙ get_or_append_left ps (path_below ps m ∷ []) d k h
 
 -- the functions of a node are those of the one above it, and its own
-pub path_at : (ps : List (List ℕ)) (ns : List WalkNode) (place : ℕ) (d : WalkNode) → place < length ns
-    → (get_or ns place d).parent < length ps + place
-    → get_or (paths_appended ps ns) (length ps + place) []
-    ≡ get_or (paths_appended ps ns) (get_or ns place d).parent [] ++ (get_or ns place d).function ∷ []
-path_at ps [] place d within above = absurd (omega (arith, within))
+pub path_at : (ps : List (List ℕ)) (ns : List WalkNode) (index : ℕ) (d : WalkNode) → index < length ns
+    → (get_or ns index d).parent < length ps + index
+    → get_or (paths_appended ps ns) (length ps + index) []
+    ≡ get_or (paths_appended ps ns) (get_or ns index d).parent [] ++ (get_or ns index d).function ∷ []
+path_at ps [] index d within has_parent = absurd (omega (arith, within))
 path_at ps (m ∷ ms) zero d within above =
     let longer = ps ++ path_below ps m ∷ [] in
     let one = length-append ps (path_below ps m ∷ []) in
@@ -52,12 +52,12 @@ path_at ps (m ∷ ms) zero d within above =
     first_paths longer ms m.parent [] (omega (arith, one, above))
     ∙ get_or_append_left ps (path_below ps m ∷ []) [] m.parent (omega (arith, above)) in
     here ∙ ap (λ (p : List ℕ). p ++ m.function ∷ []) (sym there)
-path_at ps (m ∷ ms) (suc place) d within above =
+path_at ps (m ∷ ms) (suc index) d within above =
     let longer = ps ++ path_below ps m ∷ [] in
     let one = length-append ps (path_below ps m ∷ []) in
-    let at : length ps + suc place ≡ length longer + place = omega (arith, one) in
+    let at : length ps + suc index ≡ length longer + index = omega (arith, one) in
     ap (λ (k : ℕ). get_or (paths_appended longer ms) k []) at
-    ∙ path_at longer ms place d (omega (arith, within)) (omega (arith, above, one))
+    ∙ path_at longer ms index d (omega (arith, within)) (omega (arith, above, one))
 
 -- ---- a node in place of another, below the same one and of the same function
 
@@ -69,18 +69,18 @@ same_below : (ps : List (List ℕ)) (n m : WalkNode) → IsOfSame n m → path_b
 same_below ps n m h =
     ap (λ (k : ℕ). get_or ps k [] ++ n.function ∷ []) h.parent ∙ ap (λ (f : ℕ). get_or ps m.parent [] ++ f ∷ []) h.function
 
-pub paths_stay : (ps : List (List ℕ)) (ns : List WalkNode) (place : ℕ) (n d : WalkNode) → place < length ns
-    → IsOfSame n (get_or ns place d) → paths_appended ps (set ns place n) ≡ paths_appended ps ns
-paths_stay ps [] place n d within h = absurd (omega (arith, within))
+pub paths_stay : (ps : List (List ℕ)) (ns : List WalkNode) (index : ℕ) (n d : WalkNode) → index < length ns
+    → IsOfSame n (get_or ns index d) → paths_appended ps (set ns index n) ≡ paths_appended ps ns
+paths_stay ps [] index n d within h = absurd (omega (arith, within))
 paths_stay ps (m ∷ ms) zero n d within h =
     ap (λ (p : List ℕ). paths_appended (ps ++ p ∷ []) ms) (same_below ps n m h)
-paths_stay ps (m ∷ ms) (suc place) n d within h = paths_stay (ps ++ path_below ps m ∷ []) ms place n d (omega (arith, within)) h
+paths_stay ps (m ∷ ms) (suc index) n d within h = paths_stay (ps ++ path_below ps m ∷ []) ms index n d (omega (arith, within)) h
 
-pub weighed_set : (w : List ℕ → WalkNode → ℕ) (ps : List (List ℕ)) (ns : List WalkNode) (place : ℕ) (n d : WalkNode) → place < length ns
-    → IsOfSame n (get_or ns place d)
-    → weighted_sum_after w ps (set ns place n) + w (get_or (paths_appended ps ns) (length ps + place) []) (get_or ns place d)
-    ≡ weighted_sum_after w ps ns + w (get_or (paths_appended ps ns) (length ps + place) []) n
-weighed_set w ps [] place n d within h = absurd (omega (arith, within))
+pub weighed_set : (w : List ℕ → WalkNode → ℕ) (ps : List (List ℕ)) (ns : List WalkNode) (index : ℕ) (n d : WalkNode) → index < length ns
+    → IsOfSame n (get_or ns index d)
+    → weighted_sum_after w ps (set ns index n) + w (get_or (paths_appended ps ns) (length ps + index) []) (get_or ns index d)
+    ≡ weighted_sum_after w ps ns + w (get_or (paths_appended ps ns) (length ps + index) []) n
+weighed_set w ps [] index n d within h = absurd (omega (arith, within))
 weighed_set w ps (m ∷ ms) zero n d within h =
     let longer = ps ++ path_below ps m ∷ [] in
     let one = length-append ps (path_below ps m ∷ []) in
@@ -94,23 +94,23 @@ weighed_set w ps (m ∷ ms) zero n d within h =
     let of_old = ap (λ (p : List ℕ). w p m) here in
     let of_new = ap (λ (p : List ℕ). w p n) here in
     omega (arith, moved, of_old, of_new)
-weighed_set w ps (m ∷ ms) (suc place) n d within h =
+weighed_set w ps (m ∷ ms) (suc index) n d within h =
     let longer = ps ++ path_below ps m ∷ [] in
     let one = length-append ps (path_below ps m ∷ []) in
-    let at : length ps + suc place ≡ length longer + place = omega (arith, one) in
+    let at : length ps + suc index ≡ length longer + index = omega (arith, one) in
     let there = ap (λ (k : ℕ). get_or (paths_appended longer ms) k []) at in
-    let rest = weighed_set w longer ms place n d (omega (arith, within)) h in
-    let of_old = ap (λ (p : List ℕ). w p (get_or ms place d)) there in
+    let rest = weighed_set w longer ms index n d (omega (arith, within)) h in
+    let of_old = ap (λ (p : List ℕ). w p (get_or ms index d)) there in
     let of_new = ap (λ (p : List ℕ). w p n) there in
     omega (arith, rest, of_old, of_new)
 
 -- what one node weighs is in the sum of all
-pub at_most_all : (w : List ℕ → WalkNode → ℕ) (ps : List (List ℕ)) (ns : List WalkNode) (place : ℕ) (d : WalkNode) → place < length ns
-    → ((p : List ℕ) (n : WalkNode) → w p n ≡ w [] n) → w [] (get_or ns place d) ≤ weighted_sum_after w ps ns
-at_most_all w ps [] place d within alike = absurd (omega (arith, within))
+pub at_most_all : (w : List ℕ → WalkNode → ℕ) (ps : List (List ℕ)) (ns : List WalkNode) (index : ℕ) (d : WalkNode) → index < length ns
+    → ((p : List ℕ) (n : WalkNode) → w p n ≡ w [] n) → w [] (get_or ns index d) ≤ weighted_sum_after w ps ns
+at_most_all w ps [] index d within alike = absurd (omega (arith, within))
 at_most_all w ps (m ∷ ms) zero d within alike = let a = alike (path_below ps m) m in omega (arith, a)
-at_most_all w ps (m ∷ ms) (suc place) d within alike =
-    let rest = at_most_all w (ps ++ path_below ps m ∷ []) ms place d (omega (arith, within)) alike in omega (arith, rest)
+at_most_all w ps (m ∷ ms) (suc index) d within alike =
+    let rest = at_most_all w (ps ++ path_below ps m ∷ []) ms index d (omega (arith, within)) alike in omega (arith, rest)
 
 -- ---- by numbers
 

@@ -51,14 +51,14 @@ module _ (answers : List PathResult) (job : Job) where
       let no_arrivals : (digest path : List ℕ) → calls_by_job answers digest path job ≡ 0 =
       λ digest path. ap (calls_from (function_of_job answers job) path job.budget) (not_over answers job digest none) in record {
         table = no_counts_is_table;
-        begun = λ digest address.
+        executed = λ digest address.
             let e = ap (executed_from address job.budget) (not_over answers job digest none) in omega (arith, e);
         taken = λ digest address.
             let e = ap (taken_from address job.budget) (not_over answers job digest none) in omega (arith, e);
         paths = λ digest.
             sym (ap (λ (o : Option State). min_text_of (option_map (λ (s : State). printable_text job.image) o) None)
             (not_over answers job digest none));
-        arrivals = λ digest path. let e = no_arrivals digest path in omega (arith, e);
+        calls = λ digest path. let e = no_arrivals digest path in omega (arith, e);
         steps = λ digest path.
             let e = ap (steps_from (function_of_job answers job) path job.budget) (not_over answers job digest none) in
             omega (arith, e);
@@ -81,7 +81,7 @@ module _ (answers : List PathResult) (job : Job) where
           → cond (bytes_eq (sha256 file) digest) (calls_at path spots) 0 ≡ calls_by_job answers digest path job
       arrivals_are digest path =
           picked_arrivals (bytes_eq (sha256 file) digest) (calls_at path spots) (function_at image file) path job.budget s
-          (stacks.arrivals path)
+          (stacks.calls path)
           ∙ (λ i. calls_from (function_in (sym read i) (sym bytes i)) path job.budget (sym (over answers job digest file s bytes start) i))
 
       steps_are : (digest path : List ℕ)
@@ -106,9 +106,9 @@ module _ (answers : List PathResult) (job : Job) where
           → IsOfJobs answers (job ∷ []) (table_of_run job.image file addresses functions spots)
       its_table small table = record {
         table = table;
-        begun = λ digest address.
+        executed = λ digest address.
             let here = bytes_eq (sha256 file) digest in
-            let e = picked_begun here (executed_at address addresses) address job.budget s (counts.begun address) in
+            let e = picked_begun here (executed_at address addresses) address job.budget s (counts.executed address) in
             let k = ap (executed_from address job.budget) (over answers job digest file s bytes start) in
             omega (arith, e, k);
         taken = λ digest address.
@@ -121,7 +121,7 @@ module _ (answers : List PathResult) (job : Job) where
             ap (λ (o : Option (List ℕ)). min_text_of o None)
             (picked_path (bytes_eq (sha256 file) digest) path s
             ∙ sym (ap (λ (o : Option State). option_map (λ (t : State). path) o) (over answers job digest file s bytes start)));
-        arrivals = λ digest path. let e = arrivals_are digest path in omega (arith, e);
+        calls = λ digest path. let e = arrivals_are digest path in omega (arith, e);
         steps = λ digest path. let e = steps_are digest path in omega (arith, e);
         names = λ digest f. (it_is_named digest f, tt);
         runs = (let e = ap (λ (r : Result State Refusal). address_if (is_ok r)) start in omega (arith, e));

@@ -30,27 +30,27 @@ module _ (plan : PlanView) where
       (of_both plan.answers (jobs_at plan ps) (jobs_at plan (p ∷ [])) t u next (of_places plan ps t h)
       (of_places plan (p ∷ []) u one) sums))
 
-  module _ (places : List ℕ) (added : TableSumView) (ran : Result Flow RunError)
-      (received : IsRunDelivered (λ n u. IsTableWithStacks plan (get_or places n 0 ∷ []) u) (length places)
+  module _ (indices : List ℕ) (added : TableSumView) (ran : Result Flow RunError)
+      (received : IsRunDelivered (λ n u. IsTableWithStacks plan (get_or indices n 0 ∷ []) u) (length indices)
       (λ ts. AreTablesAdded added.sum added.failed (map (λ (u : CountTable). u) ts)) (is_some added.failed ≡ true) ran) where
     abbrev OfFirst : ℕ → CountTable → Type 0
-    OfFirst n t = IsTableWithStacks plan (take n places) t
+    OfFirst n t = IsTableWithStacks plan (take n indices) t
 
     abbrev OfOne : ℕ → CountTable → Type 0
-    OfOne n u = IsTableWithStacks plan (get_or places n 0 ∷ []) u
+    OfOne n u = IsTableWithStacks plan (get_or indices n 0 ∷ []) u
 
-    next_place : (n : ℕ) (t u next : CountTable) → n < length places → OfFirst n t → OfOne n u → IsSumOfTables t u next → OfFirst (n + 1) next
+    next_place : (n : ℕ) (t u next : CountTable) → n < length indices → OfFirst n t → OfOne n u → IsSumOfTables t u next → OfFirst (n + 1) next
     next_place n t u next lt h one sums =
-        subst (λ ps. IsTableWithStacks plan ps next) (sym (take_more places n 0 lt))
-        (one_more (take n places) (get_or places n 0) t u next h one sums)
+        subst (λ ps. IsTableWithStacks plan ps next) (sym (take_more indices n 0 lt))
+        (one_more (take n indices) (get_or indices n 0) t u next h one sums)
 
-    pub all_added : IfOk (sum_of_run added ran) (IsTableWithStacks plan places)
+    pub all_added : IfOk (sum_of_run added ran) (IsTableWithStacks plan indices)
     all_added =
-        IfOk-weaker (sum_of_run added ran) (OfFirst (length places)) (IsTableWithStacks plan places)
-        (λ t h. subst (λ ps. IsTableWithStacks plan ps t) (take_all (length places) places (omega arith)) h)
-        (run_added OfFirst OfOne (length places) of_no_place next_place added ran received)
+        IfOk-weaker (sum_of_run added ran) (OfFirst (length indices)) (IsTableWithStacks plan indices)
+        (λ t h. subst (λ ps. IsTableWithStacks plan ps t) (take_all (length indices) indices (omega arith)) h)
+        (run_added OfFirst OfOne (length indices) of_no_place next_place added ran received)
 
-    refused_here : (error : SumError) → NextRefused OfFirst OfOne (length places) error → IsNextTableNotAdded plan places error
+    refused_here : (error : SumError) → NextRefused OfFirst OfOne (length indices) error → IsNextTableNotAdded plan indices error
     refused_here error h = record {
       count = h.count;
       within = h.within;
@@ -61,9 +61,9 @@ module _ (plan : PlanView) where
       refused = h.refused;
     }
 
-    pub next_refused : IfErr (sum_of_run added ran) (HaveNoTableWithStacks plan places)
+    pub next_refused : IfErr (sum_of_run added ran) (HaveNoTableWithStacks plan indices)
     next_refused =
         IfErr-weaker (sum_of_run added ran)
-        (λ error. (error ≡ OutOfMemory) ⊎ NextRefused OfFirst OfOne (length places) error)
-        (HaveNoTableWithStacks plan places) (λ error. ⊎_elim inl (λ h. inr (refused_here error h)))
-        (run_ended OfFirst OfOne (length places) of_no_place next_place added ran received)
+        (λ error. (error ≡ OutOfMemory) ⊎ NextRefused OfFirst OfOne (length indices) error)
+        (HaveNoTableWithStacks plan indices) (λ error. ⊎_elim inl (λ h. inr (refused_here error h)))
+        (run_ended OfFirst OfOne (length indices) of_no_place next_place added ran received)

@@ -33,41 +33,41 @@ left_of_action action.PopThenPush to sp frames =
     after_return (depth_up_to_return to frames == 0) (depth_up_to_return to frames) _ (length frames) (omega arith) (omega arith)
 
 module _ (function : ℕ → ℕ) (frames : List Frame) (t : Transfer) where
-  abbrev left : ℕ
-  left = remaining_depth t.action t.to t.sp frames
+  abbrev remaining : ℕ
+  remaining = remaining_depth t.action t.to t.sp frames
 
   abbrev callers : List Frame → List ℕ
   callers fs = map (λ f. function f.call) fs
 
-  within : left ≤ length frames
+  within : remaining ≤ length frames
   within = left_of_action t.action t.to t.sp frames
 
-  long_popped : length (after_pop frames t) ≡ left
-  long_popped = length-take-le left frames within
+  long_popped : length (after_pop frames t) ≡ remaining
+  long_popped = length-take-le remaining frames within
 
   -- the functions of the callers that are left
-  first_left : (pc : ℕ) → take left (path_at function frames pc) ≡ callers (after_pop frames t)
+  first_left : (pc : ℕ) → take remaining (path_at function frames pc) ≡ callers (after_pop frames t)
   first_left pc =
       let long = length-map frames (λ (f : Frame). function f.call) in
       let w = within in
-      take-append-le left (callers frames) (function pc ∷ []) (omega (arith, long, w))
-      ∙ take-map (λ (f : Frame). function f.call) left frames
+      take-append-le remaining (callers frames) (function pc ∷ []) (omega (arith, long, w))
+      ∙ take-map (λ (f : Frame). function f.call) remaining frames
 
   -- behind them stands the function where control is back
-  back_there : get_or (path_at function frames t.from) left 0 ≡ function (address_after_pops frames t)
+  back_there : get_or (path_at function frames t.from) remaining 0 ≡ function (address_after_pops frames t)
   back_there =
       let long = length-map frames (λ (f : Frame). function f.call) in
       let w = within in
       let at = ap (λ (n : ℕ). function (get_or frames n (frame_of t)).call) (sym long_popped) in
-      elim (cases_lt left (length frames)) [
+      elim (cases_lt remaining (length frames)) [
         | inl inside ↦
-            get_or_append_left (callers frames) (function t.from ∷ []) 0 left (omega (arith, long, inside))
-            ∙ get_or-map (λ (f : Frame). function f.call) frames left (frame_of t) 0 inside ∙ at
+            get_or_append_left (callers frames) (function t.from ∷ []) 0 remaining (omega (arith, long, inside))
+            ∙ get_or-map (λ (f : Frame). function f.call) frames remaining (frame_of t) 0 inside ∙ at
         | inr over ↦
-            let all : left ≡ length (callers frames) = omega (arith, long, w, over) in
+            let all : remaining ≡ length (callers frames) = omega (arith, long, w, over) in
             ap (λ (n : ℕ). get_or (path_at function frames t.from) n 0) all
             ∙ get_or-append_seam (callers frames) (function t.from) [] 0
-            ∙ ap (λ (f : Frame). function f.call) (sym (get_or_past frames left (frame_of t) over)) ∙ at
+            ∙ ap (λ (f : Frame). function f.call) (sym (get_or_past frames remaining (frame_of t) over)) ∙ at
       ]
 
   -- ---- with a call
@@ -85,35 +85,35 @@ module _ (function : ℕ → ℕ) (frames : List Frame) (t : Transfer) where
         ap (λ (fs : List Frame). path_at function fs t.to) after_call
         ∙ ap (λ (fs : List ℕ). fs ++ function t.to ∷ []) (map-append (λ (f : Frame). function f.call) (after_pop frames t) (frame_of t ∷ []))
 
-    pub follows_call : (old mid new : Walk) (caller called : ℕ) → IsAt function frames t.from old → ContinuesIn left caller old mid
+    pub follows_call : (old mid new : Walk) (caller called : ℕ) → IsAt function frames t.from old → ContinuesIn remaining caller old mid
         → caller ≡ function t.from → called ≡ function t.to
-        → Enters (take (left + 1) mid.path.items ++ called ∷ []) mid new → FollowsTransfer function frames t old new
+        → Enters (take (remaining + 1) mid.path.items ++ called ∷ []) mid new → FollowsTransfer function frames t old new
     follows_call old mid new caller called at on from to arrives =
         let path = path_at function (after_pop frames t) t.from in
-        let came : take left old.path.items ++ caller ∷ [] ≡ path =
-        λ i. (ap (take left) at.path ∙ first_left t.from) i ++ from i ∷ [] in
+        let came : take remaining old.path.items ++ caller ∷ [] ≡ path =
+        λ i. (ap (take remaining) at.path ∙ first_left t.from) i ++ from i ∷ [] in
         let mid_path : mid.path.items ≡ path = on.path ∙ came in
-        let long : length path ≡ left + 1 =
+        let long : length path ≡ remaining + 1 =
         let a = length-append (callers (after_pop frames t)) (function t.from ∷ []) in
         let b = length-map (after_pop frames t) (λ (f : Frame). function f.call) in
         let c = long_popped in omega (arith, a, b, c) in
-        let whole : take (left + 1) mid.path.items ≡ path =
-        ap (take (left + 1)) mid_path ∙ take_all (left + 1) path (omega (arith, long)) in
-        let behind : take (left + 1) mid.path.items ++ called ∷ [] ≡ path_at function (after_transfer frames t) t.to =
+        let whole : take (remaining + 1) mid.path.items ≡ path =
+        ap (take (remaining + 1)) mid_path ∙ take_all (remaining + 1) path (omega (arith, long)) in
+        let behind : take (remaining + 1) mid.path.items ++ called ∷ [] ≡ path_at function (after_transfer frames t) t.to =
         (λ i. whole i ++ to i ∷ []) ∙ sym path_of_call in
-        let back : get_or old.path.items left 0 ≡ function (address_after_pops frames t) =
-        ap (λ (p : List ℕ). get_or p left 0) at.path ∙ back_there in
+        let back : get_or old.path.items remaining 0 ≡ function (address_after_pops frames t) =
+        ap (λ (p : List ℕ). get_or p remaining 0) at.path ∙ back_there in
         let next : caller ≡ function (continues_at frames t) = from ∙ ap function (sym at_call) in
-        let went : take left old.path.items ++ caller ∷ [] ≡ path_at function (after_pop frames t) (continues_at frames t) =
+        let went : take remaining old.path.items ++ caller ∷ [] ≡ path_at function (after_pop frames t) (continues_at frames t) =
         came ∙ ap (path_at function (after_pop frames t)) (sym at_call) in record {
           at = record { walk = arrives.walk; path = arrives.path ∙ behind };
-          arrivals = λ at_path.
-              let a = on.arrivals at_path in
-              let b = arrives.arrivals at_path in
-              let jump : address_if (not (get_or old.path.items left 0 == caller)
-              && bytes_eq (take left old.path.items ++ caller ∷ []) at_path) ≡ address_if (jumps_to function at_path frames t) =
+          calls = λ at_path.
+              let a = on.calls at_path in
+              let b = arrives.calls at_path in
+              let jump : address_if (not (get_or old.path.items remaining 0 == caller)
+              && bytes_eq (take remaining old.path.items ++ caller ∷ []) at_path) ≡ address_if (jumps_to function at_path frames t) =
               λ i. address_if (not (back i == next i) && bytes_eq (went i) at_path) in
-              let call : address_if (bytes_eq (take (left + 1) mid.path.items ++ called ∷ []) at_path)
+              let call : address_if (bytes_eq (take (remaining + 1) mid.path.items ++ called ∷ []) at_path)
               ≡ address_if (calls_to function at_path frames t) =
               ap (λ (p : List ℕ). address_if (bytes_eq p at_path)) behind
               ∙ ap (λ (b : Bool). address_if (b && bytes_eq (path_at function (after_transfer frames t) t.to) at_path)) (sym calls) in
@@ -134,24 +134,24 @@ module _ (function : ℕ → ℕ) (frames : List Frame) (t : Transfer) where
     at_jump : continues_at frames t ≡ t.to
     at_jump = ap (λ (b : Bool). cond b t.from t.to) jumps
 
-    pub follows_jump : (old new : Walk) (function_to : ℕ) → IsAt function frames t.from old → ContinuesIn left function_to old new
+    pub follows_jump : (old new : Walk) (function_to : ℕ) → IsAt function frames t.from old → ContinuesIn remaining function_to old new
         → function_to ≡ function t.to → FollowsTransfer function frames t old new
     follows_jump old new function_to at on to =
-        let came : take left old.path.items ++ function_to ∷ [] ≡ path_at function (after_pop frames t) t.to =
-        λ i. (ap (take left) at.path ∙ first_left t.from) i ++ to i ∷ [] in
-        let back : get_or old.path.items left 0 ≡ function (address_after_pops frames t) =
-        ap (λ (p : List ℕ). get_or p left 0) at.path ∙ back_there in
+        let came : take remaining old.path.items ++ function_to ∷ [] ≡ path_at function (after_pop frames t) t.to =
+        λ i. (ap (take remaining) at.path ∙ first_left t.from) i ++ to i ∷ [] in
+        let back : get_or old.path.items remaining 0 ≡ function (address_after_pops frames t) =
+        ap (λ (p : List ℕ). get_or p remaining 0) at.path ∙ back_there in
         let next : function_to ≡ function (continues_at frames t) = to ∙ ap function (sym at_jump) in
-        let went : take left old.path.items ++ function_to ∷ [] ≡ path_at function (after_pop frames t) (continues_at frames t) =
+        let went : take remaining old.path.items ++ function_to ∷ [] ≡ path_at function (after_pop frames t) (continues_at frames t) =
         came ∙ ap (path_at function (after_pop frames t)) (sym at_jump) in record {
           at = record {
             walk = on.walk;
             path = on.path ∙ came ∙ ap (λ (fs : List Frame). path_at function fs t.to) (sym after_jump);
           };
-          arrivals = λ at_path.
-              let a = on.arrivals at_path in
-              let jump : address_if (not (get_or old.path.items left 0 == function_to)
-              && bytes_eq (take left old.path.items ++ function_to ∷ []) at_path) ≡ address_if (jumps_to function at_path frames t) =
+          calls = λ at_path.
+              let a = on.calls at_path in
+              let jump : address_if (not (get_or old.path.items remaining 0 == function_to)
+              && bytes_eq (take remaining old.path.items ++ function_to ∷ []) at_path) ≡ address_if (jumps_to function at_path frames t) =
               λ i. address_if (not (back i == next i) && bytes_eq (went i) at_path) in
               let call : address_if (calls_to function at_path frames t) ≡ 0 =
               ap (λ (b : Bool). address_if (b && bytes_eq (path_at function (after_transfer frames t) t.to) at_path)) jumps in

@@ -37,21 +37,21 @@ module _ (plan : PlanView) where
   of_more_parts js [] (t ∷ ts) start sum h each sums = absurd each
   of_more_parts js (p ∷ ps) [] start sum h each sums = absurd each
 
-pub sum_of_parts : (plan : PlanView) (places : List ℕ) (parts : List (List ℕ)) (ts : List CountTable) (sum : CountTable)
-    → IsPermutation (flat_map (λ p. p) parts) places → AreTablesWithStacksOfParts plan parts ts → SumsTo no_counts ts sum
-    → IsTableWithStacks plan places sum
-sum_of_parts plan places parts ts sum p each sums =
+pub sum_of_parts : (plan : PlanView) (indices : List ℕ) (parts : List (List ℕ)) (ts : List CountTable) (sum : CountTable)
+    → IsPermutation (flat_map (λ p. p) parts) indices → AreTablesWithStacksOfParts plan parts ts → SumsTo no_counts ts sum
+    → IsTableWithStacks plan indices sum
+sum_of_parts plan indices parts ts sum p each sums =
     let all = flat_map (λ p. p) parts in
-    counts_and_stacks plan places sum
-    (in_order plan.answers (jobs_at plan all) (jobs_at plan places) sum (IsPermutation-map _ all places p)
+    counts_and_stacks plan indices sum
+    (in_order plan.answers (jobs_at plan all) (jobs_at plan indices) sum (IsPermutation-map _ all indices p)
     (of_more_parts plan [] parts ts no_counts sum (of_none plan.answers) each sums))
 
-pub text_of_parts : (plan : PlanView) (places : List ℕ) (parts : List (List ℕ)) (ts : List CountTable) (sum whole : CountTable)
-    → IsPermutation (flat_map (λ p. p) parts) places → AreTablesWithStacksOfParts plan parts ts → SumsTo no_counts ts sum
-    → IsTableWithStacks plan places whole → table_text sum ≡ table_text whole
-text_of_parts plan places parts ts sum whole p each sums h =
+pub text_of_parts : (plan : PlanView) (indices : List ℕ) (parts : List (List ℕ)) (ts : List CountTable) (sum whole : CountTable)
+    → IsPermutation (flat_map (λ p. p) parts) indices → AreTablesWithStacksOfParts plan parts ts → SumsTo no_counts ts sum
+    → IsTableWithStacks plan indices whole → table_text sum ≡ table_text whole
+text_of_parts plan indices parts ts sum whole p each sums h =
     ap table_text
-    (one_table plan places places sum whole (IsPermutation-refl places) (sum_of_parts plan places parts ts sum p each sums) h)
+    (one_table plan indices indices sum whole (IsPermutation-refl indices) (sum_of_parts plan indices parts ts sum p each sums) h)
 
 -- ---- parts in another order
 
@@ -87,34 +87,34 @@ parts_moved ps qs =
 
 -- ---- shards
 
-module _ (shards : ℕ) (places numbers : List ℕ) where
-  in_line : (from n : ℕ) → flat_map (λ p. p) (map (indices_of_shard shards places) (range_with_len from n))
-      ≡ joined_parts (λ (place : ℕ). place % shards) from n places
+module _ (shards : ℕ) (indices numbers : List ℕ) where
+  in_line : (from n : ℕ) → flat_map (λ p. p) (map (indices_of_shard shards indices) (range_with_len from n))
+      ≡ joined_parts (λ (index : ℕ). index % shards) from n indices
   in_line from zero = refl
-  in_line from (suc n) = ap (λ ps. indices_of_shard shards places from ++ ps) (in_line (from + 1) n)
+  in_line from (suc n) = ap (λ ps. indices_of_shard shards indices from ++ ps) (in_line (from + 1) n)
 
   shards_are_all : 0 < shards → IsPermutation (range_with_len 0 shards) numbers
-      → IsPermutation (flat_map (λ p. p) (map (indices_of_shard shards places) numbers)) places
+      → IsPermutation (flat_map (λ p. p) (map (indices_of_shard shards indices) numbers)) indices
   shards_are_all some p =
-      let here = map (indices_of_shard shards places) (range_with_len 0 shards) in
-      let there = map (indices_of_shard shards places) numbers in
+      let here = map (indices_of_shard shards indices) (range_with_len 0 shards) in
+      let there = map (indices_of_shard shards indices) numbers in
       IsPermutation-trans _ _ _
       (IsPermutation-sym _ _
-      (parts_moved here there (IsPermutation-map (indices_of_shard shards places) (range_with_len 0 shards) numbers p)))
-      (subst (λ ps. IsPermutation ps places) (sym (in_line 0 shards))
-      (all_parts (λ (place : ℕ). place % shards) shards places (λ place. omega (arith, some))))
+      (parts_moved here there (IsPermutation-map (indices_of_shard shards indices) (range_with_len 0 shards) numbers p)))
+      (subst (λ ps. IsPermutation ps indices) (sym (in_line 0 shards))
+      (all_parts (λ (index : ℕ). index % shards) shards indices (λ index. omega (arith, some))))
 
-pub sum_of_shards : (plan : PlanView) (shards : ℕ) (places numbers : List ℕ) (ts : List CountTable) (sum : CountTable)
+pub sum_of_shards : (plan : PlanView) (shards : ℕ) (indices numbers : List ℕ) (ts : List CountTable) (sum : CountTable)
     → 0 < shards → IsPermutation (range_with_len 0 shards) numbers
-    → AreTablesWithStacksOfParts plan (map (indices_of_shard shards places) numbers) ts → SumsTo no_counts ts sum
-    → IsTableWithStacks plan places sum
-sum_of_shards plan shards places numbers ts sum some p =
-    sum_of_parts plan places (map (indices_of_shard shards places) numbers) ts sum (shards_are_all shards places numbers some p)
+    → AreTablesWithStacksOfParts plan (map (indices_of_shard shards indices) numbers) ts → SumsTo no_counts ts sum
+    → IsTableWithStacks plan indices sum
+sum_of_shards plan shards indices numbers ts sum some p =
+    sum_of_parts plan indices (map (indices_of_shard shards indices) numbers) ts sum (shards_are_all shards indices numbers some p)
 
-pub text_of_shards : (plan : PlanView) (shards : ℕ) (places numbers : List ℕ) (ts : List CountTable) (sum whole : CountTable)
+pub text_of_shards : (plan : PlanView) (shards : ℕ) (indices numbers : List ℕ) (ts : List CountTable) (sum whole : CountTable)
     → 0 < shards → IsPermutation (range_with_len 0 shards) numbers
-    → AreTablesWithStacksOfParts plan (map (indices_of_shard shards places) numbers) ts → SumsTo no_counts ts sum
-    → IsTableWithStacks plan places whole → table_text sum ≡ table_text whole
-text_of_shards plan shards places numbers ts sum whole some p =
-    text_of_parts plan places (map (indices_of_shard shards places) numbers) ts sum whole
-    (shards_are_all shards places numbers some p)
+    → AreTablesWithStacksOfParts plan (map (indices_of_shard shards indices) numbers) ts → SumsTo no_counts ts sum
+    → IsTableWithStacks plan indices whole → table_text sum ≡ table_text whole
+text_of_shards plan shards indices numbers ts sum whole some p =
+    text_of_parts plan indices (map (indices_of_shard shards indices) numbers) ts sum whole
+    (shards_are_all shards indices numbers some p)

@@ -24,7 +24,7 @@ pub counted : (old new : Walk) → CountsSteps 1 old new → CountsStepIf true o
 counted old new h = record {
   walk = h.walk;
   path = h.path;
-  arrivals = h.arrivals;
+  calls = h.calls;
   steps = h.steps;
   own = h.own;
   all_calls = h.all_calls;
@@ -49,9 +49,9 @@ pub some_of : (function : ℕ → ℕ) (frames : List Frame) (pc : ℕ) (w : Wal
 some_of function frames pc w h =
     let here = ap length h.path in let some = some_path function frames pc in omega (arith, here, some)
 
-pub still_at : (function : ℕ → ℕ) (frames : List Frame) (pc : ℕ) (begun : Bool) (old mid : Walk)
-    → IsAt function frames pc old → CountsStepIf begun old mid → IsAt function frames pc mid
-still_at function frames pc begun old mid h counts = record { walk = counts.walk; path = counts.path ∙ h.path }
+pub still_at : (function : ℕ → ℕ) (frames : List Frame) (pc : ℕ) (executed : Bool) (old mid : Walk)
+    → IsAt function frames pc old → CountsStepIf executed old mid → IsAt function frames pc mid
+still_at function frames pc executed old mid h counts = record { walk = counts.walk; path = counts.path ∙ h.path }
 
 -- ---- a step that ends the run
 
@@ -79,14 +79,14 @@ stays : (r : Result State Ending) (s t : State) → is_ok r ≡ false → t ≡ 
 stays (Ok u) s t h same = cc
 stays (Err e) s t h same = same
 
-pub ended_step : (function : ℕ → ℕ) (s t : State) (frames after : List Frame) (begun : Bool) (old new : Walk)
-    → IsAt function frames s.pc old → is_ok (step_of s) ≡ false → begun ≡ is_executed (fetch_at s) → t ≡ s
-    → CountsStepIf begun old new → StacksStep function s frames old false t after new
-ended_step function s t frames after begun old new at over is same counts = record {
+pub ended_step : (function : ℕ → ℕ) (s t : State) (frames after : List Frame) (executed : Bool) (old new : Walk)
+    → IsAt function frames s.pc old → is_ok (step_of s) ≡ false → executed ≡ is_executed (fetch_at s) → t ≡ s
+    → CountsStepIf executed old new → StacksStep function s frames old false t after new
+ended_step function s t frames after executed old new at over is same counts = record {
   walk = counts.walk;
   completed = not_completed (step_of s) over;
   state = stays (step_of s) s t over same;
-  goes = counts.arrivals;
+  goes = counts.calls;
   steps = λ path. counts.steps path
       ∙ (λ i. steps_at path old.nodes.items + address_if (is i && bytes_eq (at.path i) path));
   own = λ f. counts.own f
@@ -101,7 +101,7 @@ pub whole_step : (function : ℕ → ℕ) (s t : State) (tr : Transfer) (frames 
     → IsAt function frames s.pc old → step_of s ≡ Ok t → tr ≡ transfer_of s t → is_executed (fetch_at s) ≡ true
     → CountsStepIf true old mid → after ≡ after_transfer frames tr → FollowsTransfer function frames tr mid new
     → StacksStep function s frames old true t after new
-whole_step function s t tr frames after old mid new at steps is begun counts frames_are follows =
+whole_step function s t tr frames after old mid new at steps is executed counts frames_are follows =
     let there : after ≡ after_transfer frames (transfer_of s t) = frames_are ∙ ap (after_transfer frames) is in
     let goes : FollowsTransfer function frames (transfer_of s t) mid new =
     subst (λ (x : Transfer). FollowsTransfer function frames x mid new) is follows in record {
@@ -111,13 +111,13 @@ whole_step function s t tr frames after old mid new at steps is begun counts fra
       goes = (
         there,
         subst (λ (fs : List Frame). IsAt function fs t.pc new) (sym there) goes.at,
-        λ path. goes.arrivals path
-            ∙ ap (λ (n : ℕ). n + calls_by function path frames (transfer_of s t)) (counts.arrivals path),
+        λ path. goes.calls path
+            ∙ ap (λ (n : ℕ). n + calls_by function path frames (transfer_of s t)) (counts.calls path),
       );
       steps = λ path. goes.steps path ∙ counts.steps path
-          ∙ (λ i. steps_at path old.nodes.items + address_if (sym begun i && bytes_eq (at.path i) path));
+          ∙ (λ i. steps_at path old.nodes.items + address_if (sym executed i && bytes_eq (at.path i) path));
       own = λ f. goes.own f ∙ counts.own f
-          ∙ (λ i. own_steps_of f old.nodes.items + address_if (sym begun i && (ap (ends_with f) at.path ∙ ends_at function frames s.pc f) i));
+          ∙ (λ i. own_steps_of f old.nodes.items + address_if (sym executed i && (ap (ends_with f) at.path ∙ ends_at function frames s.pc f) i));
       few = (let a = goes.few in let b = counts.all_calls in omega (arith, a, b));
-      all_steps = goes.all_steps ∙ counts.all_steps ∙ ap (λ (b : Bool). all_steps old.nodes.items + address_if b) (sym begun);
+      all_steps = goes.all_steps ∙ counts.all_steps ∙ ap (λ (b : Bool). all_steps old.nodes.items + address_if b) (sym executed);
     }

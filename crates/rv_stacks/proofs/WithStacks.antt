@@ -22,12 +22,12 @@ use Rattle.rv_stacks.proofs.Tables.{budgets_of_both, names_of_both, same_either}
 -- each number is the sum over the jobs
 pub record IsOfJobs (answers : List PathResult) (jobs : List Job) (t : CountTable) : Type 0 where
   pub table : IsValidTable t
-  pub begun : (digest : List ℕ) (address : ℕ)
+  pub executed : (digest : List ℕ) (address : ℕ)
       → executed_in digest address t.images ≡ sum_by (executed_by answers digest address) jobs
   pub taken : (digest : List ℕ) (address : ℕ)
       → taken_in digest address t.images ≡ sum_by (taken_by answers digest address) jobs
   pub paths : (digest : List ℕ) → next_path digest t.images ≡ first_path answers digest jobs
-  pub arrivals : (digest path : List ℕ)
+  pub calls : (digest path : List ℕ)
       → calls_in_image digest path t.images ≡ sum_by (calls_by_job answers digest path) jobs
   pub steps : (digest path : List ℕ) → steps_in digest path t.images ≡ sum_by (steps_by_job answers digest path) jobs
   pub names : (digest : List ℕ) (f : ℕ) → AllByRecursion (IsNamedBy answers t digest f) jobs
@@ -44,14 +44,14 @@ pub each_so : {X : Type 0} (P Q : X → Type 0) (xs : List X) → ((x : X) → P
 each_so P Q [] f h = tt
 each_so P Q (x ∷ xs) f h = (f x h.0, each_so P Q xs f h.1)
 
-pub of_places : (plan : PlanView) (places : List ℕ) (t : CountTable) → IsTableWithStacks plan places t
-    → IsOfJobs plan.answers (jobs_at plan places) t
-of_places plan places t h = record {
+pub of_places : (plan : PlanView) (indices : List ℕ) (t : CountTable) → IsTableWithStacks plan indices t
+    → IsOfJobs plan.answers (jobs_at plan indices) t
+of_places plan indices t h = record {
   table = h.sum.table;
-  begun = λ digest address.
-      let s = h.sum.begun digest address in
-      let p = h.counted.begun digest address in
-      let q = h.stacked.begun digest address in
+  executed = λ digest address.
+      let s = h.sum.executed digest address in
+      let p = h.counted.executed digest address in
+      let q = h.stacked.executed digest address in
       omega (arith, s, p, q);
   taken = λ digest address.
       let s = h.sum.taken digest address in
@@ -60,11 +60,11 @@ of_places plan places t h = record {
       omega (arith, s, p, q);
   paths = λ digest. h.sum.paths digest
       ∙ (λ i. min_text_of (h.counted.paths digest i) (h.stacked.paths digest i))
-      ∙ with_itself (first_path plan.answers digest (jobs_at plan places));
-  arrivals = λ digest path.
-      let s = h.sum.arrivals digest path in
-      let p = h.counted.stacks.arrivals digest path in
-      let q = h.stacked.arrivals digest path in
+      ∙ with_itself (first_path plan.answers digest (jobs_at plan indices));
+  calls = λ digest path.
+      let s = h.sum.calls digest path in
+      let p = h.counted.stacks.calls digest path in
+      let q = h.stacked.calls digest path in
       omega (arith, s, p, q);
   steps = λ digest path.
       let s = h.sum.steps digest path in
@@ -72,7 +72,7 @@ of_places plan places t h = record {
       let q = h.stacked.steps digest path in
       omega (arith, s, p, q);
   names = λ digest f.
-      each_so (IsNamedBy plan.answers h.stacks digest f) (IsNamedBy plan.answers t digest f) (jobs_at plan places)
+      each_so (IsNamedBy plan.answers h.stacks digest f) (IsNamedBy plan.answers t digest f) (jobs_at plan indices)
       (λ job named path ends some. h.sum.names digest f
       ∙ ap (λ (o : Option (List ℕ)). min_text_of o (truncated_name digest f h.stacks.images)) (h.counted.stacks.names digest f)
       ∙ named path ends some)
@@ -89,10 +89,10 @@ of_places plan places t h = record {
 pub of_none : (answers : List PathResult) → IsOfJobs answers [] no_counts
 of_none answers = record {
   table = no_counts_is_table;
-  begun = λ digest address. refl;
+  executed = λ digest address. refl;
   taken = λ digest address. refl;
   paths = λ digest. refl;
-  arrivals = λ digest path. refl;
+  calls = λ digest path. refl;
   steps = λ digest path. refl;
   names = λ digest f. tt;
   runs = refl;
@@ -104,10 +104,10 @@ module _ (answers : List PathResult) where
       → IsOfJobs answers (js ++ ks) sum
   of_both js ks t u sum h k is = record {
     table = is.table;
-    begun = λ digest address.
-        let s = is.begun digest address in
-        let p = h.begun digest address in
-        let q = k.begun digest address in
+    executed = λ digest address.
+        let s = is.executed digest address in
+        let p = h.executed digest address in
+        let q = k.executed digest address in
         let e = sum_by-append (executed_by answers digest address) js ks in
         omega (arith, s, p, q, e);
     taken = λ digest address.
@@ -119,10 +119,10 @@ module _ (answers : List PathResult) where
     paths = λ digest.
         is.paths digest ∙ (λ i. min_text_of (h.paths digest i) (k.paths digest i))
         ∙ sym (first_path-append answers digest js ks);
-    arrivals = λ digest path.
-        let s = is.arrivals digest path in
-        let p = h.arrivals digest path in
-        let q = k.arrivals digest path in
+    calls = λ digest path.
+        let s = is.calls digest path in
+        let p = h.calls digest path in
+        let q = k.calls digest path in
         let e = sum_by-append (calls_by_job answers digest path) js ks in
         omega (arith, s, p, q, e);
     steps = λ digest path.
@@ -145,11 +145,11 @@ module _ (answers : List PathResult) where
   pub in_order : (js ks : List Job) (t : CountTable) → IsPermutation js ks → IsOfJobs answers js t → IsOfJobs answers ks t
   in_order js ks t p h = record {
     table = h.table;
-    begun = λ digest address. h.begun digest address ∙ sym (sum_by-IsPermutation (executed_by answers digest address) js ks p);
+    executed = λ digest address. h.executed digest address ∙ sym (sum_by-IsPermutation (executed_by answers digest address) js ks p);
     taken = λ digest address. h.taken digest address ∙ sym (sum_by-IsPermutation (taken_by answers digest address) js ks p);
     paths = λ digest. h.paths digest ∙ first_moved answers digest js ks p;
-    arrivals = λ digest path.
-        h.arrivals digest path ∙ sym (sum_by-IsPermutation (calls_by_job answers digest path) js ks p);
+    calls = λ digest path.
+        h.calls digest path ∙ sym (sum_by-IsPermutation (calls_by_job answers digest path) js ks p);
     steps = λ digest path. h.steps digest path ∙ sym (sum_by-IsPermutation (steps_by_job answers digest path) js ks p);
     names = λ digest f.
         recursion_from_All (IsNamedBy answers t digest f) ks
@@ -188,27 +188,27 @@ module _ (answers : List PathResult) where
   same_names jobs t u h k digest f =
       same_if_either (truncated_name digest f t.images) (truncated_name digest f u.images)
       (λ named. let c = come_to f digest t.images h.table.images named in
-      let e = h.arrivals digest c.path in
+      let e = h.calls digest c.path in
       let some = c.some in
       named_by_a_job t u digest f c.path jobs c.ends (omega (arith, e, some)) (h.names digest f) (k.names digest f))
       (λ named. let c = come_to f digest u.images k.table.images named in
-      let e = k.arrivals digest c.path in
+      let e = k.calls digest c.path in
       let some = c.some in
       named_by_a_job t u digest f c.path jobs c.ends (omega (arith, e, some)) (h.names digest f) (k.names digest f))
 
   one_of_jobs : (jobs : List Job) (t u : CountTable) → IsOfJobs answers jobs t → IsOfJobs answers jobs u → t ≡ u
   one_of_jobs jobs t u h k = one_table_of t u h.table k.table
-      (λ digest address. h.begun digest address ∙ sym (k.begun digest address))
+      (λ digest address. h.executed digest address ∙ sym (k.executed digest address))
       (λ digest address. h.taken digest address ∙ sym (k.taken digest address))
       (λ digest. h.paths digest ∙ sym (k.paths digest))
       (same_names jobs t u h k)
-      (λ digest path. h.arrivals digest path ∙ sym (k.arrivals digest path))
+      (λ digest path. h.calls digest path ∙ sym (k.calls digest path))
       (λ digest path. h.steps digest path ∙ sym (k.steps digest path)) (h.runs ∙ sym k.runs)
 
-pub one_table : (plan : PlanView) (places others : List ℕ) (t u : CountTable) → IsPermutation places others
-    → IsTableWithStacks plan places t → IsTableWithStacks plan others u → t ≡ u
-one_table plan places others t u p h k =
+pub one_table : (plan : PlanView) (indices others : List ℕ) (t u : CountTable) → IsPermutation indices others
+    → IsTableWithStacks plan indices t → IsTableWithStacks plan others u → t ≡ u
+one_table plan indices others t u p h k =
     one_of_jobs plan.answers (jobs_at plan others) t u
-    (in_order plan.answers (jobs_at plan places) (jobs_at plan others) t (IsPermutation-map _ places others p)
-    (of_places plan places t h))
+    (in_order plan.answers (jobs_at plan indices) (jobs_at plan others) t (IsPermutation-map _ indices others p)
+    (of_places plan indices t h))
     (of_places plan others u k)

@@ -38,7 +38,7 @@ weighted_sum weight nodes = weighted_sum_after weight ([] ∷ []) nodes
 
 -- how often a run entered the path `path`, according to the counts of the nodes
 abbrev pub calls_at : List ℕ → List WalkNode → ℕ
-calls_at path nodes = weighted_sum (λ p n. if bytes_eq p path then n.arrivals else 0) nodes
+calls_at path nodes = weighted_sum (λ p n. if bytes_eq p path then n.calls else 0) nodes
 
 -- how many instructions a run executed on the path `path`, according to the counts of the nodes
 abbrev pub steps_at : List ℕ → List WalkNode → ℕ
@@ -50,7 +50,7 @@ own_steps_of function nodes = weighted_sum (λ p n. steps_if (n.function == func
 
 -- the number of entries into all nodes together
 abbrev pub all_calls : List WalkNode → ℕ
-all_calls nodes = weighted_sum (λ p n. n.arrivals) nodes
+all_calls nodes = weighted_sum (λ p n. n.calls) nodes
 
 -- the number of instructions executed in all nodes together
 abbrev pub all_steps : List WalkNode → ℕ
@@ -58,15 +58,15 @@ all_steps nodes = weighted_sum (λ p n. n.steps) nodes
 
 -- whether a node has neither entries nor instructions
 abbrev pub is_empty : WalkNode → Bool
-is_empty n = (n.arrivals == 0) && (n.steps == 0)
+is_empty n = (n.calls == 0) && (n.steps == 0)
 
 -- ---- children
 
 -- the node `number` is the child of the node `parent` for this function; a child has a greater number than its parent
 pub record IsChild (parent function number : ℕ) (nodes : List WalkNode) : Type 0 where
-  pub behind : parent < number
+  pub after_parent : parent < number
   pub within : number < length nodes + 1
-  pub above : (k : ℕ) (d : WalkNode) → k + 1 ≡ number → (slice_index_or nodes k d).parent ≡ parent
+  pub has_parent : (k : ℕ) (d : WalkNode) → k + 1 ≡ number → (slice_index_or nodes k d).parent ≡ parent
   pub own : (k : ℕ) (d : WalkNode) → k + 1 ≡ number → (slice_index_or nodes k d).function ≡ function
 
 -- the nodes `new` are the nodes `old`, to which a child of the node `parent` for this function may have been added; `number` is this child,
@@ -77,7 +77,7 @@ pub record HasChild (parent function : ℕ) (old : List WalkNode) (number : ℕ)
   pub longer : length old ≤ length new
   pub path : path_of number new ≡ path_of parent old ++ function ∷ []
   pub paths : (k : ℕ) → k < length old + 1 → path_of k new ≡ path_of k old
-  pub arrivals : (path : List ℕ) → calls_at path new ≡ calls_at path old
+  pub calls : (path : List ℕ) → calls_at path new ≡ calls_at path old
   pub steps : (path : List ℕ) → steps_at path new ≡ steps_at path old
   pub own : (f : ℕ) → own_steps_of f new ≡ own_steps_of f old
   pub all_calls : all_calls new ≡ all_calls old
@@ -93,7 +93,7 @@ pub record KeepsPaths (old new : List WalkNode) : Type 0 where
 -- the nodes `new` are the nodes `old` with one more entry into the node `number`; nothing else has changed
 pub record EntersOnce (number : ℕ) (old new : List WalkNode) : Type 0 where
   pub kept : KeepsPaths old new
-  pub arrivals : (path : List ℕ) → calls_at path new ≡ calls_at path old + address_if (bytes_eq (path_of number old) path)
+  pub calls : (path : List ℕ) → calls_at path new ≡ calls_at path old + address_if (bytes_eq (path_of number old) path)
   pub steps : (path : List ℕ) → steps_at path new ≡ steps_at path old
   pub own : (f : ℕ) → own_steps_of f new ≡ own_steps_of f old
   pub all_calls : all_calls new ≡ all_calls old + 1
@@ -106,7 +106,7 @@ times_if n test = if test then n else 0
 -- the nodes `new` are the nodes `old` with `n` more instructions in the node `number`; nothing else has changed
 pub record StepsMore (n number : ℕ) (old new : List WalkNode) : Type 0 where
   pub kept : KeepsPaths old new
-  pub arrivals : (path : List ℕ) → calls_at path new ≡ calls_at path old
+  pub calls : (path : List ℕ) → calls_at path new ≡ calls_at path old
   pub steps : (path : List ℕ) → steps_at path new ≡ steps_at path old + times_if n (bytes_eq (path_of number old) path)
   pub own : (f : ℕ) → own_steps_of f new ≡ own_steps_of f old + times_if n (ends_with f (path_of number old))
   pub all_calls : all_calls new ≡ all_calls old

@@ -136,10 +136,10 @@ RunsWithinABudget answers job = (s : State) → start_state_in answers job ≡ O
 -- `t` is the table of only the call trees of the jobs, without counts and runs: each of its numbers is the sum over the jobs
 pub record AreStacksOfJobs (answers : List PathResult) (jobs : List Job) (t : CountTable) : Type 0 where
   pub table : IsValidTable t
-  pub begun : (digest : List ℕ) (address : ℕ) → executed_in digest address t.images ≡ 0
+  pub executed : (digest : List ℕ) (address : ℕ) → executed_in digest address t.images ≡ 0
   pub taken : (digest : List ℕ) (address : ℕ) → taken_in digest address t.images ≡ 0
   pub paths : (digest : List ℕ) → next_path digest t.images ≡ first_path answers digest jobs
-  pub arrivals : (digest path : List ℕ)
+  pub calls : (digest path : List ℕ)
       → calls_in_image digest path t.images ≡ sum_by (calls_by_job answers digest path) jobs
   pub steps : (digest path : List ℕ) → steps_in digest path t.images
       ≡ sum_by (steps_by_job answers digest path) jobs
@@ -149,31 +149,31 @@ pub record AreStacksOfJobs (answers : List PathResult) (jobs : List Job) (t : Co
 
 -- `t` is the table of only the call trees of a plan's jobs at these indices
 abbrev pub AreStacksOfJobsAt : PlanView → List ℕ → CountTable → Type 0
-AreStacksOfJobsAt plan places t = AreStacksOfJobs plan.answers (jobs_at plan places) t
+AreStacksOfJobsAt plan indices t = AreStacksOfJobs plan.answers (jobs_at plan indices) t
 
 -- ---- counts and call trees
 
 -- `t` is the table of the counts and the call trees of a plan's jobs at these indices
-pub record IsTableWithStacks (plan : PlanView) (places : List ℕ) (t : CountTable) : Type 0 where
+pub record IsTableWithStacks (plan : PlanView) (indices : List ℕ) (t : CountTable) : Type 0 where
   pub counts : CountTable
   pub stacks : CountTable
-  pub counted : IsTableOfJobsAt plan places counts
-  pub stacked : AreStacksOfJobsAt plan places stacks
+  pub counted : IsTableOfJobsAt plan indices counts
+  pub stacked : AreStacksOfJobsAt plan indices stacks
   pub sum : IsSumOfTables counts stacks t
 
 -- the table of the jobs at the first `count` indices and the table of the job at the next index cannot be added, because of this error
-pub record IsNextTableNotAdded (plan : PlanView) (places : List ℕ) (error : SumError) : Type 0 where
+pub record IsNextTableNotAdded (plan : PlanView) (indices : List ℕ) (error : SumError) : Type 0 where
   pub count : ℕ
-  pub within : count < length places
+  pub within : count < length indices
   pub first : CountTable
   pub next : CountTable
-  pub node_of_first : IsTableWithStacks plan (take count places) first
-  pub of_next : IsTableWithStacks plan (slice_index_or places count 0 ∷ []) next
+  pub node_of_first : IsTableWithStacks plan (take count indices) first
+  pub of_next : IsTableWithStacks plan (slice_index_or indices count 0 ∷ []) next
   pub refused : HaveNoSum error first next
 
 -- why there is no table for the jobs at these indices: memory ran out, or the tables of some of them cannot be added
 abbrev pub HaveNoTableWithStacks : PlanView → List ℕ → SumError → Type 0
-HaveNoTableWithStacks plan places error = (error ≡ OutOfMemory) ⊎ IsNextTableNotAdded plan places error
+HaveNoTableWithStacks plan indices error = (error ≡ OutOfMemory) ⊎ IsNextTableNotAdded plan indices error
 
 -- the error says that memory ran out or that a function has two names
 abbrev pub IsOfNamesOrMemory : SumError → Type 0
@@ -189,7 +189,7 @@ AreTablesWithStacksOfParts plan _ _ = ⊥
 
 -- the indices of the shard `number`: the indices that leave the remainder `number` when divided by `shards`
 abbrev pub indices_of_shard : ℕ → List ℕ → ℕ → List ℕ
-indices_of_shard shards places number = filter (λ place. place % shards == number) places
+indices_of_shard shards indices number = filter (λ index. index % shards == number) indices
 
 -- ---- tables without call trees
 

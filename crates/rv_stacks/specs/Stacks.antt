@@ -6,7 +6,7 @@ use Rattle.rv_calls.specs.declared.transfer.Transfer.{Transfer}
 use Rattle.rv_calls.specs.Calls.{transfer_of}
 use Rattle.rv_calls.specs.Stack.{after_transfer, frame_of, is_pushed, after_pop}
 use Rattle.rv_count_tables.specs.declared.table.AddressCounts.{AddressCounts}
-use Rattle.rv_counting.specs.Coverage.{behind, executed_steps, fetch_at, is_executed, address_if, AreCountsOf}
+use Rattle.rv_counting.specs.Coverage.{after_step, executed_steps, fetch_at, is_executed, address_if, AreCountsOf}
 use Rattle.rv_counting.specs.declared_image.Image.{Image}
 use Rattle.rv_counting.specs.SymbolSearch.{symbol_at}
 use Rattle.rv_counting.specs.Run.{step_of}
@@ -74,12 +74,12 @@ unfoldable pub steps_in : (ℕ → ℕ) → List ℕ → ℕ → List Frame → 
 steps_in function path zero frames s = 0
 steps_in function path (suc n) frames s =
     address_if (is_executed (fetch_at s) && bytes_eq (path_at function frames s.pc) path)
-    + behind (step_of s) (λ t. steps_in function path n (after_transfer frames (transfer_of s t)) t)
+    + after_step (step_of s) (λ t. steps_in function path n (after_transfer frames (transfer_of s t)) t)
 
 -- how often a run of at most `n` steps from the state `s`, which begins with these frames, enters a path
 unfoldable pub calls_in : (ℕ → ℕ) → List ℕ → ℕ → List Frame → State → ℕ
 calls_in function path zero frames s = 0
-calls_in function path (suc n) frames s = behind (step_of s)
+calls_in function path (suc n) frames s = after_step (step_of s)
     (λ t. calls_by function path frames (transfer_of s t)
     + calls_in function path n (after_transfer frames (transfer_of s t)) t)
 
@@ -87,7 +87,7 @@ calls_in function path (suc n) frames s = behind (step_of s)
 unfoldable pub executed_in_function : (ℕ → ℕ) → ℕ → ℕ → State → ℕ
 executed_in_function function f zero s = 0
 executed_in_function function f (suc n) s =
-    address_if (is_executed (fetch_at s) && (function s.pc == f)) + behind (step_of s) (λ t. executed_in_function function f n t)
+    address_if (is_executed (fetch_at s) && (function s.pc == f)) + after_step (step_of s) (λ t. executed_in_function function f n t)
 
 -- `spots` are the call-tree nodes of the run of at most `n` steps from the state `s`, which begins without frames, and so by entering its
 -- first function
@@ -95,7 +95,7 @@ pub record AreStacksOf (function : ℕ → ℕ) (n : ℕ) (s : State) (spots : L
   pub tree : IsTree spots
   pub some : HasCalls spots
   pub steps : (path : List ℕ) → steps_at path spots ≡ steps_in function path n [] s
-  pub arrivals : (path : List ℕ) → calls_at path spots
+  pub calls : (path : List ℕ) → calls_at path spots
       ≡ address_if (bytes_eq (function s.pc ∷ []) path) + calls_in function path n [] s
   pub own : (f : ℕ) → own_steps_of f spots ≡ executed_in_function function f n s
   pub all : all_steps spots ≡ executed_steps n s
@@ -105,12 +105,12 @@ pub record AreStacksOf (function : ℕ → ℕ) (n : ℕ) (s : State) (spots : L
 abbrev pub AreCountsAndStacksOfJob : (ℕ → ℕ) → ℕ → Result State Refusal → Option (List AddressCounts × List CallNode) → Type 0
 AreCountsAndStacksOfJob function n (Ok s) (Some both) = AreCountsOf n s both.0 × AreStacksOf function n s both.1
 AreCountsAndStacksOfJob function n (Ok s) None = ⊥
-AreCountsAndStacksOfJob function n (Err why) (Some both) = ⊥
-AreCountsAndStacksOfJob function n (Err why) None = Unit {0}
+AreCountsAndStacksOfJob function n (Err refusal) (Some both) = ⊥
+AreCountsAndStacksOfJob function n (Err refusal) None = Unit {0}
 
 -- ---- counts
 
 -- how often the instructions of the function `f` were executed, according to the counts of addresses
 abbrev pub counts_of_function : (ℕ → ℕ) → ℕ → List AddressCounts → ℕ
 counts_of_function function f [] = 0
-counts_of_function function f (c ∷ cs) = (if function c.address == f then c.begun else 0) + counts_of_function function f cs
+counts_of_function function f (c ∷ cs) = (if function c.address == f then c.executed else 0) + counts_of_function function f cs

@@ -23,7 +23,7 @@ pub record IsWalk (w : Walk) : Type 0 where
 pub record Enters (there : List ℕ) (old new : Walk) : Type 0 where
   pub walk : IsWalk new
   pub path : new.path.items ≡ there
-  pub arrivals : (at : List ℕ) → calls_at at new.nodes.items
+  pub calls : (at : List ℕ) → calls_at at new.nodes.items
       ≡ calls_at at old.nodes.items + address_if (bytes_eq there at)
   pub steps : (at : List ℕ) → steps_at at new.nodes.items ≡ steps_at at old.nodes.items
   pub own : (function : ℕ) → own_steps_of function new.nodes.items ≡ own_steps_of function old.nodes.items
@@ -40,7 +40,7 @@ pub record ReturnsTo (depth : ℕ) (old new : Walk) : Type 0 where
 pub record CountsSteps (n : ℕ) (old new : Walk) : Type 0 where
   pub walk : IsWalk new
   pub path : new.path.items ≡ old.path.items
-  pub arrivals : (at : List ℕ) → calls_at at new.nodes.items ≡ calls_at at old.nodes.items
+  pub calls : (at : List ℕ) → calls_at at new.nodes.items ≡ calls_at at old.nodes.items
   pub steps : (at : List ℕ) → steps_at at new.nodes.items
       ≡ steps_at at old.nodes.items + times_if n (bytes_eq old.path.items at)
   pub own : (f : ℕ) → own_steps_of f new.nodes.items ≡ own_steps_of f old.nodes.items + times_if n (ends_with f old.path.items)
@@ -53,35 +53,35 @@ pub record CountsSteps (n : ℕ) (old new : Walk) : Type 0 where
 pub record ArePreorderOf (nodes : List WalkNode) (ss : List CallNode) : Type 0 where
   pub tree : IsTree ss
   pub some : HasCalls ss
-  pub arrivals : (path : List ℕ) → spots.calls_at path ss ≡ calls_at path nodes
+  pub calls : (path : List ℕ) → spots.calls_at path ss ≡ calls_at path nodes
   pub steps : (path : List ℕ) → spots.steps_at path ss ≡ steps_at path nodes
   pub own : (f : ℕ) → spots.own_steps_of f ss ≡ own_steps_of f nodes
   pub all_steps : spots.all_steps ss ≡ all_steps nodes
 
 -- the node `number` is a child of the node `parent` that a run entered, and its function is not below `from`
 pub record IsNextChild (parent from number : ℕ) (nodes : List WalkNode) : Type 0 where
-  pub behind : parent < number
+  pub after_parent : parent < number
   pub within : number < length nodes + 1
-  pub above : (k : ℕ) (d : WalkNode) → k + 1 ≡ number → (slice_index_or nodes k d).parent ≡ parent
+  pub has_parent : (k : ℕ) (d : WalkNode) → k + 1 ≡ number → (slice_index_or nodes k d).parent ≡ parent
   pub rising : (k : ℕ) (d : WalkNode) → k + 1 ≡ number → from ≤ (slice_index_or nodes k d).function
-  pub some : (k : ℕ) (d : WalkNode) → k + 1 ≡ number → 0 < (slice_index_or nodes k d).arrivals
+  pub some : (k : ℕ) (d : WalkNode) → k + 1 ≡ number → 0 < (slice_index_or nodes k d).calls
 
--- the preorder nodes of `flat` form a tree, and its path is a prefix of the path of the last of them; if it is shorter, the next function
+-- the preorder nodes of `builder` form a tree, and its path is a prefix of the path of the last of them; if it is shorter, the next function
 -- of the longer path is below `from`
-pub record IsPreorderBuilder (nodes : List WalkNode) (flat : PreorderBuilder) : Type 0 where
-  pub tree : IsTree flat.spots.items
-  pub some : HasCalls flat.spots.items
-  pub trail : IsTrail nodes flat.path.items flat.trail.items
-  pub within : length flat.path.items ≤ length (last_path [] flat.spots.items)
-  pub front : flat.path.items ≡ take (length flat.path.items) (last_path [] flat.spots.items)
-  pub rising : (d : ℕ) → length flat.path.items < length (last_path [] flat.spots.items)
-      → slice_index_or (last_path [] flat.spots.items) (length flat.path.items) d < flat.from
+pub record IsPreorderBuilder (nodes : List WalkNode) (builder : PreorderBuilder) : Type 0 where
+  pub tree : IsTree builder.spots.items
+  pub some : HasCalls builder.spots.items
+  pub trail : IsTrail nodes builder.path.items builder.trail.items
+  pub within : length builder.path.items ≤ length (last_path [] builder.spots.items)
+  pub front : builder.path.items ≡ take (length builder.path.items) (last_path [] builder.spots.items)
+  pub rising : (d : ℕ) → length builder.path.items < length (last_path [] builder.spots.items)
+      → slice_index_or (last_path [] builder.spots.items) (length builder.path.items) d < builder.from
 
 -- counts were moved from the nodes to the preorder nodes: the counts of `new` and of the nodes `after` together are the counts of `old` and
 -- of the nodes `before`
 pub record MovesCounts (before : List WalkNode) (old : PreorderBuilder) (after : List WalkNode) (new : PreorderBuilder) : Type 0 where
-  pub flat : IsPreorderBuilder after new
-  pub arrivals : (path : List ℕ) → spots.calls_at path new.spots.items + calls_at path after
+  pub is_preorder : IsPreorderBuilder after new
+  pub calls : (path : List ℕ) → spots.calls_at path new.spots.items + calls_at path after
       ≡ spots.calls_at path old.spots.items + calls_at path before
   pub steps : (path : List ℕ) → spots.steps_at path new.spots.items + steps_at path after
       ≡ spots.steps_at path old.spots.items + steps_at path before
@@ -90,5 +90,5 @@ pub record MovesCounts (before : List WalkNode) (old : PreorderBuilder) (after :
 
 -- no counts were moved: `new` has the preorder nodes of `old`, and its path and its trail agree with the nodes
 pub record ReturnsToParent (nodes : List WalkNode) (old new : PreorderBuilder) : Type 0 where
-  pub flat : IsPreorderBuilder nodes new
+  pub is_preorder : IsPreorderBuilder nodes new
   pub spots : new.spots.items ≡ old.spots.items

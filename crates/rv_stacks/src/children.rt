@@ -26,18 +26,18 @@ pub struct Children {
 #[derive(Clone, Copy)]
 struct Links {
     /// The first child in the node's chain.
-    first: usize,
+    first_child: usize,
     /// The next node in the chain that the node belongs to.
-    next: usize,
+    next_sibling: usize,
     /// The number of children in the node's chain.
-    many: u32,
+    count: u32,
 }
 
 /// The links of a node without links.
 const UNLINKED: Links = Links {
-    first: 0,
-    next: 0,
-    many: 0,
+    first_child: 0,
+    next_sibling: 0,
+    count: 0,
 };
 
 impl Children {
@@ -59,22 +59,22 @@ impl Children {
         number: usize,
     ) -> Result<(), AllocError> {
         let above = self.links_of(parent);
-        if MAX_CHAIN <= above.many {
+        if MAX_CHAIN <= above.count {
             self.links.push(UNLINKED)?;
             self.others
                 .insert(key_of(parent, u64::from(function)), number)?;
             return Ok(());
         }
         self.links.push(Links {
-            first: 0,
-            next: above.first,
-            many: 0,
+            first_child: 0,
+            next_sibling: above.first_child,
+            count: 0,
         })?;
         if parent < self.links.len() {
             self.links[parent] = Links {
-                first: number,
-                next: above.next,
-                many: above.many + 1,
+                first_child: number,
+                next_sibling: above.next_sibling,
+                count: above.count + 1,
             };
         }
         Ok(())
@@ -85,12 +85,12 @@ impl Children {
         ensures { IfSome result (λ number. IsChild parent function number nodes.now) }
     {
         let above = self.links_of(parent);
-        let mut number = above.first;
-        for _ in 0..above.many {
+        let mut number = above.first_child;
+        for _ in 0..above.count {
             if is_child(nodes, parent, function, number) {
                 return Some(number);
             }
-            number = self.links_of(number).next;
+            number = self.links_of(number).next_sibling;
         }
         let number = *self.others.get(&key_of(parent, u64::from(function)))?;
         if is_child(nodes, parent, function, number) {
@@ -102,17 +102,17 @@ impl Children {
 
     /// Returns the number of the child of the node `parent` that a run entered and whose function is the lowest that is not below `from`;
     /// `None` if there is none.
-    pub(crate) fn next(&self, nodes: &[WalkNode], parent: usize, from: u64) -> Option<usize>
+    pub(crate) fn next_child(&self, nodes: &[WalkNode], parent: usize, from: u64) -> Option<usize>
         ensures { IfSome result (λ number. IsNextChild parent from number nodes.now) }
     {
         let above = self.links_of(parent);
         let mut next = self.next_unchained_child(nodes, parent, from);
-        let mut number = above.first;
-        for _ in 0..above.many {
+        let mut number = above.first_child;
+        for _ in 0..above.count {
             if is_next_child(nodes, parent, from, number) && is_lower(nodes, number, next) {
                 next = Some(number);
             }
-            number = self.links_of(number).next;
+            number = self.links_of(number).next_sibling;
         }
         next
     }
@@ -155,12 +155,12 @@ fn is_next_child(nodes: &[WalkNode], parent: usize, from: u64, number: usize) ->
         return false;
     }
     let node = nodes[number - 1];
-    node.parent == parent && from <= u64::from(node.function) && node.arrivals != 0
+    node.parent == parent && from <= u64::from(node.function) && node.calls != 0
 }
 
-// Whether the node `number` has a lower function than the node `than`; true if `than` is `None`.
-fn is_lower(nodes: &[WalkNode], number: usize, than: Option<usize>) -> bool {
-    match than {
+// Whether the node `number` has a lower function than the node `other`; true if `other` is `None`.
+fn is_lower(nodes: &[WalkNode], number: usize, other: Option<usize>) -> bool {
+    match other {
         Some(other) => function_of(nodes, number) < function_of(nodes, other),
         None => true,
     }

@@ -16,29 +16,29 @@ use std::alloc::AllocError;
 /// Moves the walk as a transfer of control says, and applies the transfer to the frames.
 pub(crate) fn follow_transfer(
     symbols: &CodeSymbols<'_>,
-    known: &mut Vec<CachedFunction>,
+    cache: &mut Vec<CachedFunction>,
     frames: &mut Vec<Frame>,
     walk: &mut Walk,
     transfer: Transfer,
 ) -> Result<(), AllocError>
-    requires known { IsFunctionCache (function_at symbols.now.image.now symbols.now.bytes.now) known.old.items }
+    requires cache { IsFunctionCache (function_at symbols.now.image.now symbols.now.bytes.now) cache.old.items }
     requires at { IsAt (function_at symbols.now.image.now symbols.now.bytes.now) frames.old.items transfer.from walk.old }
     requires few { all_calls walk.old.nodes.items < 2 ^ 40 }
-    ensures known { OnOk result (IsFunctionCache (function_at symbols.now.image.now symbols.now.bytes.now) known.new.items) }
+    ensures cache { OnOk result (IsFunctionCache (function_at symbols.now.image.now symbols.now.bytes.now) cache.new.items) }
     ensures frames { OnOk result (frames.new.items ≡ after_transfer frames.old.items transfer) }
     ensures walk { OnOk result (FollowsTransfer (function_at symbols.now.image.now symbols.now.bytes.now) frames.old.items transfer
         walk.old walk.new) }
 {
-    let left = remaining_frames(frames.as_slice(), transfer);
+    let remaining = remaining_frames(frames.as_slice(), transfer);
     apply_transfer(frames, transfer)?;
-    if left < frames.len() {
-        let caller = look_up_function(known, symbols, transfer.from);
-        continue_in(walk, left, caller)?;
-        let function = look_up_function(known, symbols, transfer.to);
-        walk.enter(left + 1, function)
+    if remaining < frames.len() {
+        let caller = look_up_function(cache, symbols, transfer.from);
+        continue_in(walk, remaining, caller)?;
+        let function = look_up_function(cache, symbols, transfer.to);
+        walk.enter(remaining + 1, function)
     } else {
-        let function = look_up_function(known, symbols, transfer.to);
-        continue_in(walk, left, function)
+        let function = look_up_function(cache, symbols, transfer.to);
+        continue_in(walk, remaining, function)
     }
 }
 

@@ -29,57 +29,57 @@ pub(crate) fn new_function_cache(
     symbols: &CodeSymbols<'_>,
     address: u32,
 ) -> Result<Vec<CachedFunction>, AllocError>
-    ensures { IfOk result (λ known. IsFunctionCache (function_at symbols.now.image.now symbols.now.bytes.now) known.items) }
+    ensures { IfOk result (λ cache. IsFunctionCache (function_at symbols.now.image.now symbols.now.bytes.now) cache.items) }
 {
     let function = function_of(symbols, address);
-    let mut known = Vec::with_capacity(alloc, CACHE_SIZE)?;
-    known.resize(CACHE_SIZE, CachedFunction { address, function })?;
-    Ok(known)
+    let mut cache = Vec::with_capacity(alloc, CACHE_SIZE)?;
+    cache.resize(CACHE_SIZE, CachedFunction { address, function })?;
+    Ok(cache)
 }
 
 /// Returns the function that a code address belongs to, from the cache or by a search, which is then cached.
 pub(crate) fn look_up_function(
-    known: &mut Vec<CachedFunction>,
+    cache: &mut Vec<CachedFunction>,
     symbols: &CodeSymbols<'_>,
     address: u32,
 ) -> u32
-    requires { IsFunctionCache (function_at symbols.now.image.now symbols.now.bytes.now) known.old.items }
+    requires { IsFunctionCache (function_at symbols.now.image.now symbols.now.bytes.now) cache.old.items }
     ensures value { result ≡ function_at symbols.now.image.now symbols.now.bytes.now address }
-    ensures known { IsFunctionCache (function_at symbols.now.image.now symbols.now.bytes.now) known.new.items }
+    ensures cache { IsFunctionCache (function_at symbols.now.image.now symbols.now.bytes.now) cache.new.items }
 {
-    let place = address as usize / 2 % CACHE_SIZE;
-    let there = known[place];
+    let index = address as usize / 2 % CACHE_SIZE;
+    let there = cache[index];
     if there.address == address {
         return there.function;
     }
     let function = function_of(symbols, address);
-    known[place] = CachedFunction { address, function };
+    cache[index] = CachedFunction { address, function };
     function
 }
 
 /// Returns the number of leading instructions of a block that belong to the function of the first one, and after which the block continues
 /// with an instruction of this function.
 pub(crate) fn steps_in_function(
-    known: &mut Vec<CachedFunction>,
+    cache: &mut Vec<CachedFunction>,
     symbols: &CodeSymbols<'_>,
     counts: &[AddressCounts],
     block: Block,
 ) -> u32
-    requires known { IsFunctionCache (function_at symbols.now.image.now symbols.now.bytes.now) known.old.items }
-    requires within { 0 < block.steps → block.place + block.steps ≤ length counts.now }
-    ensures known { IsFunctionCache (function_at symbols.now.image.now symbols.now.bytes.now) known.new.items }
+    requires cache { IsFunctionCache (function_at symbols.now.image.now symbols.now.bytes.now) cache.old.items }
+    requires within { 0 < block.steps → block.index + block.steps ≤ length counts.now }
+    ensures cache { IsFunctionCache (function_at symbols.now.image.now symbols.now.bytes.now) cache.new.items }
     ensures fewer { 0 < result → result < block.steps }
     ensures own { (j : ℕ) → 0 < result → j ≤ result
-        → function_at symbols.now.image.now symbols.now.bytes.now (address_at counts.now (block.place + j))
-        ≡ function_at symbols.now.image.now symbols.now.bytes.now (address_at counts.now block.place) }
+        → function_at symbols.now.image.now symbols.now.bytes.now (address_at counts.now (block.index + j))
+        ≡ function_at symbols.now.image.now symbols.now.bytes.now (address_at counts.now block.index) }
 {
     if block.steps < 2 {
         return 0;
     }
-    let function = look_up_function(known, symbols, counts[block.place].address);
+    let function = look_up_function(cache, symbols, counts[block.index].address);
     for steps in 0..block.steps - 1 {
-        let next = counts[block.place + steps as usize + 1].address;
-        if look_up_function(known, symbols, next) != function {
+        let next = counts[block.index + steps as usize + 1].address;
+        if look_up_function(cache, symbols, next) != function {
             return steps;
         }
     }

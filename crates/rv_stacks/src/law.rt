@@ -36,43 +36,43 @@ pub fn own_steps_are_the_counts_of_addresses()
 
 /// The table of counts and call trees of the jobs at some indices does not depend on the order of the indices.
 pub fn jobs_have_one_table_with_stacks()
-    ensures { (plan : PlanView) (places others : List ℕ) (t u : CountTable) → IsPermutation places others
-        → IsTableWithStacks plan places t → IsTableWithStacks plan others u → t ≡ u }
+    ensures { (plan : PlanView) (indices others : List ℕ) (t u : CountTable) → IsPermutation indices others
+        → IsTableWithStacks plan indices t → IsTableWithStacks plan others u → t ≡ u }
 {}
 
 /// However the indices of jobs are divided into parts, the tables of the parts, with call trees, add up to the table of all indices; the
 /// sum has the same text as this table.
 pub fn tables_with_stacks_of_parts_sum_to_that_of_all()
-    ensures table { (plan : PlanView) (places : List ℕ) (parts : List (List ℕ)) (ts : List CountTable) (sum : CountTable)
-        → IsPermutation (flat_map (λ part. part) parts) places → AreTablesWithStacksOfParts plan parts ts
-        → SumsTo no_counts ts sum → IsTableWithStacks plan places sum }
-    ensures text { (plan : PlanView) (places : List ℕ) (parts : List (List ℕ)) (ts : List CountTable) (sum whole : CountTable)
-        → IsPermutation (flat_map (λ part. part) parts) places → AreTablesWithStacksOfParts plan parts ts
-        → SumsTo no_counts ts sum → IsTableWithStacks plan places whole → table_text sum ≡ table_text whole }
+    ensures table { (plan : PlanView) (indices : List ℕ) (parts : List (List ℕ)) (ts : List CountTable) (sum : CountTable)
+        → IsPermutation (flat_map (λ part. part) parts) indices → AreTablesWithStacksOfParts plan parts ts
+        → SumsTo no_counts ts sum → IsTableWithStacks plan indices sum }
+    ensures text { (plan : PlanView) (indices : List ℕ) (parts : List (List ℕ)) (ts : List CountTable) (sum whole : CountTable)
+        → IsPermutation (flat_map (λ part. part) parts) indices → AreTablesWithStacksOfParts plan parts ts
+        → SumsTo no_counts ts sum → IsTableWithStacks plan indices whole → table_text sum ≡ table_text whole }
 {}
 
 /// The tables of all shards, with call trees, add up in any order to the table of all indices; the sum has the same text as this table. A
 /// shard has the indices with the same remainder modulo the number of shards.
 pub fn tables_with_stacks_of_shards_sum_to_that_of_all()
-    ensures table { (plan : PlanView) (shards : ℕ) (places numbers : List ℕ) (ts : List CountTable) (sum : CountTable)
+    ensures table { (plan : PlanView) (shards : ℕ) (indices numbers : List ℕ) (ts : List CountTable) (sum : CountTable)
         → 0 < shards → IsPermutation (range_with_len 0 shards) numbers
-        → AreTablesWithStacksOfParts plan (map (indices_of_shard shards places) numbers) ts → SumsTo no_counts ts sum
-        → IsTableWithStacks plan places sum }
-    ensures text { (plan : PlanView) (shards : ℕ) (places numbers : List ℕ) (ts : List CountTable) (sum whole : CountTable)
+        → AreTablesWithStacksOfParts plan (map (indices_of_shard shards indices) numbers) ts → SumsTo no_counts ts sum
+        → IsTableWithStacks plan indices sum }
+    ensures text { (plan : PlanView) (shards : ℕ) (indices numbers : List ℕ) (ts : List CountTable) (sum whole : CountTable)
         → 0 < shards → IsPermutation (range_with_len 0 shards) numbers
-        → AreTablesWithStacksOfParts plan (map (indices_of_shard shards places) numbers) ts → SumsTo no_counts ts sum
-        → IsTableWithStacks plan places whole → table_text sum ≡ table_text whole }
+        → AreTablesWithStacksOfParts plan (map (indices_of_shard shards indices) numbers) ts → SumsTo no_counts ts sum
+        → IsTableWithStacks plan indices whole → table_text sum ≡ table_text whole }
 {}
 
 /// A table of counts and call trees, without its nodes and function names, is the table of the counts.
 pub fn table_without_stacks_is_that_of_counts()
-    ensures { (plan : PlanView) (places : List ℕ) (t : CountTable) → IsTableWithStacks plan places t
-        → IsTableOfJobsAt plan places (without_stacks t) }
+    ensures { (plan : PlanView) (indices : List ℕ) (t : CountTable) → IsTableWithStacks plan indices t
+        → IsTableOfJobsAt plan indices (without_stacks t) }
 {}
 
 /// For at most `max_jobs` jobs, a table with call trees can be missing for two reasons only: memory ran out, or a function has two names.
 /// No number reaches 2^64.
 pub fn only_names_prevent_a_table_with_stacks()
-    ensures { (plan : PlanView) (places : List ℕ) (error : Refused) → length places ≤ max_jobs
-        → HaveNoTableWithStacks plan places error → IsOfNamesOrMemory error }
+    ensures { (plan : PlanView) (indices : List ℕ) (error : Refused) → length indices ≤ max_jobs
+        → HaveNoTableWithStacks plan indices error → IsOfNamesOrMemory error }
 {}

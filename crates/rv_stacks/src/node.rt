@@ -14,7 +14,7 @@ pub struct WalkNode {
     /// The address of the node's own function.
     pub function: u32,
     /// How often a run entered the node by a call or a jump.
-    pub arrivals: u64,
+    pub calls: u64,
     /// The number of instructions executed in the node.
     pub steps: u64,
 }
@@ -35,7 +35,7 @@ pub(crate) fn number_of_child(
     nodes.push(WalkNode {
         parent,
         function,
-        arrivals: 0,
+        calls: 0,
         steps: 0,
     })?;
     let number = nodes.len();
@@ -54,7 +54,7 @@ pub(crate) fn count_call(nodes: &mut Vec<WalkNode>, number: usize)
     nodes[number - 1] = WalkNode {
         parent: old.parent,
         function: old.function,
-        arrivals: old.arrivals + 1,
+        calls: old.calls + 1,
         steps: old.steps,
     };
 }
@@ -70,7 +70,7 @@ pub(crate) fn count_steps(nodes: &mut Vec<WalkNode>, number: usize, steps: u32)
     nodes[number - 1] = WalkNode {
         parent: old.parent,
         function: old.function,
-        arrivals: old.arrivals,
+        calls: old.calls,
         steps: old.steps + u64::from(steps),
     };
 }

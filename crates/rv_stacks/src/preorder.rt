@@ -31,14 +31,14 @@ pub(crate) fn preorder_of_nodes(
 ) -> Result<CallNodes, AllocError>
     ensures { IfOk result (ArePreorderOf nodes.items) }
 {
-    let mut left = nodes;
-    let mut flat = PreorderBuilder::new(alloc)?;
+    let mut remaining = nodes;
+    let mut is_preorder = PreorderBuilder::new(alloc)?;
     // Each node is entered once and left once.
-    'turns: for _ in 0..left.len().saturating_mul(2) {
-        flat.visit_next(&mut left, children)?;
+    'turns: for _ in 0..remaining.len().saturating_mul(2) {
+        builder.visit_next(&mut remaining, children)?;
     }
-    if are_empty(left.as_slice()) {
-        return Ok(CallNodes::new(flat.spots));
+    if are_empty(remaining.as_slice()) {
+        return Ok(CallNodes::new(builder.spots));
     }
     // Out of memory: not reached. Each node is found from its parent, so all counts have been moved; no contract says so.
     Err(AllocError)
@@ -55,13 +55,13 @@ fn are_empty(nodes: &[WalkNode]) -> bool
 fn is_empty(node: &WalkNode) -> bool
     ensures { result ≡ is_empty node.now }
 {
-    node.arrivals == 0 && node.steps == 0
+    node.calls == 0 && node.steps == 0
 }
 
 impl PreorderBuilder {
     // Creates the conversion's state before the first node.
     fn new(alloc: Global) -> Result<PreorderBuilder, AllocError>
-        ensures { IfOk result (λ flat. (nodes : List ANode) → IsPreorderBuilder nodes flat × (flat.spots.items ≡ [])) }
+        ensures { IfOk result (λ builder. (nodes : List ANode) → IsPreorderBuilder nodes builder × (builder.spots.items ≡ [])) }
     {
         let mut trail = Vec::new(alloc);
         trail.push(0)?;
@@ -76,15 +76,15 @@ impl PreorderBuilder {
     // Moves to the next child of the current node, or back to its parent if there is no further child.
     fn visit_next(
         &mut self,
-        left: &mut Vec<WalkNode>,
+        remaining: &mut Vec<WalkNode>,
         children: &Children,
     ) -> Result<(), AllocError>
-        requires { IsPreorderBuilder left.old.items self.old }
-        ensures { OnOk result (MovesCounts left.old.items self.old left.new.items self.new) }
+        requires { IsPreorderBuilder remaining.old.items self.old }
+        ensures { OnOk result (MovesCounts remaining.old.items self.old remaining.new.items self.new) }
     {
         let parent = self.trail[self.trail.len() - 1];
-        match children.next(left.as_slice(), parent, self.from) {
-            Some(number) => self.enter_child(left, number),
+        match children.next_child(remaining.as_slice(), parent, self.from) {
+            Some(number) => self.enter_child(remaining, number),
             None => {
                 self.return_to_parent();
                 Ok(())
@@ -93,26 +93,26 @@ impl PreorderBuilder {
     }
 
     // Moves the counts of the node `number`, a child of the current node, to the preorder nodes, and makes it the current node.
-    fn enter_child(&mut self, left: &mut Vec<WalkNode>, number: usize) -> Result<(), AllocError>
-        requires flat { IsPreorderBuilder left.old.items self.old }
+    fn enter_child(&mut self, remaining: &mut Vec<WalkNode>, number: usize) -> Result<(), AllocError>
+        requires is_preorder { IsPreorderBuilder remaining.old.items self.old }
         requires next { (d : ℕ) → IsNextChild (slice_index_or self.old.trail.items (length self.old.path.items) d) self.old.from number
-            left.old.items }
-        ensures { OnOk result (MovesCounts left.old.items self.old left.new.items self.new) }
+            remaining.old.items }
+        ensures { OnOk result (MovesCounts remaining.old.items self.old remaining.new.items self.new) }
     {
-        let node = left[number - 1];
+        let node = remaining[number - 1];
         self.spots.push(CallNode {
             depth: self.path.len(),
             function: node.function,
-            arrivals: node.arrivals,
+            calls: node.calls,
             steps: node.steps,
         })?;
         self.path.push(node.function)?;
         self.trail.push(number)?;
         self.from = 0;
-        left[number - 1] = WalkNode {
+        remaining[number - 1] = WalkNode {
             parent: node.parent,
             function: node.function,
-            arrivals: 0,
+            calls: 0,
             steps: 0,
         };
         Ok(())

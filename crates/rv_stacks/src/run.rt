@@ -44,19 +44,19 @@ fn follow_run(
     let mut machine = machine;
     let mut counter = Counter::new(alloc)?;
     let mut stacks = Stacks::new(alloc, symbols, machine.pc())?;
-    let mut left = budget;
-    'steps: while left > 0 {
-        let block = stacks.straight_block(symbols, &counter, &machine, left);
+    let mut remaining = budget;
+    'steps: while remaining > 0 {
+        let block = stacks.straight_block(symbols, &counter, &machine, remaining);
         if block.steps == 0 {
             if !stacks.step(symbols, &mut machine, &mut counter)? {
                 return Ok((counter, stacks));
             }
-            left -= 1;
+            remaining -= 1;
         } else {
             if !stacks.run_block(&mut machine, &mut counter, block)? {
                 return Ok((counter, stacks));
             }
-            left -= block.steps;
+            remaining -= block.steps;
         }
     }
     Ok((counter, stacks))

@@ -19,13 +19,13 @@ use std::alloc::{AllocError, Global};
 pub(crate) fn stack_table_of_job(
     alloc: Global,
     plan: &Plan,
-    place: usize,
+    index: usize,
 ) -> Result<CountTable, AllocError>
-    requires { place < length plan.now.jobs }
-    ensures { IfOk result (IsTableWithStacks plan.now (place ∷ [])) }
+    requires { index < length plan.now.jobs }
+    ensures { IfOk result (IsTableWithStacks plan.now (index ∷ [])) }
 {
-    let job = plan.job(place);
-    let Some(bytes) = image_bytes(plan, place) else {
+    let job = plan.job(index);
+    let Some(bytes) = image_bytes(plan, index) else {
         return Ok(empty_table(alloc));
     };
     let Some(image) = image_of_bytes(alloc, job.isa, bytes)? else {
@@ -34,7 +34,7 @@ pub(crate) fn stack_table_of_job(
     let symbols = CodeSymbols::new(alloc, &image, bytes)?;
     let job_image = JobImage {
         plan,
-        place,
+        index: index,
         image: &image,
     };
     match count_job_with_stacks(alloc, &job_image, &symbols)? {

@@ -102,7 +102,7 @@ fn told(alloc: Global, row: &str) -> Result<String, Fail> {
             spot.arrivals,
             spot.steps,
         );
-        write!(text, "{comma}{depth} {function:08x} {arrivals} {steps}")?;
+        write!(text, "{comma}{depth} {function:08x} {calls} {steps}")?;
     }
     Ok(text)
 }

@@ -20,7 +20,7 @@ use Rattle.rv_base.specs.Sinks.{AppendsPrefix}
 use Rattle.rv_stream.specs.declared.reported_row.ReportedRow.{ReportedRow}
 use Rattle.rv_stream.specs.Limits.{rows_up_to}
 use Rattle.rv_stream.specs.Streams.{joined_row_texts, row_text_list}
-use Rattle.rv_stream.specs.Seen.{text_by_index, HasSeenRows, HasSeenSomeRows, IsReportAt}
+use Rattle.rv_stream.specs.SeenRows.{text_by_index, HasSeenRows, HasSeenSomeRows, IsReportAt}
 use Rattle.rv_stream.specs.ReportedRows.{rows_of_reported, texts_of_reported, AreRowsUpToFailure, IsReportedRow}
 use Rattle.rv_stream.proofs.Limits.{ended_there, first_of}
 use Rattle.rv_stream.proofs.Tellings.{told_append}

@@ -12,8 +12,8 @@ use Rattle.rv_fleet.specs.declared_report.WriteError.{WriteError}
 use Rattle.rv_fleet.specs.declared_report.WriteError.TheVariants.{Failed, OutOfMemory}
 use Rattle.rv_stream.specs.declared.reported_row.ReportedRow.{ReportedRow}
 use Rattle.rv_fleet.specs.declared_row.Row.{Row}
-use Rattle.rv_stream.specs.Seen.{text_by_index}
-use Rattle.rv_stream.specs.Texts.{IsSent, IsWriteInProgress}
+use Rattle.rv_stream.specs.SeenRows.{text_by_index}
+use Rattle.rv_stream.specs.SentTexts.{IsSent, IsWriteInProgress}
 use Rattle.rv_stream.specs.ReportedRows.{texts_of_reported}
 
 -- nothing is told yet

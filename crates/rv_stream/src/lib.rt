@@ -13,7 +13,7 @@ mod reported_row;
 mod row_sender;
 mod rows_up_to_failure;
 mod stream;
-mod streamed;
+mod stream_spec;
 mod text_sender;
 
 pub use error::StreamError;
@@ -21,7 +21,7 @@ pub use failure_limit::FailureLimit;
 pub use reported_row::ReportedRow;
 pub use row_sender::RowSender;
 pub use stream::{ReporterOutput, stream_rows};
-pub use streamed::StreamSpec;
+pub use stream_spec::StreamSpec;
 
 // From the crates below: what this interface names, and what its callers need with it.
 pub use rv_base::{Bytes, ReadError, Sink, SinkFailed, Store, put_all};

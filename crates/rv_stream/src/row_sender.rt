@@ -3,11 +3,11 @@
 ghost use Rattle.std.specs.Prelude.{◌≡◌, [], ℕ, List, None, IfSome, OnErr, OnOk, is_some, true};
 ghost use Rattle.std.specs.Io.KnownBytes.{Appends};
 ghost use Rattle.rv_base.specs.Sinks.{AppendsPrefix};
-ghost use Rattle.rv_stream.specs.Texts.{IsSent};
+ghost use Rattle.rv_stream.specs.SentTexts.{IsSent};
 
 use crate::outbox::Outbox;
 use crate::reported_row::ReportedRow;
-use crate::streamed::StreamSpec;
+use crate::stream_spec::StreamSpec;
 use rv_base::Sink;
 use rv_fleet::{Flow, Observer, RowReporter, WriteError};
 use std::alloc::Global;
@@ -70,8 +70,8 @@ impl<'t, J: StreamSpec, T: RowReporter, W: Sink + Drop> RowSender<'t, J, T, W> {
 impl<J: StreamSpec, T: RowReporter, W: Sink + Drop> Observer<ReportedRow>
     for RowSender<'_, J, T, W> {
     ghost use Rattle.std.specs.Prelude.{◌≡◌, true, is_some, IfSome, IsSomeAnd};
-    ghost use Rattle.rv_stream.specs.Seen.{text_by_index};
-    ghost use Rattle.rv_stream.specs.Texts.{IsSent};
+    ghost use Rattle.rv_stream.specs.SeenRows.{text_by_index};
+    ghost use Rattle.rv_stream.specs.SentTexts.{IsSent};
 
     ghost has_seen = { λ s reported. IfSome s.outbox (λ box. IsSent J.before (W.accepted box.out) J.failures (W.failure_count box.out)
         box.failed box.unsent.items (text_by_index J.line reported)) };

@@ -6,7 +6,7 @@ ghost use Rattle.rv_stream.specs.ReportedRows.{AreRowsUpToFailure};
 
 use crate::failure_limit::FailureLimit;
 use crate::reported_row::ReportedRow;
-use crate::streamed::StreamSpec;
+use crate::stream_spec::StreamSpec;
 use rv_expect::Judge;
 use rv_fleet::{Flow, Listener, Row};
 use std::alloc::Global;

@@ -7,7 +7,7 @@ ghost use Rattle.rv_expect.specs.Judgement.{fails, judge_view};
 ghost use Rattle.rv_fleet.specs.Batches.{batch_rows};
 ghost use Rattle.rv_base.specs.Sinks.{AppendsPrefix};
 ghost use Rattle.rv_stream.specs.Limits.{rows_up_to, rows_within};
-ghost use Rattle.rv_stream.specs.Seen.{HasSeenRows, HasSeenSomeRows};
+ghost use Rattle.rv_stream.specs.SeenRows.{HasSeenRows, HasSeenSomeRows};
 ghost use Rattle.rv_stream.specs.Streams.{joined_row_texts};
 ghost use Rattle.rv_stream.specs.declared.error.StreamError.TheVariants.{ObserverStopped};
 
@@ -15,7 +15,7 @@ use crate::error::StreamError;
 use crate::failure_limit::FailureLimit;
 use crate::reported_row::{ReportedRow, ReportedRowWork};
 use crate::rows_up_to_failure::RowsUpToFailure;
-use crate::streamed::StreamSpec;
+use crate::stream_spec::StreamSpec;
 use crate::text_sender::TextSender;
 use rv_base::Sink;
 use rv_fleet::{Batch, Both, Crew, Flow, Observer, RowReporter, Rows, RunError, run_jobs};

@@ -1,11 +1,11 @@
 //! An observer that writes the reported texts of rows.
 
 ghost use Rattle.std.specs.Prelude.{◌≡◌, [], None};
-ghost use Rattle.rv_stream.specs.Texts.{IsSent};
+ghost use Rattle.rv_stream.specs.SentTexts.{IsSent};
 
 use crate::outbox::Outbox;
 use crate::reported_row::ReportedRow;
-use crate::streamed::StreamSpec;
+use crate::stream_spec::StreamSpec;
 use rv_base::Sink;
 use rv_fleet::{Flow, Observer, WriteError};
 use std::alloc::Global;
@@ -34,7 +34,7 @@ impl<J: StreamSpec, W: Sink + Drop> TextSender<J, W> {
 impl<J: StreamSpec, W: Sink + Drop> Observer<ReportedRow> for TextSender<J, W> {
     ghost use Rattle.std.specs.Prelude.{◌≡◌, true, is_some};
     ghost use Rattle.std.specs.List.{concat};
-    ghost use Rattle.rv_stream.specs.Texts.{IsSent};
+    ghost use Rattle.rv_stream.specs.SentTexts.{IsSent};
     ghost use Rattle.rv_stream.specs.ReportedRows.{texts_of_reported};
 
     ghost has_seen = { λ s told. IsSent J.before (W.accepted s.outbox.out) J.failures (W.failure_count s.outbox.out)

@@ -1,4 +1,4 @@
-pub mod Words
+pub mod Numbers
 pub mod Printable
 pub mod Spans
 pub mod Symbol

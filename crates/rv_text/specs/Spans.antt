@@ -1,7 +1,7 @@
 -- Lines built from spans.
 use Rattle.std.specs.Prelude.{ℕ, List}
 use Rattle.std.specs.Fmt.{decimal}
-use Rattle.rv_text.specs.Words.{count_text, exit_code_text, word_digits}
+use Rattle.rv_text.specs.Numbers.{count_text, exit_code_text, word_digits}
 use Rattle.rv_text.specs.declared.spans.Span.{Span}
 use Rattle.rv_text.specs.declared.spans.Span.TheVariants as span
 use Rattle.rv_text.specs.Printable.{printable_name, printable_text, printable_value}

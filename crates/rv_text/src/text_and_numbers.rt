@@ -2,7 +2,7 @@
 
 ghost use Rattle.std.specs.Prelude.{◌≡◌, ◌++◌, OnOk};
 ghost use Rattle.std.specs.Fmt.{decimal};
-ghost use Rattle.rv_text.specs.Words.{count_text, exit_code_text, plural_ending, word_digits};
+ghost use Rattle.rv_text.specs.Numbers.{count_text, exit_code_text, plural_ending, word_digits};
 
 use std::alloc::AllocError;
 

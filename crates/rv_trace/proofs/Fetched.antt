@@ -15,7 +15,7 @@ use Rattle.rv_machine.specs.State.{State}
 use Rattle.rv_trace.specs.declared.code.Code.{Code}
 use Rattle.rv_trace.specs.declared.code.Code.TheVariants.{Half, Word}
 use Rattle.rv_trace.specs.Code.{code_at, code_from, fetched_half, instr_of}
-use Rattle.rv_trace.specs.Showing.{IsCodeOf}
+use Rattle.rv_trace.specs.ShownSteps.{IsCodeOf}
 
 -- what is fetched is no fault
 given_is : (o : Option Instr) (n bits : ℕ) (p : Instr × ℕ) → decoded_or_illegal o n bits ≡ Ok p → (o ≡ Some p.0) × (n ≡ p.1)

@@ -1,5 +1,5 @@
 pub mod Runs
-pub mod Showing
+pub mod ShownSteps
 pub mod Fetched
 pub mod Rows
 pub mod Registers

@@ -1,7 +1,7 @@
 pub mod Code
 pub mod Steps
 pub mod Trace
-pub mod Showing
+pub mod ShownSteps
 pub mod Text
 pub use Rattle.rv_machine.specs.Bits
 pub use Rattle.rv_machine.specs.Bus
@@ -27,11 +27,11 @@ pub use Rattle.rv_rows.specs.Jobs
 pub use Rattle.rv_rows.specs.Loading
 pub use Rattle.rv_rows.specs.Outcome
 pub use Rattle.rv_rows.specs.Plans
-pub use Rattle.rv_rows.specs.Reading
+pub use Rattle.rv_rows.specs.Parsing
 pub use Rattle.rv_rows.specs.Report
 pub use Rattle.rv_rows.specs.Rows
 pub use Rattle.rv_rows.specs.SymbolSearch
-pub use Rattle.rv_rows.specs.Wholes
+pub use Rattle.rv_rows.specs.SameResults
 pub use Rattle.rv_rows.specs.declared.outcome as declared_outcome
 pub use Rattle.rv_rows.specs.declared_answers
 pub use Rattle.rv_rows.specs.declared_elf_error
@@ -40,4 +40,4 @@ pub use Rattle.rv_rows.specs.declared_job
 pub use Rattle.rv_rows.specs.declared_kept
 pub use Rattle.rv_rows.specs.declared_row
 pub use Rattle.rv_text.specs.Symbol
-pub use Rattle.rv_text.specs.Words as TextWords
+pub use Rattle.rv_text.specs.Numbers as TextWords

@@ -16,7 +16,7 @@ use Rattle.rv_machine.specs.declared_access.Width.TheVariants as width
 use Rattle.rv_rows.specs.declared_row.RowEnd.{RowEnd}
 use Rattle.rv_rows.specs.declared_row.RowEnd.TheVariants as ending
 use Rattle.rv_rows.specs.Report.{line, refusal_name}
-use Rattle.rv_text.specs.Words.{exit_code_text, word_digits}
+use Rattle.rv_text.specs.Numbers.{exit_code_text, word_digits}
 use Rattle.rv_trace.specs.declared.code.Code.{Code}
 use Rattle.rv_trace.specs.declared.code.Code.TheVariants.{Half, Word}
 use Rattle.rv_trace.specs.declared.step.TracedStep.{TracedStep}

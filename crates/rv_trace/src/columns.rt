@@ -1,7 +1,7 @@
 //! The columns of an instruction's line.
 
 ghost use Rattle.std.specs.Prelude.{◌≡◌, ◌++◌, OnOk, drop, option_map, replicate};
-ghost use Rattle.rv_text.specs.Words.{word_digits};
+ghost use Rattle.rv_text.specs.Numbers.{word_digits};
 ghost use Rattle.rv_trace.specs.Text.{code_text, code_columns, instruction_line, padded_text, symbol_or_empty, text_columns};
 
 use crate::code::Code;

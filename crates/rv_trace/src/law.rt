@@ -14,7 +14,7 @@ ghost use Rattle.rv_machine.specs.declared_access.Width.{Width};
 ghost use Rattle.rv_trace.specs.declared.code.Code.{Code};
 ghost use Rattle.rv_trace.specs.declared.step.WriteEffect.TheVariants.{Stored};
 ghost use Rattle.rv_trace.specs.Steps.{traced_step};
-ghost use Rattle.rv_trace.specs.Showing.{IsEndOfRun, IsCodeOf, ShowsEndOfRun};
+ghost use Rattle.rv_trace.specs.ShownSteps.{IsEndOfRun, IsCodeOf, ShowsEndOfRun};
 ghost use Rattle.rv_trace.specs.Trace.{trace_of};
 
 /// Proves that a trace of as many steps as a run completes shows the end of that run: the pc and the registers of its last state, and the

@@ -14,7 +14,7 @@ use Rattle.rv_files.specs.Files.{FileContents}
 use Rattle.rvtest_cli.specs.declared.accept.AcceptArgs.{AcceptArgs}
 use Rattle.rv_command.specs.Texts.{optional_text}
 use Rattle.rv_command.specs.declared.stop.Stop.{Stop}
-use Rattle.rv_files.specs.UnreadPaths.{resolved_path}
+use Rattle.rv_files.specs.UnreadablePaths.{resolved_path}
 use Rattle.rv_rows.specs.declared_job.Job.{Job}
 use Rattle.rvtest_app.specs.AcceptStops.{IsTargetsUnreadStop, IsAcceptingStop, IsListOrGoldenPath, IsGoldenPath, IsGoldenUnreadStop, IsAcceptanceWriteStop, IsStopForSomeFile, IsFileNotWrittenStop}
 use Rattle.rvtest_app.specs.Accepts.{AreGoldenFiles}

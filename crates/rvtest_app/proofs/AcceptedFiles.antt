@@ -8,7 +8,7 @@ use Rattle.rv_accept_text.specs.declared.golden_file.GoldenFile.{GoldenFile}
 use Rattle.rv_files.specs.Files.{FileContents}
 use Rattle.rv_command.specs.Stops.{IsListUnreadStop}
 use Rattle.rv_command.specs.declared.stop.Stop.{Stop}
-use Rattle.rv_files.specs.UnreadPaths.{resolved_path}
+use Rattle.rv_files.specs.UnreadablePaths.{resolved_path}
 use Rattle.rv_files.specs.CommittedFiles.{CommittedFile}
 use Rattle.rvtest_app.specs.Accepts.{AreGoldenFiles, IsGoldenFile}
 use Rattle.rvtest_app.specs.Outlets.{AreFilesCommitted}

@@ -7,7 +7,7 @@ use Rattle.rv_count_tables.specs.declared.table.ImageCounts.{ImageCounts}
 use Rattle.rvtest_app.specs.CountSums.{executed_at_addresses, executed_in_images, max_u64, capped_number}
 
 addresses-snoc : (some : List AddressCounts) (one : AddressCounts)
-    → executed_at_addresses (some ++ one ∷ []) ≡ executed_at_addresses some + one.begun
+    → executed_at_addresses (some ++ one ∷ []) ≡ executed_at_addresses some + one.executed
 addresses-snoc [] one = omega arith
 addresses-snoc (c ∷ cs) one = omega (arith, addresses-snoc cs one)
 
@@ -17,7 +17,7 @@ images-snoc [] one = omega arith
 images-snoc (image ∷ images) one = omega (arith, images-snoc images one)
 
 addresses-more : (addresses : List AddressCounts) (i : ℕ) (d : AddressCounts) → i < length addresses
-    → executed_at_addresses (take (i + 1) addresses) ≡ executed_at_addresses (take i addresses) + (get_or addresses i d).begun
+    → executed_at_addresses (take (i + 1) addresses) ≡ executed_at_addresses (take i addresses) + (get_or addresses i d).executed
 addresses-more addresses i d within =
     rw (add-one i, take-suc addresses i d within) (addresses-snoc (take i addresses) (get_or addresses i d))
 
@@ -29,7 +29,7 @@ images-more images i d within =
 -- the shown number of the first addresses, behind a number, and that of one more
 pub one_more_address : (before : ℕ) (addresses : List AddressCounts) (i : ℕ) (d : AddressCounts) (total next : ℕ)
     → i < length addresses → total ≡ capped_number (before + executed_at_addresses (take i addresses))
-    → next ≡ min (total + (get_or addresses i d).begun) max_u64
+    → next ≡ min (total + (get_or addresses i d).executed) max_u64
     → next ≡ capped_number (before + executed_at_addresses (take (i + 1) addresses))
 one_more_address before addresses i d total next within so_far added = omega (arith, addresses-more addresses i d within)
 

@@ -11,7 +11,7 @@ use Rattle.rv_command.specs.Stops.{IsListUnreadStop, IsStop}
 use Rattle.rv_command.specs.Texts.{IsTextAt, optional_text}
 use Rattle.rv_command.specs.declared.stop.Stop.{Stop}
 use Rattle.rv_command.specs.declared.stop.Stop.TheVariants as stop
-use Rattle.rv_files.specs.UnreadPaths.{resolved_path}
+use Rattle.rv_files.specs.UnreadablePaths.{resolved_path}
 use Rattle.rv_rows.specs.JobList.{job_list_of}
 use Rattle.rv_rows.specs.declared_job.Job.{Job}
 use Rattle.rvtest_app.specs.Overwrites.{IsAcceptOverwriteStop}

@@ -28,7 +28,7 @@ use Rattle.rv_choice.specs.ChosenJobs.{IsChoice}
 use Rattle.rvtest_cli.specs.declared.accept.AcceptArgs.{AcceptArgs}
 use Rattle.rv_command.specs.Texts.{IsTextAt, optional_text}
 use Rattle.rv_files.specs.CommittedFiles.{CommittedFile, committed_file}
-use Rattle.rv_files.specs.UnreadPaths.{contents_below, resolved_path}
+use Rattle.rv_files.specs.UnreadablePaths.{contents_below, resolved_path}
 use Rattle.rv_files.specs.declared.recording_store.UnreadablePath.{UnreadablePath}
 use Rattle.rv_rows.specs.Plans.{PlanView}
 use Rattle.rv_rows.specs.JobList.{job_list_of}

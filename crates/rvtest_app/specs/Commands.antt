@@ -2,8 +2,8 @@
 use Rattle.std.specs.Prelude.{◌==◌, ℕ, Bool, true, false, length}
 use Rattle.std.specs.Prelude.{if◌then◌else◌, is_some}
 use Rattle.std.specs.List.{filter}
-use Rattle.rv_expect.specs.declared.passing.Rule.{Rule}
-use Rattle.rv_expect.specs.declared.passing.Rule.TheVariants.{Strict, Lenient}
+use Rattle.rv_expect.specs.declared.rule.Rule.{Rule}
+use Rattle.rv_expect.specs.declared.rule.Rule.TheVariants.{Strict, Lenient}
 use Rattle.rv_expect.specs.Judgement.{JudgeView, judge_by_rule}
 use Rattle.rv_expect.specs.TwoEnds.{expects_two_ends}
 use Rattle.rv_rows.specs.Plans.{PlanView}

@@ -4,9 +4,9 @@ use Rattle.rv_files.specs.Files.{FileContents}
 use Rattle.rvtest_cli.specs.declared.console.ConsoleArgs.{ConsoleArgs}
 use Rattle.rv_command.specs.Texts.{IsTextAt, optional_text}
 use Rattle.rv_expect.specs.Judgement.{judge_by_rule}
-use Rattle.rv_expect.specs.Passing.{has_passed}
-use Rattle.rv_expect.specs.declared.passing.Rule.TheVariants.{Strict}
-use Rattle.rv_files.specs.UnreadPaths.{contents_below}
+use Rattle.rv_expect.specs.Rule.{has_passed}
+use Rattle.rv_expect.specs.declared.rule.Rule.TheVariants.{Strict}
+use Rattle.rv_files.specs.UnreadablePaths.{contents_below}
 use Rattle.rv_files.specs.declared.recording_store.UnreadablePath.{UnreadablePath}
 use Rattle.rv_job_text.specs.RowReporter.{row_line}
 use Rattle.rv_rows.specs.Plans.{AgreeWithContents, PlanView, jobs_needed_for, paths_of, paths_used}

@@ -14,7 +14,7 @@ use Rattle.rv_expect.specs.Comparisons.{ComparisonView}
 use Rattle.rv_expect.specs.UnmetExpectations.{is_same}
 use Rattle.rv_expect.specs.Unmet.{unmet_expectations_of}
 use Rattle.rv_expect.specs.declared.unmet.UnmetExpectation.{UnmetExpectation}
-use Rattle.rv_files.specs.UnreadPaths.{resolved_path}
+use Rattle.rv_files.specs.UnreadablePaths.{resolved_path}
 use Rattle.rv_rows.specs.Jobs.{console_path}
 use Rattle.rv_rows.specs.declared_job.Job.{Job}
 use Rattle.rv_rows.specs.declared_row.Row.{Row}

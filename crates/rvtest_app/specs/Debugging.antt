@@ -11,8 +11,8 @@ use Rattle.rv_command.specs.Texts.{IsTextAt, optional_text}
 use Rattle.rv_command.specs.declared.stop.Stop.{Stop}
 use Rattle.rv_command.specs.declared.stop.Stop.TheVariants as stop
 use Rattle.rv_expect.specs.Judgement.{judge_by_rule}
-use Rattle.rv_expect.specs.declared.passing.Rule.TheVariants.{Strict}
-use Rattle.rv_files.specs.UnreadPaths.{contents_below, resolved_path}
+use Rattle.rv_expect.specs.declared.rule.Rule.TheVariants.{Strict}
+use Rattle.rv_files.specs.UnreadablePaths.{contents_below, resolved_path}
 use Rattle.rv_files.specs.declared.recording_store.UnreadablePath.{UnreadablePath}
 use Rattle.rv_gdb.specs.Serving.{IsEnded, IsReadWhileOpen}
 use Rattle.rv_gdb.specs.declared.conversation.SessionError.{SessionError}

@@ -12,9 +12,9 @@ use Rattle.rv_diff.specs.Diff.{difference_counts, diff_text, rows_in_both}
 use Rattle.rv_diff.specs.declared.change.CompareMode.{CompareMode}
 use Rattle.rv_diff.specs.declared.change.CompareMode.TheVariants.{Outcomes, Slower, Steps}
 use Rattle.rv_expect.specs.Judgement.{judge_by_rule}
-use Rattle.rv_expect.specs.Passing.{has_passed}
-use Rattle.rv_expect.specs.declared.passing.Rule.TheVariants.{Strict}
-use Rattle.rv_files.specs.UnreadPaths.{contents_below}
+use Rattle.rv_expect.specs.Rule.{has_passed}
+use Rattle.rv_expect.specs.declared.rule.Rule.TheVariants.{Strict}
+use Rattle.rv_files.specs.UnreadablePaths.{contents_below}
 use Rattle.rv_files.specs.declared.recording_store.UnreadablePath.{UnreadablePath}
 use Rattle.rv_job_text.specs.declared_budget_use.BudgetUse.{BudgetUse}
 use Rattle.rv_job_text.specs.BudgetUseLine.{IsBudgetUseOfRow}
@@ -22,7 +22,7 @@ use Rattle.rv_job_text.specs.RowReporter.{explanation_text}
 use Rattle.rv_rows.specs.Plans.{AgreeWithContents, PlanView, jobs_needed_for, after_increments, paths_of, paths_used}
 use Rattle.rv_rows.specs.Plans.{unreadable_count}
 use Rattle.rv_rows.specs.declared_answers.PathResult.{PathResult}
-use Rattle.rv_command.specs.PlacedFaults.{IsFaultMessage, AppendsLinesOfEach}
+use Rattle.rv_command.specs.LocatedFaults.{IsFaultMessage, AppendsLinesOfEach}
 use Rattle.rv_rows.specs.JobList.{job_list_of}
 use Rattle.rv_rows.specs.Jobs.{with_budget}
 use Rattle.rv_rows.specs.ListFaults.{list_faults}

@@ -6,12 +6,12 @@ use Rattle.rv_choice.specs.Shard.{IsShardOf, stamp_for}
 use Rattle.rvtest_cli.specs.declared.run.RunArgs.{RunArgs}
 use Rattle.rv_command.specs.Texts.{IsTextAt, optional_text}
 use Rattle.rv_files.specs.CommittedFiles.{CommittedFile}
-use Rattle.rv_files.specs.UnreadPaths.{contents_below}
+use Rattle.rv_files.specs.UnreadablePaths.{contents_below}
 use Rattle.rv_files.specs.declared.recording_store.UnreadablePath.{UnreadablePath}
 use Rattle.rv_job_text.specs.RowReporter.{RowReporter, row_lines_at}
 use Rattle.rv_job_text.specs.declared.verbosity.Verbosity.TheVariants.{Failures}
 use Rattle.rv_junit.specs.Junit.{junit_text}
-use Rattle.rv_rows.specs.Choices.{selected_indices}
+use Rattle.rv_rows.specs.Selection.{selected_indices}
 use Rattle.rv_rows.specs.Plans.{AgreeWithContents, PlanView, jobs_needed_for, after_increments, paths_of, paths_used, unreadable_count}
 use Rattle.rv_rows.specs.JobList.{job_list_of}
 use Rattle.rv_rows.specs.Jobs.{with_budget}

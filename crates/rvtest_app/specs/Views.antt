@@ -8,7 +8,7 @@ use Rattle.rv_profile.specs.ImageCounts.{other_image}
 use Rattle.rv_profile.specs.ImagesText.{IsCoverText}
 use Rattle.rv_profile.specs.JobImages.{ImageFileView, images_of}
 use Rattle.rv_stacks.specs.JobTables.{IsTableOfJobsAt, jobs_at}
-use Rattle.rv_files.specs.UnreadPaths.{contents_below}
+use Rattle.rv_files.specs.UnreadablePaths.{contents_below}
 use Rattle.rv_files.specs.declared.recording_store.UnreadablePath.{UnreadablePath}
 use Rattle.rv_rows.specs.Plans.{PlanView}
 use Rattle.rv_rows.specs.declared_job.Job.{Job}

@@ -3,7 +3,7 @@
 ghost use Rattle.std.specs.Prelude.{◌≡◌, ◌++◌, ◌∷◌, [], IfErr, IfOk, IsTrue, OnOk, Some, option_map};
 ghost use Rattle.rv_command.specs.Stops.{IsListUnreadStop};
 ghost use Rattle.rv_command.specs.Texts.{optional_text};
-ghost use Rattle.rv_files.specs.UnreadPaths.{resolved_path};
+ghost use Rattle.rv_files.specs.UnreadablePaths.{resolved_path};
 ghost use Rattle.rvtest_app.specs.AcceptStops.{IsTargetsUnreadStop, IsChangedStop, IsOtherBytesStop, IsStopForSomeFile, IsUnverifiedStop, IsFileNotCreatedStop};
 ghost use Rattle.rvtest_app.specs.Accepts.{AreGoldenFiles, IsOldContentsAt, written_files};
 ghost use Rattle.rvtest_app.specs.Outlets.{AreFilesCommitted};

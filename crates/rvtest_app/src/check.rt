@@ -4,7 +4,7 @@ ghost use Rattle.std.specs.Prelude.{◌≡◌, ◌≤◌, IfErr, IfOk};
 ghost use Rattle.rv_rows.specs.ListFaults.{list_faults};
 ghost use Rattle.rvtest_app.specs.CheckText.{check_text, job_begin_lines};
 ghost use Rattle.rvtest_app.specs.Commands.{check_status, refused_job_count};
-ghost use Rattle.rv_files.specs.UnreadPaths.{contents_below};
+ghost use Rattle.rv_files.specs.UnreadablePaths.{contents_below};
 ghost use Rattle.rvtest_app.specs.Reports.{IsCheckOutputAt, IsCheckOutputOf, IsPlanCheckOf};
 ghost use Rattle.rv_command.specs.Stops.{IsListFaultStop};
 ghost use Rattle.rv_command.specs.Texts.{optional_text};

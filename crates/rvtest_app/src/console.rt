@@ -4,9 +4,9 @@ ghost use Rattle.std.specs.Prelude.{◌≡◌, ◌⊎◌, ◌≤◌, ◌<◌, If
 ghost use Rattle.rv_expect.specs.Judgement.{judge_by_rule};
 ghost use Rattle.rv_rows.specs.declared_job.Job.{Job as AJob};
 ghost use Rattle.rv_command.specs.Texts.{optional_text};
-ghost use Rattle.rv_expect.specs.Passing.{has_passed};
-ghost use Rattle.rv_expect.specs.declared.passing.Rule.TheVariants.{Strict};
-ghost use Rattle.rv_files.specs.UnreadPaths.{contents_below};
+ghost use Rattle.rv_expect.specs.Rule.{has_passed};
+ghost use Rattle.rv_expect.specs.declared.rule.Rule.TheVariants.{Strict};
+ghost use Rattle.rv_files.specs.UnreadablePaths.{contents_below};
 ghost use Rattle.rv_job_text.specs.RowReporter.{row_line};
 ghost use Rattle.rv_rows.specs.Rows.{row_of};
 ghost use Rattle.rvtest_app.specs.CommandStops.{IsConsoleStop, IsNoJobStop};

@@ -13,7 +13,7 @@ pub(crate) fn sum_note(alloc: Global, table: &CountTable) -> Result<Vec<u8>, All
 {
     let images = table.images.as_slice();
     let count = images.len() as u64;
-    let begun = executed_in_images(images);
+    let executed = executed_in_images(images);
     text_of_spans(
         alloc,
         &[
@@ -21,9 +21,9 @@ pub(crate) fn sum_note(alloc: Global, table: &CountTable) -> Result<Vec<u8>, All
             Span::Text(run_word(table.runs)),
             Span::Number(count),
             Span::Text(image_word(count)),
-            Span::Text(at_least_prefix(begun)),
-            Span::Number(begun),
-            Span::Text(instruction_word(begun)),
+            Span::Text(at_least_prefix(executed)),
+            Span::Number(executed),
+            Span::Text(instruction_word(executed)),
         ],
     )
 }
@@ -77,7 +77,7 @@ fn add_executed(before: u64, addresses: &[AddressCounts]) -> u64
 {
     let mut total = before;
     for counts in addresses {
-        total = total.saturating_add(counts.begun);
+        total = total.saturating_add(counts.executed);
     }
     total
 }

@@ -7,7 +7,7 @@ ghost use Rattle.rv_accept.specs.Runs.{row_or_none};
 ghost use Rattle.rv_command.specs.Texts.{optional_text};
 ghost use Rattle.rv_expect.specs.Comparisons.{comparison_view};
 ghost use Rattle.rv_expect.specs.UnmetExpectations.{is_same};
-ghost use Rattle.rv_files.specs.UnreadPaths.{resolved_path};
+ghost use Rattle.rv_files.specs.UnreadablePaths.{resolved_path};
 ghost use Rattle.rvtest_app.specs.CurrentVerdicts.{AreCandidates, IsCandidateAt, IsGoldenText, IsCurrentVerdict, AreContentsUpToLimit, compared_row, is_selected, are_all_met, path_to_read};
 ghost use Rattle.rvtest_app.specs.CurrentVerdicts.{comparison_with, verdict_by, verdict_of_comparison};
 

@@ -3,11 +3,11 @@
 ghost use Rattle.std.specs.Prelude.{◌≡◌, ◌≤◌, ◌<◌, IfErr, IfOk, length, slice_index_or};
 ghost use Rattle.rv_rows.specs.Jobs.{with_budget};
 ghost use Rattle.rv_rows.specs.declared_job.Job.{Job as AJob};
-ghost use Rattle.rv_expect.specs.declared.passing.Rule.TheVariants.{Strict};
-ghost use Rattle.rv_expect.specs.Passing.{has_passed};
+ghost use Rattle.rv_expect.specs.declared.rule.Rule.TheVariants.{Strict};
+ghost use Rattle.rv_expect.specs.Rule.{has_passed};
 ghost use Rattle.rv_rows.specs.Rows.{row_of};
 ghost use Rattle.rvtest_app.specs.Commands.{passing_status};
-ghost use Rattle.rv_files.specs.UnreadPaths.{contents_below};
+ghost use Rattle.rv_files.specs.UnreadablePaths.{contents_below};
 ghost use Rattle.rvtest_app.specs.Reports.{IsExplanationAt, IsExplanationOf, IsJobExplained, IsTextExplaining};
 ghost use Rattle.rv_command.specs.Texts.{optional_text};
 ghost use Rattle.rvtest_app.specs.CommandStops.{IsExplainStop, IsNoJobStop};

@@ -4,7 +4,7 @@ ghost use Rattle.std.specs.Prelude.{◌≡◌, ◌++◌, ◌<◌, ◌∷◌, [],
 ghost use Rattle.std.specs.List.{list_any};
 ghost use Rattle.std.specs.Path.{path_buf_bytes};
 ghost use Rattle.rv_command.specs.Texts.{optional_text};
-ghost use Rattle.rv_files.specs.UnreadPaths.{resolved_path};
+ghost use Rattle.rv_files.specs.UnreadablePaths.{resolved_path};
 ghost use Rattle.rvtest_app.specs.Overwrites.{AreFilesOf, IsNoInputIfFile, IsOptionOverwriteStop, IsOverwriteStop, IsOverwriteReported, IsNoInput, is_among, job_input_text, overwrite_prefix, overwrite_message, input_path_text, input_paths, input_role_text};
 ghost use Rattle.rvtest_app.specs.Outlets.{is_stdout};
 

@@ -2,7 +2,7 @@
 
 ghost use Rattle.std.specs.Prelude.{◌≡◌, ◌++◌, ◌∷◌, [], IfErr, IfOk, IfSome, OnOk};
 ghost use Rattle.rv_command.specs.Texts.{optional_text};
-ghost use Rattle.rv_files.specs.UnreadPaths.{resolved_path};
+ghost use Rattle.rv_files.specs.UnreadablePaths.{resolved_path};
 ghost use Rattle.rv_rows.specs.Jobs.{console_path};
 ghost use Rattle.rvtest_app.specs.Overwrites.{AreReportsPreserved, AreRunFilesNoInputs, IsRunOverwriteStop, failed_report_path, golden_paths_of_job, inputs_of_run, paths_of_job, input_paths, report_paths_of_run};
 

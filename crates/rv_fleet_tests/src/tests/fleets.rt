@@ -1,6 +1,6 @@
 //! Fleets of small jobs, and runs of a choice of them, with a gate that shows which chunks ran at the same time.
 ghost use Rattle.std.specs.List.Sorted.{IsStrictlyIncreasing};
-ghost use Rattle.rv_fleet.specs.Choices.{AreJobIndices};
+ghost use Rattle.rv_fleet.specs.JobIndices.{AreJobIndices};
 
 use super::gate::NotingGate;
 use super::{chosen, crew_of, push_rows};

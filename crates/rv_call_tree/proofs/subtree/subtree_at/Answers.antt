@@ -1,16 +1,16 @@
 -- A child's subtree is that of the spot where the one in front of it ends.
 use Rattle.std.proofs.Common.{◌+◌, ◌-◌, drop, get_or, length, arith}
-use Rattle.rv_call_tree.specs.declared.spot.CallNode.{CallNode}
+use Rattle.rv_call_tree.specs.declared.call_node.CallNode.{CallNode}
 use Rattle.rv_call_tree.specs.declared.subtree.Subtree.{Subtree}
 use Rattle.rv_call_tree.proofs.Descended.{child_fits, child_further, child_is, child_within, one_child, one_of_all}
 use Rattle.rv_call_tree.proofs.subtree.subtree_at.Goals as goal
 
 -- what is read where there is none
 abbrev no_spot : CallNode
-no_spot = record { depth = 0; function = 0; arrivals = 0; steps = 0 }
+no_spot = record { depth = 0; function = 0; calls = 0; steps = 0 }
 
 abbrev none : Subtree
-none = record { function = 0; place = 0; end = 0; own = 0; inclusive = 0; arrivals = 0 }
+none = record { function = 0; place = 0; end = 0; own = 0; inclusive = 0; calls = 0 }
 
 pub bounds-behind-spots : goal.bounds-behind-spots
 bounds-behind-spots c =

@@ -2,7 +2,7 @@
 use Rattle.std.proofs.Common.{◌≡◌, ◌+◌, ◌<◌, List, length, drop, length-drop, sym, subst, arith}
 use Rattle.std.proofs.lemmas.List.{take_rest}
 use Rattle.std.proofs.lemmas.Result.{err_from_is_err_and}
-use Rattle.rv_call_tree.specs.declared.spot.CallNode.{CallNode}
+use Rattle.rv_call_tree.specs.declared.call_node.CallNode.{CallNode}
 use Rattle.rv_call_tree.specs.declared.sum.NextNode.{NextNode}
 use Rattle.std.specs.List.{AllByRecursion}
 use Rattle.rv_call_tree.specs.Sums.{next_of, FitsFields, IsSumOfCallTrees}

@@ -6,7 +6,7 @@ use Rattle.rv_count_tables.proofs.lookup.counts_at.Goals as goal
 use Rattle.rv_count_tables.proofs.lookup.counts_at.Goals.{else-place-counts-via-then-place-counts+else-counts-place, else-place-counts-via-else-place-counts}
 
 abbrev empty_entry : AddressCounts
-empty_entry = record { address = 0; begun = 0; taken = 0 }
+empty_entry = record { address = 0; executed = 0; taken = 0 }
 
 pub returns-then-counts-place : goal.returns-then-counts-place
 returns-then-counts-place c =
@@ -17,7 +17,7 @@ returns-then-counts-place c =
     } in
     let those = those_at c.args.address 0 c.args.counts.now c.index_of_address-place.result empty_entry c.requires place
     c.if-place-counts.true c.if-counts-place.true in
-    λ i. record { address = c.if-counts-place.true i; begun = sym those.0 i; taken = sym those.1 i }
+    λ i. record { address = c.if-counts-place.true i; executed = sym those.0 i; taken = sym those.1 i }
 
 pub returns : goal.returns
 returns c =
@@ -37,4 +37,4 @@ returns c =
       | else-place-counts-via-else-place-counts w ↦ λ d l. let f = w.if-place-counts.false in absurd (omega (arith, f, l))
     ] in
     let none = none_at c.args.address 0 cs n c.requires place above in
-    λ i. record { address = c.args.address; begun = sym none.0 i; taken = sym none.1 i }
+    λ i. record { address = c.args.address; executed = sym none.0 i; taken = sym none.1 i }

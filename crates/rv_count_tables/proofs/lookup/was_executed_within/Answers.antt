@@ -5,7 +5,7 @@ use Rattle.rv_count_tables.proofs.Lookups.{IsPlaceOf, any_within}
 use Rattle.rv_count_tables.proofs.lookup.was_executed_within.Goals as goal
 
 abbrev empty_entry : AddressCounts
-empty_entry = record { address = 0; begun = 0; taken = 0 }
+empty_entry = record { address = 0; executed = 0; taken = 0 }
 
 pub returns-then-place-counts : goal.returns-then-place-counts
 returns-then-place-counts c =

@@ -18,7 +18,7 @@ returns-clause-spot c n h is =
     (c.text_before_byte-2.ensures ∙ ap (text_before_byte 32) words ∙ depth_digits n k))
     (c.hex_word.ensures n.spot.function k.function
     (c.leading_bytes.ensures ∙ ap (take 8) function ∙ spot_function_digits n k))
-    (c.decimal_number-2.ensures n.spot.arrivals k.arrivals
+    (c.decimal_number-2.ensures n.spot.calls k.calls
     (c.text_before_byte-3.ensures ∙ ap (text_before_byte 32) numbers ∙ arrivals_digits n k))
     (c.decimal_number-3.ensures n.spot.steps k.steps
     (c.text_before_byte-4.ensures ∙ ap (text_before_byte 32) behind ∙ steps_digits n k))

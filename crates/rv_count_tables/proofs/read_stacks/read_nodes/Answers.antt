@@ -7,7 +7,7 @@ use Rattle.rv_count_tables.specs.Table.{name_of}
 use Rattle.rv_count_tables.proofs.ReadingLines.{further_within}
 use Rattle.rv_count_tables.proofs.ReadingStacks.{SpotsSoFar, all_spots, no_spots_so_far, one_spot, spot_is_long}
 use Rattle.rv_count_tables.proofs.read_stacks.read_nodes.Goals as goal
-use Rattle.rv_call_tree.specs.declared.spot.CallNode.{CallNode}
+use Rattle.rv_call_tree.specs.declared.call_node.CallNode.{CallNode}
 use Rattle.rv_call_tree.specs.Trees.{path_after, FollowsInPreorder}
 
 pub lines-init : goal.lines-init

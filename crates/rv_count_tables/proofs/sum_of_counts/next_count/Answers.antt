@@ -49,4 +49,4 @@ returns-clause-value c =
     let n = c.if-a-b.false in
     let m = c.if-b-a.false in
     of_both _ _ _ _ c.requires.a c.requires.b some other (omega (arith, n, m)) c.in_ok-sum.ensures.address
-    c.in_ok-sum.ensures.begun c.in_ok-sum.ensures.taken c.in_ok-sum.ensures.fits
+    c.in_ok-sum.ensures.executed c.in_ok-sum.ensures.taken c.in_ok-sum.ensures.fits

@@ -6,7 +6,7 @@ use Rattle.rv_count_tables.specs.Sum.{IsSumOfNames}
 use Rattle.rv_count_tables.proofs.AddingImages.{are_spots, no_sum_of_named}
 use Rattle.rv_count_tables.proofs.SumsOfStacks.{names_of_sum}
 use Rattle.rv_count_tables.proofs.sum_of_images.sum_of_image.Goals as goal
-use Rattle.rv_call_tree.specs.declared.spot.CallNode.{CallNode}
+use Rattle.rv_call_tree.specs.declared.call_node.CallNode.{CallNode}
 use Rattle.rv_call_tree.specs.Sums.{IsSumOfCallTrees}
 
 pub returns-clause-tree : goal.returns-clause-tree

@@ -5,7 +5,7 @@ use Rattle.std.specs.List.{flat_map}
 use Rattle.rv_count_tables.specs.ParsedNodes.{line_by_index}
 use Rattle.rv_count_tables.proofs.SpotIndexes.{lines_are}
 use Rattle.rv_count_tables.proofs.text.push_nodes.Goals as goal
-use Rattle.rv_call_tree.specs.declared.spot.CallNode.{CallNode}
+use Rattle.rv_call_tree.specs.declared.call_node.CallNode.{CallNode}
 
 pub returns : goal.returns
 returns c =

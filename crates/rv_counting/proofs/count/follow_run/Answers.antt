@@ -15,9 +15,9 @@ steps-init c =
       within = omega arith;
       counting = subst (λ k. IsCountingFrom (counts_of old) old.cache.generation n k s s old) (sym none) (
           record {
-            so_far = none_so_far (counts_of old) n s c.requires.tallied;
+            so_far = none_so_far (counts_of old) n s c.requires.consistent;
             indexed = c.requires.indexed;
-            right = c.requires.right;
+            valid = c.requires.valid;
             generations = omega arith;
           }
           );
@@ -27,21 +27,21 @@ pub find_block-block-requires : goal.find_block-block-requires
 find_block-block-requires c =
     let n = c.args.budget in
     let old = c.args.counter.now in
-    ready_on (counts_of old) old.cache.generation n (n - c.steps.left) (state_of c.args.machine) (state_of c.steps.machine) c.steps.counter
+    ready_on (counts_of old) old.cache.generation n (n - c.steps.remaining) (state_of c.args.machine) (state_of c.steps.machine) c.steps.counter
     c.ranges.budget.fits c.requires.few c.requires.generations c.steps.invariant.counting
 
 pub step_uncached-requires : goal.step_uncached-requires
 step_uncached-requires c =
     let n = c.args.budget in
     let old = c.args.counter.now in
-    ready_on (counts_of old) old.cache.generation n (n - c.steps.left) (state_of c.args.machine) (state_of c.steps.machine) c.steps.counter
+    ready_on (counts_of old) old.cache.generation n (n - c.steps.remaining) (state_of c.args.machine) (state_of c.steps.machine) c.steps.counter
     c.ranges.budget.fits c.requires.few c.requires.generations c.steps.invariant.counting
 
 pub run_block-requires-clause-ready : goal.run_block-requires-clause-ready
 run_block-requires-clause-ready c =
     let n = c.args.budget in
     let old = c.args.counter.now in
-    ready_on (counts_of old) old.cache.generation n (n - c.steps.left) (state_of c.args.machine) (state_of c.steps.machine) c.steps.counter
+    ready_on (counts_of old) old.cache.generation n (n - c.steps.remaining) (state_of c.args.machine) (state_of c.steps.machine) c.steps.counter
     c.ranges.budget.fits c.requires.few c.requires.generations c.steps.invariant.counting
 
 pub steps-preserved-then-block-eq0 : goal.steps-preserved-then-block-eq0
@@ -49,14 +49,14 @@ steps-preserved-then-block-eq0 c =
     let n = c.args.budget in
     let old = c.args.counter.now in
     let g = old.cache.generation in
-    let left = c.steps.left in
+    let remaining = c.steps.remaining in
     let start = state_of c.args.machine in
     let w = c.steps.invariant.within in
     let some = c.steps-test.true in
-    let sum : n - left + 1 ≡ n - (left - 1) = omega (arith, w, some) in record {
+    let sum : n - remaining + 1 ≡ n - (remaining - 1) = omega (arith, w, some) in record {
       within = omega (arith, w);
       counting = subst (λ k. IsCountingFrom (counts_of old) g n k start (state_of c.step_uncached.new.machine) c.step_uncached.new.self) sum
-          (c.in_ok-step_uncached.ensures.counted.goes_on c.if-not-branch.false (counts_of old) g n (n - left) start (omega (arith, w, some))
+          (c.in_ok-step_uncached.ensures.counted.continues c.if-not-branch.false (counts_of old) g n (n - remaining) start (omega (arith, w, some))
           c.steps.invariant.counting);
     }
 
@@ -65,15 +65,15 @@ steps-preserved c =
     let n = c.args.budget in
     let old = c.args.counter.now in
     let g = old.cache.generation in
-    let left = c.steps.left in
+    let remaining = c.steps.remaining in
     let k = c.find_block-block.result.steps in
     let start = state_of c.args.machine in
     let w = c.steps.invariant.within in
     let few = c.find_block-block.ensures.few in
-    let sum : n - left + k ≡ n - (left - k) = omega (arith, w, few) in record {
+    let sum : n - remaining + k ≡ n - (remaining - k) = omega (arith, w, few) in record {
       within = omega (arith, w);
       counting = subst (λ k. IsCountingFrom (counts_of old) g n k start (state_of c.run_block.new.machine) c.run_block.new.self) sum
-          (c.in_ok-run_block.ensures.counted.goes_on (equal_tests _ _ c.if-branch-block.false) (counts_of old) g n (n - left) start
+          (c.in_ok-run_block.ensures.counted.continues (equal_tests _ _ c.if-branch-block.false) (counts_of old) g n (n - remaining) start
           (omega (arith, w, few)) c.steps.invariant.counting);
     }
 
@@ -81,28 +81,28 @@ pub returns-then-not-branch : goal.returns-then-not-branch
 returns-then-not-branch c =
     let n = c.args.budget in
     let old = c.args.counter.now in
-    let left = c.steps.left in
+    let remaining = c.steps.remaining in
     let w = c.steps.invariant.within in
     let some = c.steps-test.true in
-    c.in_ok-step_uncached.ensures.counted.ended c.if-not-branch.true (counts_of old) old.cache.generation n (n - left)
+    c.in_ok-step_uncached.ensures.counted.ended c.if-not-branch.true (counts_of old) old.cache.generation n (n - remaining)
     (state_of c.args.machine) (omega (arith, w, some)) c.steps.invariant.counting
 
 pub returns-then-branch-block : goal.returns-then-branch-block
 returns-then-branch-block c =
     let n = c.args.budget in
     let old = c.args.counter.now in
-    let left = c.steps.left in
+    let remaining = c.steps.remaining in
     let w = c.steps.invariant.within in
     let few = c.find_block-block.ensures.few in
-    c.in_ok-run_block.ensures.counted.ended (unequal_tests _ _ c.if-branch-block.true) (counts_of old) old.cache.generation n (n - left)
+    c.in_ok-run_block.ensures.counted.ended (unequal_tests _ _ c.if-branch-block.true) (counts_of old) old.cache.generation n (n - remaining)
     (state_of c.args.machine) (omega (arith, w, few)) c.steps.invariant.counting
 
 pub returns : goal.returns
 returns c =
     let n = c.args.budget in
     let old = c.args.counter.now in
-    let left = c.steps.left in
+    let remaining = c.steps.remaining in
     let w = c.steps.invariant.within in
     let over = c.steps-test.false in
-    counted_all_on (counts_of old) old.cache.generation n (n - left) (state_of c.args.machine) (state_of c.steps.machine) c.steps.counter
+    counted_all_on (counts_of old) old.cache.generation n (n - remaining) (state_of c.args.machine) (state_of c.steps.machine) c.steps.counter
     (omega (arith, w, over)) c.steps.invariant.counting

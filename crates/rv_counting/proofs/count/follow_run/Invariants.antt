@@ -6,10 +6,10 @@ use Rattle.rv_counting.proofs.count.follow_run.Given as goal
 
 abbrev pub invariant-steps : goal.invariant-steps
 invariant-steps l = record {
-  within : l.left ≤ l.budget;
-  counting : IsCountingFrom (counts_of l.fn.counter) l.fn.counter.cache.generation l.budget (l.budget - l.left) (state_of l.initial.machine)
+  within : l.remaining ≤ l.budget;
+  counting : IsCountingFrom (counts_of l.fn.counter) l.fn.counter.cache.generation l.budget (l.budget - l.remaining) (state_of l.initial.machine)
       (state_of l.machine) l.counter;
 }
 
 abbrev pub decreases-steps : goal.decreases-steps
-decreases-steps l = l.left
+decreases-steps l = l.remaining

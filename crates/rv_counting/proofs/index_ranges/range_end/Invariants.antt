@@ -6,9 +6,9 @@ use Rattle.rv_counting.proofs.index_ranges.range_end.Given as goal
 abbrev pub invariant-loop-to : goal.invariant-loop-to
 invariant-loop-to l = record {
   some : l.from < l.to;
-  within : l.to ≤ length l.places;
-  same : HaveOneImageFrom l.plan l.places l.from l.to;
+  within : l.to ≤ length l.indices;
+  same : HaveOneImageFrom l.plan l.indices l.from l.to;
 }
 
 abbrev pub decreases-loop-to : goal.decreases-loop-to
-decreases-loop-to l = length l.places - l.to
+decreases-loop-to l = length l.indices - l.to

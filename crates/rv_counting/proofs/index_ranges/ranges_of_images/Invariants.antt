@@ -5,9 +5,9 @@ use Rattle.rv_counting.proofs.index_ranges.ranges_of_images.Given as goal
 
 abbrev pub invariant-loop-from : goal.invariant-loop-from
 invariant-loop-from l = record {
-  within : l.from ≤ length l.places;
-  are : AreIndexRangesTo l.plan l.places l.from l.pieces.items;
+  within : l.from ≤ length l.indices;
+  are : AreIndexRangesTo l.plan l.indices l.from l.pieces.items;
 }
 
 abbrev pub decreases-loop-from : goal.decreases-loop-from
-decreases-loop-from l = length l.places - l.from
+decreases-loop-from l = length l.indices - l.from

@@ -13,7 +13,7 @@ returns-then-outcome-eq0 c =
     let t = state_of c.run-outcome.new.self in
     let h = ended_of s t c.run-outcome.result.ending c.run-outcome.result.steps c.run-outcome.ensures c.if-outcome-eq0.true in
     record {
-      begun = c.is_executed_at_end.ensures ∙ ended_begins s c.run-outcome.result.ending h.0;
+      executed = c.is_executed_at_end.ensures ∙ ended_begins s c.run-outcome.result.ending h.0;
       completed = sym (ap completes h.0);
       taken = sym (ap (λ (r : Result State Ending). is_taken_step r s) h.0);
       state = subst (λ (r : Result State Ending). IsStateAfter r s t) (sym h.0) h.1;
@@ -25,7 +25,7 @@ returns c =
     let t = state_of c.run-outcome.new.self in
     let h = completed_of s t c.run-outcome.result.ending c.run-outcome.result.steps c.run-outcome.ensures c.if-outcome-eq0.false in
     record {
-      begun = sym (completed_begins s t h);
+      executed = sym (completed_begins s t h);
       completed = sym (ap completes h);
       taken = c.is_taken_code.ensures ∙ (λ i. is_taken_code (c.requires i) (c.pc-pc.ensures i) (c.pc.ensures i)) ∙ taken_is s t h;
       state = subst (λ (r : Result State Ending). IsStateAfter r s t) (sym h) refl;

@@ -1,5 +1,5 @@
 use Rattle.std.proofs.Common.{rules}
-use Rattle.rv_elf.specs.ImageParts.{header_check}
+use Rattle.rv_elf.specs.ImageChecks.{header_check}
 use Rattle.rv_elf.proofs.header.check_header.Goals as goal
 
 pub returns-then-file-lt-ELF_HEADER_SIZE-clause-value : goal.returns-then-file-lt-ELF_HEADER_SIZE-clause-value

@@ -1,6 +1,6 @@
 use Rattle.std.proofs.lemmas.List.Elements.{All-rest}
 use Rattle.rv_fleet.specs.Batches.{batch_rows}
-use Rattle.rv_fleet.specs.Promised.{KeepsPromise}
+use Rattle.rv_fleet.specs.WorkerPromises.{KeepsPromise}
 use Rattle.rv_fleet.proofs.Collects.{All-first, pieces_worked}
 use Rattle.rv_fleet.proofs.collect.collect_chunks.Goals as goal
 

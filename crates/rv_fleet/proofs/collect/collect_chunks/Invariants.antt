@@ -2,7 +2,7 @@ use Rattle.std.proofs.Common.{◌≡◌, IfSome}
 use Rattle.std.specs.Vec.Iter.{into_iter_items}
 use Rattle.rv_fleet.specs.Batches.{batch_rows}
 use Rattle.rv_fleet.specs.CollectedChunks.{AreChunkSlots}
-use Rattle.rv_fleet.specs.Promised.{AllKeepPromise}
+use Rattle.rv_fleet.specs.WorkerPromises.{AllKeepPromise}
 use Rattle.rv_fleet.proofs.collect.collect_chunks.Given as goal
 
 abbrev pub invariant-loop-pass : goal.invariant-loop-pass

@@ -1,4 +1,4 @@
-use Rattle.rv_fleet.specs.Promised.{IsFresh, AreFresh}
+use Rattle.rv_fleet.specs.WorkerPromises.{IsFresh, AreFresh}
 use Rattle.rv_fleet.proofs.threads.split_passes.Given as goal
 
 abbrev pub invariant-loop : goal.invariant-loop

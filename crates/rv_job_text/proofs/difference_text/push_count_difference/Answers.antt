@@ -1,7 +1,7 @@
 use Rattle.std.proofs.Common.{codes}
 use Rattle.std.specs.Fmt.{decimal}
 use Rattle.rv_text.proofs.Public.{told}
-use Rattle.rv_text.specs.Words.{count_text}
+use Rattle.rv_text.specs.Numbers.{count_text}
 use Rattle.rv_job_text.specs.UnmetLines.{count_difference_text}
 use Rattle.rv_job_text.proofs.Told.{words_told}
 use Rattle.rv_job_text.proofs.difference_text.push_count_difference.Goals as goal

@@ -1,6 +1,6 @@
 use Rattle.std.proofs.Common.{codes}
 use Rattle.rv_text.proofs.Public.{told}
-use Rattle.rv_text.specs.Words.{exit_code_text}
+use Rattle.rv_text.specs.Numbers.{exit_code_text}
 use Rattle.rv_job_text.specs.UnmetLines.{row_end_text}
 use Rattle.rv_job_text.proofs.Told.{ended_told, refused_told}
 use Rattle.rv_job_text.proofs.unmet_line.push_row_end.Goals as goal

@@ -3,7 +3,7 @@ use Rattle.std.specs.Prelude.{slice_index_or}
 use Rattle.rv_jobs.specs.declared.path_reading.Found.{Found}
 use Rattle.rv_lists.specs.declared.job.Job.{Job}
 use Rattle.rv_jobs.specs.Plans.{paths_of}
-use Rattle.rv_jobs.specs.Placed.{IsFound}
+use Rattle.rv_jobs.specs.ResultIndices.{IsFound}
 use Rattle.rv_jobs.proofs.path_reading.result_indices.Given as goal
 
 abbrev pub invariant-loop-at : goal.invariant-loop-at

@@ -1,9 +1,9 @@
 use Rattle.std.proofs.Common.{◌∙◌, refl, ap, arith, length, sym, subst, get_or, List}
 use Rattle.std.specs.List.{fold}
 use Rattle.std.proofs.lemmas.List.{length-map}
-use Rattle.rv_jobs.specs.declared.answers.PathResult.{PathResult}
+use Rattle.rv_jobs.specs.declared.path_results.PathResult.{PathResult}
 use Rattle.rv_jobs.specs.declared.kept.Kept.{Kept}
-use Rattle.rv_jobs.specs.Placed.{AreRecorded, ArePartialResultIndicesOfJobs}
+use Rattle.rv_jobs.specs.ResultIndices.{AreRecorded, ArePartialResultIndicesOfJobs}
 use Rattle.rv_jobs.specs.Plans.{paths_of, paths_used, jobs_needed_for, jobs_needed_at, with_job_paths, AgreeWithContents, unreadable_count, after_increments}
 use Rattle.rv_jobs.proofs.Answering.{start_kept, start_faults, parts_whole}
 use Rattle.rv_jobs.proofs.Needing.{needed_more, needed_whole}

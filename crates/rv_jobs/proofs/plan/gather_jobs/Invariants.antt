@@ -1,6 +1,6 @@
 use Rattle.std.proofs.Common.{◌≡◌, [], take}
 use Rattle.std.specs.List.{fold}
-use Rattle.rv_jobs.specs.Placed.{AreRecorded}
+use Rattle.rv_jobs.specs.ResultIndices.{AreRecorded}
 use Rattle.rv_jobs.specs.Plans.{paths_of, with_job_paths, jobs_needed_for, AgreeWithContents, unreadable_count, after_increments}
 use Rattle.rv_jobs.proofs.plan.gather_jobs.Given as goal
 

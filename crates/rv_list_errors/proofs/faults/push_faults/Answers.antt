@@ -1,5 +1,5 @@
 use Rattle.rv_list_errors.specs.FaultHeads.{fault_head}
-use Rattle.rv_list_errors.specs.FaultsTold.{IsFaultLineOfText}
+use Rattle.rv_list_errors.specs.FaultMessages.{IsFaultLineOfText}
 use Rattle.rv_list_errors.specs.Lines.{BeginsWith}
 use Rattle.rv_list_errors.proofs.Heads.{begins_of_ends, head_in_list, head_without_document, told_in_list, told_without_document}
 use Rattle.rv_list_errors.proofs.OneMore.{count_of_lines, lines_so}

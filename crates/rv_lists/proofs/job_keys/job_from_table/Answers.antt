@@ -1,6 +1,6 @@
 use Rattle.std.proofs.Common.{◌∙◌, ap, sym, subst, is_some, rules}
 use Rattle.toml.specs.View.{table_view}
-use Rattle.rv_lists.specs.Reading.{MatchesUnlessOutOfMemory}
+use Rattle.rv_lists.specs.Parsing.{MatchesUnlessOutOfMemory}
 use Rattle.rv_lists.specs.JobList.{job_from_table, names_of_jobs}
 use Rattle.rv_lists.proofs.JobStages.{job_described}
 use Rattle.rv_lists.proofs.job_keys.job_from_table.Goals as goal

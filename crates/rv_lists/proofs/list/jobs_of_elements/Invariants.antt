@@ -1,6 +1,6 @@
 use Rattle.std.proofs.Common.{◌≡◌, ◌+◌, drop, [], length}
 use Rattle.toml.specs.View.{items_view}
-use Rattle.rv_lists.specs.Reading.{with_prefix}
+use Rattle.rv_lists.specs.Parsing.{with_prefix}
 use Rattle.rv_lists.specs.JobList.{jobs_of_elements, names_of_jobs}
 use Rattle.rv_lists.proofs.list.jobs_of_elements.Given as goal
 

@@ -1,6 +1,6 @@
 use Rattle.std.proofs.Common.{◌≡◌, drop}
 use Rattle.toml.specs.View.{items_view}
-use Rattle.rv_lists.specs.Reading.{with_prefix}
+use Rattle.rv_lists.specs.Parsing.{with_prefix}
 use Rattle.rv_lists.specs.JobList.{regions_from_elements}
 use Rattle.rv_lists.proofs.regions.regions_from_elements.Given as goal
 

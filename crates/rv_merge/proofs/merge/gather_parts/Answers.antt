@@ -1,5 +1,5 @@
 use Rattle.std.proofs.Common.{◌≡◌, ℕ, arith, refl, subst, length}
-use Rattle.rv_merge.specs.GatheredParts.{IsMergeStateAfter, report_of_part}
+use Rattle.rv_merge.specs.MergeState.{IsMergeStateAfter, report_of_part}
 use Rattle.rv_merge.specs.Parts.{bytes_of_texts}
 use Rattle.rv_merge.proofs.Gathering.{holds_none}
 use Rattle.rv_merge.proofs.merge.gather_parts.Goals as goal

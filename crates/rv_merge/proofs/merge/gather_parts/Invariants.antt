@@ -1,4 +1,4 @@
-use Rattle.rv_merge.specs.GatheredParts.{IsMergeStateAfter}
+use Rattle.rv_merge.specs.MergeState.{IsMergeStateAfter}
 use Rattle.rv_merge.specs.Parts.{bytes_of_texts}
 use Rattle.rv_merge.proofs.merge.gather_parts.Given as goal
 

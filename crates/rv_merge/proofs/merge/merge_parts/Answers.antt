@@ -3,8 +3,8 @@ use Rattle.std.proofs.Common.{sym, arith, subst}
 use Rattle.std.proofs.lemmas.Bool.{eqb-true, false≢true}
 use Rattle.std.proofs.lemmas.List.{nil_from_length}
 use Rattle.rv_merge.specs.declared.error.MergeError.TheVariants as error
-use Rattle.rv_merge.specs.GatheredParts.{IsMergeStateAfter}
-use Rattle.rv_merge.specs.declared.gathered_parts.MergeState.{MergeState}
+use Rattle.rv_merge.specs.MergeState.{IsMergeStateAfter}
+use Rattle.rv_merge.specs.declared.merge_state.MergeState.{MergeState}
 use Rattle.rv_merge.specs.Parts.{AreParts, bytes_of_texts}
 use Rattle.rv_merge.specs.Refusals.{HasMergeError}
 use Rattle.rv_merge.proofs.Ends.{found_in, refused_job_count, sources_some}

@@ -5,7 +5,7 @@ use Rattle.rv_profile.proofs.sums.sums_of.Goals as goal
 
 -- what is read where there is no spot
 abbrev no_spot : CallNode
-no_spot = record { depth = 0; function = 0; arrivals = 0; steps = 0 }
+no_spot = record { depth = 0; function = 0; calls = 0; steps = 0 }
 
 pub returns-in_err-sums : goal.returns-in_err-sums
 returns-in_err-sums c =

@@ -12,22 +12,22 @@ use Rattle.rv_stacks.proofs.batch.count_batch_with_stacks.Goals as goal
 pub returns-clause-value : goal.returns-clause-value
 returns-clause-value g c =
     let plan = c.args.batch.now.plan.now in
-    let places = c.args.batch.now.places.now in
-    subst (λ (r : Result CountTable SumError). IfOk r (IsTableWithStacks plan places)) (sym c.into_sum_of_run.ensures)
-    (all_added plan places c.run_jobs-sum.result.0 c.run_jobs-sum.result.1 c.run_jobs-sum.ensures)
+    let indices = c.args.batch.now.places.now in
+    subst (λ (r : Result CountTable SumError). IfOk r (IsTableWithStacks plan indices)) (sym c.into_sum_of_run.ensures)
+    (all_added plan indices c.run_jobs-sum.result.0 c.run_jobs-sum.result.1 c.run_jobs-sum.ensures)
 
 pub returns-clause-refused : goal.returns-clause-refused
 returns-clause-refused g c =
     let plan = c.args.batch.now.plan.now in
-    let places = c.args.batch.now.places.now in
-    subst (λ (r : Result CountTable SumError). IfErr r (HaveNoTableWithStacks plan places)) (sym c.into_sum_of_run.ensures)
-    (next_refused plan places c.run_jobs-sum.result.0 c.run_jobs-sum.result.1 c.run_jobs-sum.ensures)
+    let indices = c.args.batch.now.places.now in
+    subst (λ (r : Result CountTable SumError). IfErr r (HaveNoTableWithStacks plan indices)) (sym c.into_sum_of_run.ensures)
+    (next_refused plan indices c.run_jobs-sum.result.0 c.run_jobs-sum.result.1 c.run_jobs-sum.ensures)
 
 pub returns-clause-reasons : goal.returns-clause-reasons
 returns-clause-reasons g c =
     let plan = c.args.batch.now.plan.now in
-    let places = c.args.batch.now.places.now in
+    let indices = c.args.batch.now.places.now in
     subst (λ (r : Result CountTable SumError). IfErr r IsOfNamesOrMemory) (sym c.into_sum_of_run.ensures)
-    (IfErr-weaker _ (HaveNoTableWithStacks plan places) IsOfNamesOrMemory
-    (λ error. no_other_reason plan places error c.args.batch.now.few)
-    (next_refused plan places c.run_jobs-sum.result.0 c.run_jobs-sum.result.1 c.run_jobs-sum.ensures))
+    (IfErr-weaker _ (HaveNoTableWithStacks plan indices) IsOfNamesOrMemory
+    (λ error. no_other_reason plan indices error c.args.batch.now.few)
+    (next_refused plan indices c.run_jobs-sum.result.0 c.run_jobs-sum.result.1 c.run_jobs-sum.ensures))

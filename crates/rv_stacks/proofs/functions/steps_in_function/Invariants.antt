@@ -7,7 +7,7 @@ use Rattle.rv_stacks.proofs.functions.steps_in_function.Given as goal
 
 abbrev pub invariant-loop-steps : goal.invariant-loop-steps
 invariant-loop-steps l = record {
-  known : IsFunctionCache (function_at l.symbols.image.now l.symbols.bytes.now) l.known.items;
-  own : (j : ℕ) → j ≤ l.steps → function_at l.symbols.image.now l.symbols.bytes.now (address_at l.counts (l.block.place + j))
-      ≡ function_at l.symbols.image.now l.symbols.bytes.now (address_at l.counts l.block.place);
+  cache : IsFunctionCache (function_at l.symbols.image.now l.symbols.bytes.now) l.cache.items;
+  own : (j : ℕ) → j ≤ l.steps → function_at l.symbols.image.now l.symbols.bytes.now (address_at l.counts (l.block.index + j))
+      ≡ function_at l.symbols.image.now l.symbols.bytes.now (address_at l.counts l.block.index);
 }

@@ -14,11 +14,11 @@ pub returns-in_ok-count_with_stacks-in-Ok-clause-both : goal.returns-in_ok-count
 returns-in_ok-count_with_stacks-in-Ok-clause-both c d =
     let start = rw c.in-Ok.is at c.in_ok-machine.ensures in
     let jobs = c.args.job.now.plan.now.jobs in
-    let place = c.args.job.now.place in
+    let index = c.args.job.now.place in
     let function = function_at c.args.symbols.now.image.now c.args.symbols.now.bytes.now in
-    let same = get_or_read jobs place c.job.result.now c.args.job.now.within c.job.ensures.value d in
+    let same = get_or_read jobs index c.job.result.now c.args.job.now.within c.job.ensures.value d in
     let both = c.in_ok-count_with_stacks-in-Ok.field-0 in
-    subst (λ (r : Result State Refusal). AreCountsAndStacksOfJob function (get_or jobs place d).budget r (Some both)) (sym (start d))
+    subst (λ (r : Result State Refusal). AreCountsAndStacksOfJob function (get_or jobs index d).budget r (Some both)) (sym (start d))
     (subst (λ (j : Job). AreCountsOf j.budget (state_of c.in-Ok.machine) both.0 × AreStacksOf function j.budget (state_of c.in-Ok.machine) both.1)
     same (c.in_ok-count_with_stacks-in-Ok.ensures.counts, c.in_ok-count_with_stacks-in-Ok.ensures.stacks))
 
@@ -45,6 +45,6 @@ pub returns-in-Err-clause-both : goal.returns-in-Err-clause-both
 returns-in-Err-clause-both c d =
     let start = rw c.in-Err.is at c.in_ok-machine.ensures in
     let jobs = c.args.job.now.plan.now.jobs in
-    let place = c.args.job.now.place in
+    let index = c.args.job.now.place in
     let function = function_at c.args.symbols.now.image.now c.args.symbols.now.bytes.now in
-    subst (λ (r : Result State Refusal). AreCountsAndStacksOfJob function (get_or jobs place d).budget r None) (sym (start d)) tt
+    subst (λ (r : Result State Refusal). AreCountsAndStacksOfJob function (get_or jobs index d).budget r None) (sym (start d)) tt

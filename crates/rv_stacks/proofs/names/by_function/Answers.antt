@@ -10,7 +10,7 @@ pub loop-spot-preserved : goal.loop-spot-preserved
 loop-spot-preserved c =
     let spots = c.args.spots.now in
     let i = c.loop-spot.spot-index in
-    let nothing : CallNode = record { depth = 0; function = 0; arrivals = 0; steps = 0 } in
+    let nothing : CallNode = record { depth = 0; function = 0; calls = 0; steps = 0 } in
     c.in_ok-push.ensures.items
     ∙ ap (λ (ss : List CallNode). ss ++ get_or spots i nothing ∷ []) c.loop-spot.invariant
     ∙ sym (take_more spots i nothing c.loop-spot-test.true)

@@ -24,7 +24,7 @@ loop-spot-preserved c =
     let name = name_of_function c.args.symbols.now.image.now c.args.symbols.now.bytes.now in
     let spots = c.args.spots.now in
     let i = c.loop-spot.spot-index in
-    let nothing : CallNode = record { depth = 0; function = 0; arrivals = 0; steps = 0 } in
+    let nothing : CallNode = record { depth = 0; function = 0; calls = 0; steps = 0 } in
     let spot = get_or spots i nothing in
     let under = c.loop-spot-test.true in
     let more : take (i + 1) spots ≡ take i spots ++ spot ∷ [] = take_more spots i nothing under in

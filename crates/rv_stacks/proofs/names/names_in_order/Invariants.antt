@@ -10,6 +10,6 @@ invariant-loop-spot l = record {
   named : AreNamesBy (name_of_function l.symbols.image.now l.symbols.bytes.now) (take l.spot-index l.spots) l.names.items;
   up_to : AreNamedUpTo (name_of_function l.symbols.image.now l.symbols.bytes.now) (take l.spot-index l.spots) l.next l.names.items;
   rising : (k : ℕ) → l.spot-index ≤ k → k < length l.spots
-      → l.next ≤ (get_or l.spots k (record { depth = 0; function = 0; arrivals = 0; steps = 0 })).function + 1;
+      → l.next ≤ (get_or l.spots k (record { depth = 0; function = 0; calls = 0; steps = 0 })).function + 1;
   fits : AllByRecursion FitsFields (take l.spot-index l.spots);
 }

@@ -8,9 +8,9 @@ pub overflow_add-old : goal.overflow_add-old
 overflow_add-old c =
     let some = c.requires.some in
     let within = c.requires.within in
-    let most = at_most_all (λ p n. n.arrivals) ([] ∷ []) c.args.nodes.now.items (c.args.number - 1) c.index-old.result.now
+    let most = at_most_all (λ p n. n.calls) ([] ∷ []) c.args.nodes.now.items (c.args.number - 1) c.index-old.result.now
     (omega (arith, some, within)) (λ p n. refl) in
-    let there = ap (λ (n : WalkNode). n.arrivals) c.index-old.ensures in
+    let there = ap (λ (n : WalkNode). n.calls) c.index-old.ensures in
     let few = c.requires.few in
     omega (arith, most, there, few)
 

@@ -20,6 +20,6 @@ pub returns : goal.returns
 returns c =
     let old = c.index-old.result.now in
     subst (λ (k : ℕ). StepsMore k c.args.number c.args.nodes.now.items (set c.args.nodes.now.items (c.args.number - 1)
-    (record { parent = old.parent; function = old.function; arrivals = old.arrivals; steps = old.steps + c.from.result })))
+    (record { parent = old.parent; function = old.function; calls = old.calls; steps = old.steps + c.from.result })))
     c.from.ensures
     (stepped_more c.args.nodes.now.items c.args.number c.requires.some c.requires.within old c.index-old.ensures c.from.result)

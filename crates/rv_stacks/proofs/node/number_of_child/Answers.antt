@@ -11,7 +11,7 @@ returns-in-Some c = found_child c.args.parent c.args.function c.in-Some.number c
 pub returns : goal.returns
 returns c =
     let old = c.args.nodes.now.items in
-    let fresh : WalkNode = record { parent = c.args.parent; function = c.args.function; arrivals = 0; steps = 0 } in
+    let fresh : WalkNode = record { parent = c.args.parent; function = c.args.function; calls = 0; steps = 0 } in
     let e = c.len-number.ensures in
     let extended_block = ap length c.in_ok-push.ensures.items in
     let one = length-append old (fresh ∷ []) in

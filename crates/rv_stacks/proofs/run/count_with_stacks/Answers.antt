@@ -6,7 +6,7 @@ use Rattle.rv_stacks.proofs.run.count_with_stacks.Goals as goal
 
 pub into_addresses-requires : goal.into_addresses-requires
 into_addresses-requires c =
-    let h = c.in_ok-counter.ensures.counts in record { tallied = h.sums.tallied; indexed = h.indexed }
+    let h = c.in_ok-counter.ensures.counts in record { consistent = h.sums.consistent; indexed = h.indexed }
 
 pub returns-clause-counts : goal.returns-clause-counts
 returns-clause-counts c = c.into_addresses.ensures c.args.budget (state_of c.args.machine) c.in_ok-counter.ensures.counts

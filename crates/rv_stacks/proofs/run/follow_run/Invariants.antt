@@ -8,12 +8,12 @@ use Rattle.rv_stacks.proofs.run.follow_run.Given as goal
 
 abbrev pub invariant-steps : goal.invariant-steps
 invariant-steps l = record {
-  within : l.left ≤ l.budget;
-  counting : IsCounting l.budget (l.budget - l.left) (state_of l.initial.machine) (state_of l.machine) l.counter;
-  known : IsFunctionCache (function_at l.symbols.image.now l.symbols.bytes.now) l.stacks.known.items;
-  so_far : AreStacksSoFar (function_at l.symbols.image.now l.symbols.bytes.now) l.budget (l.budget - l.left) (state_of l.initial.machine)
+  within : l.remaining ≤ l.budget;
+  counting : IsCounting l.budget (l.budget - l.remaining) (state_of l.initial.machine) (state_of l.machine) l.counter;
+  cache : IsFunctionCache (function_at l.symbols.image.now l.symbols.bytes.now) l.stacks.cache.items;
+  so_far : AreStacksSoFar (function_at l.symbols.image.now l.symbols.bytes.now) l.budget (l.budget - l.remaining) (state_of l.initial.machine)
       (state_of l.machine) l.stacks.frames.items l.stacks.walk;
 }
 
 abbrev pub decreases-steps : goal.decreases-steps
-decreases-steps l = l.left
+decreases-steps l = l.remaining

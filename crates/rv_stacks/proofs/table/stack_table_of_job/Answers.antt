@@ -23,9 +23,9 @@ pub returns-in_default : goal.returns-in_default
 returns-in_default c =
     let plan = c.args.plan.now in
     let d = single_job [] 0 [] in
-    let job = job_at plan c.args.place d in
+    let job = job_at plan c.args.index d in
     let table = c.empty_table.result in
-    counts_and_stacks plan (c.args.place ∷ []) table
+    counts_and_stacks plan (c.args.index ∷ []) table
     (refused plan.answers job table c.empty_table.ensures
     (λ s start. no_bytes job s plan.answers (sym (c.in_default.ensures d)) start))
 
@@ -33,12 +33,12 @@ pub returns-in_default-2 : goal.returns-in_default-2
 returns-in_default-2 c =
     let plan = c.args.plan.now in
     let d = single_job [] 0 [] in
-    let job = job_at plan c.args.place d in
-    let same = get_or_read plan.jobs c.args.place c.job-job.result.now c.requires c.job-job.ensures.value d in
+    let job = job_at plan c.args.index d in
+    let same = get_or_read plan.jobs c.args.index c.job-job.result.now c.requires c.job-job.ensures.value d in
     let none = ap (λ (j : Job). result_ok (image_of j.isa c.in-Some.bytes.now)) (sym same)
     ∙ sym c.in_ok-image.ensures.value ∙ c.in_default-2.is in
     let table = c.empty_table-in_default-2.result in
-    counts_and_stacks plan (c.args.place ∷ []) table
+    counts_and_stacks plan (c.args.index ∷ []) table
     (refused plan.answers job table c.empty_table-in_default-2.ensures
     (λ s start. no_image job s plan.answers c.in-Some.bytes.now (sym (c.in-Some.ensures d)) none start))
 
@@ -67,12 +67,12 @@ returns-in-Some-3 c =
     let its_image = c.in_ok-symbols.ensures.image in
     let its_bytes = c.in_ok-symbols.ensures.bytes in
     let d = single_job [] 0 [] in
-    let job = job_at plan c.args.place d in
+    let job = job_at plan c.args.index d in
     IfOk-weaker c.table_of_run.result
     (IsTableOfRun (name_of_function symbols.image.now symbols.bytes.now) c.as_str.result.now symbols.bytes.now addresses spots)
-    (IsTableWithStacks plan (c.args.place ∷ []))
+    (IsTableWithStacks plan (c.args.index ∷ []))
     (λ t is.
-    let same = get_or_read plan.jobs c.args.place c.job-job.result.now c.requires c.job-job.ensures.value d in
+    let same = get_or_read plan.jobs c.args.index c.job-job.result.now c.requires c.job-job.ensures.value d in
     let path = c.as_str.ensures ∙ ap (λ (j : Job). j.image) same in
     let bytes = sym (c.in-Some.ensures d) in
     let read = ap (image_if_read job.isa) bytes ∙ ap (λ (j : Job). image_if_read j.isa (Some file)) (sym same)
@@ -84,7 +84,7 @@ returns-in-Some-3 c =
     (start_state_in plan.answers job) o) c.in-Some-3.is (c.in_ok-addresses.ensures.both d) in
     let by_image = subst (λ (i : Image). AreCountsAndStacksOfJob (function_at i symbols.bytes.now) job.budget (start_state_in plan.answers job) (Some (addresses, spots)))
     its_image both in
-    counts_and_stacks plan (c.args.place ∷ []) t
+    counts_and_stacks plan (c.args.index ∷ []) t
     (ran plan.answers job file image bytes read addresses spots t
     (subst (λ (p : List ℕ). IsTableOfRun (name_of_function image file) p file addresses spots t) path of_file)
     (subst (λ (b : List ℕ). AreCountsAndStacksOfJob (function_at image b) job.budget (start_state_in plan.answers job) (Some (addresses, spots))) its_bytes by_image)
@@ -95,12 +95,12 @@ pub returns : goal.returns
 returns c =
     let plan = c.args.plan.now in
     let d = single_job [] 0 [] in
-    let job = job_at plan c.args.place d in
+    let job = job_at plan c.args.index d in
     let symbols = c.in_ok-symbols.symbols in
     let function = function_at symbols.image.now symbols.bytes.now in
     let none = subst (λ (o : Option (List AddressCounts × List CallNode)). AreCountsAndStacksOfJob function job.budget (start_state_in plan.answers job) o)
     c.in-None.is (c.in_ok-addresses.ensures.both d) in
     let table = c.empty_table-in-None.result in
-    counts_and_stacks plan (c.args.place ∷ []) table
+    counts_and_stacks plan (c.args.index ∷ []) table
     (refused plan.answers job table c.empty_table-in-None.ensures
     (λ s start. none_if_unstacked function job.budget (start_state_in plan.answers job) s none start))

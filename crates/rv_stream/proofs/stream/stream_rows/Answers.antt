@@ -12,9 +12,9 @@ use Rattle.rv_fleet.specs.declared_report.WriteError.{WriteError}
 use Rattle.rv_base.specs.Sinks.{AppendsPrefix}
 use Rattle.rv_stream.specs.declared.reported_row.ReportedRow.{ReportedRow}
 use Rattle.rv_stream.specs.Limits.{rows_up_to, rows_within}
-use Rattle.rv_stream.specs.Seen.{HasSeenRows, HasSeenSomeRows}
+use Rattle.rv_stream.specs.SeenRows.{HasSeenRows, HasSeenSomeRows}
 use Rattle.rv_stream.specs.Streams.{joined_row_texts}
-use Rattle.rv_stream.specs.Texts.{IsSent}
+use Rattle.rv_stream.specs.SentTexts.{IsSent}
 use Rattle.rv_stream.specs.ReportedRows.{rows_of_reported, texts_of_reported, AreRowsUpToFailure}
 use Rattle.rv_stream.proofs.Received.{begun_of_all, has_begun, has_ended_well, if_each, on_each, on_error, seen_as, seen_some_as, seen_texts, HasEnded}
 use Rattle.rv_stream.proofs.stream.stream_rows.Goals as goal

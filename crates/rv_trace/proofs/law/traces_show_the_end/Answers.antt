@@ -1,4 +1,4 @@
-use Rattle.rv_trace.proofs.Showing.{ends_there, shows}
+use Rattle.rv_trace.proofs.ShownSteps.{ends_there, shows}
 use Rattle.rv_trace.proofs.law.traces_show_the_end.Goals as goal
 
 pub returns-clause-shown : goal.returns-clause-shown

@@ -3,7 +3,7 @@ use Rattle.std.proofs.Common.{get_or-set_other, get_or-set_same, below_more, len
 use Rattle.std.proofs.lemmas.Grind.{same_number_lists}
 use Rattle.rv_machine.specs.Machine.{state_of}
 use Rattle.rv_trace.specs.Trace.{registers_of}
-use Rattle.rv_trace.proofs.Showing.{parse_register, registers_count}
+use Rattle.rv_trace.proofs.ShownSteps.{parse_register, registers_count}
 use Rattle.rv_trace.proofs.trace.registers_of.Goals as goal
 
 pub loop-n-preserved : goal.loop-n-preserved

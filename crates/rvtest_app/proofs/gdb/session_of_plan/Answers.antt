@@ -2,7 +2,7 @@ use Rattle.std.proofs.Common.{◌≡◌, ◌∙◌, ℕ, List, ap, false, slice_
 use Rattle.std.proofs.lemmas.List.{get_or_read}
 use Rattle.std.specs.Prelude.{MatchOption, is_ok}
 use Rattle.rv_command.specs.Texts.{optional_text}
-use Rattle.rv_files.specs.UnreadPaths.{resolved_path}
+use Rattle.rv_files.specs.UnreadablePaths.{resolved_path}
 use Rattle.rv_gdb.specs.JobSessions.{IsSessionOf}
 use Rattle.rv_rows.specs.declared_job.Job.{Job}
 use Rattle.rv_rows.specs.Rows.{start_state_in}

@@ -8,7 +8,7 @@ use Rattle.rv_call_tree.proofs.index.CallTreeIndex.steps_of.Goals as goal
 
 -- what is read where there is none
 abbrev none : Subtree
-none = record { function = 0; place = 0; end = 0; own = 0; inclusive = 0; arrivals = 0 }
+none = record { function = 0; place = 0; end = 0; own = 0; inclusive = 0; calls = 0 }
 
 pub loop-subtree-init : goal.loop-subtree-init
 loop-subtree-init c =
@@ -17,7 +17,7 @@ loop-subtree-init c =
     let spots = self.spots.now in record {
       own = (let told = told_of_each f 0 steps_of (λ (t : Subtree). t.own) (λ k s ss. refl) spots in omega (arith, told));
       inclusive = (let told = inclusive_told f spots self.tree in omega (arith, told));
-      arrivals = (let told = told_of_each f 0 calls_of_node (λ (t : Subtree). t.arrivals) (λ k s ss. refl) spots in omega (arith, told));
+      calls = (let told = told_of_each f 0 calls_of_node (λ (t : Subtree). t.calls) (λ k s ss. refl) spots in omega (arith, told));
     }
 
 pub overflow_add-found : goal.overflow_add-found
@@ -37,9 +37,9 @@ overflow_add-found-in-loop-subtree c =
     let f = c.args.function in
     let self = c.args.self.now in
     let spots = self.spots.now in
-    let step = sum_step (λ (t : Subtree). t.arrivals) c.subtrees_of_function-subtree-items.result.now (subtrees_of_function f spots)
+    let step = sum_step (λ (t : Subtree). t.calls) c.subtrees_of_function-subtree-items.result.now (subtrees_of_function f spots)
     c.loop-subtree.subtree-index none c.subtrees_of_function-subtree-items.ensures c.loop-subtree-test.true in
-    let so_far = c.loop-subtree.invariant.arrivals in
+    let so_far = c.loop-subtree.invariant.calls in
     let fits = own_fits f calls_of_node spots in
     let few = self.few_arrivals in
     omega (arith, step, so_far, fits, few)

@@ -13,6 +13,6 @@ invariant-loop-subtree l = record {
       ≡ own_steps_of l.function l.self.spots.now;
   inclusive : l.found.inclusive + inclusive_from l.end (drop l.subtree-index (subtrees_of_function l.function l.self.spots.now))
       ≡ inclusive_steps_after l.function [] l.self.spots.now;
-  arrivals : l.found.arrivals + sum_by (λ s. s.arrivals) (drop l.subtree-index (subtrees_of_function l.function l.self.spots.now))
+  calls : l.found.calls + sum_by (λ s. s.calls) (drop l.subtree-index (subtrees_of_function l.function l.self.spots.now))
       ≡ calls_of_function l.function l.self.spots.now;
 }

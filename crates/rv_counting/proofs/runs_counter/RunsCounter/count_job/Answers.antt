@@ -18,8 +18,8 @@ pub returns : goal.returns
 returns c = λ d.
     let start = rw c.in-Ok.is at c.in_ok-machine.ensures in
     let plan = c.args.job.now.plan.now in
-    let place = c.args.job.now.place in
-    let same = get_or_read plan.jobs place c.job.result.now c.args.job.now.within c.job.ensures.value d in
-    ran_job plan.answers (job_at plan place d) (state_of c.in-Ok.machine) c.args.self.now c.count_run.new.self (start d)
+    let index = c.args.job.now.place in
+    let same = get_or_read plan.jobs index c.job.result.now c.args.job.now.within c.job.ensures.value d in
+    ran_job plan.answers (job_at plan index d) (state_of c.in-Ok.machine) c.args.self.now c.count_run.new.self (start d)
     (subst (λ (j : Job). AddsRun j.budget (Some (state_of c.in-Ok.machine)) c.args.self.now c.count_run.new.self) same
     c.in_ok-machine-2.ensures)

@@ -5,8 +5,8 @@ use Rattle.rv_counting.specs.Counters.{counts_of}
 use Rattle.rv_counting.proofs.RunCounts.{adds_run}
 use Rattle.rv_counting.proofs.runs_counter.RunsCounter.count_run.Goals as goal
 
-pub follow_run-requires-clause-right : goal.follow_run-requires-clause-right
-follow_run-requires-clause-right c = c.refetch.ensures.right (state_of c.args.machine) (sym c.bus.ensures)
+pub follow_run-requires-clause-valid : goal.follow_run-requires-clause-valid
+follow_run-requires-clause-valid c = c.refetch.ensures.valid (state_of c.args.machine) (sym c.bus.ensures)
 
 pub returns : goal.returns
 returns c =

@@ -9,13 +9,13 @@ pub returns : goal.returns
 returns c = λ answers.
     let is = c.in_ok-counter.ensures.new in record {
       ready = record {
-        tallied = subst (λ (cs : List AddressCounts). AreConsistentCounts cs) (sym is.none) tt;
+        consistent = subst (λ (cs : List AddressCounts). AreConsistentCounts cs) (sym is.none) tt;
         indexed = is.indexed;
         cache = is.cache;
         few = λ at. let e = ap (executed_at at) is.none in omega (arith, e);
         generations = (let f = is.first in omega (arith, f));
       };
       runs = omega arith;
-      begun = λ at. ap (executed_at at) is.none;
+      executed = λ at. ap (executed_at at) is.none;
       taken = λ at. ap (taken_at at) is.none;
     }

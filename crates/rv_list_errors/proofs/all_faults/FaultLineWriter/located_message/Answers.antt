@@ -1,5 +1,5 @@
 use Rattle.rv_list_errors.specs.FaultHeads.{borrowed_names, job_number_and_name}
-use Rattle.rv_list_errors.specs.PlacedFaults.{place_text}
+use Rattle.rv_list_errors.specs.LocatedFaults.{place_text}
 use Rattle.rv_list_errors.proofs.FaultLineWriter.{head_in_parts}
 use Rattle.rv_list_errors.proofs.all_faults.FaultLineWriter.located_message.Goals as goal
 

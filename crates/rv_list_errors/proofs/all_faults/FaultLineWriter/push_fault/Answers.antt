@@ -2,7 +2,7 @@ use Rattle.std.proofs.Common.{◌∙◌, ◌++◌, ap, arith, inl, inr}
 use Rattle.std.proofs.lemmas.Result.{on_ok_weaker}
 use Rattle.rv_list_errors.specs.FaultHeads.{borrowed_names}
 use Rattle.rv_list_errors.specs.Lines.{printable_line}
-use Rattle.rv_list_errors.specs.PlacedFaults.{IsLocatedMessage, IsFaultMessageInList}
+use Rattle.rv_list_errors.specs.LocatedFaults.{IsLocatedMessage, IsFaultMessageInList}
 use Rattle.rv_list_errors.proofs.FaultLineWriter.{puts_one, puts_weaker}
 use Rattle.rv_list_errors.proofs.all_faults.FaultLineWriter.push_fault.Goals as goal
 

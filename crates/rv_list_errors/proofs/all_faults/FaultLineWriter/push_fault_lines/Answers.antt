@@ -1,6 +1,6 @@
 use Rattle.std.proofs.Common.{rules}
 use Rattle.rv_list_errors.specs.FaultHeads.{borrowed_names}
-use Rattle.rv_list_errors.specs.PlacedFaults.{IsFaultMessageInList}
+use Rattle.rv_list_errors.specs.LocatedFaults.{IsFaultMessageInList}
 use Rattle.rv_list_errors.proofs.FaultLineWriter.{each_more}
 use Rattle.rv_list_errors.proofs.all_faults.FaultLineWriter.push_fault_lines.Goals as goal
 

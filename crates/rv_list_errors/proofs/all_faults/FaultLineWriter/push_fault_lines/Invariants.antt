@@ -1,6 +1,6 @@
 use Rattle.std.proofs.Common.{◌≡◌, take}
 use Rattle.rv_list_errors.specs.FaultHeads.{borrowed_names}
-use Rattle.rv_list_errors.specs.PlacedFaults.{IsFaultMessageInList, AppendsLinesOfEach}
+use Rattle.rv_list_errors.specs.LocatedFaults.{IsFaultMessageInList, AppendsLinesOfEach}
 use Rattle.rv_list_errors.proofs.all_faults.FaultLineWriter.push_fault_lines.Given as goal
 
 abbrev pub invariant-loop-at : goal.invariant-loop-at

@@ -1,7 +1,7 @@
 use Rattle.std.proofs.Common.{◌∙◌, ◌++◌, ap, rules}
 use Rattle.rv_list_errors.specs.FaultHeads.{borrowed_names}
 use Rattle.rv_list_errors.specs.Lines.{printable_line}
-use Rattle.rv_list_errors.specs.PlacedFaults.{IsLocatedMessage}
+use Rattle.rv_list_errors.specs.LocatedFaults.{IsLocatedMessage}
 use Rattle.rv_list_errors.proofs.FaultLineWriter.{puts_more}
 use Rattle.rv_list_errors.proofs.all_faults.FaultLineWriter.push_located_faults.Goals as goal
 

@@ -1,6 +1,6 @@
 use Rattle.std.proofs.Common.{◌≡◌}
 use Rattle.rv_list_errors.specs.FaultHeads.{borrowed_names}
-use Rattle.rv_list_errors.specs.PlacedFaults.{IsLocatedMessage}
+use Rattle.rv_list_errors.specs.LocatedFaults.{IsLocatedMessage}
 use Rattle.rv_list_errors.proofs.FaultLineWriter.{PutsSo}
 use Rattle.rv_list_errors.proofs.all_faults.FaultLineWriter.push_located_faults.Given as goal
 

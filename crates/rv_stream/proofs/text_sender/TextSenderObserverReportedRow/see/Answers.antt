@@ -2,7 +2,7 @@
 use Rattle.std.proofs.Common.{◌∙◌, ◌++◌, ℕ, List, Some, ap, subst}
 use Rattle.std.specs.List.{concat}
 use Rattle.rv_fleet.specs.declared_report.WriteError.TheVariants.{OutOfMemory}
-use Rattle.rv_stream.specs.Texts.{IsSent}
+use Rattle.rv_stream.specs.SentTexts.{IsSent}
 use Rattle.rv_stream.specs.ReportedRows.{texts_of_reported}
 use Rattle.rv_stream.proofs.Sending.{none_failed, one_lacks, one_waits, texts_more}
 use Rattle.rv_stream.proofs.text_sender.TextSenderObserverReportedRow.see.Goals as goal

@@ -6,9 +6,9 @@ use Rattle.rv_junit.proofs.Public.{kept_known}
 use Rattle.rv_junit.specs.KnownLines.{AreLinesOf}
 use Rattle.rv_rows.specs.declared_row.Row.{Row}
 use Rattle.rv_stream.proofs.Public.{reported_texts}
-use Rattle.rv_stream.specs.Seen.{text_by_index}
+use Rattle.rv_stream.specs.SeenRows.{text_by_index}
 use Rattle.rv_stream.specs.Streams.{joined_row_texts}
-use Rattle.rv_stream.specs.Texts.{IsSent}
+use Rattle.rv_stream.specs.SentTexts.{IsSent}
 use Rattle.rvtest_app.proofs.FailedRows.{lines_of_kept}
 use Rattle.rvtest_app.proofs.Results.{OnOk-both, OnOk-map}
 use Rattle.rvtest_app.proofs.RowSinks.{done_on, goes_on, known_on, ran_on, report_of_failure, sent_on, sent_to, shown_whole, unsent}

@@ -2,8 +2,8 @@ use Rattle.std.proofs.Common.{ap}
 use Rattle.rv_rows.specs.Rows.{rows_at}
 use Rattle.std.proofs.lemmas.List.Elements.{All-push, All-rest, All-same}
 use Rattle.rv_fleet.specs.declared.worker_promise.WorkerPromise.{WorkerPromise}
-use Rattle.rv_fleet.specs.Promised.{IsFresh}
-use Rattle.rv_fleet.specs.Started.{IsPromiseAbout}
+use Rattle.rv_fleet.specs.WorkerPromises.{IsFresh}
+use Rattle.rv_fleet.specs.StartedThreads.{IsPromiseAbout}
 use Rattle.rv_fleet.proofs.threads.fn.run_workers.scope.Goals as goal
 
 pub loop-pass-preserved : goal.loop-pass-preserved

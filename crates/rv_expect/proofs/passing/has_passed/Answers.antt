@@ -1,5 +1,0 @@
-use Rattle.std.proofs.Common.{rules}
-use Rattle.rv_expect.proofs.passing.has_passed.Goals as goal
-
-pub returns-in-Strict-Unasked : goal.returns-in-Strict-Unasked
-returns-in-Strict-Unasked c = search rules

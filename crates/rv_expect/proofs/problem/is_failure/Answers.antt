@@ -1,5 +1,0 @@
-use Rattle.std.proofs.Common.{rules}
-use Rattle.rv_expect.proofs.problem.is_failure.Goals as goal
-
-pub returns-then-fails : goal.returns-then-fails
-returns-then-fails c = search rules

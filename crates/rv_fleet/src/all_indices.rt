@@ -1,0 +1,24 @@
+//! The indices of a plan's jobs.
+
+ghost use Rattle.std.specs.Prelude.{◌≡◌, IfOk, length, vec_len};
+ghost use Rattle.rv_fleet.specs.JobIndices.{AreJobIndices};
+ghost use Rattle.rv_rows.specs.Rows.{rows_at, rows_of};
+ghost use Rattle.std.specs.List.Sorted.{IsStrictlyIncreasing};
+
+use rv_rows::Plan;
+use std::alloc::{AllocError, Global};
+
+/// Returns the indices of all jobs of a plan, in order.
+pub(crate) fn all_indices(alloc: Global, plan: &Plan) -> Result<Vec<usize>, AllocError>
+    ensures within { IfOk result (λ places. AreJobIndices plan.now places.items) }
+    ensures count { IfOk result (λ places. vec_len places ≡ length plan.now.jobs) }
+    ensures rising { IfOk result (λ places. IsStrictlyIncreasing places.items) }
+    ensures rows { IfOk result (λ places. rows_at plan.now places.items ≡ rows_of plan.now) }
+{
+    let jobs = plan.jobs();
+    let mut places = Vec::with_capacity(alloc, jobs)?;
+    for place in 0..jobs {
+        places.push(place)?;
+    }
+    Ok(places)
+}

@@ -1,9 +1,0 @@
-use Rattle.std.proofs.Common.{◌∙◌, ap, map}
-use Rattle.rv_jobs.specs.declared.answers.PathResult.{PathResult}
-use Rattle.rv_jobs.specs.AnswersInside.{paths_in}
-use Rattle.rv_jobs.proofs.Answering.{kept-with}
-use Rattle.rv_jobs.proofs.answers.PathResults.into_results.Goals as goal
-
-pub returns : goal.returns
-returns c = kept-with (paths_in c.self.inside) c.self.inside.answers.items c.self.invariant.even
-    ∙ ap (map (λ (a : PathResult). a.kept)) c.self.view_is

@@ -1,6 +1,0 @@
-use Rattle.std.proofs.Common.{arith}
-use Rattle.std.proofs.lemmas.Grind.{common_steps}
-use Rattle.rv_jobs.proofs.answers.PathResults.read_paths_for_row.Goals as goal
-
-pub returns-in-Some-clause-paths : goal.returns-in-Some-clause-paths
-returns-in-Some-clause-paths g c = grind (arith, common_steps)

@@ -1,0 +1,113 @@
+//! The results for the distinct paths of jobs, while a plan is gathered.
+
+ghost use Rattle.std.specs.Prelude.{◌≡◌, ℕ, [], IfOk, Some, map};
+ghost use Rattle.rv_lists.specs.Names.{index_in};
+ghost use Rattle.rv_jobs.specs.Plans.{paths_of, with_path, AgreeWithContents, unreadable_count, after_increments};
+
+use crate::kept::{Kept, read_path};
+use rv_lists::{Store, Text};
+use std::alloc::{AllocError, Global};
+use std::collections::HashMap;
+use std::hash::{BuildHasherDefault, FoldHasher};
+use std::marker::Model;
+
+/// A path and the result of reading it. Never constructed: only contracts see the results of a plan in this form.
+#[derive(Drop)]
+pub struct PathResult {
+    pub path: Text,
+    pub kept: Kept,
+}
+
+/// The results so far, with the index of each path. The paths are borrowed from the jobs. They are looked up by hash, since comparing paths
+/// that differ only at their ends is slow.
+#[derive(Drop)]
+pub(crate) struct PathResults<'a> {
+    answers: Vec<Kept>,
+    paths: Vec<&'a str>,
+    places: HashMap<&'a str, usize, BuildHasherDefault<FoldHasher>>,
+}
+
+impl<'a> Model for PathResults<'a> {
+    ghost use Rattle.std.specs.Prelude.{List};
+    ghost use Rattle.rv_jobs.specs.declared.path_results.PathResult.{PathResult};
+
+    ghost Value = { List PathResult };
+
+    ghost use Rattle.rv_jobs.specs.AnswersInside.{results_of, IsValidPathResults};
+
+    ghost view = { results_of };
+
+    ghost invariant = { IsValidPathResults };
+}
+
+impl<'a> PathResults<'a> {
+    /// Returns an empty list of results, with room to look up `room` paths.
+    pub(crate) fn new(alloc: Global, room: usize) -> Result<PathResults<'a>, AllocError>
+        ensures { IfOk result (λ answers. answers ≡ []) }
+    {
+        let places = HashMap::with_capacity_and_hasher(alloc, room, BuildHasherDefault::new())?;
+        Ok(PathResults {
+            answers: Vec::new(alloc),
+            paths: Vec::new(alloc),
+            places,
+        })
+    }
+
+    /// Reads a path, unless it already has a result, and returns the results with the index of this path's result.
+    ///
+    /// A new path is searched for only once: the search that would find it inserts it.
+    pub(crate) fn read_path_once<S: Store>(
+        self,
+        alloc: Global,
+        store: &mut S,
+        path: &'a str,
+    ) -> Result<(PathResults<'a>, usize), AllocError>
+        ensures same { S.contents store.new ≡ S.contents store.old }
+        ensures paths { IfOk result (λ a. paths_of a.0 ≡ with_path (paths_of self.entry) path.now) }
+        ensures place { IfOk result (λ a. index_in (paths_of a.0) path.now ≡ Some a.1) }
+        ensures kept { AgreeWithContents (S.contents store.old) self.entry
+            → IfOk result (λ a. AgreeWithContents (S.contents store.old) a.0) }
+        ensures faults { (n : ℕ) → S.fault_count store.old ≡ after_increments n (unreadable_count self.entry)
+            → IfOk result (λ a. S.fault_count store.new ≡ after_increments n (unreadable_count a.0)) }
+    {
+        let PathResults {
+            mut answers,
+            mut paths,
+            mut places,
+        } = self;
+        let next = answers.len();
+        if let Some(place) = places.insert(path, next)? {
+            places.insert(path, place)?;
+            let asked = PathResults {
+                answers,
+                paths,
+                places,
+            };
+            return Ok((asked, place));
+        }
+        let kept = read_path(alloc, store, path)?;
+        answers.push(kept)?;
+        paths.push(path)?;
+        let asked = PathResults {
+            answers,
+            paths,
+            places,
+        };
+        Ok((asked, next))
+    }
+
+    /// Returns the index of the result for a path, or `None` if it has none.
+    pub(crate) fn index_of_path(&self, path: &str) -> Option<usize>
+        ensures { result ≡ index_in (paths_of self.now) path.now }
+    {
+        let _ = &self.paths;
+        self.places.get(path).copied()
+    }
+
+    /// Returns the results in the order in which the paths were read.
+    pub(crate) fn into_results(self) -> Vec<Kept>
+        ensures { result.items ≡ map (λ a. a.kept) self.entry }
+    {
+        self.answers
+    }
+}

@@ -1,5 +1,0 @@
-use Rattle.std.proofs.Common.{rules}
-use Rattle.rv_merge.proofs.gathered_parts.other_run_flaw.Goals as goal
-
-pub returns : goal.returns
-returns c = search rules
