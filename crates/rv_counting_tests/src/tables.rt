@@ -1,7 +1,7 @@
 //! Tables of the jobs of a list, made by one thread and by several.
 ghost use Rattle.std.specs.Prelude.{◌<◌, ◌≤◌, IfOk, None};
 ghost use Rattle.std.specs.List.Sorted.{IsStrictlyIncreasing};
-ghost use Rattle.rv_counting.specs.Selection.{AreJobIndices};
+ghost use Rattle.rv_counting.specs.JobIndices.{AreJobIndices};
 
 use rv_counting::{Batch, Crew, count_batch, table_text};
 use rv_jobs::{Plan, ReadError, Store, gather, read_jobs, selected_indices};

@@ -4,7 +4,7 @@ ghost use Rattle.std.specs.Prelude.{◌≡◌, ◌<◌, IfOk, IfSome, Ok, OnOk, 
 ghost use Rattle.std.specs.List.{list_any};
 ghost use Rattle.std.specs.Str.{bytes_eq};
 ghost use Rattle.rv_counting.specs.JobTables.{jobs_at};
-ghost use Rattle.rv_counting.specs.Selection.{AreJobIndices};
+ghost use Rattle.rv_counting.specs.JobIndices.{AreJobIndices};
 ghost use Rattle.rv_counting.specs.declared_job.Job.{Job as AJob};
 ghost use Rattle.rv_counting.specs.Trace.{job_at};
 ghost use Rattle.rv_cover_view.specs.JobImages.{AreSmall, image_of_file, image_of_job, images_of, images_of_files, with_image, with_image_of};

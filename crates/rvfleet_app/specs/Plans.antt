@@ -8,7 +8,7 @@ use Rattle.rv_fleet.specs.declared_kept.Kept.TheVariants.{Content}
 use Rattle.rv_fleet.specs.JobList.{job_list_of}
 use Rattle.rv_fleet.specs.Plans.{AgreeWithContents, PlanView, after_increments, paths_of, paths_used, unreadable_count}
 use Rattle.rv_files.specs.Files.{FileContents}
-use Rattle.rv_fleet.specs.MemoryAgreement.{AgreesWithContents}
+use Rattle.rv_fleet.specs.Kept.{AgreesWithContents}
 use Rattle.rvfleet_app.specs.declared.error.ListError.{ListError}
 use Rattle.rvfleet_app.specs.declared.error.ListError.TheVariants.{Failed, Refused}
 

@@ -31,7 +31,7 @@ use Rattle.rvtest_cli.specs.declared.accept.AcceptArgs.{AcceptArgs}
 use Rattle.rv_command.specs.Texts.{IsTextAt, optional_text}
 use Rattle.rv_files.specs.UnreadablePaths.{contents_below, resolved_path}
 use Rattle.rv_rows.specs.Jobs.{console_path, single_job, without_expectations}
-use Rattle.rv_rows.specs.MemoryAgreement.{AgreesWithContents}
+use Rattle.rv_rows.specs.Kept.{AgreesWithContents}
 use Rattle.rv_rows.specs.Plans.{AgreeWithContents, PlanView, result_or_unreadable}
 use Rattle.rv_rows.specs.declared_answers.PathResult.{PathResult}
 use Rattle.rv_rows.specs.declared_kept.Kept.{Kept}

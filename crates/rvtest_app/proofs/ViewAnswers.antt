@@ -15,7 +15,7 @@ use Rattle.rv_stacks.specs.JobTables.{jobs_at}
 use Rattle.rv_expect.specs.Judgement.{JudgeView}
 use Rattle.rv_files.specs.declared.recording_store.UnreadablePath.{UnreadablePath}
 use Rattle.rv_rows.specs.Jobs.{single_job}
-use Rattle.rv_rows.specs.MemoryAgreement.{AgreesWithContents}
+use Rattle.rv_rows.specs.Kept.{AgreesWithContents}
 use Rattle.rv_rows.specs.Plans.{AgreeWithContents, PlanView, result_or_unreadable}
 use Rattle.rv_rows.specs.declared_answers.PathResult.{PathResult}
 use Rattle.rv_rows.specs.declared_kept.Kept.{Kept}

@@ -3,7 +3,7 @@
 ghost use Rattle.std.specs.Prelude.{◌≡◌, ◌≤◌, length, take};
 ghost use Rattle.std.specs.Option.{ForSome};
 ghost use Rattle.std.specs.List.Sorted.{IsStrictlyIncreasing};
-ghost use Rattle.rv_stream.specs.Selection.{AreJobIndices};
+ghost use Rattle.rv_stream.specs.JobIndices.{AreJobIndices};
 
 use crate::into_report::ReportContext;
 use rv_expect::KnownJobs;

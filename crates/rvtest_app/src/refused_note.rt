@@ -1,7 +1,7 @@
 //! What `cover` and `profile` report about refused jobs.
 
 ghost use Rattle.std.specs.Prelude.{◌≡◌, ◌<◌, ◌++◌, IfOk, OnOk, length, slice_index_or};
-ghost use Rattle.rv_stream.specs.Selection.{AreJobIndices};
+ghost use Rattle.rv_stream.specs.JobIndices.{AreJobIndices};
 ghost use Rattle.rv_expect.specs.Judgement.{judge_view};
 ghost use Rattle.rv_rows.specs.declared_job.Job.{Job as AJob};
 ghost use Rattle.rvtest_app.specs.RefusedNotes.{invalid_line, refused_lines, refused_note};

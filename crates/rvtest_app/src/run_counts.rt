@@ -3,7 +3,7 @@
 ghost use Rattle.std.specs.Prelude.{◌≡◌, [], ℕ, List, None, Option, IfErr, IfOk, OnErr, OnOk, is_some, string_bytes, true};
 ghost use Rattle.std.specs.List.Sorted.{IsStrictlyIncreasing};
 ghost use Rattle.rv_files.specs.CommittedFiles.{CommittedFile};
-ghost use Rattle.rv_stream.specs.Selection.{AreJobIndices};
+ghost use Rattle.rv_stream.specs.JobIndices.{AreJobIndices};
 ghost use Rattle.rvtest_app.specs.Outlets.{HasReceived, outlet_path};
 ghost use Rattle.rvtest_app.specs.Runs.{AreCountsWritten, IsCountsTable, IsCountsText};
 ghost use Rattle.rvtest_app.specs.CommandOutputs.{outputs_of, with_committed_if_reported};

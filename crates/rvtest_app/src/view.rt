@@ -4,7 +4,7 @@ ghost use Rattle.std.specs.Prelude.{◌≡◌, ◌⊎◌, ◌≤◌, IfErr, IfOk
 ghost use Rattle.std.specs.List.Sorted.{IsStrictlyIncreasing};
 ghost use Rattle.rv_count_tables.specs.Table.{IsValidTable};
 ghost use Rattle.rv_profile.specs.JobImages.{AreSmall, images_of_files};
-ghost use Rattle.rv_stream.specs.Selection.{AreJobIndices};
+ghost use Rattle.rv_stream.specs.JobIndices.{AreJobIndices};
 ghost use Rattle.rvtest_app.specs.Runs.{selected_job_indices};
 ghost use Rattle.rvtest_app.specs.CommandOutputs.{outputs_of};
 ghost use Rattle.rvtest_app.specs.ViewStops.{IsTableTextStop, IsUnshownStop, IsViewFailedStop, IsViewStop, counts_source};

@@ -6,7 +6,7 @@ ghost use Rattle.rv_command.specs.Texts.{optional_text};
 ghost use Rattle.rv_profile.specs.ImageCounts.{other_image};
 ghost use Rattle.rv_profile.specs.JobImages.{images_of, images_of_files};
 ghost use Rattle.rv_stacks.specs.JobTables.{IsTableOfJobsAt, jobs_at};
-ghost use Rattle.rv_stream.specs.Selection.{AreJobIndices};
+ghost use Rattle.rv_stream.specs.JobIndices.{AreJobIndices};
 ghost use Rattle.rv_stacks.specs.StackTables.{IsTableWithStacks};
 ghost use Rattle.rvtest_app.specs.CountSums.{IsTableAt};
 ghost use Rattle.rvtest_app.specs.ViewStops.{IsNoTableStop, IsUncountedStop, IsMismatchedTableStop, IsStackSumOfJobsStop, IsNoViewTableStop, no_stacks_message, other_image_message};
