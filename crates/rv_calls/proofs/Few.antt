@@ -13,13 +13,13 @@ second_holds : (a b : Bool) → (a && b) ≡ true → b ≡ true
 second_holds true b h = h
 second_holds false b h = absurd (false≢true h)
 
-few_pushed : (left : List Frame) (t : Transfer) (b : Bool) → is_pushed left t ≡ b → length left ≤ max_frames
-    → length (cond b (left ++ frame_of t ∷ []) left) ≤ max_frames
-few_pushed left t false is few = few
-few_pushed left t true is few =
-    let room : length left < max_frames =
-    ltb-true (length left) max_frames (second_holds (pushes_frame t.action) (nat_lt (length left) max_frames) is) in
-    let one = length-append left (frame_of t ∷ []) in
+few_pushed : (remaining : List Frame) (t : Transfer) (b : Bool) → is_pushed remaining t ≡ b → length remaining ≤ max_frames
+    → length (cond b (remaining ++ frame_of t ∷ []) remaining) ≤ max_frames
+few_pushed remaining t false is few = few
+few_pushed remaining t true is few =
+    let room : length remaining < max_frames =
+    ltb-true (length remaining) max_frames (second_holds (pushes_frame t.action) (nat_lt (length remaining) max_frames) is) in
+    let one = length-append remaining (frame_of t ∷ []) in
     omega (arith, room, one)
 
 few_taken : (n : ℕ) (frames : List Frame) → length frames ≤ max_frames → length (take n frames) ≤ max_frames

@@ -71,7 +71,7 @@ after_none s = refl
 
 -- the transfers ahead lead from the frames to those at the end
 abbrev pub LeadsTo : ℕ → State → List Frame → List Frame → Type 0
-LeadsTo left s frames end = after_transfers frames (transfers_from left s) ≡ end
+LeadsTo remaining s frames end = after_transfers frames (transfers_from remaining s) ≡ end
 
 pub begins : (count : ℕ) (s : State) → LeadsTo (count - 0) s [] (frames_of_run count s)
 unfolding frames_of_run
@@ -82,16 +82,16 @@ pub one_more : (count counter : ℕ) (s t : State) (frames end : List Frame) →
     → LeadsTo (count - counter) s frames end
     → LeadsTo (count - (counter + 1)) t (after_transfer frames (transfer_of s t)) end
 one_more count counter s t frames end h e so_far =
-    let left : count - counter ≡ suc (count - (counter + 1)) = omega arith in
+    let remaining : count - counter ≡ suc (count - (counter + 1)) = omega arith in
     ap (after_transfers frames) (sym (first (count - (counter + 1)) s t e))
-    ∙ ap (λ (n : ℕ). after_transfers frames (transfers_from n s)) (sym left) ∙ so_far
+    ∙ ap (λ (n : ℕ). after_transfers frames (transfers_from n s)) (sym remaining) ∙ so_far
 
 -- no transfer more: there are none, or the next step does not complete
-pub all_done : (left : ℕ) (s : State) (frames end : List Frame) → (left ≡ 0) ⊎ (is_ok (step_of s) ≡ false)
-    → LeadsTo left s frames end → frames ≡ end
+pub all_done : (remaining : ℕ) (s : State) (frames end : List Frame) → (remaining ≡ 0) ⊎ (is_ok (step_of s) ≡ false)
+    → LeadsTo remaining s frames end → frames ≡ end
 all_done zero s frames end h so_far = ap (after_transfers frames) (sym (none s)) ∙ so_far
 all_done (suc n) s frames end h so_far = elim h [
-  | inl left ↦ absurd (omega arith)
+  | inl remaining ↦ absurd (omega arith)
   | inr over ↦ ap (after_transfers frames) (sym (ended n s over)) ∙ so_far
 ]
 
@@ -103,12 +103,12 @@ whole_run count s = let all : count - 0 ≡ count = omega arith in ap (λ (n : �
 pub nearer : (count counter : ℕ) (s t end : State) → counter < count → step_of s ≡ Ok t
     → state_after (count - counter) s ≡ end → state_after (count - (counter + 1)) t ≡ end
 nearer count counter s t end h e so_far =
-    let left : count - counter ≡ suc (count - (counter + 1)) = omega arith in
-    sym (after_first (count - (counter + 1)) s t e) ∙ ap (λ (n : ℕ). state_after n s) (sym left) ∙ so_far
+    let remaining : count - counter ≡ suc (count - (counter + 1)) = omega arith in
+    sym (after_first (count - (counter + 1)) s t e) ∙ ap (λ (n : ℕ). state_after n s) (sym remaining) ∙ so_far
 
-pub arrived : (left : ℕ) (s end : State) → (left ≡ 0) ⊎ (is_ok (step_of s) ≡ false) → state_after left s ≡ end → s ≡ end
+pub arrived : (remaining : ℕ) (s end : State) → (remaining ≡ 0) ⊎ (is_ok (step_of s) ≡ false) → state_after remaining s ≡ end → s ≡ end
 arrived zero s end h so_far = sym (after_none s) ∙ so_far
 arrived (suc n) s end h so_far = elim h [
-  | inl left ↦ absurd (omega arith)
+  | inl remaining ↦ absurd (omega arith)
   | inr over ↦ sym (after_end n s over) ∙ so_far
 ]

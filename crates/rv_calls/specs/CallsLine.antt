@@ -12,7 +12,7 @@ use Rattle.rv_calls.specs.declared.run.Calls.{Calls}
 
 -- a code address as its symbol and offset, or as a number if it has no symbol
 abbrev pub symbol_or_address : Option (List ℕ × ℕ) → ℕ → List ℕ
-symbol_or_address (Some place) address = symbol_text place
+symbol_or_address (Some symbol) address = symbol_text symbol
 symbol_or_address None address = word_digits address
 
 -- a code address as its symbol and offset in an image with these bytes, or as a number if it has no symbol

@@ -81,15 +81,15 @@ after_pop frames t = take (remaining_depth t.action t.to t.sp frames) frames
 
 -- whether a transfer pushes a frame onto the frames left by its pop; a call at the maximum depth counts as a jump
 abbrev pub is_pushed : List Frame → Transfer → Bool
-is_pushed left t = pushes_frame t.action && nat_lt (length left) max_frames
+is_pushed remaining t = pushes_frame t.action && nat_lt (length remaining) max_frames
 
 -- the frame that a call pushes
 abbrev pub frame_of : Transfer → Frame
 frame_of t = record { return_address = t.return_address; sp = t.sp; call = t.from }
 
--- the frames `left` by the pop of a transfer, with the frame that it pushes, if it pushes one
+-- the frames `remaining` by the pop of a transfer, with the frame that it pushes, if it pushes one
 abbrev pub after_push : List Frame → Transfer → List Frame
-after_push left t = if is_pushed left t then left ++ frame_of t ∷ [] else left
+after_push remaining t = if is_pushed remaining t then remaining ++ frame_of t ∷ [] else remaining
 
 -- the frames after a transfer of control: first the pop, then the push
 unfoldable pub after_transfer : List Frame → Transfer → List Frame

@@ -123,13 +123,13 @@ fn symbol_of<'a>(elf: &ElfFile<'a>, address: u32) -> Option<SymbolAt<'a>>
 fn push_symbol_or_address(
     alloc: Global,
     bytes: &mut Vec<u8>,
-    place: Option<SymbolAt<'_>>,
+    symbol: Option<SymbolAt<'_>>,
     address: u32,
 ) -> Result<(), AllocError>
     ensures { OnOk result (bytes.new.items ≡ bytes.old.items
-        ++ symbol_or_address (option_map (λ s. (s.name.now, s.offset)) place.entry) address) }
+        ++ symbol_or_address (option_map (λ s. (s.name.now, s.offset)) symbol.entry) address) }
 {
-    match place {
+    match symbol {
         Some(symbol) => push_symbol(alloc, bytes, symbol),
         None => push_word_digits(bytes, address),
     }

@@ -30,8 +30,8 @@ pub const MAX_FRAMES: usize = 4096;
 pub fn apply_transfer(frames: &mut Vec<Frame>, transfer: Transfer) -> Result<(), AllocError>
     ensures { OnOk result (frames.new.items ≡ after_transfer frames.old.items transfer) }
 {
-    let left = remaining_frames(frames.as_slice(), transfer);
-    frames.truncate(left);
+    let remaining = remaining_frames(frames.as_slice(), transfer);
+    frames.truncate(remaining);
     if transfer.action.pushes_frame() && frames.len() < MAX_FRAMES {
         frames.push(frame_of(transfer))?;
     }

@@ -51,17 +51,17 @@ pub fn next_transfer(machine: &mut Machine) -> Option<Transfer>
     })
 }
 
-/// Returns the transfer of control of an instruction of `length` bytes that completed: it passed control from one pc to another. `stack` is
+/// Returns the transfer of control of an instruction of `length` bytes that completed: it passed control from one pc to another. `sp` is
 /// the stack pointer before it.
-pub fn transfer_by(instr: Instr, length: u32, from: u32, stack: u32, to: u32) -> Transfer
-    ensures { result ≡ record { action = instr_action (Some instr); from = from; return_address = (from + length) % 0x1_0000_0000; to = to; sp = stack } }
+pub fn transfer_by(instr: Instr, length: u32, from: u32, sp: u32, to: u32) -> Transfer
+    ensures { result ≡ record { action = instr_action (Some instr); from = from; return_address = (from + length) % 0x1_0000_0000; to = to; sp = sp } }
 {
     Transfer {
         action: action_of(instr),
         from,
         return_address: from.wrapping_add(length),
         to,
-        sp: stack,
+        sp: sp,
     }
 }
 

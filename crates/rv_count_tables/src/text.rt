@@ -162,7 +162,7 @@ pub(crate) fn push_address_line(
     let address = digits.as_str();
     let executed = counts.executed;
     let taken = counts.taken;
-    write!(text, "{address} {begun} {taken}\n")
+    write!(text, "{address} {executed} {taken}\n")
 }
 
 /// Appends the line of a node, which ends with this name of its function.

@@ -14,7 +14,7 @@ use Rattle.rv_elf.specs.declared.image.Segment.{Segment}
 use Rattle.rv_elf.specs.Functions.{FunctionView, bytes_in_segment, code_of_symbol, function_of_symbol, functions, functions_in, is_code_segment_of, is_sized_function, function_view}
 use Rattle.rv_elf.specs.Sections.{section_bytes, string_table_section, symbol_at_offset, symbol_table_section, symbols_of}
 use Rattle.rv_elf.specs.Symbols.{symbol_and_string_bytes, symbol_tables_check, tables_of_section}
-use Rattle.rv_cover_view.specs.Functions.{bytes_of, code_bytes, named}
+use Rattle.rv_cover_view.specs.Functions.{bytes_of, code_bytes, view_of_function}
 use Rattle.rv_cover_view.proofs.Once.{is_same, starts}
 
 -- ---- functions that are each once
@@ -22,10 +22,10 @@ use Rattle.rv_cover_view.proofs.Once.{is_same, starts}
 abbrev size_of : Function → ℕ
 size_of f = length f.code.now
 
-bytes_named : (fs : List Function) → code_bytes (map named fs) ≡ sum_by size_of fs
+bytes_named : (fs : List Function) → code_bytes (map view_of_function fs) ≡ sum_by size_of fs
 bytes_named [] = refl
 bytes_named (f ∷ fs) =
-    let a = sum_by-cons (λ (g : FunctionView). length (bytes_of g)) (named f) (map named fs) in
+    let a = sum_by-cons (λ (g : FunctionView). length (bytes_of g)) (view_of_function f) (map view_of_function fs) in
     let b = sum_by-cons size_of f fs in
     let h = bytes_named fs in
     omega (arith, a, b, h)
@@ -49,7 +49,7 @@ fewer_once [] = omega arith
 fewer_once (f ∷ fs) = let h = fewer_from f fs in let a = sum_by-cons size_of f fs in omega (arith, a, h)
 
 pub fewer_bytes : (xs ys zs : List Function) → IsPermutation xs ys → zs ≡ dedup (is_same starts) ys
-    → code_bytes (map named zs) ≤ code_bytes (map named xs)
+    → code_bytes (map view_of_function zs) ≤ code_bytes (map view_of_function xs)
 fewer_bytes xs ys zs same is =
     let a = bytes_named zs ∙ ap (sum_by size_of) is in
     let b = fewer_once ys in

@@ -38,8 +38,8 @@ code_in_front (a ∷ b ∷ rest) code e = half_in_front (a + 0x100 * b) rest cod
 
 -- ---- the codes behind
 
-behind : ℕ → ℕ → List ℕ → Code → List AddressedCode
-behind n address bytes code =
+end : ℕ → ℕ → List ℕ → Code → List AddressedCode
+end n address bytes code =
     (address, code) ∷ codes_from n ((address + size_of_code code) % 0x1_0000_0000) (drop (size_of_code code) bytes)
 
 pub no_codes : (n address : ℕ) (bytes : List ℕ) → first_code bytes ≡ None → codes_from n address bytes ≡ []

@@ -11,7 +11,7 @@ module _ {X : Type 0} (test : X → Bool) where
       → find test xs ≡ Some (get_or xs i x)
   found_first [] i x lt none is = absurd (omega (arith, lt))
   found_first (y ∷ ys) zero x lt none is = rw is refl
-  found_first (y ∷ ys) (suc i) x lt none is = go (test y) refl (λ behind. found_first ys i x (omega (arith, lt)) behind is)
+  found_first (y ∷ ys) (suc i) x lt none is = go (test y) refl (λ end. found_first ys i x (omega (arith, lt)) end is)
     where
       go : (first : Bool) → test y ≡ first → (find test (take i ys) ≡ None → find test ys ≡ Some (get_or ys i x))
           → find test (y ∷ ys) ≡ Some (get_or ys i x)

@@ -17,23 +17,23 @@ use Rattle.rv_counting.specs.Trace.{image_bytes, job_at}
 use Rattle.rv_cover_view.specs.JobImages.{AreSmall, ImageFileView, image_of_file, image_of_job, images_of, images_of_files, with_image, with_image_of}
 use Rattle.rv_cover_view.specs.declared.image_file.ImageFile.{ImageFile}
 
-jobs_more : (plan : PlanView) (places : List ℕ) (i index : ℕ) → i < length places → index ≡ get_or places i index
-    → jobs_at plan (take (i + 1) places) ≡ jobs_at plan (take i places) ++ job_at plan index (single_job [] 0 []) ∷ []
-jobs_more plan places i index lt is =
-    ap (jobs_at plan) (take_more places i index lt)
-    ∙ map-append _ (take i places) (get_or places i index ∷ [])
-    ∙ ap (λ (k : ℕ). jobs_at plan (take i places) ++ jobs_at plan (k ∷ [])) (sym is)
+jobs_more : (plan : PlanView) (indices : List ℕ) (i index : ℕ) → i < length indices → index ≡ get_or indices i index
+    → jobs_at plan (take (i + 1) indices) ≡ jobs_at plan (take i indices) ++ job_at plan index (single_job [] 0 []) ∷ []
+jobs_more plan indices i index lt is =
+    ap (jobs_at plan) (take_more indices i index lt)
+    ∙ map-append _ (take i indices) (get_or indices i index ∷ [])
+    ∙ ap (λ (k : ℕ). jobs_at plan (take i indices) ++ jobs_at plan (k ∷ [])) (sym is)
 
-pub images_more : (plan : PlanView) (places : List ℕ) (i index : ℕ) → i < length places → index ≡ get_or places i index
-    → images_of plan.answers (jobs_at plan (take (i + 1) places))
-    ≡ with_image_of plan.answers (images_of plan.answers (jobs_at plan (take i places))) (job_at plan index (single_job [] 0 []))
-images_more plan places i index lt is =
-    ap (images_of plan.answers) (jobs_more plan places i index lt is)
-    ∙ fold-append (with_image_of plan.answers) [] (jobs_at plan (take i places)) (job_at plan index (single_job [] 0 []) ∷ [])
+pub images_more : (plan : PlanView) (indices : List ℕ) (i index : ℕ) → i < length indices → index ≡ get_or indices i index
+    → images_of plan.answers (jobs_at plan (take (i + 1) indices))
+    ≡ with_image_of plan.answers (images_of plan.answers (jobs_at plan (take i indices))) (job_at plan index (single_job [] 0 []))
+images_more plan indices i index lt is =
+    ap (images_of plan.answers) (jobs_more plan indices i index lt is)
+    ∙ fold-append (with_image_of plan.answers) [] (jobs_at plan (take i indices)) (job_at plan index (single_job [] 0 []) ∷ [])
 
-pub images_whole : (plan : PlanView) (places : List ℕ) (i : ℕ) → length places ≤ i
-    → images_of plan.answers (jobs_at plan (take i places)) ≡ images_of plan.answers (jobs_at plan places)
-images_whole plan places i all = ap (λ (ps : List ℕ). images_of plan.answers (jobs_at plan ps)) (take_all i places all)
+pub images_whole : (plan : PlanView) (indices : List ℕ) (i : ℕ) → length indices ≤ i
+    → images_of plan.answers (jobs_at plan (take i indices)) ≡ images_of plan.answers (jobs_at plan indices)
+images_whole plan indices i all = ap (λ (ps : List ℕ). images_of plan.answers (jobs_at plan ps)) (take_all i indices all)
 
 -- an image that is found is that of the job, and so is none
 pub found_here : (answers : List PathResult) (images : List ImageFileView) (job : Job) (found : Option ImageFileView) → found ≡ image_of_job answers job

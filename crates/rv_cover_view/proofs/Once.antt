@@ -7,7 +7,7 @@ use Rattle.std.proofs.lemmas.Bool.Decides.{nat_tests}
 use Rattle.std.proofs.lemmas.List.{get_or-map, length-map}
 use Rattle.std.proofs.lemmas.Map.Keys.{IsStrictlyIncreasing-dedup}
 use Rattle.rv_elf.specs.declared.function.Function.{Function}
-use Rattle.rv_cover_view.specs.Functions.{IsEachOnce, address_of, named, has_address}
+use Rattle.rv_cover_view.specs.Functions.{IsEachOnce, address_of, view_of_function, has_address}
 
 module _ {X : Type 0} (n : X → ℕ) where
   abbrev pub is_at : ℕ → X → Bool
@@ -124,23 +124,23 @@ module _ {X : Type 0} (n : X → ℕ) where
 abbrev pub starts : Function → ℕ
 starts f = f.address
 
-find_named : (address : ℕ) (fs : List Function) → find (has_address address) (map named fs) ≡ option_map named (find (is_at starts address) fs)
+find_named : (address : ℕ) (fs : List Function) → find (has_address address) (map view_of_function fs) ≡ option_map view_of_function (find (is_at starts address) fs)
 find_named address [] = refl
 find_named address (f ∷ fs) = elim (f.address == address)
-    as (λ b. cond b (Some (named f)) (find (has_address address) (map named fs)) ≡ option_map named (cond b (Some f) (find (is_at starts address) fs))) [
+    as (λ b. cond b (Some (view_of_function f)) (find (has_address address) (map view_of_function fs)) ≡ option_map view_of_function (cond b (Some f) (find (is_at starts address) fs))) [
       | true ↦ refl
       | false ↦ find_named address fs
     ]
 
-addresses : (fs : List Function) → map address_of (map named fs) ≡ map starts fs
+addresses : (fs : List Function) → map address_of (map view_of_function fs) ≡ map starts fs
 addresses [] = refl
 addresses (f ∷ fs) = ap (λ ks. f.address ∷ ks) (addresses fs)
 
 pub each_once : (xs ys zs : List Function) → IsSortedByKey starts nat_cmp ys → IsStableByKey starts nat_cmp xs ys
-    → zs ≡ dedup (is_same starts) ys → IsEachOnce (map named xs) (map named zs)
-each_once xs ys zs up stable is = subst (λ s. IsEachOnce (map named xs) (map named s)) (sym is) (record {
+    → zs ≡ dedup (is_same starts) ys → IsEachOnce (map view_of_function xs) (map view_of_function zs)
+each_once xs ys zs up stable is = subst (λ s. IsEachOnce (map view_of_function xs) (map view_of_function s)) (sym is) (record {
   rising = subst IsStrictlyIncreasing (sym (addresses (dedup (is_same starts) ys))) (rising_once starts ys up);
   first = λ address. find_named address (dedup (is_same starts) ys)
-      ∙ ap (option_map named) (find_once starts address ys ∙ find_sorted starts xs ys stable address)
+      ∙ ap (option_map view_of_function) (find_once starts address ys ∙ find_sorted starts xs ys stable address)
       ∙ sym (find_named address xs);
 })

@@ -9,33 +9,33 @@ use Rattle.rv_cover_view.specs.Cover.{WasNotExecuted, has_run, never_run}
 use Rattle.rv_cover_view.specs.Functions.{address_of, bytes_of}
 
 abbrev pub is_within : ℕ → ℕ → AddressCounts → Bool
-is_within from behind c = leb from c.address && ltb c.address behind
+is_within from end c = leb from c.address && ltb c.address end
 
 others : (a b : Bool) → a || b ≡ false → b ≡ false
 others true b e = cc
 others false b e = e
 
-not_begun_first : (from behind at executed address rest : ℕ) (any : Bool) → (leb from at && ltb at behind) || any ≡ false
-    → from ≤ address → address < behind → rest ≡ 0 → cond (at == address) executed 0 + rest ≡ 0
-not_begun_first from behind at executed address rest any e l h z = grind (arith, nat_tests)
+not_begun_first : (from end at executed address rest : ℕ) (any : Bool) → (leb from at && ltb at end) || any ≡ false
+    → from ≤ address → address < end → rest ≡ 0 → cond (at == address) executed 0 + rest ≡ 0
+not_begun_first from end at executed address rest any e l h z = grind (arith, nat_tests)
 
-pub not_begun : (from behind : ℕ) (cs : List AddressCounts) → list_any (is_within from behind) cs ≡ false
-    → (address : ℕ) → from ≤ address → address < behind → executed_at address cs ≡ 0
-not_begun from behind [] e address l h = refl
-not_begun from behind (c ∷ cs) e address l h =
-    not_begun_first from behind c.address c.executed address (executed_at address cs) (list_any (is_within from behind) cs) e l h
-    (not_begun from behind cs (others (is_within from behind c) (list_any (is_within from behind) cs) e) address l h)
+pub not_begun : (from end : ℕ) (cs : List AddressCounts) → list_any (is_within from end) cs ≡ false
+    → (address : ℕ) → from ≤ address → address < end → executed_at address cs ≡ 0
+not_begun from end [] e address l h = refl
+not_begun from end (c ∷ cs) e address l h =
+    not_begun_first from end c.address c.executed address (executed_at address cs) (list_any (is_within from end) cs) e l h
+    (not_begun from end cs (others (is_within from end c) (list_any (is_within from end) cs) e) address l h)
 
-none_first : (from behind at executed rest : ℕ) (any : Bool) → 0 < executed → any ≡ false
-    → (from ≤ at → at < behind → cond (at == at) executed 0 + rest ≡ 0) → (leb from at && ltb at behind) || any ≡ false
-none_first from behind at executed rest any l e h = grind (arith, nat_tests)
+none_first : (from end at executed rest : ℕ) (any : Bool) → 0 < executed → any ≡ false
+    → (from ≤ at → at < end → cond (at == at) executed 0 + rest ≡ 0) → (leb from at && ltb at end) || any ≡ false
+none_first from end at executed rest any l e h = grind (arith, nat_tests)
 
-pub none_within : (from behind : ℕ) (cs : List AddressCounts) → AllByRecursion IsValidCount cs
-    → ((address : ℕ) → from ≤ address → address < behind → executed_at address cs ≡ 0) → list_any (is_within from behind) cs ≡ false
-none_within from behind [] each h = refl
-none_within from behind (c ∷ cs) each h =
-    none_first from behind c.address c.executed (executed_at c.address cs) (list_any (is_within from behind) cs) each.0.executed
-    (none_within from behind cs each.1 (λ address l m. let z = h address l m in omega (arith, z)))
+pub none_within : (from end : ℕ) (cs : List AddressCounts) → AllByRecursion IsValidCount cs
+    → ((address : ℕ) → from ≤ address → address < end → executed_at address cs ≡ 0) → list_any (is_within from end) cs ≡ false
+none_within from end [] each h = refl
+none_within from end (c ∷ cs) each h =
+    none_first from end c.address c.executed (executed_at c.address cs) (list_any (is_within from end) cs) each.0.executed
+    (none_within from end cs each.1 (λ address l m. let z = h address l m in omega (arith, z)))
     (h c.address)
 
 -- ---- those that pass a test

@@ -13,11 +13,11 @@ abbrev pub first_half : List ℕ → Option ℕ
 first_half (low ∷ high ∷ rest) = Some (low + 0x100 * high)
 first_half _ = None
 
--- the encoding that begins with the halfword `low`, before the bytes `behind`: a word if its low two bits are 11, and otherwise the
+-- the encoding that begins with the halfword `low`, before the bytes `rest`: a word if its low two bits are 11, and otherwise the
 -- halfword itself (ISA manual, 1.5); `None` if a word is cut off
 abbrev pub code_of_half : List ℕ → ℕ → Option Code
-code_of_half behind low = if field low 1 0 == 3
-    then option_map (λ high. Word (low + 0x1_0000 * high)) (first_half behind)
+code_of_half rest low = if field low 1 0 == 3
+    then option_map (λ high. Word (low + 0x1_0000 * high)) (first_half rest)
     else Some (Half low)
 
 -- the encoding at the start of the bytes, or `None` if there are too few bytes for one

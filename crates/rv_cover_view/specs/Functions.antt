@@ -6,8 +6,8 @@ use Rattle.rv_elf.specs.declared.function.Function.{Function}
 use Rattle.rv_elf.specs.Functions.{FunctionView}
 
 -- a function of the code as contracts see it: its name, its address and its bytes
-abbrev pub named : Function → FunctionView
-named f = (f.name.now, (f.address, f.code.now))
+abbrev pub view_of_function : Function → FunctionView
+view_of_function f = (f.name.now, (f.address, f.code.now))
 
 -- the address of a function
 abbrev pub address_of : FunctionView → ℕ

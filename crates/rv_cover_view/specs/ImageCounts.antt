@@ -12,7 +12,7 @@ use Rattle.rv_cover_view.specs.JobImages.{ImageFileView}
 
 -- whether an image of a table has this digest
 abbrev pub is_of_digest : List ℕ → ImageCounts → Bool
-is_of_digest digest counted = bytes_eq counted.digest digest
+is_of_digest digest entry = bytes_eq entry.digest digest
 
 -- a table's entry for the image with these bytes, which the digest identifies, or `None` if it does not have the image
 abbrev pub entry_of_image : CountTable → List ℕ → Option ImageCounts
@@ -20,12 +20,12 @@ entry_of_image table bytes = find (is_of_digest (sha256 bytes)) table.images
 
 -- a table's counts of the image with these bytes, which the digest identifies, or no counts if it does not have the image
 abbrev pub counts_of : CountTable → List ℕ → List AddressCounts
-counts_of table bytes = option_map_or (λ counted. counted.addresses) (entry_of_image table bytes) []
+counts_of table bytes = option_map_or (λ entry. entry.addresses) (entry_of_image table bytes) []
 
 -- whether a table does not have this image, although it has another image with its path
 abbrev pub is_other_image : CountTable → ImageFileView → Bool
 is_other_image table image = not (list_any (is_of_digest (sha256 image.bytes)) table.images)
-    && list_any (λ counted. bytes_eq counted.path (printable_text image.path)) table.images
+    && list_any (λ entry. bytes_eq entry.path (printable_text image.path)) table.images
 
 -- the path of the first of these images that the table does not have, although it has another image with the path; `None` if there is no
 -- such image

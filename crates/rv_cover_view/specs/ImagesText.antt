@@ -2,7 +2,7 @@
 use Rattle.std.specs.Prelude.{◌≡◌, ◌++◌, ℕ, Bool, false, true, if◌then◌else◌, List, [], ◌∷◌, map}
 use Rattle.rv_count_tables.specs.declared.table.CountTable.{CountTable}
 use Rattle.rv_cover_view.specs.Csv.{csv_header, csv_row}
-use Rattle.rv_cover_view.specs.Functions.{named}
+use Rattle.rv_cover_view.specs.Functions.{view_of_function}
 use Rattle.rv_cover_view.specs.ImageCounts.{counts_of}
 use Rattle.rv_cover_view.specs.Images.{IsCoverOf}
 use Rattle.rv_cover_view.specs.JobImages.{ImageFileView}
@@ -13,7 +13,7 @@ use Rattle.rv_cover_view.specs.declared.image_cover.ImageCover.{ImageCover}
 -- there are any
 abbrev pub image_text : Bool → ImageCover → List ℕ
 image_text true cover = csv_row cover.path.now cover.totals
-image_text false cover = image_line cover.path.now cover.totals ++ never_run_line (map named cover.never_run.items)
+image_text false cover = image_line cover.path.now cover.totals ++ never_run_line (map view_of_function cover.never_run.items)
 
 -- the header of the report: the CSV header if the Bool is true, or else the heading of a table for people
 abbrev pub header_text : Bool → List ℕ

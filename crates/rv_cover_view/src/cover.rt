@@ -5,7 +5,7 @@ ghost use Rattle.std.specs.List.{count_by, flat_map};
 ghost use Rattle.rv_count_tables.specs.Table.{increase_from};
 ghost use Rattle.rv_cover_view.specs.Codes.{codes_of};
 ghost use Rattle.rv_cover_view.specs.Cover.{totals_of, totals_of_codes, has_run, never_run};
-ghost use Rattle.rv_cover_view.specs.Functions.{code_bytes, named};
+ghost use Rattle.rv_cover_view.specs.Functions.{code_bytes, view_of_function};
 
 use crate::code::totals_of_code;
 use crate::totals::{CodeTotals, CoverageTotals};
@@ -17,8 +17,8 @@ use std::alloc::{AllocError, Global};
 /// search among the counts for each function and each encoding.
 pub fn cover_of_functions(functions: &[Function<'_>], counts: &[AddressCounts]) -> CoverageTotals
     requires rising { increase_from 0 counts.now ≡ true }
-    requires few { code_bytes (map named functions.now) < 2 ^ 64 }
-    ensures { result ≡ totals_of counts.now (map named functions.now) }
+    requires few { code_bytes (map view_of_function functions.now) < 2 ^ 64 }
+    ensures { result ≡ totals_of counts.now (map view_of_function functions.now) }
 {
     CoverageTotals {
         functions: functions.len() as u64,
@@ -34,7 +34,7 @@ pub fn never_run<'a>(
     counts: &[AddressCounts],
 ) -> Result<Vec<Function<'a>>, AllocError>
     requires { increase_from 0 counts.now ≡ true }
-    ensures { IfOk result (λ found. map named found.items ≡ never_run counts.now (map named functions.now)) }
+    ensures { IfOk result (λ found. map view_of_function found.items ≡ never_run counts.now (map view_of_function functions.now)) }
 {
     let mut found = Vec::new(alloc);
     for function in functions {
@@ -48,7 +48,7 @@ pub fn never_run<'a>(
 // Returns how many of the functions ran: an instruction was executed at one of their addresses.
 fn functions_run(functions: &[Function<'_>], counts: &[AddressCounts]) -> u64
     requires { increase_from 0 counts.now ≡ true }
-    ensures { result ≡ count_by (has_run counts.now) (map named functions.now) }
+    ensures { result ≡ count_by (has_run counts.now) (map view_of_function functions.now) }
 {
     let mut count = 0;
     for function in functions {
@@ -62,8 +62,8 @@ fn functions_run(functions: &[Function<'_>], counts: &[AddressCounts]) -> u64
 // Returns the total coverage of the code of all functions.
 fn coverage_of_functions(functions: &[Function<'_>], counts: &[AddressCounts]) -> CodeTotals
     requires rising { increase_from 0 counts.now ≡ true }
-    requires few { code_bytes (map named functions.now) < 2 ^ 64 }
-    ensures { result ≡ totals_of_codes counts.now (flat_map codes_of (map named functions.now)) }
+    requires few { code_bytes (map view_of_function functions.now) < 2 ^ 64 }
+    ensures { result ≡ totals_of_codes counts.now (flat_map codes_of (map view_of_function functions.now)) }
 {
     let mut totals = CodeTotals::none();
     for function in functions {
@@ -75,8 +75,8 @@ fn coverage_of_functions(functions: &[Function<'_>], counts: &[AddressCounts]) -
 // Whether an instruction was executed at one of a function's addresses.
 fn has_run(function: &Function<'_>, counts: &[AddressCounts]) -> bool
     requires { increase_from 0 counts.now ≡ true }
-    ensures { result ≡ has_run counts.now (named function.now) }
+    ensures { result ≡ has_run counts.now (view_of_function function.now) }
 {
-    let behind = u64::from(function.address) + function.code.len() as u64;
-    was_executed_within(counts, function.address, behind)
+    let end = u64::from(function.address) + function.code.len() as u64;
+    was_executed_within(counts, function.address, end)
 }

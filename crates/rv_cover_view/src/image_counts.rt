@@ -36,7 +36,7 @@ fn is_other_image(
     table: &CountTable,
     image: &ImageFile<'_>,
 ) -> Result<bool, AllocError>
-    ensures { IfOk result (λ is. is ≡ is_other_image table.now (image_of_file image.now)) }
+    ensures { IfOk result (λ is_other. is_other ≡ is_other_image table.now (image_of_file image.now)) }
 {
     if has_digest_of(table, image.bytes) {
         return Ok(false);
@@ -52,17 +52,17 @@ fn has_digest_of(table: &CountTable, bytes: &[u8]) -> bool
 {
     let digest = Sha256::digest(bytes);
     let images = table.images.as_slice();
-    images.iter().any(|counted| is_of_digest(&digest, counted))
+    images.iter().any(|entry| is_of_digest(&digest, entry))
 }
 
 // Whether a table has an image with this path.
 fn has_path(table: &CountTable, path: &[u8]) -> bool
-    ensures { result ≡ list_any (λ counted. bytes_eq counted.path path.now) table.now.images }
+    ensures { result ≡ list_any (λ entry. bytes_eq entry.path path.now) table.now.images }
 {
     let images = table.images.as_slice();
     images
         .iter()
-        .any(|counted| counted.path.as_str().as_bytes() == path)
+        .any(|entry| entry.path.as_str().as_bytes() == path)
 }
 
 /// Returns a table's counts of the image with these bytes, which the digest identifies, or no counts if it does not have the image.
@@ -72,23 +72,23 @@ pub(crate) fn counts_of<'t>(table: &'t CountTable, bytes: &[u8]) -> &'t [Address
     ensures rising { increase_from 0 result.now ≡ true }
 {
     match entry_of_image(table, bytes) {
-        Some(counted) => counted.addresses.as_slice(),
+        Some(entry) => entry.addresses.as_slice(),
         None => &[],
     }
 }
 
 /// Returns a table's entry for the image with these bytes, which the digest identifies, or `None` if it does not have the image.
 pub fn entry_of_image<'t>(table: &'t CountTable, bytes: &[u8]) -> Option<&'t ImageCounts>
-    ensures { option_map (λ counted. counted.now) result ≡ entry_of_image table.now bytes.now }
+    ensures { option_map (λ entry. entry.now) result ≡ entry_of_image table.now bytes.now }
 {
     let digest = Sha256::digest(bytes);
     let images = table.images.as_slice();
-    images.iter().find(|counted| is_of_digest(&digest, counted))
+    images.iter().find(|entry| is_of_digest(&digest, entry))
 }
 
 // Whether an image of a table has this digest.
-fn is_of_digest(digest: &[u8], counted: &ImageCounts) -> bool
-    ensures { result ≡ is_of_digest digest.now counted.now }
+fn is_of_digest(digest: &[u8], entry: &ImageCounts) -> bool
+    ensures { result ≡ is_of_digest digest.now entry.now }
 {
-    counted.digest.as_slice() == digest
+    entry.digest.as_slice() == digest
 }

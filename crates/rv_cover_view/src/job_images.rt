@@ -18,15 +18,15 @@ use std::alloc::{AllocError, Global};
 pub fn images_of_jobs<'a>(
     alloc: Global,
     plan: &'a Plan,
-    places: &[usize],
+    indices: &[usize],
 ) -> Result<Vec<ImageFile<'a>>, AllocError>
-    requires within { AreJobIndices plan.now places.now }
+    requires within { AreJobIndices plan.now indices.now }
     requires small { AreSmall plan.now.answers }
     ensures { IfOk result (λ files. images_of_files files.items
-        ≡ images_of plan.now.answers (jobs_at plan.now places.now)) }
+        ≡ images_of plan.now.answers (jobs_at plan.now indices.now)) }
 {
     let mut files = Vec::new(alloc);
-    for index in places {
+    for index in indices {
         push_image_at(alloc, &mut files, plan, *index)?;
     }
     Ok(files)

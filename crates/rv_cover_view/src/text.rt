@@ -1,7 +1,7 @@
 //! The coverage table.
 
 ghost use Rattle.std.specs.Prelude.{◌≡◌, ◌++◌, OnOk, map, replicate};
-ghost use Rattle.rv_cover_view.specs.Functions.{named};
+ghost use Rattle.rv_cover_view.specs.Functions.{view_of_function};
 ghost use Rattle.rv_cover_view.specs.Text.{code_columns, cover_header, function_columns, further_names, image_line, never_run_line, right};
 
 use crate::totals::{CodeTotals, CoverageTotals};
@@ -44,7 +44,7 @@ pub fn push_never_run_line(
     bytes: &mut Vec<u8>,
     functions: &[Function<'_>],
 ) -> Result<(), AllocError>
-    ensures { OnOk result (bytes.new.items ≡ bytes.old.items ++ never_run_line (map named functions.now)) }
+    ensures { OnOk result (bytes.new.items ≡ bytes.old.items ++ never_run_line (map view_of_function functions.now)) }
 {
     let Some((first, others)) = functions.split_first() else {
         return Ok(());
@@ -56,7 +56,7 @@ pub fn push_never_run_line(
 
 // Appends the names of functions, each after a comma and a space.
 fn push_further_names(bytes: &mut Vec<u8>, functions: &[Function<'_>]) -> Result<(), AllocError>
-    ensures { OnOk result (bytes.new.items ≡ bytes.old.items ++ further_names (map named functions.now)) }
+    ensures { OnOk result (bytes.new.items ≡ bytes.old.items ++ further_names (map view_of_function functions.now)) }
 {
     for function in functions {
         push_spans(bytes, &[Span::Text(", "), Span::Name(function.name)])?;

@@ -72,19 +72,19 @@ both_same : (s t u : State) → Same s t → Same t u → Same s u
 both_same s t u p q = (q.0 ∙ p.0, q.1 ∙ p.1)
 
 -- between two places
-quiet_same : (steps place n : ℕ) (s : State) → (run_of steps s).steps ≡ steps → place + n ≤ steps
-    → HaveNoStops place (place + n) s → Same (state_after place s) (state_after (place + n) s)
-quiet_same steps place zero s complete h quiet =
-    let none : place ≡ place + zero = omega arith in
+quiet_same : (steps step n : ℕ) (s : State) → (run_of steps s).steps ≡ steps → step + n ≤ steps
+    → HaveNoStops step (step + n) s → Same (state_after step s) (state_after (step + n) s)
+quiet_same steps step zero s complete h quiet =
+    let none : step ≡ step + zero = omega arith in
     (ap (λ k. (state_after k s).bus) (sym none), ap (λ k. (state_after k s).isa) (sym none))
-quiet_same steps place (suc n) s complete h quiet =
-    let next : place + n + 1 ≡ place + suc n = omega arith in
-    let step = each_completes steps (place + n) s (omega arith) in
-    let last = step_same (state_after (place + n) s) (state_after (place + n + 1) s)
-    (quiet (place + n) (omega arith) (omega arith)) step in
-    subst (λ (k : ℕ). Same (state_after place s) (state_after k s)) next
-    (both_same (state_after place s) (state_after (place + n) s) (state_after (place + n + 1) s)
-    (quiet_same steps place n s complete (omega arith) (λ k l m. quiet k l (omega arith))) last)
+quiet_same steps step (suc n) s complete h quiet =
+    let next : step + n + 1 ≡ step + suc n = omega arith in
+    let step = each_completes steps (step + n) s (omega arith) in
+    let last = step_same (state_after (step + n) s) (state_after (step + n + 1) s)
+    (quiet (step + n) (omega arith) (omega arith)) step in
+    subst (λ (k : ℕ). Same (state_after step s) (state_after k s)) next
+    (both_same (state_after step s) (state_after (step + n) s) (state_after (step + n + 1) s)
+    (quiet_same steps step n s complete (omega arith) (λ k l m. quiet k l (omega arith))) last)
 
 same_lists : (a b : List ℕ) → bytes_eq a b ≡ true → a ≡ b
 same_lists a b e = (bytes_eq-Decides a b).0 e
@@ -96,15 +96,15 @@ same_state s t pc registers same =
 -- ---- what is known in front of a place
 
 -- a place before another one has these values, and no step between may change the bus
-pub record IsBefore (values : HartValues) (p place : ℕ) (s : State) : Type 0 where
-  pub before : p < place
+pub record IsBefore (values : HartValues) (p step : ℕ) (s : State) : Type 0 where
+  pub before : p < step
   pub has : has_values values (state_after p s) ≡ true
-  pub quiet : HaveNoStops p place s
+  pub quiet : HaveNoStops p step s
 
-pub record Known (values : HartValues) (begin place : ℕ) (s : State) (matching : Option MatchingSteps) : Type 0 where
-  pub some : IfSome matching (λ a. IsBefore values a.first place s × IsBefore values a.last place s × (a.first ≤ a.last)
+pub record Known (values : HartValues) (begin step : ℕ) (s : State) (matching : Option MatchingSteps) : Type 0 where
+  pub some : IfSome matching (λ a. IsBefore values a.first step s × IsBefore values a.last step s × (a.first ≤ a.last)
       × (begin ≤ a.first))
-  pub found : (p : ℕ) → begin ≤ p → IsBefore values p place s → is_some matching ≡ true
+  pub found : (p : ℕ) → begin ≤ p → IsBefore values p step s → is_some matching ≡ true
 
 pub known_first : (values : HartValues) (begin : ℕ) (s : State) → Known values begin begin s None
 known_first values begin s = record {
@@ -112,45 +112,45 @@ known_first values begin s = record {
   found = λ p l b. let before = b.before in absurd (omega arith);
 }
 
-module _ (values : HartValues) (begin place : ℕ) (s t : State) (here : t ≡ state_after place s) where
-  quiet_here : HaveNoStops place (place + 1) s → is_step_quiet t ≡ true
-  quiet_here q = ap is_step_quiet here ∙ q place (omega arith) (omega arith)
+module _ (values : HartValues) (begin step : ℕ) (s t : State) (here : t ≡ state_after step s) where
+  quiet_here : HaveNoStops step (step + 1) s → is_step_quiet t ≡ true
+  quiet_here q = ap is_step_quiet here ∙ q step (omega arith) (omega arith)
 
-  quiet_more : (p : ℕ) → is_step_quiet t ≡ true → HaveNoStops p place s → HaveNoStops p (place + 1) s
-  quiet_more p q old k l m = elim (order k place) [
+  quiet_more : (p : ℕ) → is_step_quiet t ≡ true → HaveNoStops p step s → HaveNoStops p (step + 1) s
+  quiet_more p q old k l m = elim (order k step) [
     | inl less ↦ old k l less
-    | inr most ↦ let same : k ≡ place = omega arith in
+    | inr most ↦ let same : k ≡ step = omega arith in
         ap (λ j. is_step_quiet (state_after j s)) same ∙ sym (ap is_step_quiet here) ∙ q
   ]
 
-  later : (p : ℕ) → is_step_quiet t ≡ true → IsBefore values p place s → IsBefore values p (place + 1) s
+  later : (p : ℕ) → is_step_quiet t ≡ true → IsBefore values p step s → IsBefore values p (step + 1) s
   later p q b = record {
     before = let l = b.before in omega arith;
     has = b.has;
     quiet = quiet_more p q b.quiet;
   }
 
-  earlier : (p : ℕ) → p < place → IsBefore values p (place + 1) s → IsBefore values p place s
+  earlier : (p : ℕ) → p < step → IsBefore values p (step + 1) s → IsBefore values p step s
   earlier p l b = record { before = l; has = b.has; quiet = λ k m n. b.quiet k m (omega arith) }
 
-  here_now : is_step_quiet t ≡ true → has_values values t ≡ true → IsBefore values place (place + 1) s
+  here_now : is_step_quiet t ≡ true → has_values values t ≡ true → IsBefore values step (step + 1) s
   here_now q h = record {
     before = omega arith;
     has = sym (ap (has_values values) here) ∙ h;
-    quiet = λ k l m. (let same : k ≡ place = omega arith in
+    quiet = λ k l m. (let same : k ≡ step = omega arith in
         ap (λ j. is_step_quiet (state_after j s)) same ∙ sym (ap is_step_quiet here) ∙ q);
   }
 
-  none_quiet : is_step_quiet t ≡ false → Known values begin (place + 1) s None
+  none_quiet : is_step_quiet t ≡ false → Known values begin (step + 1) s None
   none_quiet q = record {
     some = tt;
     found = λ p l b. absurd (both_ways (is_step_quiet t) q
-        (ap is_step_quiet here ∙ b.quiet place (let m = b.before in omega arith) (omega arith)));
+        (ap is_step_quiet here ∙ b.quiet step (let m = b.before in omega arith) (omega arith)));
   }
 
-  with_values : (matching : Option MatchingSteps) → begin ≤ place → is_step_quiet t ≡ true → has_values values t ≡ true
-      → Known values begin place s matching
-      → Known values begin (place + 1) s (Some (record { first = first_matching matching place; last = place }))
+  with_values : (matching : Option MatchingSteps) → begin ≤ step → is_step_quiet t ≡ true → has_values values t ≡ true
+      → Known values begin step s matching
+      → Known values begin (step + 1) s (Some (record { first = first_matching matching step; last = step }))
   with_values None l q h known = record {
     some = (here_now q h, here_now q h, omega arith, l);
     found = λ p l b. refl;
@@ -166,32 +166,32 @@ module _ (values : HartValues) (begin place : ℕ) (s t : State) (here : t ≡ s
   }
 
   without_values : (matching : Option MatchingSteps) → is_step_quiet t ≡ true → has_values values t ≡ false
-      → Known values begin place s matching → Known values begin (place + 1) s matching
+      → Known values begin step s matching → Known values begin (step + 1) s matching
   without_values matching q h known = record {
     some = some matching known.some;
-    found = λ p l b. elim (order p place) [
+    found = λ p l b. elim (order p step) [
       | inl less ↦ known.found p l (earlier p less b)
-      | inr most ↦ let before = b.before in let same : p ≡ place = omega arith in
+      | inr most ↦ let before = b.before in let same : p ≡ step = omega arith in
           absurd (both_ways (has_values values t) h
           (ap (has_values values) here ∙ ap (λ j. has_values values (state_after j s)) (sym same) ∙ b.has))
     ];
   }
     where
       some : (matching : Option MatchingSteps)
-          → IfSome matching (λ a. IsBefore values a.first place s × IsBefore values a.last place s × (a.first ≤ a.last)
+          → IfSome matching (λ a. IsBefore values a.first step s × IsBefore values a.last step s × (a.first ≤ a.last)
           × (begin ≤ a.first))
-          → IfSome matching (λ a. IsBefore values a.first (place + 1) s × IsBefore values a.last (place + 1) s
+          → IfSome matching (λ a. IsBefore values a.first (step + 1) s × IsBefore values a.last (step + 1) s
           × (a.first ≤ a.last) × (begin ≤ a.first))
       some None k = tt
       some (Some a) k = (later a.first q k.0, later a.last q k.1, k.2, k.3)
 
-  pub known_more : (matching : Option MatchingSteps) → begin ≤ place → Known values begin place s matching
-      → Known values begin (place + 1) s (matching_steps_after matching place values t)
+  pub known_more : (matching : Option MatchingSteps) → begin ≤ step → Known values begin step s matching
+      → Known values begin (step + 1) s (matching_steps_after matching step values t)
   known_more matching l known = by (is_step_quiet t) (has_values values t) refl refl
     where
       by : (q h : Bool) → is_step_quiet t ≡ q → has_values values t ≡ h
-          → Known values begin (place + 1) s (cond q (cond h
-          (Some (record { first = first_matching matching place; last = place })) matching) None)
+          → Known values begin (step + 1) s (cond q (cond h
+          (Some (record { first = first_matching matching step; last = step })) matching) None)
       by false h e f = none_quiet e
       by true true e f = with_values matching l e f known
       by true false e f = without_values matching e f known

@@ -18,7 +18,7 @@ searched_steps steps = min steps 100_000
 abbrev pub IsBudgetUse : ℕ → State → BudgetUse → Type 0
 IsBudgetUse steps s (Repeats r) = IsRepetition steps s r × IsWaitReported steps s r
 IsBudgetUse steps s (NoRepetition within) = (within ≡ searched_steps steps)
-    × ((place : ℕ) → steps - within ≤ place → RepeatsAtEnd steps place s → ⊥)
+    × ((step : ℕ) → steps - within ≤ step → RepeatsAtEnd steps step s → ⊥)
 
 -- how the run of a plan's job used up a budget of `steps` steps, as `IsBudgetUse` says; `None` only if the job is refused or its run does
 -- not complete `steps` steps

@@ -21,7 +21,7 @@ are_outside_console a n = nat_le (a + n) 0x1000_0000 || (nat_le 0x1000_0010 a &&
 -- whether there is a value and it equals the given one
 abbrev pub equals_value : Option ℕ → ℕ → Bool
 equals_value None value = false
-equals_value (Some there) value = there == value
+equals_value (Some other) value = other == value
 
 -- whether the byte at an address already has this value, and counts as stored
 abbrev pub has_byte_stored : BusContents → ℕ → ℕ → Bool

@@ -19,17 +19,17 @@ pub record IsRepetition (steps : ℕ) (s : State) (r : Repetition) : Type 0 wher
   pub within : r.begin + r.period ≤ steps
   pub matching : state_after (r.begin + r.period) s ≡ state_after r.begin s
 
--- no step of the run from the state `s`, from step `place` up to step `end`, can change the bus
+-- no step of the run from the state `s`, from step `step` up to step `end`, can change the bus
 abbrev pub HaveNoStops : ℕ → ℕ → State → Type 0
-HaveNoStops place end s = (k : ℕ) → place ≤ k → k < end → is_step_quiet (state_after k s) ≡ true
+HaveNoStops step end s = (k : ℕ) → step ≤ k → k < end → is_step_quiet (state_after k s) ≡ true
 
--- before step `place`, the run from the state `s` has the pc and the registers that it has after `steps` steps, and no step in between can
+-- before step `step`, the run from the state `s` has the pc and the registers that it has after `steps` steps, and no step in between can
 -- change the bus
-pub record RepeatsAtEnd (steps place : ℕ) (s : State) : Type 0 where
-  pub before : place < steps
-  pub pc : (state_after place s).pc ≡ (state_after steps s).pc
-  pub registers : (state_after place s).registers ≡ (state_after steps s).registers
-  pub quiet : HaveNoStops place steps s
+pub record RepeatsAtEnd (steps step : ℕ) (s : State) : Type 0 where
+  pub before : step < steps
+  pub pc : (state_after step s).pc ≡ (state_after steps s).pc
+  pub registers : (state_after step s).registers ≡ (state_after steps s).registers
+  pub quiet : HaveNoStops step steps s
 
 -- the repetition is reported to wait for input if and only if a step after its first `r.begin` steps loads from the exhausted input script
 pub record IsWaitReported (steps : ℕ) (s : State) (r : Repetition) : Type 0 where
@@ -38,20 +38,20 @@ pub record IsWaitReported (steps : ℕ) (s : State) (r : Repetition) : Type 0 wh
 
 -- ---- a search in progress
 
--- the first step in `matching`, or `place` if there is none
+-- the first step in `matching`, or `step` if there is none
 abbrev pub first_matching : Option MatchingSteps → ℕ → ℕ
-first_matching None place = place
-first_matching (Some matching) place = matching.first
+first_matching None step = step
+first_matching (Some matching) step = matching.first
 
 -- the first and the last step before which the hart has these values and after which no step can change the bus, or `None` if there is
--- none; updated for step `place`, before which the state is `s`
+-- none; updated for step `step`, before which the state is `s`
 abbrev pub matching_steps_after : Option MatchingSteps → ℕ → HartValues → State → Option MatchingSteps
-matching_steps_after matching place values s =
+matching_steps_after matching step values s =
     if is_step_quiet s then (if has_values values s
-    then Some (record { first = first_matching matching place; last = place }) else matching)
+    then Some (record { first = first_matching matching step; last = step }) else matching)
     else None
 
--- the number of steps up to and including the last one that loads from the exhausted input script, updated for step `place`, before which
+-- the number of steps up to and including the last one that loads from the exhausted input script, updated for step `step`, before which
 -- the state is `s`
 abbrev pub waits_up_to : ℕ → ℕ → State → ℕ
-waits_up_to waited place s = if reads_script_end s then place + 1 else waited
+waits_up_to waited step s = if reads_script_end s then step + 1 else waited

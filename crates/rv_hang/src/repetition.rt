@@ -35,7 +35,7 @@ pub fn find_repetition(
     requires end { has_values end.now (state_after steps (state_of machine)) ≡ true }
     ensures repetition { IfSome result (IsRepetition steps (state_of machine)) }
     ensures waits { IfSome result (IsWaitReported steps (state_of machine)) }
-    ensures found { (place : ℕ) → steps - within ≤ place → RepeatsAtEnd steps place (state_of machine)
+    ensures found { (step : ℕ) → steps - within ≤ step → RepeatsAtEnd steps step (state_of machine)
         → is_some result ≡ true }
 {
     let mut ahead = machine;
@@ -43,9 +43,9 @@ pub fn find_repetition(
     let _ = ahead.run(begin);
     let mut matching = None;
     let mut waited = 0;
-    for place in begin..steps {
-        matching = matching_steps_at(matching, &ahead, place, end);
-        waited = waits_up_to(waited, &ahead, place);
+    for step in begin..steps {
+        matching = matching_steps_at(matching, &ahead, step, end);
+        waited = waits_up_to(waited, &ahead, step);
         let _ = ahead.run(1);
     }
     let matching = matching?;
@@ -64,14 +64,14 @@ struct MatchingSteps {
 }
 
 // Returns the first and the last step before which the hart has the values `end` and after which nothing can change the bus, or `None` if
-// there is none. `matching` has these steps up to step `place`, and `machine` is the machine before this step.
+// there is none. `matching` has these steps up to step `step`, and `machine` is the machine before this step.
 fn matching_steps_at(
     matching: Option<MatchingSteps>,
     machine: &Machine,
-    place: u32,
+    step: u32,
     end: &HartValues,
 ) -> Option<MatchingSteps>
-    ensures { result ≡ matching_steps_after matching place end.now (state_of machine.now) }
+    ensures { result ≡ matching_steps_after matching step end.now (state_of machine.now) }
 {
     if !is_step_quiet(machine) {
         return None;
@@ -79,18 +79,18 @@ fn matching_steps_at(
     if !end.match_machine(machine) {
         return matching;
     }
-    let first = matching.map_or(place, |matching| matching.first);
-    Some(MatchingSteps { first, last: place })
+    let first = matching.map_or(step, |matching| matching.first);
+    Some(MatchingSteps { first, last: step })
 }
 
 // Returns the number of steps up to and including the last one that loads from the exhausted input script. `waited` is this number before
-// step `place`, and `machine` is the machine before this step.
-fn waits_up_to(waited: u32, machine: &Machine, place: u32) -> u32
-    requires { place < 0xFFFF_FFFF }
-    ensures { result ≡ waits_up_to waited place (state_of machine.now) }
+// step `step`, and `machine` is the machine before this step.
+fn waits_up_to(waited: u32, machine: &Machine, step: u32) -> u32
+    requires { step < 0xFFFF_FFFF }
+    ensures { result ≡ waits_up_to waited step (state_of machine.now) }
 {
     if reads_script_end(machine) {
-        place + 1
+        step + 1
     } else {
         waited
     }

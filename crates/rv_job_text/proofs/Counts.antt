@@ -65,19 +65,19 @@ bracket-none (first ∷ others) is_open old new begun none so_far =
 
 -- ---- the kinds of failures below one place more
 
-pub failure_texts_below-none : (count : FailureKind → ℕ) (place : ℕ) → count (failure_kind_at place) ≡ 0 →
-    failure_texts_below count (place + 1) ≡ failure_texts_below count place
+pub failure_texts_below-none : (count : FailureKind → ℕ) (index : ℕ) → count (failure_kind_at index) ≡ 0 →
+    failure_texts_below count (index + 1) ≡ failure_texts_below count index
 unfolding failure_texts_below
-failure_texts_below-none count place none = rw (add-one place, none) (append-nil (failure_texts_below count place))
+failure_texts_below-none count index none = rw (add-one index, none) (append-nil (failure_texts_below count index))
 
-pub failure_texts_below-some : (count : FailureKind → ℕ) (place : ℕ) → 0 < count (failure_kind_at place) →
-    failure_texts_below count (place + 1)
-    ≡ failure_texts_below count place ++ (decimal (count (failure_kind_at place)) ++ codes " " ++ failure_kind_name (failure_kind_at place)) ∷ []
+pub failure_texts_below-some : (count : FailureKind → ℕ) (index : ℕ) → 0 < count (failure_kind_at index) →
+    failure_texts_below count (index + 1)
+    ≡ failure_texts_below count index ++ (decimal (count (failure_kind_at index)) ++ codes " " ++ failure_kind_name (failure_kind_at index)) ∷ []
 unfolding failure_texts_below
-failure_texts_below-some count place some =
-    let how = failure_kind_at place in
+failure_texts_below-some count index some =
+    let how = failure_kind_at index in
     let other : (count how == 0) ≡ false = ne_eqb (count how) 0 (omega arith) in
-    rw add-one (ap (λ t. failure_texts_below count place
+    rw add-one (ap (λ t. failure_texts_below count index
     ++ cond t [] ((decimal (count how) ++ codes " " ++ failure_kind_name how) ∷ [])) other)
 
 pub is_begun : (texts : List (List ℕ)) (text : List ℕ) → true ≡ not (length (texts ++ text ∷ []) == 0)

@@ -6,9 +6,9 @@ pub byte_told : (byte n is q m ex w : List ℕ)
     ≡ ((((byte ++ n) ++ is) ++ ((q ++ m) ++ q)) ++ ex) ++ ((q ++ w) ++ q)
 byte_told byte n is q m ex w = simp (append_assoc, append-nil)
 
-pub words_told : (place actual ex expected : List ℕ)
-    → place ++ (actual ++ (ex ++ (expected ++ []))) ≡ ((place ++ actual) ++ ex) ++ expected
-words_told place actual ex expected = simp (append_assoc, append-nil)
+pub words_told : (index actual ex expected : List ℕ)
+    → index ++ (actual ++ (ex ++ (expected ++ []))) ≡ ((index ++ actual) ++ ex) ++ expected
+words_told index actual ex expected = simp (append_assoc, append-nil)
 
 pub three_told : (a b c : List ℕ) → a ++ (b ++ (c ++ [])) ≡ (a ++ b) ++ c
 three_told a b c = simp (append_assoc, append-nil)

@@ -14,7 +14,7 @@ use Rattle.rv_text.specs.Numbers.{count_text}
 
 -- the note that a loop waits for input after the end of the script; empty if it does not
 abbrev pub waiting_text : Bool → List ℕ
-waiting_text waits = if waits then codes ", waiting for input after the end of the script" else []
+waiting_text waits_for_input = if waits_for_input then codes ", waiting for input after the end of the script" else []
 
 -- the length of a loop, as in `step` for 1 and `5 steps` for 5
 abbrev pub period_text : ℕ → List ℕ

@@ -41,10 +41,10 @@ differing_line_count (suc most) actual expected =
     if bytes_eq (first_or_empty actual) (first_or_empty expected) then 0
     else 1 + differing_line_count most (drop 1 actual) (drop 1 expected)
 
--- the lines before the index `place` are equal in both texts; at this index they differ, or one text has no line
-pub record DifferFirstAt (place : ℕ) (actual expected : List (List ℕ)) : Type 0 where
-  pub before : take place actual ≡ take place expected
-  pub there : first_or_empty (drop place actual) ≢ first_or_empty (drop place expected)
+-- the lines before the index `index` are equal in both texts; at this index they differ, or one text has no line
+pub record DifferFirstAt (index : ℕ) (actual expected : List (List ℕ)) : Type 0 where
+  pub before : take index actual ≡ take index expected
+  pub there : first_or_empty (drop index actual) ≢ first_or_empty (drop index expected)
 
 -- ---- a shown line
 
@@ -67,22 +67,22 @@ max_line_characters = 160
 abbrev pub max_bytes_before_difference : ℕ
 max_bytes_before_difference = 32
 
--- the offset from which a line with a difference at the offset `place` is shown: 0, or, if the line is long, an offset shortly before the
+-- the offset from which a line with a difference at the offset `offset` is shown: 0, or, if the line is long, an offset shortly before the
 -- difference
 abbrev pub shown_offset : ℕ → List ℕ → ℕ
-shown_offset place text =
+shown_offset offset text =
     if characters_len max_line_characters text == length text then 0
-    else (place - max_bytes_before_difference
-    + position_or_len begins_character (drop (place - max_bytes_before_difference) text))
+    else (offset - max_bytes_before_difference
+    + position_or_len begins_character (drop (offset - max_bytes_before_difference) text))
 
 -- a line without its first `begin` bytes, after two dots unless `begin` is 0, up to the maximum number of characters
 abbrev pub text_shown_from : ℕ → List ℕ → List ℕ
 text_shown_from begin text = (if begin == 0 then [] else codes "..")
     ++ printable_text (take (characters_len max_line_characters (drop begin text)) (drop begin text))
 
--- a line that has a difference at the offset `place`; if it is long, only the part around the difference
+-- a line that has a difference at the offset `offset`; if it is long, only the part around the difference
 unfoldable pub shown_line : ℕ → List ℕ → List ℕ
-shown_line place text = text_shown_from (shown_offset place text) text
+shown_line offset text = text_shown_from (shown_offset offset text) text
 
 -- the note that a line has no line feed; empty if it has one
 abbrev pub missing_newline_note : List ℕ → List ℕ
@@ -144,7 +144,7 @@ console_lines source actual expected = let equal = equal_line_count actual expec
 -- whether a difference is shown line by line: no text is missing, and both are UTF-8
 abbrev pub is_shown_by_lines : Difference → List ℕ → List ℕ → Bool
 is_shown_by_lines difference.Absent actual expected = false
-is_shown_by_lines (difference.At place) actual expected = is_utf8 actual && is_utf8 expected
+is_shown_by_lines (difference.At offset) actual expected = is_utf8 actual && is_utf8 expected
 is_shown_by_lines difference.Lengths actual expected = is_utf8 actual && is_utf8 expected
 
 -- ---- the expected text

@@ -86,7 +86,7 @@ missing_symbol_text (Some name) = codes "symbol " ++ printable_text name ++ code
 -- the address of a symbol; empty if it is not defined
 abbrev pub symbol_address_text : Result ℕ ImageError → List ℕ
 symbol_address_text (Ok address) = codes " at " ++ word_digits address
-symbol_address_text (Err why) = []
+symbol_address_text (Err error) = []
 
 -- the name of a symbol, and its address if it is defined
 unfoldable pub named_symbol_text : List ℕ → List ℕ → List ℕ
@@ -145,13 +145,13 @@ image_details_text job file there image.NoBegin =
     missing_symbol_text (option_map (λ names. names.begin) job.signature)
 image_details_text job file there image.NoEnd =
     missing_symbol_text (option_map (λ names. names.end) job.signature)
-image_details_text job file there why = image_error_sentence why
+image_details_text job file there error = image_error_sentence error
 
 -- the reason why an image is refused, with details only if it can be parsed
 abbrev pub image_reason_text : Job → List ℕ → Result Image ImageError → ImageError → List ℕ
-image_reason_text job file (Ok there) why = image_details_text job file there why
-image_reason_text job file (Err other) why = image_error_sentence why
+image_reason_text job file (Ok there) error = image_details_text job file there error
+image_reason_text job file (Err other) error = image_error_sentence error
 
 -- the reason why the image of the job, with the contents `file`, is refused
 unfoldable pub image_reason : Job → List ℕ → ImageError → List ℕ
-image_reason job file why = image_reason_text job file (image_of job.isa file) why
+image_reason job file error = image_reason_text job file (image_of job.isa file) error

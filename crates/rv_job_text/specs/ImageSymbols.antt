@@ -15,7 +15,7 @@ use Rattle.rv_rows.specs.declared_row.RowEnd.TheVariants as ending
 -- the symbol that an address belongs to, with the offset from it, or `None` if there is none or the file cannot be parsed as an image
 abbrev pub symbol_in_image : Result Image ImageError → List ℕ → ℕ → Option (List ℕ × ℕ)
 symbol_in_image (Ok image) file address = symbol_at image file address
-symbol_in_image (Err why) file address = None
+symbol_in_image (Err error) file address = None
 
 -- the symbol that an address belongs to, with the offset from it, or `None` if there is none, no file, or the file cannot be parsed as an
 -- image
@@ -33,12 +33,12 @@ fault_symbol isa file _ = None
 -- the value of a symbol, or `None` if it is not defined
 abbrev pub value_if_defined : Result ℕ ImageError → Option ℕ
 value_if_defined (Ok address) = Some address
-value_if_defined (Err why) = None
+value_if_defined (Err error) = None
 
 -- the address at which a signature begins, or `None` if the file cannot be parsed as an image or does not define the symbol
 abbrev pub signature_begin_in_image : Result Image ImageError → List ℕ → Symbols → Option ℕ
 signature_begin_in_image (Ok image) file names = value_if_defined (symbol_of file names.begin)
-signature_begin_in_image (Err why) file names = None
+signature_begin_in_image (Err error) file names = None
 
 -- the address at which a signature begins, or `None` if the job has no signature or the symbol is not found in the file
 unfoldable pub signature_begin : Isa → Option (List ℕ) → Option Symbols → Option ℕ

@@ -30,8 +30,8 @@ unread_reference_path answers job =
 
 -- the reason why an image that was read is refused, or `None` if it was not read
 abbrev pub image_refusal_text : List PathResult → Job → ImageError → Option (List ℕ)
-image_refusal_text answers job why =
-    option_map (λ file. image_reason job file why)
+image_refusal_text answers job error =
+    option_map (λ file. image_reason job file error)
     (content_if_read (Some (result_or_unreadable answers job.image)))
 
 -- the reason why a job is refused, or `None` if the file that the refusal concerns is not known; `unread` has the files that could not be
@@ -43,9 +43,9 @@ refusal_reason answers unread job refusal.ReferenceUnreadable =
     option_map (unread_file_text unread) (unread_reference_path answers job)
 refusal_reason answers unread job refusal.ReferenceTooLong =
     option_map too_long_file_text (unread_reference_path answers job)
-refusal_reason answers unread job (refusal.Image why) = image_refusal_text answers job why
+refusal_reason answers unread job (refusal.Image error) = image_refusal_text answers job error
 
 -- the reason why a job is refused, or `None` if it is not refused
 unfoldable pub ending_reason : List PathResult → List UnreadablePath → Job → RowEnd → Option (List ℕ)
-ending_reason answers unread job (ending.Refused why) = refusal_reason answers unread job why
+ending_reason answers unread job (ending.Refused refusal) = refusal_reason answers unread job refusal
 ending_reason answers unread job _ = None

@@ -19,27 +19,27 @@ optional_reason_text (Some reason) = codes ": " ++ printable_text reason
 abbrev pub after_steps_text : ℕ → List ℕ
 after_steps_text steps = codes " after " ++ count_text steps (codes "step")
 
--- how a run ended, with its steps; for a fault, also the pc, with its symbol `place`, and the value; for a refusal, the reason
+-- how a run ended, with its steps; for a fault, also the pc, with its symbol `symbol`, and the value; for a refusal, the reason
 unfoldable pub result_ending_text : RowEnd → ℕ → Option (List ℕ × ℕ) → Option (List ℕ) → List ℕ
-result_ending_text (ending.Exit code) steps place reason =
+result_ending_text (ending.Exit code) steps symbol reason =
     codes "exit " ++ exit_code_text code ++ after_steps_text steps
-result_ending_text (ending.Fault kind pc value) steps place reason =
-    codes "fault " ++ fault_name kind ++ codes " at " ++ word_digits pc ++ symbol_in_brackets place
+result_ending_text (ending.Fault kind pc value) steps symbol reason =
+    codes "fault " ++ fault_name kind ++ codes " at " ++ word_digits pc ++ symbol_in_brackets symbol
     ++ codes ", value " ++ word_digits value ++ codes "," ++ after_steps_text steps
-result_ending_text ending.Budget steps place reason = codes "budget used up" ++ after_steps_text steps
-result_ending_text (ending.Refused why) steps place reason =
+result_ending_text ending.Budget steps symbol reason = codes "budget used up" ++ after_steps_text steps
+result_ending_text (ending.Refused why) steps symbol reason =
     codes "refused " ++ refusal_name why ++ optional_reason_text reason
 
 -- the first word of the line about a row with this judgement: `PASS `, `FAIL ` or `KNOWN `
 abbrev pub judgement_word : JudgementView → List ℕ
 judgement_word passed = codes "PASS "
 judgement_word failed = codes "FAIL "
-judgement_word (known why) = codes "KNOWN "
+judgement_word (known reason) = codes "KNOWN "
 judgement_word (now_passes path) = codes "FAIL "
 
 -- the reason of a known failure, in brackets, or nothing if there is no reason
 abbrev pub known_reason_text : List ℕ → List ℕ
-known_reason_text why = if length why == 0 then [] else codes " (" ++ printable_text why ++ codes ")"
+known_reason_text reason = if length reason == 0 then [] else codes " (" ++ printable_text reason ++ codes ")"
 
 -- the message that a job passes although the file at the path lists it as known to fail
 abbrev pub now_passes_text : List ℕ → List ℕ
@@ -47,13 +47,13 @@ now_passes_text path = codes "passes, but is listed as known to fail: remove it 
 
 -- how a run ended, with the reason of a known failure, or, for a job that passes although it is known to fail, that message instead
 abbrev pub judged_ending_text : JudgementView → Row → Option (List ℕ × ℕ) → Option (List ℕ) → List ℕ
-judged_ending_text passed row place reason = result_ending_text row.ending row.steps place reason
-judged_ending_text failed row place reason = result_ending_text row.ending row.steps place reason
-judged_ending_text (known why) row place reason =
-    result_ending_text row.ending row.steps place reason ++ known_reason_text why
-judged_ending_text (now_passes path) row place reason = now_passes_text path
+judged_ending_text passed row symbol reason = result_ending_text row.ending row.steps symbol reason
+judged_ending_text failed row symbol reason = result_ending_text row.ending row.steps symbol reason
+judged_ending_text (known reason) row symbol reason =
+    result_ending_text row.ending row.steps symbol reason ++ known_reason_text reason
+judged_ending_text (now_passes path) row symbol reason = now_passes_text path
 
 -- the line about a row: whether it passed, the job's name, and how the run ended
 unfoldable pub result_line : JudgementView → Row → Option (List ℕ × ℕ) → Option (List ℕ) → List ℕ
-result_line judged row place reason =
-    line (judgement_word judged ++ row.name ++ codes ": " ++ judged_ending_text judged row place reason)
+result_line judged row symbol reason =
+    line (judgement_word judged ++ row.name ++ codes ": " ++ judged_ending_text judged row symbol reason)

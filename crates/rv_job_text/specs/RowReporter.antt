@@ -111,9 +111,9 @@ abbrev pub row_lines_of_job : RowReporter → Row → Option Job → List ℕ
 row_lines_of_job reporter row None = []
 row_lines_of_job reporter row (Some job) = row_lines reporter job row
 
--- the lines about a row of the job at index `place`; empty if there is no such job
+-- the lines about a row of the job at index `index`; empty if there is no such job
 unfoldable pub row_lines_at : RowReporter → ℕ → Row → List ℕ
-row_lines_at reporter place row = row_lines_of_job reporter row (slice_get reporter.plan.jobs place)
+row_lines_at reporter index row = row_lines_of_job reporter row (slice_get reporter.plan.jobs index)
 
 -- ---- the outcome of a job
 
@@ -134,17 +134,17 @@ calls_lines plan job = optional_calls_text job.isa (image_bytes plan.answers job
 -- the lines that explain a run: its expectations, the end of its console, the use of its budget, how it reached its end, and the calls that
 -- had not returned
 unfoldable pub run_explanation : PlanView → Job → Row → TraceOptions → List ℕ
-run_explanation plan job row way =
+run_explanation plan job row options =
     expectation_lines detail.All plan job row ++ (console_tail row.console
-    ++ (budget_use_line row.steps way.budget_use
-    ++ (end_trace_lines plan job row way.last ++ calls_lines plan job)))
+    ++ (budget_use_line row.steps options.budget_use
+    ++ (end_trace_lines plan job row options.last ++ calls_lines plan job)))
 
 -- the lines that explain a run; empty if the job did not run
 abbrev pub explanation_if_run : PlanView → Job → Row → TraceOptions → List ℕ
-explanation_if_run plan job row way =
-    if did_run row.ending then run_explanation plan job row way else []
+explanation_if_run plan job row options =
+    if did_run row.ending then run_explanation plan job row options else []
 
 -- the line about a row, followed by the lines that explain its run
 unfoldable pub explanation_text : PlanView → List UnreadablePath → JudgeView → Job → Row → TraceOptions → List ℕ
-explanation_text plan unread judging job row way =
-    row_line plan unread judging job row ++ explanation_if_run plan job row way
+explanation_text plan unread judging job row options =
+    row_line plan unread judging job row ++ explanation_if_run plan job row options

@@ -13,7 +13,7 @@ use Rattle.rv_calls.specs.Text.{trace_text}
 -- the result of `text` for the image and the bytes of a file; empty if the file cannot be parsed as an image
 abbrev pub text_in_image : Result Image ImageError → List ℕ → (Image → List ℕ → List ℕ) → List ℕ
 text_in_image (Ok image) file text = text image file
-text_in_image (Err why) file text = []
+text_in_image (Err error) file text = []
 
 -- the result of `text` for the image and the bytes of a file; empty if there is no file or it cannot be parsed as an image
 unfoldable pub text_in_file : Isa → Option (List ℕ) → (Image → List ℕ → List ℕ) → List ℕ

@@ -47,11 +47,11 @@ expected_end_text (Some (expected.Fault kind)) = codes "fault " ++ fault_name ki
 abbrev pub quoted_value : List ℕ → List ℕ
 quoted_value value = codes "\"" ++ printable_value value ++ codes "\""
 
--- the offset `place` at which the actual text `actual` first differs from the expected text `expected`, and both texts from there
+-- the offset `offset` at which the actual text `actual` first differs from the expected text `expected`, and both texts from there
 unfoldable pub byte_difference_text : ℕ → List ℕ → List ℕ → List ℕ
-byte_difference_text place actual expected =
-    codes " at byte " ++ decimal place ++ codes ": expected " ++ quoted_value (drop place expected)
-    ++ codes ", found " ++ quoted_value (drop place actual)
+byte_difference_text offset actual expected =
+    codes " at byte " ++ decimal offset ++ codes ": expected " ++ quoted_value (drop offset expected)
+    ++ codes ", found " ++ quoted_value (drop offset actual)
 
 -- the expected number `expected` and the actual number `actual`; `what` is the noun
 unfoldable pub count_difference_text : ℕ → List ℕ → ℕ → List ℕ
@@ -60,7 +60,7 @@ count_difference_text actual what expected =
 
 -- where the actual text `actual` first differs from the expected text `expected`, or that one of them is longer
 unfoldable pub bytes_difference_text : Difference → List ℕ → List ℕ → List ℕ
-bytes_difference_text (difference.At place) actual expected = byte_difference_text place actual expected
+bytes_difference_text (difference.At offset) actual expected = byte_difference_text offset actual expected
 bytes_difference_text difference.Lengths actual expected = count_difference_text (length actual) (codes "byte") (length expected)
 bytes_difference_text difference.Absent actual expected = codes ", which was not read"
 
@@ -81,29 +81,29 @@ console_difference_text (Some expected) file actual difference = expected_consol
 
 -- ---- words
 
--- the digits of the word at index `place` of a signature; empty if there is no such word
+-- the digits of the word at index `index` of a signature; empty if there is no such word
 unfoldable pub signature_word_digits : List ℕ → ℕ → List ℕ
-signature_word_digits words place =
-    if nat_lt place (length words) then word_digits (slice_index words place) else []
+signature_word_digits words index =
+    if nat_lt index (length words) then word_digits (slice_index words index) else []
 
--- the digits of the word at index `place` of a signature file; empty if there is no such word
+-- the digits of the word at index `index` of a signature file; empty if there is no such word
 unfoldable pub reference_digits_at : List ℕ → ℕ → List ℕ
-reference_digits_at text place =
-    if nat_lt place (length text / 9) then slice_range text (place * 9) (place * 9 + 8) else []
+reference_digits_at text index =
+    if nat_lt index (length text / 9) then slice_range text (index * 9) (index * 9 + 8) else []
 
--- the address of the word at index `place`, in brackets; empty if the address `first` of the first word is not known
+-- the address of the word at index `index`, in brackets; empty if the address `first` of the first word is not known
 abbrev pub word_address_text : Option ℕ → ℕ → List ℕ
-word_address_text None place = []
-word_address_text (Some first) place =
-    codes " (" ++ word_digits ((first + 4 * place) % 2 ^ 32) ++ codes ")"
+word_address_text None index = []
+word_address_text (Some first) index =
+    codes " (" ++ word_digits ((first + 4 * index) % 2 ^ 32) ++ codes ")"
 
 -- the index of a word, and its address if the address of the first word is known
 unfoldable pub word_location_text : Option ℕ → ℕ → List ℕ
-word_location_text first place = codes " at word " ++ decimal place ++ word_address_text first place ++ codes ": expected "
+word_location_text first index = codes " at word " ++ decimal index ++ word_address_text first index ++ codes ": expected "
 
--- the expected digits `expected` and the actual digits `actual` of the word at index `place`
+-- the expected digits `expected` and the actual digits `actual` of the word at index `index`
 abbrev pub word_difference_text : Option ℕ → ℕ → List ℕ → List ℕ → List ℕ
-word_difference_text first place actual expected = word_location_text first place ++ expected ++ codes ", found " ++ actual
+word_difference_text first index actual expected = word_location_text first index ++ expected ++ codes ", found " ++ actual
 
 -- the message that the line with this number of a signature file is invalid, and what is expected
 unfoldable pub bad_reference_line_text : ℕ → List ℕ
@@ -113,8 +113,8 @@ bad_reference_line_text number =
 -- where the words of a signature first differ from the text of a signature file
 unfoldable pub reference_difference_text : Option ℕ → List ℕ → List ℕ → SignatureDifference → List ℕ
 reference_difference_text first words text (signature.Line number) = bad_reference_line_text number
-reference_difference_text first words text (signature.Word place) =
-    word_difference_text first place (signature_word_digits words place) (printable_text (reference_digits_at text place))
+reference_difference_text first words text (signature.Word index) =
+    word_difference_text first index (signature_word_digits words index) (printable_text (reference_digits_at text index))
 reference_difference_text first words text signature.Count =
     count_difference_text (length words) (codes "word") (length text / 9)
 reference_difference_text first words text signature.Absent = codes ", which was not read"
@@ -134,7 +134,7 @@ unfoldable pub row_end_text : RowEnd → List ℕ
 row_end_text (ending.Exit code) = codes "ended with exit " ++ exit_code_text code
 row_end_text (ending.Fault kind pc value) = codes "ended with fault " ++ fault_name kind
 row_end_text ending.Budget = codes "used up its budget"
-row_end_text (ending.Refused why) = codes "was refused (" ++ refusal_name why ++ codes ")"
+row_end_text (ending.Refused refusal) = codes "was refused (" ++ refusal_name refusal ++ codes ")"
 
 -- that the actual signature is missing if it is `None`, or else that the expected one is
 abbrev pub missing_signature_text : Option (List ℕ) → List ℕ
@@ -143,9 +143,9 @@ missing_signature_text (Some words) = codes ": expected none, found one"
 
 -- where the actual signature `words` first differs from the expected one `others`; either may be missing
 unfoldable pub signatures_difference_text : Option ℕ → Option (List ℕ) → Option (List ℕ) → Difference → List ℕ
-signatures_difference_text first words others (difference.At place) =
-    word_difference_text first place (signature_word_digits (signature_words_or_empty words) place)
-    (signature_word_digits (signature_words_or_empty others) place)
+signatures_difference_text first words others (difference.At index) =
+    word_difference_text first index (signature_word_digits (signature_words_or_empty words) index)
+    (signature_word_digits (signature_words_or_empty others) index)
 signatures_difference_text first words others difference.Lengths =
     count_difference_text (length (signature_words_or_empty words)) (codes "word") (length (signature_words_or_empty others))
 signatures_difference_text first words others difference.Absent = missing_signature_text words

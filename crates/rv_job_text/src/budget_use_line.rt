@@ -53,10 +53,10 @@ fn period_span(period: u32) -> Span<'static>
 }
 
 // Returns the note that a loop waits for input after the end of the script, or an empty text if it does not.
-fn waiting_text(waits: bool) -> &'static str
-    ensures { result.now ≡ waiting_text waits }
+fn waiting_text(waits_for_input: bool) -> &'static str
+    ensures { result.now ≡ waiting_text waits_for_input }
 {
-    if waits {
+    if waits_for_input {
         ", waiting for input after the end of the script"
     } else {
         ""

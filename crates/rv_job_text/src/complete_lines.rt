@@ -24,12 +24,12 @@ pub(crate) fn split_whole_line(text: &[u8]) -> (&[u8], &[u8])
 
 /// Returns the index of the first line feed of a text, or the length of the text if there is none.
 pub(crate) fn first_line_feed(text: &[u8]) -> usize
-    ensures place { result ≡ position_or_len is_line_feed text.now }
+    ensures offset { result ≡ position_or_len is_line_feed text.now }
     ensures within { result ≤ length text.now }
 {
-    for (place, byte) in text.iter().enumerate() {
+    for (offset, byte) in text.iter().enumerate() {
         if *byte == b'\n' {
-            return place;
+            return offset;
         }
     }
     text.len()

@@ -87,9 +87,9 @@ fn first_line_len(text: &[u8]) -> usize
     ensures len { result ≡ position_or_len is_line_feed text.now }
     ensures within { result ≤ length text.now }
 {
-    for (place, byte) in text.iter().enumerate() {
+    for (offset, byte) in text.iter().enumerate() {
         if *byte == b'\n' {
-            return place;
+            return offset;
         }
     }
     text.len()

@@ -73,28 +73,28 @@ pub(crate) fn push_bytes_difference(
         ++ bytes_difference_text difference actual.now expected.now) }
 {
     match difference {
-        Difference::At(place) => push_byte_difference(bytes, place, actual, expected),
+        Difference::At(offset) => push_byte_difference(bytes, offset, actual, expected),
         Difference::Lengths => push_count_difference(bytes, actual.len(), "byte", expected.len()),
         Difference::Absent => push_text(bytes, ", which was not read"),
     }
 }
 
-// Appends the offset `place` at which the actual text `actual` first differs from the expected text `expected`, and both texts from there.
+// Appends the offset `offset` at which the actual text `actual` first differs from the expected text `expected`, and both texts from there.
 #[tactic(auto, unfolding(crate::specs::UnmetLines::byte_difference_text))]
 fn push_byte_difference<'a>(
     bytes: &mut Vec<u8>,
-    place: usize,
+    offset: usize,
     actual: &'a [u8],
     expected: &'a [u8],
 ) -> Result<(), AllocError>
-    ensures { OnOk result (bytes.new.items ≡ bytes.old.items ++ byte_difference_text place actual.now expected.now) }
+    ensures { OnOk result (bytes.new.items ≡ bytes.old.items ++ byte_difference_text offset actual.now expected.now) }
 {
-    let (actual, expected) = actual_and_expected_from(place, actual, expected);
+    let (actual, expected) = actual_and_expected_from(offset, actual, expected);
     push_spans(
         bytes,
         &[
             Span::Text(" at byte "),
-            Span::Number(place as u64),
+            Span::Number(offset as u64),
             Span::Text(": expected \""),
             Span::Value(expected),
             Span::Text("\", found \""),

@@ -23,23 +23,23 @@ pub struct TraceOptions {
     pub budget_use: Option<BudgetUse>,
 }
 
-/// Returns an analysis of the run of the job at index `place`, which takes the time of two more runs, or `None` if it did not use up its
+/// Returns an analysis of the run of the job at index `index`, which takes the time of two more runs, or `None` if it did not use up its
 /// budget.
 pub fn budget_use_at(
     alloc: Global,
     plan: &Plan,
-    place: usize,
+    index: usize,
     row: &Row,
 ) -> Result<Option<BudgetUse>, AllocError>
-    requires { place < length plan.now.jobs }
-    ensures { IfOk result (λ found. (d : AJob) → IsBudgetUseOfRow plan.now (job_at plan.now place d) row.now found) }
+    requires { index < length plan.now.jobs }
+    ensures { IfOk result (λ found. (d : AJob) → IsBudgetUseOfRow plan.now (job_at plan.now index d) row.now found) }
 {
     match row.ending {
         RowEnd::Budget => {
-            let file = &JobFile::read(alloc, plan, place)?;
+            let file = &JobFile::read(alloc, plan, index)?;
             JobRow {
                 plan,
-                place,
+                index,
                 row,
                 file,
             }
@@ -59,7 +59,7 @@ impl<'a> JobRow<'a> {
         text: &mut Vec<u8>,
     ) -> Result<(), AllocError>
         ensures { OnOk result ((d : AJob) → text.new.items ≡ text.old.items
-            ++ end_trace_lines self.now.plan.now (job_at self.now.plan.now self.now.place d)
+            ++ end_trace_lines self.now.plan.now (job_at self.now.plan.now self.now.index d)
             self.now.row.now last) }
     {
         let Some(elf) = self.file.elf_file() else {
@@ -67,7 +67,7 @@ impl<'a> JobRow<'a> {
         };
         let job = JobImage {
             plan: self.plan,
-            place: self.place,
+            place: self.index,
             image: elf.image,
         };
         match trace_job(alloc, &job, self.row.steps, last)? {
@@ -81,14 +81,14 @@ impl<'a> JobRow<'a> {
     #[tactic(auto, unfolding(crate::specs::RowReporter::calls_lines))]
     pub(crate) fn push_calls(&self, alloc: Global, text: &mut Vec<u8>) -> Result<(), AllocError>
         ensures { OnOk result ((d : AJob) → text.new.items ≡ text.old.items
-            ++ calls_lines self.now.plan.now (job_at self.now.plan.now self.now.place d)) }
+            ++ calls_lines self.now.plan.now (job_at self.now.plan.now self.now.index d)) }
     {
         let Some(elf) = self.file.elf_file() else {
             return Ok(());
         };
         let job = JobImage {
             plan: self.plan,
-            place: self.place,
+            place: self.index,
             image: elf.image,
         };
         match calls_at_end(alloc, &job)? {
@@ -100,14 +100,14 @@ impl<'a> JobRow<'a> {
     // Returns an analysis of the run, which used up its budget, or `None` if the job has no valid image.
     fn used_budget(&self, alloc: Global) -> Result<Option<BudgetUse>, AllocError>
         ensures { IfOk result (λ found. (d : AJob) → IsBudgetUseIn self.now.plan.now
-            (job_at self.now.plan.now self.now.place d) self.now.row.now.steps found) }
+            (job_at self.now.plan.now self.now.index d) self.now.row.now.steps found) }
     {
         let Some(elf) = self.file.elf_file() else {
             return Ok(None);
         };
         let job = JobImage {
             plan: self.plan,
-            place: self.place,
+            place: self.index,
             image: elf.image,
         };
         budget_use_of(alloc, &job, self.row.steps)

@@ -20,17 +20,17 @@ pub(crate) fn push_image_reason(
     bytes: &mut Vec<u8>,
     job: &Job,
     file: &[u8],
-    why: ImageError,
+    error: ImageError,
 ) -> Result<(), AllocError>
     requires { IfSome job.now.signature (λ names. (0 < length names.begin)
         × (0 < length names.end)) }
     ensures { OnOk result (bytes.new.items
-        ≡ bytes.old.items ++ image_reason job.now file.now why) }
+        ≡ bytes.old.items ++ image_reason job.now file.now error) }
 {
     match read_image(alloc, file, job.isa) {
-        Ok(image) => push_image_details(bytes, job, file, &image, why),
+        Ok(image) => push_image_details(bytes, job, file, &image, error),
         Err(ImageError::OutOfMemory) => Err(AllocError),
-        Err(_) => push_text(bytes, image_error_sentence(why)),
+        Err(_) => push_text(bytes, image_error_sentence(error)),
     }
 }
 
@@ -41,16 +41,16 @@ fn push_image_details(
     job: &Job,
     file: &[u8],
     image: &Image,
-    why: ImageError,
+    error: ImageError,
 ) -> Result<(), AllocError>
     requires image { IsImageOf file.now image.now }
     requires named { IfSome job.now.signature (λ names. (0 < length names.begin)
         × (0 < length names.end)) }
     ensures { OnOk result (bytes.new.items
-        ≡ bytes.old.items ++ image_details_text job.now file.now image.now why) }
+        ≡ bytes.old.items ++ image_details_text job.now file.now image.now error) }
 {
     let segments = image.segments.as_slice();
-    match why {
+    match error {
         ImageError::SegmentMap => {
             push_unfit_segment(bytes, job, unfit_segment(&job.regions, job.load, segments))
         },
@@ -60,16 +60,16 @@ fn push_image_details(
         },
         ImageError::NoBegin => push_missing_symbol(bytes, begin_symbol_name(&job.signature)),
         ImageError::NoEnd => push_missing_symbol(bytes, end_symbol_name(&job.signature)),
-        _ => push_text(bytes, image_error_sentence(why)),
+        _ => push_text(bytes, image_error_sentence(error)),
     }
 }
 
 // Returns the reason why an image is refused, without details.
 #[tactic(auto, unfolding(crate::specs::ImageReasons::image_error_sentence))]
-fn image_error_sentence(why: ImageError) -> &'static str
-    ensures { result.now ≡ image_error_sentence why }
+fn image_error_sentence(error: ImageError) -> &'static str
+    ensures { result.now ≡ image_error_sentence error }
 {
-    match why {
+    match error {
         ImageError::ShortHeader => "the file is shorter than an ELF header",
         ImageError::BadMagic => "not an ELF file",
         ImageError::Not32Bit => "not a 32-bit ELF file",

@@ -21,19 +21,19 @@ pub(crate) struct JobFile<'a> {
 }
 
 impl<'a> JobFile<'a> {
-    /// Returns the image file of the job at index `place`, with its image if it is valid. Allocates the image.
+    /// Returns the image file of the job at index `index`, with its image if it is valid. Allocates the image.
     pub(crate) fn read(
         alloc: Global,
         plan: &'a Plan,
-        place: usize,
+        index: usize,
     ) -> Result<JobFile<'a>, AllocError>
-        requires { place < length plan.now.jobs }
-        ensures isa { IfOk result (λ file. (d : AJob) → file.isa ≡ (job_at plan.now place d).isa) }
+        requires { index < length plan.now.jobs }
+        ensures isa { IfOk result (λ file. (d : AJob) → file.isa ≡ (job_at plan.now index d).isa) }
         ensures bytes { IfOk result (λ file. (d : AJob) → option_map (λ bytes. bytes.now) file.bytes
-            ≡ content_if_read (Some (result_or_unreadable plan.now.answers (job_at plan.now place d).image))) }
+            ≡ content_if_read (Some (result_or_unreadable plan.now.answers (job_at plan.now index d).image))) }
     {
-        let isa = plan.job(place).isa;
-        let bytes = image_bytes(plan, place);
+        let isa = plan.job(index).isa;
+        let bytes = image_bytes(plan, index);
         let image = image_if_read(alloc, isa, bytes)?;
         Ok(JobFile { isa, bytes, image })
     }

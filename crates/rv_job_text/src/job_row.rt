@@ -14,11 +14,11 @@ use rv_rows::{Plan, Row};
 pub(crate) struct JobRow<'a> {
     pub(crate) plan: &'a Plan,
     /// The job's index, counted from 0.
-    pub(crate) place: usize,
+    pub(crate) index: usize,
     pub(crate) row: &'a Row,
     pub(crate) file: &'a JobFile<'a>,
-    ghost within: { place < length plan.now.jobs },
-    ghost isa: { (d : AJob) → file.now.isa ≡ (job_at plan.now place d).isa },
+    ghost within: { index < length plan.now.jobs },
+    ghost isa: { (d : AJob) → file.now.isa ≡ (job_at plan.now index d).isa },
     ghost bytes: { (d : AJob) → option_map (λ bytes. bytes.now) file.now.bytes
-        ≡ content_if_read (Some (result_or_unreadable plan.now.answers (job_at plan.now place d).image)) },
+        ≡ content_if_read (Some (result_or_unreadable plan.now.answers (job_at plan.now index d).image)) },
 }

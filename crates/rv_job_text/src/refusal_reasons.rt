@@ -17,21 +17,21 @@ use rv_rows::{
 };
 use std::alloc::{AllocError, Global};
 
-/// Returns the reason why the job at index `place` is refused, or `None` if it is not refused.
+/// Returns the reason why the job at index `index` is refused, or `None` if it is not refused.
 #[tactic(auto, unfolding(crate::specs::RefusalReasons::ending_reason))]
 pub fn ending_reason(
     alloc: Global,
     plan: &Plan,
     unread: &[UnreadablePath],
-    place: usize,
+    index: usize,
     ending: RowEnd,
 ) -> Result<Option<Vec<u8>>, AllocError>
-    requires { place < length plan.now.jobs }
+    requires { index < length plan.now.jobs }
     ensures { IfOk result (λ reason. (d : AJob) → option_map (λ text. text.items) reason
-        ≡ ending_reason plan.now.answers unread.now (job_at plan.now place d) ending) }
+        ≡ ending_reason plan.now.answers unread.now (job_at plan.now index d) ending) }
 {
     match ending {
-        RowEnd::Refused(why) => refusal_reason(alloc, plan, unread, place, why),
+        RowEnd::Refused(refusal) => refusal_reason(alloc, plan, unread, index, refusal),
         RowEnd::Exit(_) | RowEnd::Budget | RowEnd::Fault(_, _, _) => Ok(None),
     }
 }
@@ -43,25 +43,25 @@ fn refusal_reason(
     alloc: Global,
     plan: &Plan,
     unread: &[UnreadablePath],
-    place: usize,
-    why: Refusal,
+    index: usize,
+    refusal: Refusal,
 ) -> Result<Option<Vec<u8>>, AllocError>
-    requires { place < length plan.now.jobs }
+    requires { index < length plan.now.jobs }
     ensures { IfOk result (λ reason. (d : AJob) → option_map (λ text. text.items) reason
-        ≡ refusal_reason plan.now.answers unread.now (job_at plan.now place d) why) }
+        ≡ refusal_reason plan.now.answers unread.now (job_at plan.now index d) refusal) }
 {
-    let image = plan.job(place).image.as_str();
-    match why {
+    let image = plan.job(index).image.as_str();
+    match refusal {
         Refusal::ImageUnreadable => unread_file_reason(alloc, unread, Some(image)),
         Refusal::ImageTooLong => too_long_file_reason(alloc, Some(image)),
         Refusal::ReferenceUnreadable => {
-            unread_file_reason(alloc, unread, unread_reference_path(plan, place))
+            unread_file_reason(alloc, unread, unread_reference_path(plan, index))
         }
         Refusal::ReferenceTooLong => too_long_file_reason(
             alloc,
-            unread_reference_path(plan, place),
+            unread_reference_path(plan, index),
         ),
-        Refusal::Image(why) => image_refusal_text(alloc, plan, place, why),
+        Refusal::Image(error) => image_refusal_text(alloc, plan, index, error),
     }
 }
 
@@ -95,33 +95,33 @@ fn too_long_file_reason(alloc: Global, path: Option<&str>) -> Result<Option<Vec<
 fn image_refusal_text(
     alloc: Global,
     plan: &Plan,
-    place: usize,
-    why: ImageError,
+    index: usize,
+    error: ImageError,
 ) -> Result<Option<Vec<u8>>, AllocError>
-    requires { place < length plan.now.jobs }
+    requires { index < length plan.now.jobs }
     ensures { IfOk result (λ reason. (d : AJob) → option_map (λ text. text.items) reason
-        ≡ image_refusal_text plan.now.answers (job_at plan.now place d) why) }
+        ≡ image_refusal_text plan.now.answers (job_at plan.now index d) error) }
 {
-    let Some(file) = image_bytes(plan, place) else {
+    let Some(file) = image_bytes(plan, index) else {
         return Ok(None);
     };
     let mut text = Vec::new(alloc);
-    push_image_reason(alloc, &mut text, plan.job(place), file, why)?;
+    push_image_reason(alloc, &mut text, plan.job(index), file, error)?;
     Ok(Some(text))
 }
 
 // Returns the path of the first of a job's expectation files that was not read: the file of the signature, or else the file of the console.
 // Returns `None` if there is no such file.
 #[tactic(auto, unfolding(crate::specs::RefusalReasons::unread_reference_path))]
-fn unread_reference_path(plan: &Plan, place: usize) -> Option<&str>
-    requires { place < length plan.now.jobs }
+fn unread_reference_path(plan: &Plan, index: usize) -> Option<&str>
+    requires { index < length plan.now.jobs }
     ensures { (d : AJob) → option_map (λ path. path.now) result
-        ≡ unread_reference_path plan.now.answers (job_at plan.now place d) }
+        ≡ unread_reference_path plan.now.answers (job_at plan.now index d) }
 {
-    let job = plan.job(place);
-    match path_if_unread(signature_reference_bytes(plan, place), reference_path(job)) {
+    let job = plan.job(index);
+    match path_if_unread(signature_reference_bytes(plan, index), reference_path(job)) {
         Some(path) => Some(path),
-        None => path_if_unread(expected_console_bytes(plan, place), console_path(job)),
+        None => path_if_unread(expected_console_bytes(plan, index), console_path(job)),
     }
 }
 

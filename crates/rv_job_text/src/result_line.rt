@@ -90,15 +90,15 @@ fn push_judged_ending(
 }
 
 // Appends the reason of a known failure, in brackets, or nothing if there is no reason.
-fn push_known_reason(bytes: &mut Vec<u8>, why: &[u8]) -> Result<(), AllocError>
-    ensures { OnOk result (bytes.new.items ≡ bytes.old.items ++ known_reason_text why.now) }
+fn push_known_reason(bytes: &mut Vec<u8>, reason: &[u8]) -> Result<(), AllocError>
+    ensures { OnOk result (bytes.new.items ≡ bytes.old.items ++ known_reason_text reason.now) }
 {
-    if why.is_empty() {
+    if reason.is_empty() {
         return Ok(());
     }
     push_spans(
         bytes,
-        &[Span::Text(" ("), Span::Printable(why), Span::Text(")")],
+        &[Span::Text(" ("), Span::Printable(reason), Span::Text(")")],
     )
 }
 
@@ -115,19 +115,19 @@ fn push_now_passes(bytes: &mut Vec<u8>, path: &str) -> Result<(), AllocError>
     )
 }
 
-// Appends how a run ended, with its steps. For a fault, also appends the pc, with its symbol `place`, and the value; for a refusal, the
+// Appends how a run ended, with its steps. For a fault, also appends the pc, with its symbol `symbol`, and the value; for a refusal, the
 // reason.
 #[tactic(auto, unfolding(crate::specs::ResultLine::result_ending_text))]
 fn push_result_ending(
     alloc: Global,
     bytes: &mut Vec<u8>,
     row: &Row,
-    place: Option<SymbolAt<'_>>,
+    symbol: Option<SymbolAt<'_>>,
     reason: Option<&[u8]>,
 ) -> Result<(), AllocError>
     ensures { OnOk result (bytes.new.items ≡ bytes.old.items
         ++ result_ending_text row.now.ending row.now.steps
-        (option_map (λ s. (s.name.now, s.offset)) place.entry)
+        (option_map (λ s. (s.name.now, s.offset)) symbol.entry)
         (option_map (λ text. text.now) reason.entry)) }
 {
     let steps = row.steps;
@@ -135,7 +135,7 @@ fn push_result_ending(
         RowEnd::Exit(code) => push_exit_ending(bytes, code, steps),
         RowEnd::Fault(kind, pc, value) => {
             push_fault_and_address(bytes, kind, pc)?;
-            push_symbol_in_brackets(alloc, bytes, place)?;
+            push_symbol_in_brackets(alloc, bytes, symbol)?;
             push_fault_value(bytes, value, steps)
         }
         RowEnd::Budget => push_budget_ending(bytes, steps),

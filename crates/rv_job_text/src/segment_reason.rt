@@ -61,16 +61,16 @@ pub(crate) fn push_regions(bytes: &mut Vec<u8>, regions: &[Region]) -> Result<()
     Ok(())
 }
 
-// Appends the text `before`, the first and the last of `count` addresses that start at `from`, and the text `behind`.
+// Appends the text `before`, the first and the last of `count` addresses that start at `from`, and the text `after`.
 fn push_address_range(
     bytes: &mut Vec<u8>,
     before: &'static str,
     from: u32,
     count: u32,
-    behind: &'static str,
+    after: &'static str,
 ) -> Result<(), AllocError>
     ensures { OnOk result
-        (bytes.new.items ≡ bytes.old.items ++ (before.now ++ address_range_text from count ++ behind.now)) }
+        (bytes.new.items ≡ bytes.old.items ++ (before.now ++ address_range_text from count ++ after.now)) }
 {
     push_spans(
         bytes,
@@ -79,7 +79,7 @@ fn push_address_range(
             Span::Word(from),
             Span::Text(" to "),
             last_address_span(from, count),
-            Span::Text(behind),
+            Span::Text(after),
         ],
     )
 }

@@ -49,12 +49,12 @@ fn push_missing_newline_note(
     }
 }
 
-// Appends a line that has a difference at the offset `place`; if it is long, only the part around the difference.
+// Appends a line that has a difference at the offset `offset`; if it is long, only the part around the difference.
 #[tactic(auto, unfolding(crate::specs::ConsoleLines::shown_line))]
-fn push_shown_line(bytes: &mut Vec<u8>, place: usize, text: &[u8]) -> Result<(), AllocError>
-    ensures { OnOk result (bytes.new.items ≡ bytes.old.items ++ shown_line place text.now) }
+fn push_shown_line(bytes: &mut Vec<u8>, offset: usize, text: &[u8]) -> Result<(), AllocError>
+    ensures { OnOk result (bytes.new.items ≡ bytes.old.items ++ shown_line offset text.now) }
 {
-    push_text_from(bytes, shown_offset(place, text), text)
+    push_text_from(bytes, shown_offset(offset, text), text)
 }
 
 // Appends a line without its first `begin` bytes, after two dots unless `begin` is 0, up to the maximum number of characters.
@@ -68,43 +68,43 @@ fn push_text_from(bytes: &mut Vec<u8>, begin: usize, text: &[u8]) -> Result<(), 
     push_printable_text(bytes, &rest[..characters_len(MAX_LINE_CHARACTERS, rest)])
 }
 
-// Returns the offset from which a line with a difference at the offset `place` is shown: 0, or, if the line is long, an offset shortly
+// Returns the offset from which a line with a difference at the offset `offset` is shown: 0, or, if the line is long, an offset shortly
 // before the difference.
-fn shown_offset(place: usize, text: &[u8]) -> usize
-    ensures { result ≡ shown_offset place text.now }
+fn shown_offset(offset: usize, text: &[u8]) -> usize
+    ensures { result ≡ shown_offset offset text.now }
 {
     if characters_len(MAX_LINE_CHARACTERS, text) == text.len() {
         return 0;
     }
-    let begin = place.saturating_sub(MAX_BYTES_BEFORE_DIFFERENCE);
+    let begin = offset.saturating_sub(MAX_BYTES_BEFORE_DIFFERENCE);
     begin + first_character_begin(tail_from(text, begin))
 }
 
 // Returns the offset at which the first character begins, or the length of the text if there is none.
 fn first_character_begin(text: &[u8]) -> usize
-    ensures place { result ≡ position_or_len begins_character text.now }
+    ensures offset { result ≡ position_or_len begins_character text.now }
     ensures within { result ≤ length text.now }
 {
-    for (place, byte) in text.iter().enumerate() {
+    for (offset, byte) in text.iter().enumerate() {
         if begins_character(*byte) {
-            return place;
+            return offset;
         }
     }
     text.len()
 }
 
-// Returns the number of bytes in the first `most` characters of a text, or its length if it has fewer.
-fn characters_len(most: usize, text: &[u8]) -> usize
-    ensures len { result ≡ characters_len most text.now }
+// Returns the number of bytes in the first `max_count` characters of a text, or its length if it has fewer.
+fn characters_len(max_count: usize, text: &[u8]) -> usize
+    ensures len { result ≡ characters_len max_count text.now }
     ensures within { result ≤ length text.now }
 {
-    let mut left = most;
-    for (place, byte) in text.iter().enumerate() {
+    let mut remaining = max_count;
+    for (offset, byte) in text.iter().enumerate() {
         if begins_character(*byte) {
-            if left == 0 {
-                return place;
+            if remaining == 0 {
+                return offset;
             }
-            left -= 1;
+            remaining -= 1;
         }
     }
     text.len()

@@ -50,13 +50,13 @@ fn push_reference_difference(
 {
     match difference {
         SignatureDifference::Line(number) => push_bad_reference_line(bytes, number),
-        SignatureDifference::Word(place) => {
-            let expected = Span::Printable(reference_digits_at(reference, place));
+        SignatureDifference::Word(index) => {
+            let expected = Span::Printable(reference_digits_at(reference, index));
             push_word_difference(
                 bytes,
                 first,
-                place,
-                signature_word_digits(words, place),
+                index,
+                signature_word_digits(words, index),
                 expected,
             )
         }
@@ -100,13 +100,13 @@ pub(crate) fn push_signatures_difference(
     let actual = signature_words_or_empty(words);
     let expected = signature_words_or_empty(others);
     match difference {
-        Difference::At(place) => {
-            let expected = signature_word_digits(expected, place);
+        Difference::At(index) => {
+            let expected = signature_word_digits(expected, index);
             push_word_difference(
                 bytes,
                 first,
-                place,
-                signature_word_digits(actual, place),
+                index,
+                signature_word_digits(actual, index),
                 expected,
             )
         }
@@ -125,18 +125,18 @@ fn missing_signature_text(words: &Option<Words>) -> &'static str
     }
 }
 
-// Appends the expected digits `expected` and the actual digits `actual` of the word at index `place`.
+// Appends the expected digits `expected` and the actual digits `actual` of the word at index `index`.
 fn push_word_difference<'a>(
     bytes: &mut Vec<u8>,
     first: Option<u32>,
-    place: usize,
+    index: usize,
     actual: Span<'a>,
     expected: Span<'a>,
 ) -> Result<(), AllocError>
     ensures { OnOk result (bytes.new.items ≡ bytes.old.items
-        ++ word_difference_text first place (span_text actual.entry) (span_text expected.entry)) }
+        ++ word_difference_text first index (span_text actual.entry) (span_text expected.entry)) }
 {
-    push_word_location(bytes, first, place)?;
+    push_word_location(bytes, first, index)?;
     push_spans(bytes, &[expected, Span::Text(", found "), actual])
 }
 
@@ -145,11 +145,11 @@ fn push_word_difference<'a>(
 fn push_word_location(
     bytes: &mut Vec<u8>,
     first: Option<u32>,
-    place: usize,
+    index: usize,
 ) -> Result<(), AllocError>
-    ensures { OnOk result (bytes.new.items ≡ bytes.old.items ++ word_location_text first place) }
+    ensures { OnOk result (bytes.new.items ≡ bytes.old.items ++ word_location_text first index) }
 {
-    let number = Span::Number(place as u64);
+    let number = Span::Number(index as u64);
     match first {
         Some(first) => push_spans(
             bytes,
@@ -157,7 +157,7 @@ fn push_word_location(
                 Span::Text(" at word "),
                 number,
                 Span::Text(" ("),
-                Span::Word(word_address(first, place)),
+                Span::Word(word_address(first, index)),
                 Span::Text("): expected "),
             ],
         ),
@@ -168,32 +168,32 @@ fn push_word_location(
     }
 }
 
-// Returns the address of the word at index `place`, if the first word is at the address `first`.
-fn word_address(first: u32, place: usize) -> u32
-    ensures { result ≡ (first + 4 * place) % 2 ^ 32 }
+// Returns the address of the word at index `index`, if the first word is at the address `first`.
+fn word_address(first: u32, index: usize) -> u32
+    ensures { result ≡ (first + 4 * index) % 2 ^ 32 }
 {
-    ((first as u128 + 4 * place as u128) % 0x1_0000_0000) as u32
+    ((first as u128 + 4 * index as u128) % 0x1_0000_0000) as u32
 }
 
-// Returns the digits of the word at index `place` of a signature, or an empty text if there is no such word.
+// Returns the digits of the word at index `index` of a signature, or an empty text if there is no such word.
 #[tactic(auto, unfolding(crate::specs::UnmetLines::signature_word_digits))]
-fn signature_word_digits(words: &[u32], place: usize) -> Span<'static>
-    ensures { span_text result ≡ signature_word_digits words.now place }
+fn signature_word_digits(words: &[u32], index: usize) -> Span<'static>
+    ensures { span_text result ≡ signature_word_digits words.now index }
 {
-    if place < words.len() {
-        Span::Word(words[place])
+    if index < words.len() {
+        Span::Word(words[index])
     } else {
         Span::Text("")
     }
 }
 
-// Returns the digits of the word at index `place` of a signature file, or an empty text if there is no such word.
+// Returns the digits of the word at index `index` of a signature file, or an empty text if there is no such word.
 #[tactic(auto, unfolding(crate::specs::UnmetLines::reference_digits_at))]
-fn reference_digits_at(text: &[u8], place: usize) -> &[u8]
-    ensures { result.now ≡ reference_digits_at text.now place }
+fn reference_digits_at(text: &[u8], index: usize) -> &[u8]
+    ensures { result.now ≡ reference_digits_at text.now index }
 {
-    if place < text.len() / WORD_LINE_LEN {
-        &text[place * WORD_LINE_LEN..place * WORD_LINE_LEN + (WORD_LINE_LEN - 1)]
+    if index < text.len() / WORD_LINE_LEN {
+        &text[index * WORD_LINE_LEN..index * WORD_LINE_LEN + (WORD_LINE_LEN - 1)]
     } else {
         &[]
     }

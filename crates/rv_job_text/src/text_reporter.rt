@@ -44,163 +44,163 @@ pub struct TextReporter<'a> {
 impl<'a> RowReporter for TextReporter<'a> {
     ghost use Rattle.rv_job_text.specs.RowReporter.{reporter_of, row_lines_at};
 
-    ghost line = { λ reporter place row. row_lines_at (reporter_of reporter) place row };
+    ghost line = { λ reporter index row. row_lines_at (reporter_of reporter) index row };
 
-    // Appends all lines about a row of the job at index `place`, or nothing if there is no such job or the row is not shown.
+    // Appends all lines about a row of the job at index `index`, or nothing if there is no such job or the row is not shown.
     #[tactic(auto, unfolding(crate::specs::RowReporter::row_lines_at))]
     fn push_row_text(
         &self,
         alloc: Global,
-        place: usize,
+        index: usize,
         row: &Row,
         text: &mut Vec<u8>,
     ) -> Result<(), AllocError> {
-        if place < self.plan.jobs() {
-            return self.push_row_lines(alloc, place, row, text);
+        if index < self.plan.jobs() {
+            return self.push_row_lines(alloc, index, row, text);
         }
         Ok(())
     }
 }
 
 impl<'a> TextReporter<'a> {
-    // Appends all lines about a row of the job at index `place`, or nothing if the row is not shown.
+    // Appends all lines about a row of the job at index `index`, or nothing if the row is not shown.
     #[tactic(auto, unfolding(crate::specs::RowReporter::row_lines))]
     fn push_row_lines(
         &self,
         alloc: Global,
-        place: usize,
+        index: usize,
         row: &Row,
         text: &mut Vec<u8>,
     ) -> Result<(), AllocError>
-        requires { place < length self.now.plan.now.jobs }
+        requires { index < length self.now.plan.now.jobs }
         ensures { OnOk result ((d : AJob) → text.new.items ≡ text.old.items
-            ++ row_lines (reporter_of self.now) (job_at self.now.plan.now place d) row.now) }
+            ++ row_lines (reporter_of self.now) (job_at self.now.plan.now index d) row.now) }
     {
         let judgement = self.judge.judgement(row);
         if !self.verbosity.shows_row(judgement) {
             return Ok(());
         }
         if !judgement.is_unknown_failure() || !did_run(row.ending) {
-            return self.push_only_row_line(alloc, place, row, text);
+            return self.push_only_row_line(alloc, index, row, text);
         }
         let plan = self.plan;
-        let file = &JobFile::read(alloc, plan, place)?;
-        self.push_row_line(alloc, place, row, file.fault_symbol(row.ending), text)?;
+        let file = &JobFile::read(alloc, plan, index)?;
+        self.push_row_line(alloc, index, row, file.fault_symbol(row.ending), text)?;
         JobRow {
             plan,
-            place,
+            index,
             row,
             file,
         }
         .push_run_lines(alloc, self.last, text)
     }
 
-    /// Appends an explanation of the row of the job at index `place`, whatever the verbosity: the line about it and, if the job ran, its
+    /// Appends an explanation of the row of the job at index `index`, whatever the verbosity: the line about it and, if the job ran, its
     /// expectations with the unmet ones first, the end of its console, the use of its budget, how it reached its end with the registers and
     /// last instructions, and the calls that had not returned.
     #[tactic(auto, unfolding(crate::specs::RowReporter::explanation_text))]
     pub fn push_job_explanation(
         &self,
         alloc: Global,
-        place: usize,
+        index: usize,
         row: &Row,
-        way: &TraceOptions,
+        options: &TraceOptions,
         text: &mut Vec<u8>,
     ) -> Result<(), AllocError>
-        requires { place < length self.now.plan.now.jobs }
+        requires { index < length self.now.plan.now.jobs }
         ensures { OnOk result ((d : AJob) → text.new.items ≡ text.old.items
             ++ explanation_text self.now.plan.now self.now.unread.now (judge_view self.now.judge)
-            (job_at self.now.plan.now place d) row.now way.now) }
+            (job_at self.now.plan.now index d) row.now options.now) }
     {
         if !did_run(row.ending) {
-            return self.push_only_row_line(alloc, place, row, text);
+            return self.push_only_row_line(alloc, index, row, text);
         }
         let plan = self.plan;
-        let file = &JobFile::read(alloc, plan, place)?;
-        self.push_row_line(alloc, place, row, file.fault_symbol(row.ending), text)?;
+        let file = &JobFile::read(alloc, plan, index)?;
+        self.push_row_line(alloc, index, row, file.fault_symbol(row.ending), text)?;
         JobRow {
             plan,
-            place,
+            index,
             row,
             file,
         }
-        .push_run_explanation(alloc, way, text)
+        .push_run_explanation(alloc, options, text)
     }
 
-    /// Appends the line about the row of the job at index `place`, whatever the verbosity, and the unmet expectations if the job ran.
+    /// Appends the line about the row of the job at index `index`, whatever the verbosity, and the unmet expectations if the job ran.
     #[tactic(auto, unfolding(crate::specs::RowReporter::outcome_text))]
     pub fn push_outcome(
         &self,
         alloc: Global,
-        place: usize,
+        index: usize,
         row: &Row,
         text: &mut Vec<u8>,
     ) -> Result<(), AllocError>
-        requires { place < length self.now.plan.now.jobs }
+        requires { index < length self.now.plan.now.jobs }
         ensures { OnOk result ((d : AJob) → text.new.items ≡ text.old.items
             ++ outcome_text self.now.plan.now self.now.unread.now (judge_view self.now.judge)
-            (job_at self.now.plan.now place d) row.now) }
+            (job_at self.now.plan.now index d) row.now) }
     {
         if !did_run(row.ending) {
-            return self.push_only_row_line(alloc, place, row, text);
+            return self.push_only_row_line(alloc, index, row, text);
         }
         let plan = self.plan;
-        let file = &JobFile::read(alloc, plan, place)?;
-        self.push_row_line(alloc, place, row, file.fault_symbol(row.ending), text)?;
+        let file = &JobFile::read(alloc, plan, index)?;
+        self.push_row_line(alloc, index, row, file.fault_symbol(row.ending), text)?;
         JobRow {
             plan,
-            place,
+            index,
             row,
             file,
         }
         .push_expectation_lines(alloc, Detail::UnmetExpectation, text)
     }
 
-    /// Appends only the line about the row of the job at index `place`, whatever the verbosity. Parses the image only if the run ended with
+    /// Appends only the line about the row of the job at index `index`, whatever the verbosity. Parses the image only if the run ended with
     /// a fault.
     #[tactic(auto, unfolding(crate::specs::ImageSymbols::fault_symbol))]
     pub fn push_only_row_line(
         &self,
         alloc: Global,
-        place: usize,
+        index: usize,
         row: &Row,
         text: &mut Vec<u8>,
     ) -> Result<(), AllocError>
-        requires { place < length self.now.plan.now.jobs }
+        requires { index < length self.now.plan.now.jobs }
         ensures { OnOk result ((d : AJob) → text.new.items ≡ text.old.items
             ++ row_line self.now.plan.now self.now.unread.now (judge_view self.now.judge)
-            (job_at self.now.plan.now place d) row.now) }
+            (job_at self.now.plan.now index d) row.now) }
     {
         match row.ending {
             RowEnd::Fault(_, _, _) => {
-                let file = JobFile::read(alloc, self.plan, place)?;
-                self.push_row_line(alloc, place, row, file.fault_symbol(row.ending), text)
+                let file = JobFile::read(alloc, self.plan, index)?;
+                self.push_row_line(alloc, index, row, file.fault_symbol(row.ending), text)
             }
             RowEnd::Exit(_) | RowEnd::Budget | RowEnd::Refused(_) => {
-                self.push_row_line(alloc, place, row, None, text)
+                self.push_row_line(alloc, index, row, None, text)
             }
         }
     }
 
-    // Appends the line about the row of the job at index `place`, with the symbol at the pc of a fault.
+    // Appends the line about the row of the job at index `index`, with the symbol at the pc of a fault.
     #[tactic(auto, unfolding(crate::specs::RowReporter::row_line))]
     fn push_row_line(
         &self,
         alloc: Global,
-        place: usize,
+        index: usize,
         row: &Row,
         symbol: Option<SymbolAt<'_>>,
         text: &mut Vec<u8>,
     ) -> Result<(), AllocError>
-        requires place { place < length self.now.plan.now.jobs }
+        requires index { index < length self.now.plan.now.jobs }
         requires symbol { (d : AJob) → option_map (λ s. (s.name.now, s.offset)) symbol
-            ≡ fault_symbol (job_at self.now.plan.now place d).isa
-            (image_bytes self.now.plan.now.answers (job_at self.now.plan.now place d)) row.now.ending }
+            ≡ fault_symbol (job_at self.now.plan.now index d).isa
+            (image_bytes self.now.plan.now.answers (job_at self.now.plan.now index d)) row.now.ending }
         ensures { OnOk result ((d : AJob) → text.new.items ≡ text.old.items
             ++ row_line self.now.plan.now self.now.unread.now (judge_view self.now.judge)
-            (job_at self.now.plan.now place d) row.now) }
+            (job_at self.now.plan.now index d) row.now) }
     {
-        let reason = ending_reason(alloc, self.plan, self.unread, place, row.ending)?;
+        let reason = ending_reason(alloc, self.plan, self.unread, index, row.ending)?;
         let detail = EndDetail {
             symbol,
             reason: reason_bytes(&reason),
@@ -229,7 +229,7 @@ impl<'a> JobRow<'a> {
         text: &mut Vec<u8>,
     ) -> Result<(), AllocError>
         ensures { OnOk result ((d : AJob) → text.new.items ≡ text.old.items
-            ++ run_lines self.now.plan.now (job_at self.now.plan.now self.now.place d)
+            ++ run_lines self.now.plan.now (job_at self.now.plan.now self.now.index d)
             self.now.row.now last) }
     {
         self.push_expectation_lines(alloc, Detail::UnmetExpectation, text)?;
@@ -246,17 +246,17 @@ impl<'a> JobRow<'a> {
     fn push_run_explanation(
         &self,
         alloc: Global,
-        way: &TraceOptions,
+        options: &TraceOptions,
         text: &mut Vec<u8>,
     ) -> Result<(), AllocError>
         ensures { OnOk result ((d : AJob) → text.new.items ≡ text.old.items
-            ++ run_explanation self.now.plan.now (job_at self.now.plan.now self.now.place d)
-            self.now.row.now way.now) }
+            ++ run_explanation self.now.plan.now (job_at self.now.plan.now self.now.index d)
+            self.now.row.now options.now) }
     {
         self.push_expectation_lines(alloc, Detail::All, text)?;
         push_console_tail(text, self.row.console.as_slice())?;
-        push_budget_use_line(text, self.row.steps, way.budget_use)?;
-        self.push_end_trace(alloc, way.last, text)?;
+        push_budget_use_line(text, self.row.steps, options.budget_use)?;
+        self.push_end_trace(alloc, options.last, text)?;
         self.push_calls(alloc, text)
     }
 
@@ -269,9 +269,9 @@ impl<'a> JobRow<'a> {
     ) -> Result<(), AllocError>
         ensures { OnOk result ((d : AJob) → text.new.items ≡ text.old.items
             ++ expectation_lines detail self.now.plan.now
-            (job_at self.now.plan.now self.now.place d) self.now.row.now) }
+            (job_at self.now.plan.now self.now.index d) self.now.row.now) }
     {
-        let named = row_of_same_as_job(alloc, self.plan, self.plan.job(self.place))?;
+        let named = row_of_same_as_job(alloc, self.plan, self.plan.job(self.index))?;
         self.push_compared_expectations(alloc, named.as_ref(), detail, text)
     }
 
@@ -285,18 +285,18 @@ impl<'a> JobRow<'a> {
         text: &mut Vec<u8>,
     ) -> Result<(), AllocError>
         requires { (d : AJob) → option_map (λ row. row.now) other
-            ≡ row_of_same_as_job self.now.plan.now (job_at self.now.plan.now self.now.place d) }
+            ≡ row_of_same_as_job self.now.plan.now (job_at self.now.plan.now self.now.index d) }
         ensures { OnOk result ((d : AJob) → text.new.items ≡ text.old.items
             ++ expectation_lines detail self.now.plan.now
-            (job_at self.now.plan.now self.now.place d) self.now.row.now) }
+            (job_at self.now.plan.now self.now.index d) self.now.row.now) }
     {
-        let (plan, place) = (self.plan, self.place);
-        let job = plan.job(place);
+        let (plan, index) = (self.plan, self.index);
+        let job = plan.job(index);
         let comparison = Comparison {
             job,
             row: self.row,
-            console: expected_console_bytes(plan, place),
-            reference: signature_reference_bytes(plan, place),
+            console: expected_console_bytes(plan, index),
+            reference: signature_reference_bytes(plan, index),
             other,
         };
         let address = self.file.signature_begin(&job.signature);

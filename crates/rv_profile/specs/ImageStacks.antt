@@ -12,11 +12,11 @@ use Rattle.rv_profile.specs.declared.sums.Sums.{Sums}
 
 -- the call-tree nodes that the table has for the image with these bytes; empty if the table does not have this image
 abbrev pub nodes_of : CountTable → List ℕ → List CallNode
-nodes_of table bytes = option_map_or (λ counted. counted.spots) (entry_of_image table bytes) []
+nodes_of table bytes = option_map_or (λ entry. entry.spots) (entry_of_image table bytes) []
 
 -- the names of the functions that the table has for the image with these bytes; empty if the table does not have this image
 abbrev pub names_of : CountTable → List ℕ → List FunctionName
-names_of table bytes = option_map_or (λ counted. counted.functions) (entry_of_image table bytes) []
+names_of table bytes = option_map_or (λ entry. entry.functions) (entry_of_image table bytes) []
 
 -- ---- tables with call trees
 
@@ -27,7 +27,7 @@ has_nodes (s ∷ ss) = true
 
 -- whether the table has a call tree for at least one image
 abbrev pub has_stacks : CountTable → Bool
-has_stacks table = list_any (λ counted. has_nodes counted.spots) table.images
+has_stacks table = list_any (λ entry. has_nodes entry.spots) table.images
 
 -- ---- sums
 

@@ -33,14 +33,14 @@ function_counts spots named = record {
 abbrev pub precedes : FunctionCounts → FunctionCounts → Bool
 precedes p q = nat_lt q.own p.own || ((p.own == q.own) && nat_lt p.function q.function)
 
--- `found` has the counts of each named function in the call tree, once, in the order that `precedes` defines
-pub record IsProfileOf (spots : List CallNode) (names : List FunctionName) (found : List FunctionCounts) : Type 0 where
-  pub each : IsPermutation (map (function_counts spots) names) found
-  pub order : IsSortedBy precedes found
+-- `profile` has the counts of each named function in the call tree, once, in the order that `precedes` defines
+pub record IsProfileOf (spots : List CallNode) (names : List FunctionName) (profile : List FunctionCounts) : Type 0 where
+  pub each : IsPermutation (map (function_counts spots) names) profile
+  pub order : IsSortedBy precedes profile
 
 -- the sum of the own steps of the functions
 abbrev pub total_own_steps : List FunctionCounts → ℕ
-total_own_steps found = sum_by (λ p. p.own) found
+total_own_steps profile = sum_by (λ p. p.own) profile
 
 -- neither the own nor the inclusive steps of the function exceed `steps`, the steps of all nodes
 abbrev pub IsWithin : ℕ → FunctionCounts → Type 0

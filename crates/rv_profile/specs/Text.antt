@@ -11,9 +11,9 @@ use Rattle.rv_profile.specs.declared.sums.Sums.{Sums}
 
 -- ---- columns
 
--- the width of a column whose greatest number is `greatest`: `least`, or two more than the number of its digits if that is more
+-- the width of a column whose greatest number is `greatest`: `min_width`, or two more than the number of its digits if that is more
 abbrev pub width : ℕ → ℕ → ℕ
-width least greatest = max least (2 + length (decimal greatest))
+width min_width greatest = max min_width (2 + length (decimal greatest))
 
 -- the widths of the columns for an image, given the sums of its steps and calls
 abbrev pub columns_of : Sums → Columns
@@ -75,7 +75,7 @@ functions_word count = if count == 1 then codes " more function\n" else codes " 
 
 -- the line that says how many functions are not shown; empty if there are none
 abbrev pub more_line : ℕ → List ℕ
-more_line left = if left == 0 then [] else decimal left ++ functions_word left
+more_line hidden = if hidden == 0 then [] else decimal hidden ++ functions_word hidden
 
 -- ---- an image
 

@@ -26,11 +26,11 @@ pub(crate) fn columns_of(alloc: Global, sums: Sums) -> Result<Columns, AllocErro
     })
 }
 
-// Returns the width of a column whose greatest number is `greatest`: `least`, or two more than the number of its digits if that is more.
-fn width(alloc: Global, least: usize, greatest: u64) -> Result<usize, AllocError>
-    ensures { IfOk result (λ count. count ≡ width least greatest) }
+// Returns the width of a column whose greatest number is `greatest`: `min_width`, or two more than the number of its digits if that is more.
+fn width(alloc: Global, min_width: usize, greatest: u64) -> Result<usize, AllocError>
+    ensures { IfOk result (λ count. count ≡ width min_width greatest) }
 {
     let mut digits = Vec::new(alloc);
     push_number(&mut digits, greatest)?;
-    Ok(least.max(2 + digits.len()))
+    Ok(min_width.max(2 + digits.len()))
 }

@@ -28,21 +28,21 @@ pub(crate) fn stacks_of<'t>(table: &'t CountTable, bytes: &[u8]) -> ImageStacks<
     ensures tree { IsTree result.spots.now }
 {
     match entry_of_image(table, bytes) {
-        Some(counted) => stacks_of_image(counted),
+        Some(entry) => stacks_of_image(entry),
         None => no_stacks(),
     }
 }
 
 // Returns the call tree of an image of a table.
-fn stacks_of_image(counted: &ImageCounts) -> ImageStacks<'_>
-    requires { IsValidImage counted.now }
-    ensures spots { result.spots.now ≡ counted.now.spots }
-    ensures names { result.names.now ≡ counted.now.functions }
+fn stacks_of_image(entry: &ImageCounts) -> ImageStacks<'_>
+    requires { IsValidImage entry.now }
+    ensures spots { result.spots.now ≡ entry.now.spots }
+    ensures names { result.names.now ≡ entry.now.functions }
     ensures tree { IsTree result.spots.now }
 {
     ImageStacks {
-        spots: counted.spots.as_slice(),
-        names: counted.functions.as_slice(),
+        spots: entry.spots.as_slice(),
+        names: entry.functions.as_slice(),
     }
 }
 
@@ -67,10 +67,10 @@ pub fn has_stacks(table: &CountTable) -> bool
 }
 
 // Whether an image of a table has a call tree.
-fn has_spots(counted: &ImageCounts) -> bool
-    ensures { result ≡ has_nodes counted.now.spots }
+fn has_spots(entry: &ImageCounts) -> bool
+    ensures { result ≡ has_nodes entry.now.spots }
 {
-    !counted.spots.as_slice().is_empty()
+    !entry.spots.as_slice().is_empty()
 }
 
 /// Returns the path of the first image whose steps or calls in a table add up to 2^64 or more, or `None` if there is none.
@@ -98,8 +98,8 @@ fn first_past_64_bits<'i, 'a>(
 fn is_past_64_bits(table: &CountTable, image: &ImageFile<'_>) -> bool
     ensures { result ≡ is_past_64_bits table.now (image_of_file image.now) }
 {
-    let Some(counted) = entry_of_image(table, image.bytes) else {
+    let Some(entry) = entry_of_image(table, image.bytes) else {
         return false;
     };
-    sums_of(counted.spots.as_slice()).is_none()
+    sums_of(entry.spots.as_slice()).is_none()
 }

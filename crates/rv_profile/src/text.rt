@@ -138,14 +138,14 @@ fn push_percent(alloc: Global, bytes: &mut Vec<u8>, count: u64) -> Result<(), Al
 }
 
 /// Appends the line that says how many functions are not shown; nothing if there are none.
-pub(crate) fn push_more_line(bytes: &mut Vec<u8>, left: usize) -> Result<(), AllocError>
-    ensures { OnOk result (bytes.new.items ≡ bytes.old.items ++ more_line left) }
+pub(crate) fn push_more_line(bytes: &mut Vec<u8>, hidden: usize) -> Result<(), AllocError>
+    ensures { OnOk result (bytes.new.items ≡ bytes.old.items ++ more_line hidden) }
 {
-    if left == 0 {
+    if hidden == 0 {
         return Ok(());
     }
-    push_number(bytes, left as u64)?;
-    push_text(bytes, functions_word(left))
+    push_number(bytes, hidden as u64)?;
+    push_text(bytes, functions_word(hidden))
 }
 
 // Returns " more function" if the count is 1, and otherwise " more functions", followed by a line feed.

@@ -32,7 +32,7 @@ pub(crate) fn preorder_of_nodes(
     ensures { IfOk result (ArePreorderOf nodes.items) }
 {
     let mut remaining = nodes;
-    let mut is_preorder = PreorderBuilder::new(alloc)?;
+    let mut builder = PreorderBuilder::new(alloc)?;
     // Each node is entered once and left once.
     'turns: for _ in 0..remaining.len().saturating_mul(2) {
         builder.visit_next(&mut remaining, children)?;

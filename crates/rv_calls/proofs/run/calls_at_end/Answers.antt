@@ -8,9 +8,9 @@ use Rattle.rv_calls.proofs.run.calls_at_end.Goals as goal
 pub returns-in_ok-calls_of_run-in-Ok : goal.returns-in_ok-calls_of_run-in-Ok
 returns-in_ok-calls_of_run-in-Ok c = λ d.
     let plan = c.args.job.now.plan.now in
-    let place = c.args.job.now.place in
-    let same = get_or_read plan.jobs place c.job.result.now c.args.job.now.within c.job.ensures.value d in
-    calls_found plan (get_or plan.jobs place d) c.job.result.now.budget (state_of c.in-Ok.machine)
+    let index = c.args.job.now.place in
+    let same = get_or_read plan.jobs index c.job.result.now c.args.job.now.within c.job.ensures.value d in
+    calls_found plan (get_or plan.jobs index d) c.job.result.now.budget (state_of c.in-Ok.machine)
     c.in_ok-calls_of_run-in-Ok.field-0 (rw c.in-Ok.is at (c.in_ok-machine.ensures d))
     (ap (λ (j : Job). j.budget) (sym same)) c.in_ok-calls_of_run-in-Ok.ensures
 

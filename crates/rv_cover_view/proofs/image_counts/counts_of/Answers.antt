@@ -8,7 +8,7 @@ use Rattle.rv_cover_view.proofs.image_counts.counts_of.Goals as goal
 pub returns-in-Some-clause-rising : goal.returns-in-Some-clause-rising
 returns-in-Some-clause-rising c =
     rw c.as_slice.ensures
-    (found_rises (is_of_digest (sha256 c.args.bytes.now)) c.args.table.now.images c.in-Some.counted.now c.requires.images
+    (found_rises (is_of_digest (sha256 c.args.bytes.now)) c.args.table.now.images c.in-Some.entry.now c.requires.images
     (rw c.in-Some.is at c.entry_of_image.ensures))
 
 pub returns-in-None-clause-rising : goal.returns-in-None-clause-rising

@@ -9,9 +9,9 @@ use Rattle.rv_cover_view.proofs.job_images.images_of_jobs.Goals as goal
 pub loop-index-preserved : goal.loop-index-preserved
 loop-index-preserved c =
     let plan = c.args.plan.now in
-    let places = c.args.places.now in
+    let indices = c.args.indices.now in
     let i = c.loop-index.index-index in
-    let index = get_or places i 0 in
+    let index = get_or indices i 0 in
     c.in_ok-push_image_at.ensures (single_job [] 0 [])
     ∙ ap (λ images. with_image_of plan.answers images (job_at plan index (single_job [] 0 []))) c.loop-index.invariant
-    ∙ sym (images_more plan places i index c.loop-index-test.true (get_or_default places i 0 index c.loop-index-test.true))
+    ∙ sym (images_more plan indices i index c.loop-index-test.true (get_or_default indices i 0 index c.loop-index-test.true))

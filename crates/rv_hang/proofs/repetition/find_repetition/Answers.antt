@@ -9,49 +9,49 @@ use Rattle.rv_hang.proofs.Cycles.{Known, is_known, known_first, known_more, repe
 use Rattle.rv_hang.proofs.Waits.{Waited, wait_told, waited_first, waited_more}
 use Rattle.rv_hang.proofs.repetition.find_repetition.Goals as goal
 
-pub loop-place-init : goal.loop-place-init
-loop-place-init c = record {
+pub loop-step-init : goal.loop-step-init
+loop-step-init c = record {
   reached = sym (ap (λ r. r.state) c.run.ensures);
   known = known_first c.args.end.now (c.args.steps - c.min.result) (state_of c.args.machine);
   waited = waited_first (c.args.steps - c.min.result) (state_of c.args.machine);
 }
 
-pub loop-place-preserved : goal.loop-place-preserved
-loop-place-preserved c =
+pub loop-step-preserved : goal.loop-step-preserved
+loop-step-preserved c =
     let s = state_of c.args.machine in
-    let place = c.loop-place.place in
+    let step = c.loop-step.step in
     let begin = c.args.steps - c.min.result in
     let complete = c.requires.complete in
-    let reached = c.loop-place.invariant.reached in
-    let known = known_more c.args.end.now begin place s (state_of c.loop-place.ahead) reached c.loop-place.matching
-    (omega arith) c.loop-place.invariant.known in
-    let waited = waited_more begin place s (state_of c.loop-place.ahead) reached c.loop-place.waited
-    c.loop-place.invariant.waited in
+    let reached = c.loop-step.invariant.reached in
+    let known = known_more c.args.end.now begin step s (state_of c.loop-step.ahead) reached c.loop-step.matching
+    (omega arith) c.loop-step.invariant.known in
+    let waited = waited_more begin step s (state_of c.loop-step.ahead) reached c.loop-step.waited
+    c.loop-step.invariant.waited in
     record {
-      reached = sym (ap (λ r. r.state) c.run-in-loop-place.ensures) ∙ ap (state_after 1) reached
-          ∙ sym (after_more place 1 s (completes c.args.steps place s (omega arith)));
-      known = subst (λ (a : Option MatchingSteps). Known c.args.end.now begin (place + 1) s a) (sym c.matching_steps_at-matching.ensures) known;
-      waited = subst (λ (w : ℕ). Waited begin (place + 1) s w) (sym c.waits_up_to-waited.ensures) waited;
+      reached = sym (ap (λ r. r.state) c.run-in-loop-step.ensures) ∙ ap (state_after 1) reached
+          ∙ sym (after_more step 1 s (completes c.args.steps step s (omega arith)));
+      known = subst (λ (a : Option MatchingSteps). Known c.args.end.now begin (step + 1) s a) (sym c.matching_steps_at-matching.ensures) known;
+      waited = subst (λ (w : ℕ). Waited begin (step + 1) s w) (sym c.waits_up_to-waited.ensures) waited;
     }
 
 pub returns-in_err-matching-clause-found : goal.returns-in_err-matching-clause-found
-returns-in_err-matching-clause-found c = λ place l last.
+returns-in_err-matching-clause-found c = λ step l last.
     let s = state_of c.args.machine in
-    let end : c.loop-place.place ≡ c.args.steps = omega arith in
-    let known = subst (λ (k : ℕ). Known c.args.end.now (c.args.steps - c.min.result) k s c.loop-place.matching) end
-    c.loop-place.invariant.known in
-    let some = is_known c.args.end.now (c.args.steps - c.min.result) c.args.steps place s c.loop-place.matching
+    let end : c.loop-step.step ≡ c.args.steps = omega arith in
+    let known = subst (λ (k : ℕ). Known c.args.end.now (c.args.steps - c.min.result) k s c.loop-step.matching) end
+    c.loop-step.invariant.known in
+    let some = is_known c.args.end.now (c.args.steps - c.min.result) c.args.steps step s c.loop-step.matching
     c.requires.end known (omega (arith, c.min.ensures)) last in
-    absurd (both_ways (is_some c.loop-place.matching) (ap is_some c.in_err-matching.was) some)
+    absurd (both_ways (is_some c.loop-step.matching) (ap is_some c.in_err-matching.was) some)
 
 pub returns-clause-repetition : goal.returns-clause-repetition
 returns-clause-repetition c =
     let s = state_of c.args.machine in
-    let end : c.loop-place.place ≡ c.args.steps = omega arith in
-    let known = subst (λ (k : ℕ). Known c.args.end.now (c.args.steps - c.min.result) k s c.loop-place.matching) end
-    c.loop-place.invariant.known in
+    let end : c.loop-step.step ≡ c.args.steps = omega arith in
+    let known = subst (λ (k : ℕ). Known c.args.end.now (c.args.steps - c.min.result) k s c.loop-step.matching) end
+    c.loop-step.invariant.known in
     repetition_of c.args.end.now (c.args.steps - c.min.result) c.args.steps s c.in_ok-matching.matching
-    (ltb c.in_ok-matching.matching.first c.loop-place.waited) c.requires.complete
+    (ltb c.in_ok-matching.matching.first c.loop-step.waited) c.requires.complete
     c.requires.end (subst (λ (a : Option MatchingSteps). Known c.args.end.now (c.args.steps - c.min.result) c.args.steps s a)
     c.in_ok-matching.was known)
 
@@ -59,14 +59,14 @@ pub returns-clause-waits : goal.returns-clause-waits
 returns-clause-waits c =
     let s = state_of c.args.machine in
     let begin = c.args.steps - c.min.result in
-    let end : c.loop-place.place ≡ c.args.steps = omega arith in
-    let known = subst (λ (a : Option MatchingSteps). Known c.args.end.now begin c.loop-place.place s a) c.in_ok-matching.was
-    c.loop-place.invariant.known in
-    wait_told begin c.args.steps c.in_ok-matching.matching.first (c.args.steps - c.in_ok-matching.matching.last) c.loop-place.waited s
-    known.some.3 (subst (λ (k : ℕ). Waited begin k s c.loop-place.waited) end c.loop-place.invariant.waited)
+    let end : c.loop-step.step ≡ c.args.steps = omega arith in
+    let known = subst (λ (a : Option MatchingSteps). Known c.args.end.now begin c.loop-step.step s a) c.in_ok-matching.was
+    c.loop-step.invariant.known in
+    wait_told begin c.args.steps c.in_ok-matching.matching.first (c.args.steps - c.in_ok-matching.matching.last) c.loop-step.waited s
+    known.some.3 (subst (λ (k : ℕ). Waited begin k s c.loop-step.waited) end c.loop-step.invariant.waited)
 
 pub overflow_sub-result : goal.overflow_sub-result
 overflow_sub-result c =
-    let known = subst (λ (a : Option MatchingSteps). Known c.args.end.now (c.args.steps - c.min.result) c.loop-place.place
-    (state_of c.args.machine) a) c.in_ok-matching.was c.loop-place.invariant.known in
+    let known = subst (λ (a : Option MatchingSteps). Known c.args.end.now (c.args.steps - c.min.result) c.loop-step.step
+    (state_of c.args.machine) a) c.in_ok-matching.was c.loop-step.invariant.known in
     let last = known.some.1.before in omega arith

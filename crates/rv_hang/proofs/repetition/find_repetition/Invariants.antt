@@ -5,9 +5,9 @@ use Rattle.rv_hang.proofs.Cycles.{Known}
 use Rattle.rv_hang.proofs.Waits.{Waited}
 use Rattle.rv_hang.proofs.repetition.find_repetition.Given as goal
 
-abbrev pub invariant-loop-place : goal.invariant-loop-place
-invariant-loop-place l = record {
-  reached : state_of l.ahead ≡ state_after l.place (state_of l.fn.machine);
-  known : Known l.end l.begin l.place (state_of l.fn.machine) l.matching;
-  waited : Waited l.begin l.place (state_of l.fn.machine) l.waited;
+abbrev pub invariant-loop-step : goal.invariant-loop-step
+invariant-loop-step l = record {
+  reached : state_of l.ahead ≡ state_after l.step (state_of l.fn.machine);
+  known : Known l.end l.begin l.step (state_of l.fn.machine) l.matching;
+  waited : Waited l.begin l.step (state_of l.fn.machine) l.waited;
 }

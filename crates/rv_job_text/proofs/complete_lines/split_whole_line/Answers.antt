@@ -4,7 +4,7 @@ use Rattle.rv_job_text.proofs.complete_lines.split_whole_line.Goals as goal
 
 pub returns-then-feed-text-clause-some : goal.returns-then-feed-text-clause-some
 returns-then-feed-text-clause-some c =
-    λ some. cc (complete_lines-front c.args.text.now some, c.first_line_feed-feed.ensures.place, c.tail_from.ensures)
+    λ some. cc (complete_lines-front c.args.text.now some, c.first_line_feed-feed.ensures.offset, c.tail_from.ensures)
 
 pub returns-else-feed-text-clause-some : goal.returns-else-feed-text-clause-some
 returns-else-feed-text-clause-some c =
@@ -13,4 +13,4 @@ returns-else-feed-text-clause-some c =
     let behind : c.tail_from-else-feed-text.result.now ≡ drop (feed + 1) text =
     c.tail_from-else-feed-text.ensures ∙ drop_of_length-le text (omega arith) ∙ sym (drop_of_length-le text (omega arith)) in
     let whole : take (feed + 1) text ≡ text = take_all (feed + 1) text (omega arith) in
-    λ some. cc (complete_lines-front text some, c.first_line_feed-feed.ensures.place, behind, whole)
+    λ some. cc (complete_lines-front text some, c.first_line_feed-feed.ensures.offset, behind, whole)

@@ -5,11 +5,11 @@ use Rattle.rv_job_text.proofs.console_tail.first_line_len.Goals as goal
 
 pub returns-then-byte-eq10-clause-len : goal.returns-then-byte-eq10-clause-len
 returns-then-byte-eq10-clause-len c =
-    sym (position_or_len_is is_line_feed c.args.text.now c.loop-place.place 0 (omega arith) c.loop-place.invariant
+    sym (position_or_len_is is_line_feed c.args.text.now c.loop-offset.offset 0 (omega arith) c.loop-offset.invariant
     (λ _. eq-eqb _ 10 c.if-byte-eq10.true))
 
 pub returns-clause-len : goal.returns-clause-len
 returns-clause-len c =
     sym (position_or_len_is is_line_feed c.args.text.now (length c.args.text.now) 0 (omega arith)
-    (λ k below. c.loop-place.invariant k (omega arith))
+    (λ k below. c.loop-offset.invariant k (omega arith))
     (λ h. absurd (omega arith)))

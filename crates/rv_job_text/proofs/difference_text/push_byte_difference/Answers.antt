@@ -10,6 +10,6 @@ pub returns : goal.returns
 unfolding byte_difference_text
 returns c =
     rw (← c.actual_and_expected_from.ensures.actual, ← c.actual_and_expected_from.ensures.expected)
-    (told _ _ _ _ _ (byte_told (codes " at byte ") (decimal c.args.place) (codes ": expected ") (codes "\"")
+    (told _ _ _ _ _ (byte_told (codes " at byte ") (decimal c.args.offset) (codes ": expected ") (codes "\"")
     (printable_value c.actual_and_expected_from.result.1.now) (codes ", found ") (printable_value c.actual_and_expected_from.result.0.now))
     c.push_spans.ensures)

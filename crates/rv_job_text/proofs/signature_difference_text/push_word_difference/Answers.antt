@@ -7,6 +7,6 @@ use Rattle.rv_job_text.proofs.signature_difference_text.push_word_difference.Goa
 
 pub returns : goal.returns
 returns c =
-    let place = word_location_text c.args.first c.args.place in
-    told _ _ _ _ _ (words_told place (span_text c.args.expected) (codes ", found ") (span_text c.args.actual))
-    (ended _ _ _ _ place _ c.in_ok-push_word_location.ensures c.push_spans.ensures)
+    let index = word_location_text c.args.first c.args.index in
+    told _ _ _ _ _ (words_told index (span_text c.args.expected) (codes ", found ") (span_text c.args.actual))
+    (ended _ _ _ _ index _ c.in_ok-push_word_location.ensures c.push_spans.ensures)

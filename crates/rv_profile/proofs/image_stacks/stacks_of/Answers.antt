@@ -6,5 +6,5 @@ use Rattle.rv_profile.proofs.image_stacks.stacks_of.Goals as goal
 
 pub stacks_of_image-requires : goal.stacks_of_image-requires
 stacks_of_image-requires c =
-    found_is IsValidImage (is_of_digest (sha256 c.args.bytes.now)) c.args.table.now.images c.in-Some.counted.now c.requires.images
+    found_is IsValidImage (is_of_digest (sha256 c.args.bytes.now)) c.args.table.now.images c.in-Some.entry.now c.requires.images
     (rw c.in-Some.is at c.entry_of_image.ensures)

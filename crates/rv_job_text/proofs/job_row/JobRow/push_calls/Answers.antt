@@ -19,7 +19,7 @@ unfolding calls_lines
 returns-in-Some-2 c =
     let told = c.args.self.now in
     let plan = told.plan.now in
-    let job = λ (d : Job). job_at plan told.place d in
+    let job = λ (d : Job). job_at plan told.index d in
     let elf = c.in-Some.elf in
     let calls = c.in-Some-2.calls in
     told_of_each _ _ _ _ (λ d. calls_lines plan (job d))

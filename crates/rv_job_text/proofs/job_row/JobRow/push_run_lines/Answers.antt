@@ -11,24 +11,24 @@ pub returns-in-Some : goal.returns-in-Some
 unfolding run_lines
 returns-in-Some c =
     let plan = c.args.self.now.plan.now in
-    let place = c.args.self.now.place in
+    let index = c.args.self.now.index in
     let row = c.args.self.now.row.now in
     let tail = console_tail row.console in
     let tail_told = rw c.as_slice.ensures at c.in_ok-push_console_tail.ensures in
     rw c.in-Some.is
-    (ended _ _ _ _ (λ d. expectation_lines detail.UnmetExpectation plan (job_at plan place d) row)
-    (λ d. tail ++ end_trace_lines plan (job_at plan place d) row c.in-Some.last)
+    (ended _ _ _ _ (λ d. expectation_lines detail.UnmetExpectation plan (job_at plan index d) row)
+    (λ d. tail ++ end_trace_lines plan (job_at plan index d) row c.in-Some.last)
     c.in_ok-push_expectation_lines.ensures
-    (ended _ _ _ _ (λ d. tail) (λ d. end_trace_lines plan (job_at plan place d) row c.in-Some.last)
+    (ended _ _ _ _ (λ d. tail) (λ d. end_trace_lines plan (job_at plan index d) row c.in-Some.last)
     (λ d. tail_told) c.push_end_trace.ensures))
 
 pub returns-in-None : goal.returns-in-None
 unfolding run_lines
 returns-in-None c =
     let plan = c.args.self.now.plan.now in
-    let place = c.args.self.now.place in
+    let index = c.args.self.now.index in
     let row = c.args.self.now.row.now in
     let tail_told = rw c.as_slice.ensures at c.in_ok-push_console_tail.ensures in
     rw (c.in-None.is, append-nil (console_tail row.console))
-    (λ d. more _ _ _ (expectation_lines detail.UnmetExpectation plan (job_at plan place d) row) (console_tail row.console)
+    (λ d. more _ _ _ (expectation_lines detail.UnmetExpectation plan (job_at plan index d) row) (console_tail row.console)
     (c.in_ok-push_expectation_lines.ensures d) tail_told)
