@@ -10,8 +10,8 @@ pub record AppendsPrefix (old new : Option (List ℕ)) (text : List ℕ) : Type 
   pub appended : Appends old new part
 
 -- the beginning of the text was appended to the bytes of a sink, which changed from `old` to `new`, and the rest of the text is in the
--- buffer `gathered`
-pub record IsPartlyWritten (old new : Option (List ℕ)) (gathered text : List ℕ) : Type 0 where
+-- buffer `buffered`
+pub record IsPartlyWritten (old new : Option (List ℕ)) (buffered text : List ℕ) : Type 0 where
   pub sent : List ℕ
   pub appended : Appends old new sent
-  pub whole : text ≡ sent ++ gathered
+  pub whole : text ≡ sent ++ buffered

@@ -13,18 +13,18 @@ has_function function path = list_any (λ f. f == function) path
 abbrev pub calls_of_function : ℕ → List CallNode → ℕ
 calls_of_function function spots = sum_over_nodes (λ s. steps_if (s.function == function) s.calls) spots
 
--- the inclusive steps of a function: the sum of the steps of the nodes whose paths have it, each node counted once; `front` is the path of
+-- the inclusive steps of a function: the sum of the steps of the nodes whose paths have it, each node counted once; `previous_path` is the path of
 -- the node before these nodes
 abbrev pub inclusive_steps_after : ℕ → List ℕ → List CallNode → ℕ
-inclusive_steps_after function front [] = 0
-inclusive_steps_after function front (s ∷ ss) = steps_if (has_function function (path_after front s)) s.steps
-    + inclusive_steps_after function (path_after front s) ss
+inclusive_steps_after function previous_path [] = 0
+inclusive_steps_after function previous_path (s ∷ ss) = steps_if (has_function function (path_after previous_path s)) s.steps
+    + inclusive_steps_after function (path_after previous_path s) ss
 
--- `found` has the own steps, the inclusive steps and the calls of the function in the call tree
-pub record AreStepsOf (function : ℕ) (spots : List CallNode) (found : FunctionSteps) : Type 0 where
-  pub own : found.own ≡ own_steps_of function spots
-  pub inclusive : found.inclusive ≡ inclusive_steps_after function [] spots
-  pub calls : found.calls ≡ calls_of_function function spots
+-- `steps` has the own steps, the inclusive steps and the calls of the function in the call tree
+pub record AreStepsOf (function : ℕ) (spots : List CallNode) (steps : FunctionSteps) : Type 0 where
+  pub own : steps.own ≡ own_steps_of function spots
+  pub inclusive : steps.inclusive ≡ inclusive_steps_after function [] spots
+  pub calls : steps.calls ≡ calls_of_function function spots
 
 -- ---- the functions of nodes
 

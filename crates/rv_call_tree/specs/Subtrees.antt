@@ -10,14 +10,14 @@ abbrev pub below : ℕ → List CallNode → List CallNode
 below depth [] = []
 below depth (s ∷ ss) = if nat_lt depth s.depth then s ∷ below depth ss else []
 
--- the subtree of the node `s` at the index `place`, given the nodes `behind` after it
+-- the subtree of the node `s` at the index `place`, given the nodes `later` after it
 abbrev pub subtree : ℕ → CallNode → List CallNode → Subtree
-subtree place s behind = record {
+subtree place s later = record {
   function = s.function;
   place = place;
-  end = place + 1 + length (below s.depth behind);
+  end = place + 1 + length (below s.depth later);
   own = s.steps;
-  inclusive = s.steps + all_steps (below s.depth behind);
+  inclusive = s.steps + all_steps (below s.depth later);
   calls = s.calls;
 }
 

@@ -6,15 +6,15 @@ use Rattle.rv_call_tree.specs.declared.call_node.CallNode.{CallNode}
 
 -- ---- the path of a node
 
--- the path of the node `s`, which follows a node with the path `front`: as many of the first functions of `front` as the depth of `s` says,
+-- the path of the node `s`, which follows a node with the path `previous_path`: as many of the first functions of `previous_path` as the depth of `s` says,
 -- and then its own function
 abbrev pub path_after : List ℕ → CallNode → List ℕ
-path_after front s = take s.depth front ++ s.function ∷ []
+path_after previous_path s = take s.depth previous_path ++ s.function ∷ []
 
--- the path of the last of these nodes, or `front`, the path of the node before them, if there are none
+-- the path of the last of these nodes, or `previous_path`, the path of the node before them, if there are none
 abbrev pub last_path : List ℕ → List CallNode → List ℕ
-last_path front [] = front
-last_path front (s ∷ ss) = last_path (path_after front s) ss
+last_path previous_path [] = previous_path
+last_path previous_path (s ∷ ss) = last_path (path_after previous_path s) ss
 
 -- the path of the last of the first `count` nodes, or an empty path if `count` is 0
 abbrev pub path_after_first : ℕ → List CallNode → List ℕ
@@ -26,11 +26,11 @@ path_after_first count spots = last_path [] (take count spots)
 abbrev pub address_if : Bool → ℕ
 address_if test = if test then 1 else 0
 
--- the sum of `count` over the nodes with the path `path`; `front` is the path of the node before these nodes
+-- the sum of `count` over the nodes with the path `path`; `previous_path` is the path of the node before these nodes
 abbrev pub sum_over_path : (CallNode → ℕ) → List ℕ → List ℕ → List CallNode → ℕ
-sum_over_path count path front [] = 0
-sum_over_path count path front (s ∷ ss) =
-    (if bytes_eq (path_after front s) path then count s else 0) + sum_over_path count path (path_after front s) ss
+sum_over_path count path previous_path [] = 0
+sum_over_path count path previous_path (s ∷ ss) =
+    (if bytes_eq (path_after previous_path s) path then count s else 0) + sum_over_path count path (path_after previous_path s) ss
 
 -- the number of calls that led to the node
 abbrev pub calls_of_node : CallNode → ℕ
@@ -77,16 +77,16 @@ ends_with function (f ∷ g ∷ gs) = ends_with function (g ∷ gs)
 
 -- ---- nodes that form a tree
 
--- the node may follow a node with the path `front`: it is at most one deeper; if it is not deeper, its function address is greater than the
--- address of its preceding sibling, which is the function in `front` at its depth
-pub record FollowsInPreorder (front : List ℕ) (s : CallNode) : Type 0 where
-  pub within : s.depth ≤ length front
-  pub rising : s.depth < length front → slice_index_or front s.depth 0 < s.function
+-- the node may follow a node with the path `previous_path`: it is at most one deeper; if it is not deeper, its function address is greater than the
+-- address of its preceding sibling, which is the function in `previous_path` at its depth
+pub record FollowsInPreorder (previous_path : List ℕ) (s : CallNode) : Type 0 where
+  pub within : s.depth ≤ length previous_path
+  pub rising : s.depth < length previous_path → slice_index_or previous_path s.depth 0 < s.function
 
--- each node may follow the node before it; `front` is the path of the node before the first
+-- each node may follow the node before it; `previous_path` is the path of the node before the first
 abbrev pub FollowInPreorder : List ℕ → List CallNode → Type 0
-FollowInPreorder front [] = Unit {0}
-FollowInPreorder front (s ∷ ss) = FollowsInPreorder front s × FollowInPreorder (path_after front s) ss
+FollowInPreorder previous_path [] = Unit {0}
+FollowInPreorder previous_path (s ∷ ss) = FollowsInPreorder previous_path s × FollowInPreorder (path_after previous_path s) ss
 
 -- the nodes are a call tree in preorder: each path occurs once, siblings are sorted by function address, and each node comes after its
 -- parent
@@ -94,16 +94,16 @@ abbrev pub IsTree : List CallNode → Type 0
 IsTree spots = FollowInPreorder [] spots
 
 -- any two proofs of `FollowsInPreorder` are equal
-FollowsInPreorder-prop : (front : List ℕ) (s : CallNode) → IsProp (FollowsInPreorder front s)
-FollowsInPreorder-prop front s h k = λ i. record {
+FollowsInPreorder-prop : (previous_path : List ℕ) (s : CallNode) → IsProp (FollowsInPreorder previous_path s)
+FollowsInPreorder-prop previous_path s h k = λ i. record {
   within = le_prop h.within k.within i;
   rising = λ low. le_prop (h.rising low) (k.rising low) i;
 }
 
 -- any two proofs of `FollowInPreorder` are equal
-pub FollowInPreorder-prop : (front : List ℕ) (spots : List CallNode) → IsProp (FollowInPreorder front spots)
-FollowInPreorder-prop front [] = Unit-prop
-FollowInPreorder-prop front (s ∷ ss) = ×_prop (FollowsInPreorder-prop front s) (FollowInPreorder-prop (path_after front s) ss)
+pub FollowInPreorder-prop : (previous_path : List ℕ) (spots : List CallNode) → IsProp (FollowInPreorder previous_path spots)
+FollowInPreorder-prop previous_path [] = Unit-prop
+FollowInPreorder-prop previous_path (s ∷ ss) = ×_prop (FollowsInPreorder-prop previous_path s) (FollowInPreorder-prop (path_after previous_path s) ss)
 
 -- a run entered each of the nodes
 abbrev pub HasCalls : List CallNode → Type 0

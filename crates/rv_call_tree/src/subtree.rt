@@ -38,19 +38,19 @@ pub(crate) fn subtrees_of(alloc: Global, spots: &[CallNode]) -> Result<Vec<Subtr
     Ok(subtrees)
 }
 
-// Returns the subtree of the node at an index. `behind` has the subtrees of the nodes after it, last first. The search goes from child to
+// Returns the subtree of the node at an index. `later` has the subtrees of the nodes after it, last first. The search goes from child to
 // child, so that each subtree is read for one node only.
-fn subtree_at(spots: &[CallNode], place: usize, behind: &[Subtree]) -> Subtree
+fn subtree_at(spots: &[CallNode], place: usize, later: &[Subtree]) -> Subtree
     requires within { place < length spots.now }
     requires steps { all_steps spots.now < 2 ^ 64 }
-    requires behind { reverse behind.now ≡ subtrees_from (place + 1) (drop (place + 1) spots.now) }
+    requires behind { reverse later.now ≡ subtrees_from (place + 1) (drop (place + 1) spots.now) }
     ensures { result ∷ subtrees_from (place + 1) (drop (place + 1) spots.now) ≡ subtrees_from place (drop place spots.now) }
 {
     let spot = spots[place];
     let mut end = place + 1;
     let mut inclusive = spot.steps;
     while end < spots.len() && spot.depth < spots[end].depth {
-        let child = behind[spots.len() - 1 - end];
+        let child = later[spots.len() - 1 - end];
         inclusive += child.inclusive;
         end = child.end;
     }

@@ -33,9 +33,9 @@ Within {A} xs ys = (x : A) → IsIn x xs → IsIn x ys
 
 -- ---- draws
 
--- the draw of `number` by the pass with the index `place`
+-- the draw of `number` by the pass with the index `pass_index`
 abbrev pub entry : ℕ → ℕ → Entry
-entry place number = record { place = place; number = number }
+entry pass_index number = record { place = pass_index; number = number }
 
 -- whether two draws have equal pass indices and equal numbers
 abbrev pub is_same_draw : Entry → Entry → Bool
@@ -69,8 +69,8 @@ past_last_count pieces draws = count (is_past_last_piece pieces) draws
 
 -- the view of a seat: the number of chunks, its pass indices, its draws, and the draws of other seats that it has noted
 abbrev pub view : ℕ → List ℕ → List Entry → List Entry → View
-view pieces places draws noted =
-    record { pieces = pieces; places = places; draws = draws; noted = noted }
+view pieces pass_indices draws noted =
+    record { pieces = pieces; places = pass_indices; draws = draws; noted = noted }
 
 -- the view of a counter's first seat: pass index 0 and no draws
 abbrev pub first_view : ℕ → View
@@ -141,9 +141,9 @@ first_pass_index (p ∷ ps) = p
 abbrev pub view_with_draw : View → ℕ → View
 view_with_draw v n = view v.pieces v.places (v.draws ++ entry (first_pass_index v.places) n ∷ []) v.noted
 
--- the view `v` after its seat got the pass index `place`, which is added in front
+-- the view `v` after its seat got the pass index `pass_index`, which is added in front
 abbrev pub view_with_index : View → ℕ → View
-view_with_index v place = view v.pieces (place ∷ v.places) v.draws v.noted
+view_with_index v pass_index = view v.pieces (pass_index ∷ v.places) v.draws v.noted
 
 -- the step draws a number: afterwards the seat also has the draw of the number `n`, which is greater than all numbers that it had drawn
 pub record IsDraw (st : Step (Unit {0})) (me : SeatState) (n : ℕ) (after : SeatState) : Type 0 where

@@ -20,7 +20,7 @@ pub record PassView : Type 0 where
 
 -- the pass of this counter with these pass indices and draws
 abbrev pub pass_of : CounterView → List ℕ → List Entry → PassView
-pass_of d places draws = record { draw = d; places = places; draws = draws }
+pass_of d pass_indices draws = record { draw = d; places = pass_indices; draws = draws }
 
 -- whether a pass has ended: it has drawn a number past the last chunk
 abbrev pub has_ended : PassView → Bool
@@ -73,5 +73,5 @@ opening_row = 0 ∷ 1 ∷ replicate 63 0
 
 -- `p` is a pass of this counter without draws, whose only pass index is not among the bits `taken`
 abbrev pub IsNewPass : CounterView → ℕ → PassView → Type 0
-IsNewPass d taken p = (place : ℕ) × (place < 64) × (bit_at taken place ≡ 0)
-    × (p ≡ pass_of d (place ∷ []) [])
+IsNewPass d taken p = (pass_index : ℕ) × (pass_index < 64) × (bit_at taken pass_index ≡ 0)
+    × (p ≡ pass_of d (pass_index ∷ []) [])

@@ -156,15 +156,15 @@ impl Claims {
         all
     }
 
-    /// Returns a pass for a seat that has no index yet; its index is not among the bits `taken`. Returns `None` if all other indices are
+    /// Returns a pass for a seat that has no index yet; its index is not among the bits `assigned`. Returns `None` if all other indices are
     /// assigned.
-    fn take_seat(&self, mut seat: Seat<(), View>, taken: u64) -> Option<Pass>
+    fn take_seat(&self, mut seat: Seat<(), View>, assigned: u64) -> Option<Pass>
         requires table { seat.table_id ≡ self.now.table }
         requires blank { seat.me ≡ (view self.now.pieces [] [] [], []) }
-        ensures { IfSome result (λ p. IsNewPass self.now taken p) }
+        ensures { IfSome result (λ p. IsNewPass self.now assigned p) }
     {
         for place in 0..PLACES {
-            if taken >> place & 1 == 0
+            if assigned >> place & 1 == 0
                 && self.table.shared.swap::<Sit>(&mut seat, place + 1, 1) == 0
             {
                 return Some(Pass {

@@ -83,10 +83,10 @@ before_first_image = record { address = None; names = []; front = None }
 abbrev pub after_image_line : NextLines
 after_image_line = record { address = Some 0; names = []; front = Some [] }
 
--- the path of a node that follows a node with the path `front`, or `None` if no node can come next
+-- the path of a node that follows a node with the path `previous_path`, or `None` if no node can come next
 abbrev pub next_path : Option (List ℕ) → CallNode → Option (List ℕ)
 next_path None s = None
-next_path (Some front) s = Some (path_after front s)
+next_path (Some previous_path) s = Some (path_after previous_path s)
 
 -- the lines that can come next after the line of an address or a node: after a node, only another node
 abbrev pub after_entry : NextLines → Entry → NextLines
@@ -111,7 +111,7 @@ can_be_next_address (Some lowest) address = nat_le lowest address
 -- a node can come next, and this node may follow the path of the preceding one
 abbrev pub NodeCanComeNext : Option (List ℕ) → CallNode → Type 0
 NodeCanComeNext None s = ⊥
-NodeCanComeNext (Some front) s = FollowsInPreorder front s
+NodeCanComeNext (Some previous_path) s = FollowsInPreorder previous_path s
 
 -- the entry can come next: its address is not too low, or its node may follow the preceding one and its name agrees with the earlier ones
 abbrev pub CanComeNext : NextLines → Entry → Type 0
@@ -138,9 +138,9 @@ last_digest last (i ∷ is) = last_digest (Some i.digest) is
 abbrev pub IsNotAnAddress : ℕ → List ℕ → Type 0
 IsNotAnAddress lowest line = (c : AddressCounts) → IsValidCount c → nat_le lowest c.address ≡ true → line ≡ address_line c → ⊥
 
--- no node that may follow the path `front` and whose name agrees with `names` has this line
+-- no node that may follow the path `previous_path` and whose name agrees with `names` has this line
 abbrev pub IsNotANode : List FunctionName → List ℕ → List ℕ → Type 0
-IsNotANode names front line = (n : NamedCallNode) → IsValidNamedNode n → FollowsInPreorder front n.spot
+IsNotANode names previous_path line = (n : NamedCallNode) → IsValidNamedNode n → FollowsInPreorder previous_path n.spot
     → AgreesWithName n.name (name_of n.spot.function names) → line ≡ node_line n → ⊥
 
 -- the line is not the line of an image whose digest is greater than `last`

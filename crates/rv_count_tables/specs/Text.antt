@@ -56,7 +56,7 @@ image_text i = image_line i ++ flat_map address_line i.addresses ++ flat_map (li
 
 -- the last line `done IMAGES RUNS` of a table with these numbers of images and runs
 unfoldable pub last_line : ℕ → ℕ → List ℕ
-last_line images runs = line (codes "done " ++ decimal images ++ codes " " ++ decimal runs)
+last_line image_count runs = line (codes "done " ++ decimal image_count ++ codes " " ++ decimal runs)
 
 -- the text of a table
 unfoldable pub table_text : CountTable → List ℕ

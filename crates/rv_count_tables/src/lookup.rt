@@ -23,13 +23,13 @@ pub fn counts_at(counts: &[AddressCounts], address: u32) -> AddressCounts
     }
 }
 
-/// Whether an instruction was executed at some address in the range `from..behind`. `counts` is sorted by address.
-pub fn was_executed_within(counts: &[AddressCounts], from: u32, behind: u64) -> bool
+/// Whether an instruction was executed at some address in the range `start..behind`. `counts` is sorted by address.
+pub fn was_executed_within(counts: &[AddressCounts], start: u32, end: u64) -> bool
     requires { increase_from 0 counts.now ≡ true }
-    ensures { result ≡ list_any (λ c. nat_le from c.address && nat_lt c.address behind) counts.now }
+    ensures { result ≡ list_any (λ c. nat_le start c.address && nat_lt c.address end) counts.now }
 {
-    let place = index_of_address(counts, from);
-    place < counts.len() && u64::from(counts[place].address) < behind
+    let place = index_of_address(counts, start);
+    place < counts.len() && u64::from(counts[place].address) < end
 }
 
 /// Returns the index of the first count at or above an address, or the number of counts if there is none. `counts` is sorted by address.

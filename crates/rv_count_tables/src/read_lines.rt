@@ -218,17 +218,17 @@ fn has_image_line(alloc: Global, image: &ImageCounts, line: &[u8]) -> Result<boo
 pub(crate) fn runs_of_last_line(
     alloc: Global,
     line: &[u8],
-    images: usize,
+    image_count: usize,
 ) -> Result<Option<u64>, AllocError>
-    ensures few { images < 2 ^ 64 }
+    ensures few { image_count < 2 ^ 64 }
     ensures fits { IfOk result (λ read. IfSome read (λ runs. runs < 2 ^ 64)) }
-    ensures line { IfOk result (λ read. IfSome read (λ runs. line.now ≡ last_line images runs)) }
-    ensures none { IfOk result (λ read. IfNone read ((runs : ℕ) → runs < 2 ^ 64 → line.now ≡ last_line images runs → ⊥)) }
+    ensures line { IfOk result (λ read. IfSome read (λ runs. line.now ≡ last_line image_count runs)) }
+    ensures none { IfOk result (λ read. IfNone read ((runs : ℕ) → runs < 2 ^ 64 → line.now ≡ last_line image_count runs → ⊥)) }
 {
     let words = tail_from(line, 5);
     let runs = decimal_number(text_before_byte(b'\n', text_after_byte(b' ', words)));
     let mut text = String::new(alloc);
-    push_last_line(&mut text, images, runs)?;
+    push_last_line(&mut text, image_count, runs)?;
     if line == text.as_bytes() {
         Ok(Some(runs))
     } else {

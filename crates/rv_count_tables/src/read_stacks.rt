@@ -67,22 +67,22 @@ fn function_name(named: NamedCallNode) -> FunctionName
     }
 }
 
-// Returns the node of a line. Returns `None` if the line is not the line of a node that may follow a node with the path `front`, or if its
+// Returns the node of a line. Returns `None` if the line is not the line of a node that may follow a node with the path `previous_path`, or if its
 // name differs from the one in `names`.
 fn next_node(
     alloc: Global,
     line: &[u8],
-    front: &[u32],
+    previous_path: &[u32],
     names: &NamesByFunction,
 ) -> Result<Option<NamedCallNode>, AllocError>
     ensures spot { (text : List ℕ) → line.now ≡ whole_line text → IfOk result (λ read. IfSome read IsValidNamedNode) }
-    ensures stands { IfOk result (λ read. IfSome read (λ n. FollowsInPreorder front.now n.spot)) }
+    ensures stands { IfOk result (λ read. IfSome read (λ n. FollowsInPreorder previous_path.now n.spot)) }
     ensures agrees { IfOk result (λ read. IfSome read (λ n. AgreesWithName n.name (name_of n.spot.function names.now))) }
     ensures line { IfOk result (λ read. IfSome read (λ n. line.now ≡ node_line n)) }
-    ensures none { IfOk result (λ read. IfNone read (IsNotANode names.now front.now line.now)) }
+    ensures none { IfOk result (λ read. IfNone read (IsNotANode names.now previous_path.now line.now)) }
 {
     let read = node_of_line(alloc, line)?;
-    if can_come_next(read.spot, front)
+    if can_come_next(read.spot, previous_path)
         && agrees(&read, names)
         && has_node_line(alloc, &read, line)?
     {
@@ -92,13 +92,13 @@ fn next_node(
     }
 }
 
-// Whether a table can have this node directly after a node with the path `front`.
-fn can_come_next(spot: CallNode, front: &[u32]) -> bool
-    ensures { IsTrue result ↔ (IsValidNode spot × FollowsInPreorder front.now spot) }
+// Whether a table can have this node directly after a node with the path `previous_path`.
+fn can_come_next(spot: CallNode, previous_path: &[u32]) -> bool
+    ensures { IsTrue result ↔ (IsValidNode spot × FollowsInPreorder previous_path.now spot) }
 {
     0 < spot.calls
-        && spot.depth <= front.len()
-        && (spot.depth == front.len() || front[spot.depth] < spot.function)
+        && spot.depth <= previous_path.len()
+        && (spot.depth == previous_path.len() || previous_path[spot.depth] < spot.function)
 }
 
 // Whether the node's name equals the name of its function in `names`, or `names` has none for it.

@@ -44,8 +44,8 @@ impl From<CallTreeSumError> for SumError {
     ghost from_gives = { λ why error. error ≡ sum_error_of why };
 
     // Returns the error of a sum of tables, given why their call trees have no sum.
-    fn from(why: CallTreeSumError) -> SumError {
-        match why {
+    fn from(error: CallTreeSumError) -> SumError {
+        match error {
             CallTreeSumError::OutOfMemory => SumError::OutOfMemory,
             CallTreeSumError::Count(function) => SumError::Spot(function),
         }

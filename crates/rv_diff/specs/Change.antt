@@ -16,8 +16,8 @@ use Rattle.rv_diff.specs.declared.change.Change.TheVariants.{Gone, Added, Change
 
 -- whether two endings are of one kind: two equal exit codes, two faults of one kind, two used budgets, or two equal refusals
 abbrev pub are_same_end_kinds : RowEnd → RowEnd → Bool
-are_same_end_kinds (ending.Refused why) (ending.Refused because) =
-    bytes_eq (refusal_name why) (refusal_name because)
+are_same_end_kinds (ending.Refused refusal) (ending.Refused other) =
+    bytes_eq (refusal_name refusal) (refusal_name other)
 are_same_end_kinds old new = are_alike_endings old new
 
 -- whether two faults have equal addresses and equal values; true if one of the endings is not a fault
@@ -49,9 +49,9 @@ have_same_console old new = bytes_eq old.console new.console
 abbrev pub are_same_verdicts : Verdict → Verdict → Bool
 are_same_verdicts old new = bytes_eq (verdict_name old) (verdict_name new)
 
--- whether two rows agree in everything that `compare` compares
+-- whether two rows agree in everything that `mode` compares
 unfoldable pub rows_agree : CompareMode → Row → Row → Bool
-rows_agree compare old new = are_same_endings compare old.ending new.ending && agree_in_steps compare old new
+rows_agree mode old new = are_same_endings mode old.ending new.ending && agree_in_steps mode old new
     && have_same_console old new && are_same_signatures old.signature new.signature
     && are_same_verdicts old.verdict new.verdict
 
@@ -60,7 +60,7 @@ rows_agree compare old new = are_same_endings compare old.ending new.ending && a
 -- how a job changed, given its rows in the old and in the new report, which are `None` if the report does not have the job; a job in
 -- neither counts as unchanged
 abbrev pub change_of : CompareMode → Option Row → Option Row → Change
-change_of compare None None = Same
-change_of compare None (Some new) = Added
-change_of compare (Some old) None = Gone
-change_of compare (Some old) (Some new) = if rows_agree compare old new then Same else Changed
+change_of mode None None = Same
+change_of mode None (Some new) = Added
+change_of mode (Some old) None = Gone
+change_of mode (Some old) (Some new) = if rows_agree mode old new then Same else Changed

@@ -22,8 +22,8 @@ is_missing_from others row = is_none (row_named others row.name)
 
 -- whether the old report has a row with the name of this new row, and the two do not agree
 abbrev pub is_changed : CompareMode → Option Row → Row → Bool
-is_changed compare None new = false
-is_changed compare (Some old) new = not (rows_agree compare old new)
+is_changed mode None new = false
+is_changed mode (Some old) new = not (rows_agree mode old new)
 
 -- the line `- NAME` for a row of the old report, or nothing if the new report has a row with its name
 abbrev pub gone_line : Option Row → Row → List ℕ
@@ -32,8 +32,8 @@ gone_line (Some new) old = []
 
 -- the lines for a row of the new report: `+ NAME` if the old report has no row with its name, or a line for each field that differs
 abbrev pub changes_of_row : CompareMode → Option Row → Row → List ℕ
-changes_of_row compare None new = line (codes "+ " ++ new.name)
-changes_of_row compare (Some old) new = change_lines compare old new
+changes_of_row mode None new = line (codes "+ " ++ new.name)
+changes_of_row mode (Some old) new = change_lines mode old new
 
 -- the rows whose names also occur in the other report, in order
 abbrev pub rows_in_both : List Row → List Row → List Row
@@ -43,10 +43,10 @@ rows_in_both others rows = filter (λ row. not (is_missing_from others row)) row
 
 -- how many jobs are only in the old report, are only in the new report, and have rows that differ
 abbrev pub difference_counts : CompareMode → List Row → List Row → DifferenceCounts
-difference_counts compare old new = record {
+difference_counts mode old new = record {
   gone = count_by (is_missing_from new) old;
   added = count_by (is_missing_from old) new;
-  changed = count_by (λ row. is_changed compare (row_named old row.name) row) new;
+  changed = count_by (λ row. is_changed mode (row_named old row.name) row) new;
 }
 
 -- the number of all jobs that differ
@@ -58,9 +58,9 @@ differing_count counts = counts.gone + counts.added + counts.changed
 -- the lines for all jobs that differ: first the jobs that are only in the old report, in its order; then the others, in the order of the
 -- new report
 abbrev pub difference_lines : CompareMode → List Row → List Row → List ℕ
-difference_lines compare old new =
+difference_lines mode old new =
     flat_map (λ row. gone_line (row_named new row.name) row) old
-    ++ flat_map (λ row. changes_of_row compare (row_named old row.name) row) new
+    ++ flat_map (λ row. changes_of_row mode (row_named old row.name) row) new
 
 -- the words `COUNT gone, COUNT new, COUNT changed`
 unfoldable pub change_counts_text : DifferenceCounts → List ℕ
@@ -69,12 +69,12 @@ change_counts_text counts = decimal counts.gone ++ codes " gone, " ++ decimal co
 
 -- ` differs: ` for 1 compared job, and ` differ: ` for any other number
 abbrev pub differ_text : ℕ → List ℕ
-differ_text jobs = if jobs == 1 then codes " differs: " else codes " differ: "
+differ_text job_count = if job_count == 1 then codes " differs: " else codes " differ: "
 
--- the words `COUNT of JOBS jobs differ: `
+-- the words `COUNT of JOBS job_count differ: `
 unfoldable pub differing_text : ℕ → ℕ → List ℕ
-differing_text count jobs = decimal count ++ codes " of " ++ count_text jobs (codes "job")
-    ++ differ_text jobs
+differing_text count job_count = decimal count ++ codes " of " ++ count_text job_count (codes "job")
+    ++ differ_text job_count
 
 -- the sum of the steps of all rows
 abbrev pub total_steps : List Row → ℕ
@@ -103,6 +103,6 @@ count_line job_count counts left_out sums = line (differing_text (differing_coun
 -- the output of `diff` for the rows of two reports: a line for each difference, and the line of counts; `left_out` is how many jobs were
 -- not compared, since one report is a part without them
 unfoldable pub diff_text : CompareMode → List Row → List Row → ℕ → List ℕ
-diff_text compare old new left_out = let counts = difference_counts compare old new in
-    difference_lines compare old new
-    ++ count_line (length new + counts.gone) counts left_out (step_sums compare old new)
+diff_text mode old new left_out = let counts = difference_counts mode old new in
+    difference_lines mode old new
+    ++ count_line (length new + counts.gone) counts left_out (step_sums mode old new)

@@ -24,7 +24,7 @@ ending_text (ending.Exit code) = codes "exit " ++ exit_code_text code
 ending_text (ending.Fault kind pc value) = codes "fault " ++ fault_name kind
     ++ codes " pc=" ++ word_digits pc ++ codes " value=" ++ word_digits value
 ending_text ending.Budget = codes "budget"
-ending_text (ending.Refused why) = codes "refused " ++ refusal_name why
+ending_text (ending.Refused refusal) = codes "refused " ++ refusal_name refusal
 
 -- the words `OLD -> NEW`
 abbrev pub becomes : List ℕ → List ℕ → List ℕ
@@ -38,9 +38,9 @@ value_in_quotes value = codes "\"" ++ printable_value value ++ codes "\""
 abbrev pub first_differing_index : List ℕ → List ℕ → Option ℕ
 first_differing_index old new = position (λ pair. not (pair.0 == pair.1)) (zip old new)
 
--- the text `COUNT -> COUNT` for the lengths of two lists, each with the noun `what`
+-- the text `COUNT -> COUNT` for the lengths of two lists, each with the noun `noun`
 abbrev pub counts_text : List ℕ → List ℕ → List ℕ → List ℕ
-counts_text what old new = becomes (count_text (length old) what) (count_text (length new) what)
+counts_text noun old new = becomes (count_text (length old) noun) (count_text (length new) noun)
 
 -- how two consoles differ: the bytes from the first difference, at the given index, or the lengths if there is no such index
 abbrev pub byte_change_text : Option ℕ → List ℕ → List ℕ → List ℕ
@@ -81,8 +81,8 @@ percent_text (Slower percent) old new =
 
 -- the text for steps that changed from `old` to `new`
 abbrev pub steps_change_text : CompareMode → ℕ → ℕ → List ℕ
-steps_change_text compare old new =
-    codes "steps " ++ becomes (decimal old) (decimal new) ++ percent_text compare old new
+steps_change_text mode old new =
+    codes "steps " ++ becomes (decimal old) (decimal new) ++ percent_text mode old new
 
 -- the text for a verdict that changed from `old` to `new`
 abbrev pub verdict_change_text : Verdict → Verdict → List ℕ
@@ -100,11 +100,11 @@ change_line name is_same words = if is_same then [] else line (change_prefix nam
 
 -- a line for each field in which two rows differ: the ending, the steps, the console, the signature, the verdict
 unfoldable pub change_lines : CompareMode → Row → Row → List ℕ
-change_lines compare old new =
-    change_line new.name (are_same_endings compare old.ending new.ending)
+change_lines mode old new =
+    change_line new.name (are_same_endings mode old.ending new.ending)
     (becomes (ending_text old.ending) (ending_text new.ending))
-    ++ change_line new.name (agree_in_steps compare old new)
-    (steps_change_text compare old.steps new.steps)
+    ++ change_line new.name (agree_in_steps mode old new)
+    (steps_change_text mode old.steps new.steps)
     ++ change_line new.name (have_same_console old new) (console_change_text old.console new.console)
     ++ change_line new.name (are_same_signatures old.signature new.signature)
     (signature_change_text old.signature new.signature)

@@ -31,36 +31,36 @@ pub enum CompareMode {
 }
 
 /// Returns how a job changed, given its rows in the old and in the new report, which are `None` if the report does not have the job.
-pub fn change_of(compare: CompareMode, old: Option<&Row>, new: Option<&Row>) -> Change
-    ensures { result ≡ change_of compare (option_map (λ row. row.now) old.entry)
+pub fn change_of(mode: CompareMode, old: Option<&Row>, new: Option<&Row>) -> Change
+    ensures { result ≡ change_of mode (option_map (λ row. row.now) old.entry)
         (option_map (λ row. row.now) new.entry) }
 {
     match (old, new) {
         (Some(_), None) => Change::Gone,
         (None, Some(_)) => Change::Added,
-        (Some(old), Some(new)) if !rows_agree(compare, old, new) => Change::Changed,
+        (Some(old), Some(new)) if !rows_agree(mode, old, new) => Change::Changed,
         _ => Change::Same,
     }
 }
 
 // Whether two rows agree in everything that is compared.
 #[tactic(auto, unfolding(crate::specs::Change::rows_agree))]
-fn rows_agree(compare: CompareMode, old: &Row, new: &Row) -> bool
-    ensures { result ≡ rows_agree compare old.now new.now }
+fn rows_agree(mode: CompareMode, old: &Row, new: &Row) -> bool
+    ensures { result ≡ rows_agree mode old.now new.now }
 {
-    are_same_endings(compare, old.ending, new.ending)
-        && agree_in_steps(compare, old, new)
+    are_same_endings(mode, old.ending, new.ending)
+        && agree_in_steps(mode, old, new)
         && have_same_console(old, new)
         && are_same_signatures(&old.signature, &new.signature)
         && are_same_verdicts(old.verdict, new.verdict)
 }
 
-/// Whether two endings are equal, as far as `compare` compares them: two equal exit codes, two faults of one kind, two used budgets, or two
+/// Whether two endings are equal, as far as `mode` compares them: two equal exit codes, two faults of one kind, two used budgets, or two
 /// equal refusals. The addresses and values of faults are compared only if steps are.
-pub fn are_same_endings(compare: CompareMode, old: RowEnd, new: RowEnd) -> bool
-    ensures { result ≡ are_same_endings compare old new }
+pub fn are_same_endings(mode: CompareMode, old: RowEnd, new: RowEnd) -> bool
+    ensures { result ≡ are_same_endings mode old new }
 {
-    match compare {
+    match mode {
         CompareMode::Outcomes | CompareMode::Slower(_) => are_same_end_kinds(old, new),
         CompareMode::Steps => are_same_end_kinds(old, new) && agree_in_fault_pc_and_value(old, new),
     }
@@ -86,11 +86,11 @@ fn agree_in_fault_pc_and_value(old: RowEnd, new: RowEnd) -> bool
     }
 }
 
-/// Whether the steps of two rows are equal, if `compare` compares steps, or the new row is not slower, if it compares that; true otherwise.
-pub fn agree_in_steps(compare: CompareMode, old: &Row, new: &Row) -> bool
-    ensures { result ≡ agree_in_steps compare old.now new.now }
+/// Whether the steps of two rows are equal, if `mode` compares steps, or the new row is not slower, if it compares that; true otherwise.
+pub fn agree_in_steps(mode: CompareMode, old: &Row, new: &Row) -> bool
+    ensures { result ≡ agree_in_steps mode old.now new.now }
 {
-    match compare {
+    match mode {
         CompareMode::Outcomes => true,
         CompareMode::Steps => old.steps == new.steps,
         CompareMode::Slower(percent) => !is_slower(percent, old.steps, new.steps),

@@ -58,25 +58,25 @@ pub struct StepSums {
 pub fn push_diff(
     alloc: Global,
     text: &mut Vec<u8>,
-    compare: CompareMode,
+    mode: CompareMode,
     compared: ComparedReports<'_>,
 ) -> Result<DifferenceCounts, AllocError>
     requires old { length compared.old.now < 2 ^ 32 }
     requires new { length compared.new.now < 2 ^ 32 }
     ensures text { OnOk result (text.new.items ≡ text.old.items
-        ++ diff_text compare compared.entry.old.now compared.entry.new.now compared.entry.left_out) }
+        ++ diff_text mode compared.entry.old.now compared.entry.new.now compared.entry.left_out) }
     ensures counts { IfOk result (λ counts. counts
-        ≡ difference_counts compare compared.entry.old.now compared.entry.new.now) }
+        ≡ difference_counts mode compared.entry.old.now compared.entry.new.now) }
 {
     let ComparedReports { old, new, left_out } = compared;
-    let gone = push_gone_lines(alloc, text, compare, old, new)?;
-    let (added, changed) = push_added_and_changed_lines(alloc, text, compare, old, new)?;
+    let gone = push_gone_lines(alloc, text, mode, old, new)?;
+    let (added, changed) = push_added_and_changed_lines(alloc, text, mode, old, new)?;
     let counts = DifferenceCounts {
         gone,
         added,
         changed,
     };
-    let sums = step_sums(compare, old, new);
+    let sums = step_sums(mode, old, new);
     push_count_line(text, new.len() + gone, counts, left_out, sums)?;
     Ok(counts)
 }
@@ -91,13 +91,13 @@ pub fn rows_in_both(alloc: Global, rows: Vec<Row>, others: &[Row]) -> Result<Vec
     Ok(rows)
 }
 
-// Returns the total steps of both reports if `compare` looks for slower jobs, or else `None`.
-fn step_sums(compare: CompareMode, old: &[Row], new: &[Row]) -> Option<StepSums>
+// Returns the total steps of both reports if `mode` looks for slower jobs, or else `None`.
+fn step_sums(mode: CompareMode, old: &[Row], new: &[Row]) -> Option<StepSums>
     requires old { length old.now < 2 ^ 32 }
     requires new { length new.now < 2 ^ 32 }
-    ensures { result ≡ step_sums compare old.now new.now }
+    ensures { result ≡ step_sums mode old.now new.now }
 {
-    match compare {
+    match mode {
         CompareMode::Outcomes | CompareMode::Steps => None,
         CompareMode::Slower(_) => Some(StepSums {
             old: total_steps(old),
@@ -118,7 +118,7 @@ fn total_steps(rows: &[Row]) -> u64
 fn push_gone_lines(
     alloc: Global,
     text: &mut Vec<u8>,
-    compare: CompareMode,
+    mode: CompareMode,
     old: &[Row],
     new: &[Row],
 ) -> Result<usize, AllocError>
@@ -130,7 +130,7 @@ fn push_gone_lines(
     let after = RowsByName::new(alloc, new)?;
     let mut gone = 0;
     for row in old {
-        if let Change::Gone = change_of(compare, Some(row), after.find(row.name.as_str())) {
+        if let Change::Gone = change_of(mode, Some(row), after.find(row.name.as_str())) {
             push_sign_line(text, "- ", row)?;
             gone += 1;
         }
@@ -142,15 +142,15 @@ fn push_gone_lines(
 fn push_added_and_changed_lines(
     alloc: Global,
     text: &mut Vec<u8>,
-    compare: CompareMode,
+    mode: CompareMode,
     old: &[Row],
     new: &[Row],
 ) -> Result<(usize, usize), AllocError>
     ensures text { OnOk result (text.new.items ≡ text.old.items
-        ++ flat_map (λ row. changes_of_row compare (row_named old.now row.name) row) new.now) }
+        ++ flat_map (λ row. changes_of_row mode (row_named old.now row.name) row) new.now) }
     ensures added { IfOk result (λ counts. counts.0 ≡ count_by (is_missing_from old.now) new.now) }
     ensures changed { IfOk result (λ counts. counts.1
-        ≡ count_by (λ row. is_changed compare (row_named old.now row.name) row) new.now) }
+        ≡ count_by (λ row. is_changed mode (row_named old.now row.name) row) new.now) }
     ensures within { IfOk result (λ counts. counts.0 + counts.1 ≤ length new.now) }
 {
     let before = RowsByName::new(alloc, old)?;
@@ -158,8 +158,8 @@ fn push_added_and_changed_lines(
     let mut changed = 0;
     for row in new {
         let other = before.find(row.name.as_str());
-        push_changes_of_row(text, compare, other, row)?;
-        match change_of(compare, other, Some(row)) {
+        push_changes_of_row(text, mode, other, row)?;
+        match change_of(mode, other, Some(row)) {
             Change::Added => added += 1,
             Change::Changed => changed += 1,
             _ => {}
@@ -172,15 +172,15 @@ fn push_added_and_changed_lines(
 // differs.
 fn push_changes_of_row(
     text: &mut Vec<u8>,
-    compare: CompareMode,
+    mode: CompareMode,
     old: Option<&Row>,
     new: &Row,
 ) -> Result<(), AllocError>
     ensures { OnOk result (text.new.items ≡ text.old.items
-        ++ changes_of_row compare (option_map (λ row. row.now) old.entry) new.now) }
+        ++ changes_of_row mode (option_map (λ row. row.now) old.entry) new.now) }
 {
     match old {
-        Some(old) => push_change_lines(text, compare, old, new),
+        Some(old) => push_change_lines(text, mode, old, new),
         None => push_sign_line(text, "+ ", new),
     }
 }
@@ -205,15 +205,15 @@ fn push_sign_line<'a>(text: &mut Vec<u8>, sign: &'a str, row: &'a Row) -> Result
 #[tactic(auto, unfolding(crate::specs::Diff::count_line))]
 fn push_count_line(
     text: &mut Vec<u8>,
-    jobs: usize,
+    job_count: usize,
     counts: DifferenceCounts,
     left_out: usize,
     sums: Option<StepSums>,
 ) -> Result<(), AllocError>
     requires { differing_count counts < 2 ^ 64 }
-    ensures { OnOk result (text.new.items ≡ text.old.items ++ count_line jobs counts left_out sums) }
+    ensures { OnOk result (text.new.items ≡ text.old.items ++ count_line job_count counts left_out sums) }
 {
-    push_counts(text, jobs, counts)?;
+    push_counts(text, job_count, counts)?;
     push_not_compared(text, left_out)?;
     push_step_sums(text, sums)?;
     push_text(text, "\n")
@@ -262,10 +262,10 @@ fn differ_text(jobs: usize) -> &'static str
 }
 
 // Appends how many of the compared jobs differ, and how many are gone, new and changed.
-fn push_counts(text: &mut Vec<u8>, jobs: usize, counts: DifferenceCounts) -> Result<(), AllocError>
+fn push_counts(text: &mut Vec<u8>, job_count: usize, counts: DifferenceCounts) -> Result<(), AllocError>
     requires { differing_count counts < 2 ^ 64 }
     ensures { OnOk result (text.new.items ≡ text.old.items
-        ++ (differing_text (differing_count counts) jobs ++ change_counts_text counts)) }
+        ++ (differing_text (differing_count counts) job_count ++ change_counts_text counts)) }
 {
     let count = counts.gone + counts.added + counts.changed;
     push_spans(
@@ -273,8 +273,8 @@ fn push_counts(text: &mut Vec<u8>, jobs: usize, counts: DifferenceCounts) -> Res
         &[
             Span::Number(count as u64),
             Span::Text(" of "),
-            Span::Count(jobs as u64, "job"),
-            Span::Text(differ_text(jobs)),
+            Span::Count(job_count as u64, "job"),
+            Span::Text(differ_text(job_count)),
             Span::Number(counts.gone as u64),
             Span::Text(" gone, "),
             Span::Number(counts.added as u64),

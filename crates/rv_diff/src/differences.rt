@@ -16,15 +16,15 @@ use std::alloc::AllocError;
 #[tactic(auto, unfolding(crate::specs::Differences::change_lines))]
 pub(crate) fn push_change_lines(
     text: &mut Vec<u8>,
-    compare: CompareMode,
+    mode: CompareMode,
     old: &Row,
     new: &Row,
 ) -> Result<(), AllocError>
     ensures { OnOk result (text.new.items
-        ≡ text.old.items ++ change_lines compare old.now new.now) }
+        ≡ text.old.items ++ change_lines mode old.now new.now) }
 {
-    push_ending_change(text, compare, old, new)?;
-    push_steps_change(text, compare, old, new)?;
+    push_ending_change(text, mode, old, new)?;
+    push_steps_change(text, mode, old, new)?;
     push_console_change(text, old, new)?;
     push_signature_change(text, old, new)?;
     push_verdict_change(text, old, new)
@@ -33,15 +33,15 @@ pub(crate) fn push_change_lines(
 // Appends the line for the endings, if they differ.
 fn push_ending_change(
     text: &mut Vec<u8>,
-    compare: CompareMode,
+    mode: CompareMode,
     old: &Row,
     new: &Row,
 ) -> Result<(), AllocError>
     ensures { OnOk result (text.new.items ≡ text.old.items
-        ++ change_line new.now.name (are_same_endings compare old.now.ending new.now.ending)
+        ++ change_line new.now.name (are_same_endings mode old.now.ending new.now.ending)
         (becomes (ending_text old.now.ending) (ending_text new.now.ending))) }
 {
-    if are_same_endings(compare, old.ending, new.ending) {
+    if are_same_endings(mode, old.ending, new.ending) {
         return Ok(());
     }
     push_spans(
@@ -56,16 +56,16 @@ fn push_ending_change(
     push_ending(text, new.ending, "\n")
 }
 
-// Appends how a job ended, in the words of a report, followed by `end`.
+// Appends how a job ended, in the words of a report, followed by `suffix`.
 #[tactic(auto, unfolding(crate::specs::Differences::ending_text))]
-fn push_ending<'a>(text: &mut Vec<u8>, ending: RowEnd, end: &'a str) -> Result<(), AllocError>
+fn push_ending<'a>(text: &mut Vec<u8>, ending: RowEnd, suffix: &'a str) -> Result<(), AllocError>
     ensures { OnOk result (text.new.items
-        ≡ text.old.items ++ (ending_text ending ++ end.now)) }
+        ≡ text.old.items ++ (ending_text ending ++ suffix.now)) }
 {
     match ending {
         RowEnd::Exit(code) => push_spans(
             text,
-            &[Span::Text("exit "), Span::ExitCode(code), Span::Text(end)],
+            &[Span::Text("exit "), Span::ExitCode(code), Span::Text(suffix)],
         ),
         RowEnd::Fault(kind, pc, value) => push_spans(
             text,
@@ -76,16 +76,16 @@ fn push_ending<'a>(text: &mut Vec<u8>, ending: RowEnd, end: &'a str) -> Result<(
                 Span::Word(pc),
                 Span::Text(" value="),
                 Span::Word(value),
-                Span::Text(end),
+                Span::Text(suffix),
             ],
         ),
-        RowEnd::Budget => push_spans(text, &[Span::Text("budget"), Span::Text(end)]),
+        RowEnd::Budget => push_spans(text, &[Span::Text("budget"), Span::Text(suffix)]),
         RowEnd::Refused(why) => push_spans(
             text,
             &[
                 Span::Text("refused "),
                 Span::Text(why.name()),
-                Span::Text(end),
+                Span::Text(suffix),
             ],
         ),
     }
@@ -94,15 +94,15 @@ fn push_ending<'a>(text: &mut Vec<u8>, ending: RowEnd, end: &'a str) -> Result<(
 // Appends the line for the steps, if they differ.
 fn push_steps_change(
     text: &mut Vec<u8>,
-    compare: CompareMode,
+    mode: CompareMode,
     old: &Row,
     new: &Row,
 ) -> Result<(), AllocError>
     ensures { OnOk result (text.new.items ≡ text.old.items
-        ++ change_line new.now.name (agree_in_steps compare old.now new.now)
-        (steps_change_text compare old.now.steps new.now.steps)) }
+        ++ change_line new.now.name (agree_in_steps mode old.now new.now)
+        (steps_change_text mode old.now.steps new.now.steps)) }
 {
-    if agree_in_steps(compare, old, new) {
+    if agree_in_steps(mode, old, new) {
         return Ok(());
     }
     let before = old.steps;
@@ -118,21 +118,21 @@ fn push_steps_change(
             Span::Number(u64::from(after)),
         ],
     )?;
-    push_percent(text, compare, before, after)?;
+    push_percent(text, mode, before, after)?;
     push_text(text, "\n")
 }
 
-// Appends the increase of the steps in percent of the old number, if `compare` looks for slower jobs and the old number is not 0; otherwise
+// Appends the increase of the steps in percent of the old number, if `mode` looks for slower jobs and the old number is not 0; otherwise
 // nothing.
 fn push_percent(
     text: &mut Vec<u8>,
-    compare: CompareMode,
+    mode: CompareMode,
     old: u32,
     new: u32,
 ) -> Result<(), AllocError>
-    ensures { OnOk result (text.new.items ≡ text.old.items ++ percent_text compare old new) }
+    ensures { OnOk result (text.new.items ≡ text.old.items ++ percent_text mode old new) }
 {
-    match compare {
+    match mode {
         CompareMode::Slower(_) if old != 0 => {
             let more = u64::from(new.saturating_sub(old)) * 100 / u64::from(old);
             push_spans(

@@ -24,7 +24,7 @@ form_row mnemonic operands = record { mnemonic = mnemonic; operands = operands }
 
 -- a `Form` of the code as contracts see it, with the text in place of a reference
 abbrev pub form_view : CodesForm → Form
-form_view seen = form_row seen.0.now seen.1
+form_view form = form_row form.0.now form.1
 
 -- ---- the 32-bit rows
 

@@ -19,7 +19,7 @@ row mask pattern mnemonic extension =
 
 -- a `Row` of the code as contracts see it, with texts in place of references
 abbrev pub row_view : CodesRow → Row
-row_view seen = row seen.0 seen.1 seen.2.now seen.3.now
+row_view code_row = row code_row.0 code_row.1 code_row.2.now code_row.3.now
 
 -- whether an encoding matches a row: it has the row's values at the bits that the row fixes
 abbrev pub is_row_of : ℕ → Row → Bool

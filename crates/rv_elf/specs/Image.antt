@@ -137,7 +137,7 @@ is_loaded_header e = is_load e && nat_lt 0 e.segment.memsz
 
 -- the segments of the PT_LOAD program headers that have bytes in memory, in order
 abbrev pub loaded_segments : List ProgramHeader → List Segment
-loaded_segments found = map (λ e. e.segment) (filter is_loaded_header found)
+loaded_segments headers = map (λ e. e.segment) (filter is_loaded_header headers)
 
 -- the segments of the file's PT_LOAD program headers that have bytes in memory, in table order
 unfoldable pub segments : List ℕ → List Segment

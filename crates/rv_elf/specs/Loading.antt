@@ -22,50 +22,50 @@ load_address Virtual s = s.vaddr
 -- whether the segment `s` fits a map: one region has all its file bytes at the load address, and one region has all its memory at the
 -- virtual address
 abbrev pub segment_fits : List Region → LoadAt → Segment → Bool
-segment_fits regions at s = is_in_one_region regions (load_address at s) s.filesz && is_in_one_region regions s.vaddr s.memsz
+segment_fits regions load_at s = is_in_one_region regions (load_address load_at s) s.filesz && is_in_one_region regions s.vaddr s.memsz
 
 -- the first segment that does not fit the map, or `None` if all fit
 abbrev pub unfit_segment : List Region → LoadAt → List Segment → Option Segment
-unfit_segment regions at segments = find (λ segment. not (segment_fits regions at segment)) segments
+unfit_segment regions load_at segments = find (λ segment. not (segment_fits regions load_at segment)) segments
 
 -- whether the file bytes of two segments, at their load addresses, share a byte of memory: the later start is before the earlier end
 abbrev pub segments_overlap : LoadAt → Segment → Segment → Bool
-segments_overlap at s t = nat_lt (max (load_address at s) (load_address at t))
-    (min (load_address at s + s.filesz) (load_address at t + t.filesz))
+segments_overlap load_at s t = nat_lt (max (load_address load_at s) (load_address load_at t))
+    (min (load_address load_at s + s.filesz) (load_address load_at t + t.filesz))
 
 -- whether the file bytes of any two segments of a list share a byte of memory
 abbrev pub any_segments_overlap : LoadAt → List Segment → Bool
-any_segments_overlap at [] = false
-any_segments_overlap at (s ∷ ss) = list_any (segments_overlap at s) ss || any_segments_overlap at ss
+any_segments_overlap load_at [] = false
+any_segments_overlap load_at (s ∷ ss) = list_any (segments_overlap load_at s) ss || any_segments_overlap load_at ss
 
 -- the errors of loading these segments into a map, in order, each with its condition
 abbrev pub map_rows : List Segment → List Region → LoadAt → List ErrorRow
-map_rows segments regions at = (not (list_all (segment_fits regions at) segments), SegmentMap)
-    ∷ (any_segments_overlap at segments, SegmentOverlap) ∷ []
+map_rows segments regions load_at = (not (list_all (segment_fits regions load_at) segments), SegmentMap)
+    ∷ (any_segments_overlap load_at segments, SegmentOverlap) ∷ []
 
 -- the first error of loading these segments into a map that applies, or `accepted` if none does
 unfoldable pub map_check : List Segment → List Region → LoadAt → Result (Unit {0}) ImageError
-map_check segments regions at = first_error_of (map_rows segments regions at) accepted
+map_check segments regions load_at = first_error_of (map_rows segments regions load_at) accepted
 
 -- whether the segment `s` loads one of its file bytes at the address `a`
 abbrev pub segment_fills : LoadAt → ℕ → Segment → Bool
-segment_fills at a s = nat_le (load_address at s) a && nat_lt a (load_address at s + s.filesz)
+segment_fills load_at a s = nat_le (load_address load_at s) a && nat_lt a (load_address load_at s + s.filesz)
 
 -- the byte of the file that the segment `s` loads at the address `a`
 abbrev pub segment_byte : List ℕ → LoadAt → Segment → ℕ → ℕ
-segment_byte file at s a = slice_index file (s.offset + (a - load_address at s))
+segment_byte file load_at s a = slice_index file (s.offset + (a - load_address load_at s))
 
 -- the byte at the address `a` of a loaded image: the file byte of the first segment that fills the address, or 0 if none does; if the map
 -- is accepted, no two segments fill one address
 abbrev pub initial_byte : List Segment → List ℕ → LoadAt → ℕ → ℕ
-initial_byte [] file at a = 0
-initial_byte (s ∷ ss) file at a =
-    if segment_fills at a s then segment_byte file at s a else initial_byte ss file at a
+initial_byte [] file load_at a = 0
+initial_byte (s ∷ ss) file load_at a =
+    if segment_fills load_at a s then segment_byte file load_at s a else initial_byte ss file load_at a
 
 -- the memory of these regions after these segments of a file are loaded
 unfoldable pub initial_memory : List Region → List Segment → List ℕ → LoadAt → fin.FinMap nat_cmp ℕ
-initial_memory regions segments file at =
-    tabulate (addresses regions) (initial_byte segments file at)
+initial_memory regions segments file load_at =
+    tabulate (addresses regions) (initial_byte segments file load_at)
 
 -- the bytes of the segment `s` in the file
 abbrev pub file_bytes : List ℕ → Segment → List ℕ

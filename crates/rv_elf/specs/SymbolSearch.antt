@@ -73,8 +73,8 @@ is_candidate Value segments strings addr s = (may_be_code s || is_object s) && (
 
 -- the symbols in the bytes of a symbol table that may name the address `addr`, in table order
 abbrev pub candidates : LookupKind → List Segment → List ℕ → ℕ → List ℕ → List Symbol
-candidates sought segments strings addr table =
-    filter (is_candidate sought segments strings addr) (symbols_of table)
+candidates kind segments strings addr table =
+    filter (is_candidate kind segments strings addr) (symbols_of table)
 
 -- ---- which of them is chosen
 
@@ -98,14 +98,14 @@ name_and_offset strings addr s = option_map (λ name. (name, addr - s.value)) (s
 -- the name of the preferred symbol in a symbol table that may name the address `addr`, and the offset of the address from its value; `None`
 -- if there is none
 abbrev pub preferred_symbol : LookupKind → List Segment → ℕ → List ℕ → List ℕ → Option (List ℕ × ℕ)
-preferred_symbol sought segments addr table strings = option_and_then (name_and_offset strings addr)
-    (nearest_candidate (candidates sought segments strings addr table))
+preferred_symbol kind segments addr table strings = option_and_then (name_and_offset strings addr)
+    (nearest_candidate (candidates kind segments strings addr table))
 
 -- the name of the preferred symbol in the file's first symbol table that may name the address `addr`, and the offset of the address from
 -- its value; `None` if there is none or the symbol or string table is rejected
 unfoldable pub nearest_symbol : LookupKind → Image → List ℕ → ℕ → Option (List ℕ × ℕ)
-nearest_symbol sought image file addr = if is_ok (symbol_tables_check file)
-    then option_and_then (λ t. preferred_symbol sought image.segments addr t.0 t.1) (symbol_and_string_bytes file)
+nearest_symbol kind image file addr = if is_ok (symbol_tables_check file)
+    then option_and_then (λ t. preferred_symbol kind image.segments addr t.0 t.1) (symbol_and_string_bytes file)
     else None
 
 -- the name of the symbol that a code address belongs to, and the offset of the address from its value; `None` if there is none

@@ -65,12 +65,12 @@ pub(crate) fn check_program_headers(found: &[ProgramHeader], file: &[u8]) -> Res
 /// Returns the segments of the PT_LOAD program headers that have bytes in memory, in order.
 pub(crate) fn loaded_segments(
     alloc: Global,
-    found: &[ProgramHeader],
+    headers: &[ProgramHeader],
 ) -> Result<Vec<Segment>, AllocError>
-    ensures { IfOk result (λ v. v.items ≡ loaded_segments found.now) }
+    ensures { IfOk result (λ v. v.items ≡ loaded_segments headers.now) }
 {
     let mut kept = Vec::new(alloc);
-    for entry in found {
+    for entry in headers {
         if entry.p_type == PT_LOAD && 0 < entry.segment.memsz {
             kept.push(entry.segment)?;
         }

@@ -69,22 +69,22 @@ pub fn symbol_of_value<'a>(image: &Image, file: &'a [u8], value: u32) -> Option<
     nearest_symbol(image, file, value, LookupKind::Value)
 }
 
-// Returns the preferred symbol in the first symbol table that may name an address, or `None` if there is none. `sought` says whether the
+// Returns the preferred symbol in the first symbol table that may name an address, or `None` if there is none. `kind` says whether the
 // address is looked up as code or as a value.
 fn nearest_symbol<'a>(
     image: &Image,
     file: &'a [u8],
     addr: u32,
-    sought: LookupKind,
+    kind: LookupKind,
 ) -> Option<SymbolAt<'a>>
     requires image { IsImageOf file.now image.now }
-    ensures { MatchOption result (nearest_symbol sought image.now file.now addr ≡ None)
-        (λ s. nearest_symbol sought image.now file.now addr ≡ Some (s.name.now, s.offset)) }
+    ensures { MatchOption result (nearest_symbol kind image.now file.now addr ≡ None)
+        (λ s. nearest_symbol kind image.now file.now addr ≡ Some (s.name.now, s.offset)) }
 {
     let Ok((table, strings)) = symbol_and_string_bytes(file) else {
         return None;
     };
-    let symbol = nearest_candidate(table, strings, image.segments.as_slice(), addr, sought)?;
+    let symbol = nearest_candidate(table, strings, image.segments.as_slice(), addr, kind)?;
     Some(SymbolAt {
         name: text_before_zero(bytes_from(strings, symbol.name as usize))?,
         offset: addr - symbol.value,
@@ -98,9 +98,9 @@ fn nearest_candidate(
     strings: &[u8],
     segments: &[Segment],
     addr: u32,
-    sought: LookupKind,
+    kind: LookupKind,
 ) -> Option<Symbol>
-    ensures value { result ≡ nearest_candidate (candidates sought segments.now strings.now addr table.now) }
+    ensures value { result ≡ nearest_candidate (candidates kind segments.now strings.now addr table.now) }
     ensures below { IfSome result (λ s. s.value ≤ addr) }
 {
     let end = names_end(strings);
@@ -108,7 +108,7 @@ fn nearest_candidate(
     for k in 0..table.len() / SYMBOL_SIZE {
         let symbol = symbol_at_offset(table, SYMBOL_SIZE * k);
         if symbol.is_nearer_than_best(best)
-            && symbol.is_candidate(strings, end, segments, addr, sought)
+            && symbol.is_candidate(strings, end, segments, addr, kind)
         {
             best = Some(symbol);
         }
@@ -161,7 +161,7 @@ impl Symbol {
         }
     }
 
-    // Whether the symbol may name an address. `sought` says whether the address is looked up as code or as a value. There may be 64
+    // Whether the symbol may name an address. `kind` says whether the address is looked up as code or as a value. There may be 64
     // segments, so they are checked last.
     fn is_candidate(
         &self,
@@ -169,12 +169,12 @@ impl Symbol {
         end: usize,
         segments: &[Segment],
         addr: u32,
-        sought: LookupKind,
+        kind: LookupKind,
     ) -> bool
         requires { IsNamesEnd strings.now end }
-        ensures { result ≡ is_candidate sought segments.now strings.now addr self.now }
+        ensures { result ≡ is_candidate kind segments.now strings.now addr self.now }
     {
-        match sought {
+        match kind {
             LookupKind::Code => {
                 self.may_be_code()
                     && self.has_section()

@@ -41,19 +41,19 @@ IsRunDelivered is_result jobs has_received stops (Err error) = HasReceivedSome i
 abbrev pub chunk_count : ℕ → ℕ → ℕ
 chunk_count jobs group = div_ceil jobs group
 
--- these are the results of the jobs in the chunk with the number `piece`: `group` of them, or fewer in the last chunk
-pub record IsChunk {H : Type 0} (is_result : ℕ → H → Type 0) (jobs group piece : ℕ) (results : List H) : Type 0 where
-  pub each : AreResults (λ k. is_result (piece * group + k)) results
-  pub count : length results ≡ min group (jobs - piece * group)
+-- these are the results of the jobs in the chunk with the number `chunk`: `group` of them, or fewer in the last chunk
+pub record IsChunk {H : Type 0} (is_result : ℕ → H → Type 0) (jobs group chunk : ℕ) (results : List H) : Type 0 where
+  pub each : AreResults (λ k. is_result (chunk * group + k)) results
+  pub count : length results ≡ min group (jobs - chunk * group)
 
 -- each entry of the list is empty, or has the results of the chunk with the number that is its index
 abbrev pub ArePending : {H : Type 0} → (ℕ → H → Type 0) → ℕ → ℕ → List (Option (Vec H Global)) → Type 0
 ArePending is_result jobs group pending = (k : ℕ)
     → IfSome (slice_index_or pending k None) (λ results. IsChunk is_result jobs group k results.items)
 
--- a listener has received the results of all chunks before the chunk `piece`, and has not stopped the run
+-- a listener has received the results of all chunks before the chunk `chunk`, and has not stopped the run
 abbrev pub HasReceivedUpTo : {H : Type 0} → (ℕ → H → Type 0) → ℕ → ℕ → (List H → Type 0) → Type 0 → ℕ → Type 0
-HasReceivedUpTo is_result jobs group has_received stops piece = HasReceived is_result jobs has_received (min (piece * group) jobs) × (stops → ⊥)
+HasReceivedUpTo is_result jobs group has_received stops chunk = HasReceived is_result jobs has_received (min (chunk * group) jobs) × (stops → ⊥)
 
 -- a listener has received the results of all chunks before `next`, and has not stopped the run; or, if the run has ended, the results of
 -- some number of first jobs

@@ -20,9 +20,9 @@ impl<H, A: Observer<H> + Drop, B: Listener<H> + Drop> Listener<H> for Both<A, B>
     ghost stops = { λ s. A.stops s.first ⊎ B.stops s.second };
 
     // Delivers the result to both listeners. Returns `Stop` if one of them does.
-    fn receive(&mut self, made: H) -> Flow {
-        let first = self.first.see(&made);
-        let second = self.second.receive(made);
+    fn receive(&mut self, output: H) -> Flow {
+        let first = self.first.see(&output);
+        let second = self.second.receive(output);
         either_stop(first, second)
     }
 
@@ -42,9 +42,9 @@ impl<H, A: Observer<H> + Drop, B: Observer<H> + Drop> Observer<H> for Both<A, B>
     ghost stops = { λ s. A.stops s.first ⊎ B.stops s.second };
 
     // Shows the result to both observers. Returns `Stop` if one of them does.
-    fn see(&mut self, made: &H) -> Flow {
-        let first = self.first.see(made);
-        let second = self.second.see(made);
+    fn see(&mut self, output: &H) -> Flow {
+        let first = self.first.see(output);
+        let second = self.second.see(output);
         either_stop(first, second)
     }
 

@@ -23,18 +23,18 @@ pub(crate) fn compute_chunk<H: Drop, W: Work<H>>(
     alloc: Global,
     work: &W,
     group: u32,
-    piece: u64,
+    chunk: u64,
     worker_state: &mut WorkerState,
 ) -> Result<Vec<H>, AllocError>
     requires group { (0 < group) × (group ≤ max_group) }
-    requires piece { piece < chunk_count (W.jobs work.now) group }
+    requires piece { chunk < chunk_count (W.jobs work.now) group }
     requires worker_state { W.is_worker_state work.now worker_state.old }
-    ensures made { IfOk result (λ made. IsChunk (W.is_made work.now) (W.jobs work.now) group piece made.items) }
+    ensures made { IfOk result (λ made. IsChunk (W.is_made work.now) (W.jobs work.now) group chunk made.items) }
     ensures worker_state { OnOk result (W.is_worker_state work.now worker_state.new) }
 {
     let jobs = work.jobs();
     let group = group as usize;
-    let start = piece as usize * group;
+    let start = chunk as usize * group;
     let end = start + group.min(jobs - start);
     let mut made = Vec::with_capacity(alloc, end - start)?;
     for number in start..end {

@@ -73,10 +73,10 @@ impl<J: RunSpec<H>, H: Drop, L: Listener<H> + Drop> DeliveryState<J, H, L> {
     }
 
     /// Stores the results of a chunk, and delivers to the listener all results whose turn has come. Returns whether the run continues.
-    pub(crate) fn receive_chunk(&mut self, piece: u64, results: Vec<H>) -> Flow
-        requires { IsChunk J.is_result J.jobs J.group piece results.items }
+    pub(crate) fn receive_chunk(&mut self, chunk: u64, results: Vec<H>) -> Flow
+        requires { IsChunk J.is_result J.jobs J.group chunk results.items }
     {
-        store_chunk::<J, H>(&mut self.pending, piece as usize, results);
+        store_chunk::<J, H>(&mut self.pending, chunk as usize, results);
         if self.ended.is_some() {
             return Flow::Stop;
         }
@@ -139,15 +139,15 @@ struct DeliveredChunks {
 // Stores the results of a chunk in `pending` until their turn comes.
 fn store_chunk<J: RunSpec<H>, H: Drop>(
     pending: &mut Vec<Option<Vec<H>>>,
-    piece: usize,
+    chunk: usize,
     results: Vec<H>,
 )
     requires pending { ArePending J.is_result J.jobs J.group pending.old.items }
-    requires results { IsChunk J.is_result J.jobs J.group piece results.items }
+    requires results { IsChunk J.is_result J.jobs J.group chunk results.items }
     ensures { ArePending J.is_result J.jobs J.group pending.new.items }
 {
-    if piece < pending.len() {
-        pending[piece] = Some(results);
+    if chunk < pending.len() {
+        pending[chunk] = Some(results);
     }
 }
 
@@ -207,12 +207,12 @@ fn deliver_chunks<J: RunSpec<H>, H: Drop, L: Listener<H>>(
 /// Delivers the results of a chunk to a listener, and returns whether to continue.
 pub(crate) fn deliver_chunk<J: RunSpec<H>, H: Drop, L: Listener<H>>(
     listener: &mut L,
-    piece: usize,
+    chunk: usize,
     results: Vec<H>,
 ) -> Flow
-    requires results { IsChunk J.is_result J.jobs J.group piece results.items }
-    requires received { HasReceivedUpTo J.is_result J.jobs J.group (L.has_received listener.old) (L.stops listener.old) piece }
-    ensures { IsDelivered J.is_result J.jobs J.group (L.has_received listener.new) (L.stops listener.new) (piece + 1) result }
+    requires results { IsChunk J.is_result J.jobs J.group chunk results.items }
+    requires received { HasReceivedUpTo J.is_result J.jobs J.group (L.has_received listener.old) (L.stops listener.old) chunk }
+    ensures { IsDelivered J.is_result J.jobs J.group (L.has_received listener.new) (L.stops listener.new) (chunk + 1) result }
 {
     for made in results {
         if let Flow::Stop = listener.receive(made) {
@@ -225,15 +225,15 @@ pub(crate) fn deliver_chunk<J: RunSpec<H>, H: Drop, L: Listener<H>>(
 /// Removes the results of a chunk from `pending` and returns them, or returns `None` if they are not there.
 pub(crate) fn take_pending<J: RunSpec<H>, H: Drop>(
     pending: &mut Vec<Option<Vec<H>>>,
-    piece: usize,
+    chunk: usize,
 ) -> Option<Vec<H>>
     requires { ArePending J.is_result J.jobs J.group pending.old.items }
     ensures pending { ArePending J.is_result J.jobs J.group pending.new.items }
     ensures length { length pending.new.items ≡ length pending.old.items }
-    ensures results { IfSome result (λ results. IsChunk J.is_result J.jobs J.group piece results.items) }
+    ensures results { IfSome result (λ results. IsChunk J.is_result J.jobs J.group chunk results.items) }
 {
-    if piece < pending.len() {
-        pending[piece].take()
+    if chunk < pending.len() {
+        pending[chunk].take()
     } else {
         None
     }
@@ -242,12 +242,12 @@ pub(crate) fn take_pending<J: RunSpec<H>, H: Drop>(
 /// Returns a list with an empty entry for the results of each chunk.
 pub(crate) fn empty_pending<H: Drop>(
     alloc: Global,
-    pieces: u64,
+    chunks: u64,
 ) -> Result<Vec<Option<Vec<H>>>, AllocError>
     ensures { IfOk result (λ pending. (k : ℕ) → slice_index_or pending.items k None ≡ None) }
 {
     let mut pending = Vec::new(alloc);
-    for _ in 0..pieces {
+    for _ in 0..chunks {
         pending.push(None)?;
     }
     Ok(pending)

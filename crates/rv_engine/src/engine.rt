@@ -86,12 +86,12 @@ fn deliver_remaining<J: RunSpec<H>, H: Drop, R, W: Work<H>, L: Listener<H>>(
     crew: &Crew<'_, R>,
     work: &W,
     listener: L,
-    rest: Undelivered<H>,
+    remaining: Undelivered<H>,
 ) -> (L, Result<Flow, RunError>)
     requires results { OutputsAreAllowed (W.is_made work.now) J.is_result }
     requires jobs { J.jobs ≡ W.jobs work.now }
     requires group { J.group ≡ crew.now.group }
-    requires rest { IsInOrder J.is_result J.jobs J.group (L.has_received listener) (L.stops listener) rest.next rest.ended rest.pending.items }
+    requires rest { IsInOrder J.is_result J.jobs J.group (L.has_received listener) (L.stops listener) remaining.next remaining.ended remaining.pending.items }
     ensures { IsRunDelivered J.is_result J.jobs (L.has_received result.0) (L.stops result.0) result.1 }
 {
     let mut listener = listener;
@@ -99,7 +99,7 @@ fn deliver_remaining<J: RunSpec<H>, H: Drop, R, W: Work<H>, L: Listener<H>>(
         next,
         pending,
         ended,
-    } = rest;
+    } = remaining;
     match ended {
         Some(End::Stopped) => (listener, Ok(Flow::Stop)),
         // Out of memory: a worker gives up for that, and a refused thread has been returned already.

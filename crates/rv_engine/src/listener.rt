@@ -19,9 +19,9 @@ pub trait Listener<H> {
     ghost stops: { Self → Type 0 };
 
     /// Receives the result of the next job, and returns whether the run continues. It is not called again after it returned `Stop`.
-    fn receive(&mut self, made: H) -> Flow
+    fn receive(&mut self, output: H) -> Flow
         requires goes { stops self.old → ⊥ }
-        ensures received { (results : List H) → has_received self.old results → has_received self.new (results ++ made ∷ []) }
+        ensures received { (results : List H) → has_received self.old results → has_received self.new (results ++ output ∷ []) }
         ensures goes { result ≡ Continue → stops self.new → ⊥ }
         ensures stops { result ≡ Stop → stops self.new };
 
@@ -45,9 +45,9 @@ pub trait Observer<H> {
     ghost stops: { Self → Type 0 };
 
     /// Sees the result of the next job, and returns whether the run continues. It is not called again after it returned `Stop`.
-    fn see(&mut self, made: &H) -> Flow
+    fn see(&mut self, output: &H) -> Flow
         requires goes { stops self.old → ⊥ }
-        ensures seen { (results : List H) → has_seen self.old results → has_seen self.new (results ++ made.now ∷ []) }
+        ensures seen { (results : List H) → has_seen self.old results → has_seen self.new (results ++ output.now ∷ []) }
         ensures goes { result ≡ Continue → stops self.new → ⊥ }
         ensures stops { result ≡ Stop → stops self.new };
 

@@ -33,14 +33,14 @@ pub(crate) trait Worker: Sync {
 pub(crate) fn run_workers<R: Threads + Wait, S: Worker>(
     crew: &Crew<'_, R>,
     worker: &S,
-    pieces: u64,
+    chunks: u64,
 ) -> Result<(), RunError>
-    requires few { pieces ≤ 4096 }
-    requires draws { (draw : CounterView) → draw.pieces ≡ pieces → S.draws worker.now draw }
+    requires few { chunks ≤ 4096 }
+    requires draws { (draw : CounterView) → draw.pieces ≡ chunks → S.draws worker.now draw }
 {
     let (rt, alloc) = (crew.rt, crew.alloc);
-    let (claims, first) = Claims::new(alloc, pieces)?;
-    let passes = split_passes(alloc, &claims, first, pieces.min(u64::from(crew.workers)))?;
+    let (claims, first) = Claims::new(alloc, chunks)?;
+    let passes = split_passes(alloc, &claims, first, chunks.min(u64::from(crew.workers)))?;
     let claims = &claims;
     thread::scope(
         thread::scope_env(),

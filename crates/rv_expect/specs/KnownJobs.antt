@@ -15,15 +15,15 @@ use Rattle.rv_expect.specs.KnownLines.{has_name, lines_of, name_text, reason_tex
 
 -- the known failure of the job with this name, or `None` if there is none
 abbrev pub known_job_of : List KnownJob → List ℕ → Option KnownJob
-known_job_of known name = find (λ (job : KnownJob). bytes_eq job.name name) known
+known_job_of known_jobs name = find (λ (job : KnownJob). bytes_eq job.name name) known_jobs
 
 -- the reason why the job with this name is known to fail, or `None` if it is not a known failure
 abbrev pub reason_of : List KnownJob → List ℕ → Option (List ℕ)
-reason_of known name = option_map (λ (job : KnownJob). job.reason) (known_job_of known name)
+reason_of known_jobs name = option_map (λ (job : KnownJob). job.reason) (known_job_of known_jobs name)
 
 -- whether the job with this name is a known failure
 abbrev pub is_known : List KnownJob → List ℕ → Bool
-is_known known name = is_some (known_job_of known name)
+is_known known_jobs name = is_some (known_job_of known_jobs name)
 
 -- ---- lines
 
@@ -45,8 +45,8 @@ has_job_named jobs name = list_any (λ job. bytes_eq job name) jobs
 
 -- what is wrong with a name that follows these known failures: it is invalid, repeated, or not the name of a job; `None` if nothing is
 abbrev pub fault_kind : List (List ℕ) → List KnownJob → List ℕ → Option KnownFaultKind
-fault_kind jobs known name = if is_name name
-    then (if is_known known name then Some kind.Twice
+fault_kind jobs known_jobs name = if is_name name
+    then (if is_known known_jobs name then Some kind.Twice
     else if has_job_named jobs name then None else Some kind.UnknownJob)
     else Some kind.InvalidName
 
@@ -59,8 +59,8 @@ fault_of_line jobs earlier line = if has_name line
 
 -- the first error, or the second one if there is no first one, or `None` if there is neither
 abbrev pub first_of : Option KnownFault → Option KnownFault → Option KnownFault
-first_of (Some fault) more = Some fault
-first_of None more = more
+first_of (Some fault) other = Some fault
+first_of None other = other
 
 -- the first error in lines that follow the `earlier` lines, or `None` if all are valid
 unfoldable pub first_fault : List (List ℕ) → List (List ℕ) → List (List ℕ) → Option KnownFault
@@ -72,8 +72,8 @@ first_fault jobs earlier (line ∷ lines) =
 
 -- the error if there is one, or else the known failures
 abbrev pub known_or_fault : List KnownJob → Option KnownFault → Result (List KnownJob) KnownFault
-known_or_fault known None = Ok known
-known_or_fault known (Some fault) = Err fault
+known_or_fault known_jobs None = Ok known_jobs
+known_or_fault known_jobs (Some fault) = Err fault
 
 -- the known failures in the lines of a text, or the first error; `jobs` are the names of the list's jobs
 abbrev pub known_jobs_in : List (List ℕ) → List (List ℕ) → Result (List KnownJob) KnownFault

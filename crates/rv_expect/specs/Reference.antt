@@ -33,7 +33,7 @@ word_of_line line = word_if_line line (decode_sized (take 8 line) 4)
 
 -- the result for a first line and the lines after it: all their words, or the number of the first line without a word
 abbrev pub with_reference_line : Option ℕ → Reference → Reference
-with_reference_line None behind = BadLine 1
+with_reference_line None after = BadLine 1
 with_reference_line (Some word) (Words words) = Words (word ∷ words)
 with_reference_line (Some word) (BadLine line) = BadLine (line + 1)
 

@@ -42,18 +42,18 @@ unmet_default_exit end = if has_expected_exit (Some 0) end then None else Some N
 
 -- the unmet expectations of a job that has expectations and ran, in the order exit, end, console, signature, `same_as`
 abbrev pub unmet_of_expecting_job : ComparisonView → List UnmetExpectation
-unmet_of_expecting_job sides =
-    option_to_list (unmet_exit sides.job sides.row.ending)
-    ++ option_to_list (unmet_end sides.job sides.row.ending)
-    ++ option_to_list (unmet_console sides.job sides.console sides.row)
+unmet_of_expecting_job comparison =
+    option_to_list (unmet_exit comparison.job comparison.row.ending)
+    ++ option_to_list (unmet_end comparison.job comparison.row.ending)
+    ++ option_to_list (unmet_console comparison.job comparison.console comparison.row)
     ++ option_to_list (unmet_signature
-    (signature_difference sides.job.expect_signature sides.reference sides.row.signature))
-    ++ option_to_list (unmet_same_as sides.job sides.other sides.row)
+    (signature_difference comparison.job.expect_signature comparison.reference comparison.row.signature))
+    ++ option_to_list (unmet_same_as comparison.job comparison.other comparison.row)
 
 -- the unmet expectations of a row, with the data that it is compared with; a row of a refused job has none
 unfoldable pub unmet_expectations_of : ComparisonView → List UnmetExpectation
-unmet_expectations_of sides =
-    if did_run sides.row.ending then
-    (if has_expectations sides.job then unmet_of_expecting_job sides
-    else option_to_list (unmet_default_exit sides.row.ending))
+unmet_expectations_of comparison =
+    if did_run comparison.row.ending then
+    (if has_expectations comparison.job then unmet_of_expecting_job comparison
+    else option_to_list (unmet_default_exit comparison.row.ending))
     else []

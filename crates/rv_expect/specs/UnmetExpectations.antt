@@ -62,17 +62,17 @@ outcome_in_row row = record {
 abbrev pub named_outcome : Option Row → Option Outcome
 named_outcome other = option_map outcome_in_row other
 
--- `told` has each expectation of the job if and only if the outcome does not meet it, and the default one if and only if the job has no
+-- `reported` has each expectation of the job if and only if the outcome does not meet it, and the default one if and only if the job has no
 -- expectations and did not end with exit code 0
-pub record ReportsUnmetExpectations (told : List UnmetExpectation) (job : Job) (outcome : Outcome)
+pub record ReportsUnmetExpectations (reported : List UnmetExpectation) (job : Job) (outcome : Outcome)
     (file reference : Option (List ℕ)) (other : Option Outcome) : Type 0 where
-  pub exit : list_any is_exit told ≡ not (has_expected_exit job.expect_exit outcome.ending)
-  pub end : list_any is_end told ≡ not (has_expected_end job.expect_end outcome.ending)
-  pub console : list_any is_console told ≡ not (has_expected_console job.expect_console file outcome)
-  pub signature : list_any is_signature told
+  pub exit : list_any is_exit reported ≡ not (has_expected_exit job.expect_exit outcome.ending)
+  pub end : list_any is_end reported ≡ not (has_expected_end job.expect_end outcome.ending)
+  pub console : list_any is_console reported ≡ not (has_expected_console job.expect_console file outcome)
+  pub signature : list_any is_signature reported
       ≡ not (has_expected_signature job.expect_signature reference outcome)
-  pub same : list_any is_same told ≡ not (matches_same_as job.same_as other outcome)
-  pub nothing : list_any is_nothing told
+  pub same : list_any is_same reported ≡ not (matches_same_as job.same_as other outcome)
+  pub nothing : list_any is_nothing reported
       ≡ (not (has_expectations job) && not (exits_with 0 outcome.ending))
 
 -- whether a job passes: its verdict is `pass`, or it has no expectations and ended with exit code 0
@@ -83,6 +83,6 @@ passes verdict.Unasked end = exits_with 0 end
 
 -- the row has the verdict that its outcome requires
 abbrev pub HasRequiredVerdict : ComparisonView → Type 0
-HasRequiredVerdict sides =
-    sides.row.verdict ≡ verdict_of sides.job (outcome_in_row sides.row) sides.reference
-    sides.console (named_outcome sides.other)
+HasRequiredVerdict comparison =
+    comparison.row.verdict ≡ verdict_of comparison.job (outcome_in_row comparison.row) comparison.reference
+    comparison.console (named_outcome comparison.other)

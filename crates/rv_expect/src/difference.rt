@@ -45,10 +45,10 @@ pub enum SameAsDifference {
 }
 
 /// Returns the first difference between the actual and the expected bytes, or `None` if they are equal.
-pub(crate) fn first_byte_difference(met: &[u8], expected: &[u8]) -> Option<Difference>
-    ensures { result ≡ first_difference met.now expected.now }
+pub(crate) fn first_byte_difference(actual: &[u8], expected: &[u8]) -> Option<Difference>
+    ensures { result ≡ first_difference actual.now expected.now }
 {
-    for (place, byte) in met.iter().enumerate() {
+    for (place, byte) in actual.iter().enumerate() {
         if place == expected.len() {
             return Some(Difference::Lengths);
         }
@@ -56,7 +56,7 @@ pub(crate) fn first_byte_difference(met: &[u8], expected: &[u8]) -> Option<Diffe
             return Some(Difference::At(place));
         }
     }
-    if met.len() == expected.len() {
+    if actual.len() == expected.len() {
         None
     } else {
         Some(Difference::Lengths)
@@ -64,10 +64,10 @@ pub(crate) fn first_byte_difference(met: &[u8], expected: &[u8]) -> Option<Diffe
 }
 
 /// Returns the first difference between the actual and the expected words, or `None` if they are equal.
-pub(crate) fn first_word_difference(met: &[u32], expected: &[u32]) -> Option<Difference>
-    ensures { result ≡ first_difference met.now expected.now }
+pub(crate) fn first_word_difference(actual: &[u32], expected: &[u32]) -> Option<Difference>
+    ensures { result ≡ first_difference actual.now expected.now }
 {
-    for (place, word) in met.iter().enumerate() {
+    for (place, word) in actual.iter().enumerate() {
         if place == expected.len() {
             return Some(Difference::Lengths);
         }
@@ -75,7 +75,7 @@ pub(crate) fn first_word_difference(met: &[u32], expected: &[u32]) -> Option<Dif
             return Some(Difference::At(place));
         }
     }
-    if met.len() == expected.len() {
+    if actual.len() == expected.len() {
         None
     } else {
         Some(Difference::Lengths)
@@ -103,13 +103,13 @@ pub(crate) fn console_difference(
 /// Returns the first difference between a row and the row of the job that `same_as` names, or `None` if they agree or there is no
 /// `same_as`.
 pub(crate) fn same_as_difference(
-    named: Option<usize>,
+    same_as: Option<usize>,
     other: Option<&Row>,
     row: &Row,
 ) -> Option<SameAsDifference>
-    ensures { result ≡ same_as_difference named (option_map (λ row. row.now) other.entry) row.now }
+    ensures { result ≡ same_as_difference same_as (option_map (λ row. row.now) other.entry) row.now }
 {
-    match (named, other) {
+    match (same_as, other) {
         (None, _) => None,
         (Some(_), None) => Some(SameAsDifference::Absent),
         (Some(_), Some(other)) => difference_of_runs(row, other),

@@ -60,10 +60,10 @@ impl FailureKind {
 
     /// Returns the kind of a failure, given how the job ended and its unmet expectations: the first one decides, or the ending if there are
     /// none.
-    pub fn of_expectations(ending: RowEnd, unmet: &[UnmetExpectation]) -> FailureKind
-        ensures { result ≡ failure_kind_of_unmet ending unmet.now }
+    pub fn of_expectations(ending: RowEnd, unmet_expectations: &[UnmetExpectation]) -> FailureKind
+        ensures { result ≡ failure_kind_of_unmet ending unmet_expectations.now }
     {
-        match unmet.first() {
+        match unmet_expectations.first() {
             Some(first) => kind_of_first(ending, *first),
             None => FailureKind::of_end(ending),
         }

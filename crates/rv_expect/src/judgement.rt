@@ -118,12 +118,12 @@ fn judgement_of_unknown<'k>(passed: bool) -> Judgement<'k>
 }
 
 // Returns the judgement of a row, given the file of known failures and whether the row passed.
-fn judgement_in_file<'k>(known: &'k KnownJobs, passed: bool, row: &Row) -> Judgement<'k>
-    ensures { judgement_view result ≡ judged_in_file known.now.path passed (reason_of known.now.jobs row.now.name) }
+fn judgement_in_file<'k>(known_jobs: &'k KnownJobs, passed: bool, row: &Row) -> Judgement<'k>
+    ensures { judgement_view result ≡ judged_in_file known_jobs.now.path passed (reason_of known_jobs.now.jobs row.now.name) }
 {
-    match (passed, known.reason_of(row.name.as_str().as_bytes())) {
+    match (passed, known_jobs.reason_of(row.name.as_str().as_bytes())) {
         (_, None) => judgement_of_unknown(passed),
-        (true, Some(_)) => Judgement::NowPasses(known.path.as_str()),
+        (true, Some(_)) => Judgement::NowPasses(known_jobs.path.as_str()),
         (false, Some(reason)) => Judgement::Known(reason),
     }
 }

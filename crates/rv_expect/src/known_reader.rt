@@ -45,23 +45,23 @@ fn read_lines(
     Ok(Ok(Sequence::new(known)))
 }
 
-// Returns the error in a line, or `None` if it is valid. `number` is its number, counted from 1, and `known` are the known failures in the
+// Returns the error in a line, or `None` if it is valid. `number` is its number, counted from 1, and `known_jobs` are the known failures in the
 // lines before it.
 fn fault_of_line(
     alloc: Global,
     jobs: &[&str],
-    known: &[KnownJob],
+    known_jobs: &[KnownJob],
     number: usize,
     line: &[u8],
 ) -> Result<Option<KnownFault>, AllocError>
-    ensures { IfOk result (λ fault. (earlier : List (List ℕ)) → known.now ≡ known_in earlier
+    ensures { IfOk result (λ fault. (earlier : List (List ℕ)) → known_jobs.now ≡ known_in earlier
         → number ≡ length earlier + 1 → fault ≡ fault_of_line (job_names jobs.now) earlier line.now) }
 {
     let name = name_text(line);
     if name.is_empty() {
         return Ok(None);
     }
-    let Some(kind) = fault_kind(jobs, known, name) else {
+    let Some(kind) = fault_kind(jobs, known_jobs, name) else {
         return Ok(None);
     };
     let name = copied(alloc, name)?;
@@ -72,14 +72,14 @@ fn fault_of_line(
     }))
 }
 
-// Returns what is wrong with a name, or `None` if it is valid: it must be the name of a job, and must not be among `known`, the known
+// Returns what is wrong with a name, or `None` if it is valid: it must be the name of a job, and must not be among `known_jobs`, the known
 // failures before it.
-fn fault_kind(jobs: &[&str], known: &[KnownJob], name: &[u8]) -> Option<KnownFaultKind>
-    ensures { result ≡ fault_kind (job_names jobs.now) known.now name.now }
+fn fault_kind(jobs: &[&str], known_jobs: &[KnownJob], name: &[u8]) -> Option<KnownFaultKind>
+    ensures { result ≡ fault_kind (job_names jobs.now) known_jobs.now name.now }
 {
     if !is_name(name) {
         Some(KnownFaultKind::InvalidName)
-    } else if is_known(known, name) {
+    } else if is_known(known_jobs, name) {
         Some(KnownFaultKind::Twice)
     } else if !has_job_named(jobs, name) {
         Some(KnownFaultKind::UnknownJob)
@@ -89,10 +89,10 @@ fn fault_kind(jobs: &[&str], known: &[KnownJob], name: &[u8]) -> Option<KnownFau
 }
 
 // Whether the job with this name is among the known failures.
-fn is_known(known: &[KnownJob], name: &[u8]) -> bool
-    ensures { result ≡ is_known known.now name.now }
+fn is_known(known_jobs: &[KnownJob], name: &[u8]) -> bool
+    ensures { result ≡ is_known known_jobs.now name.now }
 {
-    known_job_of(known, name).is_some()
+    known_job_of(known_jobs, name).is_some()
 }
 
 // Whether at least one job has this name.

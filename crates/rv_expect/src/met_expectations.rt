@@ -19,26 +19,26 @@ pub enum Expectation {
     Nothing,
 }
 
-/// Whether a job has an expectation of this kind and its run meets it. `unmet` are the unmet expectations of the job.
-pub fn is_expectation_met(job: &Job, unmet: &[UnmetExpectation], one: Expectation) -> bool
-    ensures { result ≡ is_expectation_met job.now unmet.now one }
+/// Whether a job has an expectation of this kind and its run meets it. `unmet_expectations` are the unmet expectations of the job.
+pub fn is_expectation_met(job: &Job, unmet_expectations: &[UnmetExpectation], expectation: Expectation) -> bool
+    ensures { result ≡ is_expectation_met job.now unmet_expectations.now expectation }
 {
-    job_expects(job, one) && !is_expectation_unmet(unmet, one)
+    job_expects(job, expectation) && !is_expectation_unmet(unmet_expectations, expectation)
 }
 
 // Whether one of these unmet expectations is of this kind.
-fn is_expectation_unmet(unmet: &[UnmetExpectation], one: Expectation) -> bool
-    ensures { result ≡ list_any (is_unmet_of_kind one) unmet.now }
+fn is_expectation_unmet(unmet_expectations: &[UnmetExpectation], expectation: Expectation) -> bool
+    ensures { result ≡ list_any (is_unmet_of_kind expectation) unmet_expectations.now }
 {
-    unmet.iter().any(|other| is_unmet_of_kind(one, *other))
+    unmet_expectations.iter().any(|other| is_unmet_of_kind(expectation, *other))
 }
 
 // Whether a job has an expectation of this kind; a job without any other has the default one, exit code 0.
 #[tactic(auto, unfolding(crate::specs::MetExpectations::job_expects))]
-fn job_expects(job: &Job, one: Expectation) -> bool
-    ensures { result ≡ job_expects job.now one }
+fn job_expects(job: &Job, expectation: Expectation) -> bool
+    ensures { result ≡ job_expects job.now expectation }
 {
-    match one {
+    match expectation {
         Expectation::Exit => job.expect_exit.is_some(),
         Expectation::End => job.expect_end.is_some(),
         Expectation::Console => job.expect_console.is_some(),
@@ -50,10 +50,10 @@ fn job_expects(job: &Job, one: Expectation) -> bool
 
 // Whether an unmet expectation is of this kind.
 #[tactic(auto, unfolding(crate::specs::MetExpectations::is_unmet_of_kind))]
-fn is_unmet_of_kind(one: Expectation, unmet: UnmetExpectation) -> bool
-    ensures { result ≡ is_unmet_of_kind one unmet }
+fn is_unmet_of_kind(expectation: Expectation, unmet_expectations: UnmetExpectation) -> bool
+    ensures { result ≡ is_unmet_of_kind expectation unmet_expectations }
 {
-    match (one, unmet) {
+    match (expectation, unmet_expectations) {
         (Expectation::Exit, UnmetExpectation::Exit)
         | (Expectation::End, UnmetExpectation::End)
         | (Expectation::Console, UnmetExpectation::Console(_))

@@ -58,13 +58,13 @@ pub fn unmet_expectations(
 
 // Appends an unmet expectation, if there is one.
 fn push_if_unmet(
-    found: &mut Vec<UnmetExpectation>,
-    unmet: Option<UnmetExpectation>,
+    unmet_expectations: &mut Vec<UnmetExpectation>,
+    expectation: Option<UnmetExpectation>,
 ) -> Result<(), AllocError>
-    ensures { OnOk result (found.new.items ≡ found.old.items ++ option_to_list unmet) }
+    ensures { OnOk result (unmet_expectations.new.items ≡ unmet_expectations.old.items ++ option_to_list expectation) }
 {
-    if let Some(unmet) = unmet {
-        found.push(unmet)?;
+    if let Some(expectation) = expectation {
+        unmet_expectations.push(expectation)?;
     }
     Ok(())
 }

@@ -30,22 +30,22 @@ impl From<AllocError> for InputError {
 // The maximum number of bytes requested per read: large, for lists and images of megabytes, since each read is a system call.
 const BUFFER_SIZE: usize = 16_384;
 
-/// Returns the reader's bytes up to its end, or the first `most` of them if there are more; the others remain in the reader.
+/// Returns the reader's bytes up to its end, or the first `limit` of them if there are more; the others remain in the reader.
 pub fn read_at_most<R: Read>(
     alloc: Global,
     input: &mut R,
-    most: usize,
+    limit: usize,
 ) -> Result<Vec<u8>, InputError>
     ensures value { IfOk result (λ bytes. IfSome (R.remaining input.old)
-        (λ known. bytes.items ≡ take most known)) }
+        (λ known. bytes.items ≡ take limit known)) }
     ensures taken { IfOk result
         (λ bytes. Consumes (R.remaining input.old) (R.remaining input.new) bytes.items) }
-    ensures within { IfOk result (λ bytes. length bytes.items ≤ most) }
+    ensures within { IfOk result (λ bytes. length bytes.items ≤ limit) }
 {
     let mut bytes = Vec::new(alloc);
     let mut chunk = [0u8; BUFFER_SIZE];
-    'reading: while bytes.len() < most {
-        if read_once(input, &mut chunk, &mut bytes, most)? == 0 {
+    'reading: while bytes.len() < limit {
+        if read_once(input, &mut chunk, &mut bytes, limit)? == 0 {
             return Ok(bytes);
         }
     }
@@ -56,7 +56,7 @@ pub fn read_at_most<R: Read>(
 // them, so that a failed allocation is not taken for a failed read.
 fn read_once<R: Read>(
     input: &mut R,
-    chunk: &mut [u8; BUFFER_SIZE],
+    buffer: &mut [u8; BUFFER_SIZE],
     bytes: &mut Vec<u8>,
     most: usize,
 ) -> Result<usize, InputError>
@@ -65,10 +65,10 @@ fn read_once<R: Read>(
         bytes.old.items bytes.new.items) }
 {
     let room = (most - bytes.len()).min(BUFFER_SIZE);
-    let count = match input.read(&mut chunk[..room]) {
+    let count = match input.read(&mut buffer[..room]) {
         Ok(count) => count,
         Err(error) => return Err(InputError::Failed(error.kind())),
     };
-    bytes.extend_from_slice(&chunk[..count])?;
+    bytes.extend_from_slice(&buffer[..count])?;
     Ok(count)
 }

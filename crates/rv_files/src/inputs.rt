@@ -14,11 +14,11 @@ pub trait Inputs {
     // The contents of each path, if known. Reading does not change them.
     ghost contents: { Self → Option FileContents };
 
-    /// Returns the first `most` bytes of the file at a path, or all of them if there are fewer.
-    fn read_up_to(&self, alloc: Global, path: &str, most: usize) -> Result<Vec<u8>, InputError>
-        ensures within { IfOk result (λ bytes. length bytes.items ≤ most) }
+    /// Returns the first `limit` bytes of the file at a path, or all of them if there are fewer.
+    fn read_up_to(&self, alloc: Global, path: &str, limit: usize) -> Result<Vec<u8>, InputError>
+        ensures within { IfOk result (λ bytes. length bytes.items ≤ limit) }
         ensures known { IfOk result (λ bytes. IfSome (contents self.now)
-            (λ files. IsSomeAnd (files path.now) (λ whole. bytes.items ≡ take most whole))) }
+            (λ files. IsSomeAnd (files path.now) (λ whole. bytes.items ≡ take limit whole))) }
         ensures missing { IfErr result (λ error. error ≢ InputError.OutOfMemory → IfSome (contents self.now)
             (λ files. files path.now ≡ None)) };
 }
@@ -41,9 +41,9 @@ impl<'a, R: Files> SystemInputs<'a, R> {
 impl<'a, R: Files> Inputs for SystemInputs<'a, R> {
     ghost contents = { λ _. None };
 
-    // Returns the first `most` bytes of the file at a path, or all of them if there are fewer.
-    fn read_up_to(&self, alloc: Global, path: &str, most: usize) -> Result<Vec<u8>, InputError>
-        ensures within { IfOk result (λ bytes. length bytes.items ≤ most) }
+    // Returns the first `limit` bytes of the file at a path, or all of them if there are fewer.
+    fn read_up_to(&self, alloc: Global, path: &str, limit: usize) -> Result<Vec<u8>, InputError>
+        ensures within { IfOk result (λ bytes. length bytes.items ≤ limit) }
 
         // The bytes are those of some file of the system.
         ensures opened { IfOk result (λ bytes. (file : R.File)
@@ -56,24 +56,24 @@ impl<'a, R: Files> Inputs for SystemInputs<'a, R> {
     }
 }
 
-/// Returns all bytes of the file at a path, or `None` if there are more than `most`.
+/// Returns all bytes of the file at a path, or `None` if there are more than `limit`.
 pub fn read_whole_up_to<D: Inputs>(
     inputs: &D,
     alloc: Global,
     path: &str,
-    most: usize,
+    limit: usize,
 ) -> Result<Option<Vec<u8>>, InputError>
-    requires { most + 1 < 2 ^ 64 }
-    ensures within { IfOk result (λ read. IfSome read (λ bytes. length bytes.items ≤ most)) }
+    requires { limit + 1 < 2 ^ 64 }
+    ensures within { IfOk result (λ read. IfSome read (λ bytes. length bytes.items ≤ limit)) }
     ensures whole { IfOk result (λ read. IfSome read (λ bytes. IfSome (D.contents inputs.now)
         (λ files. files path.now ≡ Some bytes.items))) }
     ensures long { IfOk result (λ read. IfNone read (IfSome (D.contents inputs.now)
-        (λ files. IsSomeAnd (files path.now) (λ bytes. most < length bytes)))) }
+        (λ files. IsSomeAnd (files path.now) (λ bytes. limit < length bytes)))) }
     ensures missing { IfErr result (λ error. error ≢ InputError.OutOfMemory → IfSome (D.contents inputs.now)
         (λ files. files path.now ≡ None)) }
 {
-    let bytes = inputs.read_up_to(alloc, path, most + 1)?;
-    if bytes.len() > most {
+    let bytes = inputs.read_up_to(alloc, path, limit + 1)?;
+    if bytes.len() > limit {
         return Ok(None);
     }
     Ok(Some(bytes))

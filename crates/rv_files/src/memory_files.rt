@@ -45,12 +45,12 @@ impl MemoryInputs {
 impl Inputs for MemoryInputs {
     ghost contents = { λ inputs. Some (memory_contents inputs.files.items) };
 
-    // Returns the first `most` bytes of the file with this path, or all of them if there are fewer. A missing file is an error.
-    fn read_up_to(&self, alloc: Global, path: &str, most: usize) -> Result<Vec<u8>, InputError> {
+    // Returns the first `limit` bytes of the file with this path, or all of them if there are fewer. A missing file is an error.
+    fn read_up_to(&self, alloc: Global, path: &str, limit: usize) -> Result<Vec<u8>, InputError> {
         let Some(file) = self.file_at(path) else {
             return Err(InputError::Failed(ErrorKind::NotFound));
         };
-        let count = file.bytes.len().min(most);
+        let count = file.bytes.len().min(limit);
         Ok(Vec::from_slice(alloc, &file.bytes[..count])?)
     }
 }

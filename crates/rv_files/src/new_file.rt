@@ -9,14 +9,14 @@ use std::rt::Files;
 
 /// Creates a locked file at the temporary path, with the mode of the file at the final path. A temporary file that an earlier run left is
 /// replaced; one that another process has locked is an error, and so is a read-only file at the final path.
-pub(crate) fn create_new_file<R: Files>(files: &R, places: &FilePaths) -> io::Result<R::File>
+pub(crate) fn create_new_file<R: Files>(files: &R, paths: &FilePaths) -> io::Result<R::File>
 where
     R::File: FileLock,
 {
-    let old = replaceable_file(files, places.whole.as_str())?;
-    let file = create_locked_file(files, places.new.as_str())?;
+    let old = replaceable_file(files, paths.whole.as_str())?;
+    let file = create_locked_file(files, paths.new.as_str())?;
     if let Some(old) = old {
-        copy_attributes(files, places.new.as_str(), &file, &old)?;
+        copy_attributes(files, paths.new.as_str(), &file, &old)?;
     }
     Ok(file)
 }
@@ -103,8 +103,8 @@ pub(crate) fn sync_directory<R: Files>(files: &R, path: &str) {
 
 /// Returns an error if the file cannot be placed at its final path: its directory does not exist, or a read-only file is there. This is
 /// checked before the file is created.
-pub(crate) fn check_destination<R: Files>(files: &R, places: &FilePaths) -> io::Result<()> {
-    replaceable_file(files, places.whole.as_str())?;
-    files.metadata(directory_of(places.whole.as_str()).as_str())?;
+pub(crate) fn check_destination<R: Files>(files: &R, paths: &FilePaths) -> io::Result<()> {
+    replaceable_file(files, paths.whole.as_str())?;
+    files.metadata(directory_of(paths.whole.as_str()).as_str())?;
     Ok(())
 }

@@ -62,10 +62,10 @@ fn is_replaceable<R: Files>(files: &R, path: &str) -> io::Result<bool> {
 }
 
 // Whether another file may replace the file with this metadata: only if it is a regular file.
-fn may_be_replaced(met: &Metadata) -> bool
-    ensures { IsTrue result ↔ IsFile (file_type met.now) }
+fn may_be_replaced(metadata: &Metadata) -> bool
+    ensures { IsTrue result ↔ IsFile (file_type metadata.now) }
 {
-    met.is_file()
+    metadata.is_file()
 }
 
 // The maximum number of links followed in a chain, as on Linux.

@@ -63,12 +63,12 @@ where
         }
     }
 
-    // Opens the file that receives the bytes: a new temporary file, or, if `places` is `None`, whatever is at the path.
+    // Opens the file that receives the bytes: a new temporary file, or, if `paths` is `None`, whatever is at the path.
     fn open_file(
         &mut self,
         alloc: Global,
         path: &str,
-        places: Option<&FilePaths>,
+        paths: Option<&FilePaths>,
     ) -> Result<R::File, FileError>
         ensures first { IfErr result (λ error. error ≡ FileError.SameFile → 0 < vec_len self.old.unplaced) }
     {
@@ -77,8 +77,8 @@ where
             open_null_device(self.files),
             open_null_device(self.files),
         );
-        match places {
-            Some(places) => self.create_uncommitted(alloc, places),
+        match paths {
+            Some(paths) => self.create_uncommitted(alloc, paths),
             None => Ok(OpenOptions::new().write(true).open(self.files, path)?),
         }
     }
@@ -87,13 +87,13 @@ where
     fn create_uncommitted(
         &mut self,
         alloc: Global,
-        places: &FilePaths,
+        paths: &FilePaths,
     ) -> Result<R::File, FileError>
         ensures first { IfErr result (λ error. error ≡ FileError.SameFile → 0 < vec_len self.old.unplaced) }
     {
-        self.check_not_same_file(alloc, places)?;
-        self.record_uncommitted(alloc, places.new.as_str())?;
-        match create_new_file(self.files, places) {
+        self.check_not_same_file(alloc, paths)?;
+        self.record_uncommitted(alloc, paths.new.as_str())?;
+        match create_new_file(self.files, paths) {
             Ok(file) => Ok(file),
             Err(error) => {
                 self.unplaced.pop();
@@ -104,13 +104,13 @@ where
 
     // Returns an error if the final or temporary path of a file belongs to another file that is not yet placed: neither would end up
     // complete.
-    fn check_not_same_file(&self, alloc: Global, places: &FilePaths) -> Result<(), FileError>
+    fn check_not_same_file(&self, alloc: Global, paths: &FilePaths) -> Result<(), FileError>
         ensures first { IfErr result (λ error. error ≡ FileError.SameFile → 0 < vec_len self.now.unplaced) }
     {
         // If the other file's final path is this one's temporary path, this is the other's temporary path.
-        let newer = with_new_suffix(alloc, places.new.as_str())?;
+        let newer = with_new_suffix(alloc, paths.new.as_str())?;
         for other in &self.unplaced {
-            for path in [&places.new, &places.whole, &newer] {
+            for path in [&paths.new, &paths.whole, &newer] {
                 if is_same_file(self.files, alloc, path.as_str(), other.as_str())? {
                     return Err(FileError::SameFile);
                 }
@@ -126,8 +126,8 @@ where
     }
 
     // Removes the record that the file at this temporary path is not yet placed.
-    fn remove_uncommitted(&mut self, new: &str) {
-        self.unplaced.retain(|path| path.as_str() != new);
+    fn remove_uncommitted(&mut self, temporary: &str) {
+        self.unplaced.retain(|path| path.as_str() != temporary);
     }
 }
 

@@ -36,8 +36,8 @@ fn write_file<F: Outputs>(
 }
 
 // Returns the outcome of writing a file as a text.
-fn answer_text(answer: Result<(), FileError>) -> &'static str {
-    match answer {
+fn answer_text(outcome: Result<(), FileError>) -> &'static str {
+    match outcome {
         Ok(()) => "placed",
         Err(FileError::SameFile) => "the same place",
         Err(FileError::Failed(_)) => "failed",

@@ -13,7 +13,7 @@ IsIndexRange pieces piece =
 
 -- each chunk in the list has the number and the rows of one of the batch's chunks
 abbrev pub AreIndexRanges : Pieces → List Piece → Type 0
-AreIndexRanges pieces made = All (IsIndexRange pieces) made
+AreIndexRanges pieces chunks = All (IsIndexRange pieces) chunks
 
 -- there is one slot for each chunk, in order, and each slot is empty or has the rows of its chunk
 abbrev pub AreChunkSlots : Pieces → List (Option (List Row)) → Type 0

@@ -80,8 +80,8 @@ impl Listener<Row> for CollectedRows {
     ghost stops = { λ s. s.refused ≡ true };
 
     // Keeps the next row. Stops if an allocation fails.
-    fn receive(&mut self, made: Row) -> Flow {
-        match self.rows.push(made) {
+    fn receive(&mut self, output: Row) -> Flow {
+        match self.rows.push(output) {
             Ok(()) => Flow::Continue,
             Err(_) => {
                 self.refused = true;

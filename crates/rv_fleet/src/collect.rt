@@ -58,12 +58,12 @@ fn empty_slots(alloc: Global, pieces: &Pieces<'_>) -> Result<Vec<Option<Rows>>, 
 }
 
 // Stores the rows of each of these chunks in the slot of the chunk, if the slot is empty.
-fn store_chunks(slots: &mut Vec<Option<Rows>>, pieces: &Pieces<'_>, made: Vec<Piece>)
+fn store_chunks(slots: &mut Vec<Option<Rows>>, pieces: &Pieces<'_>, chunks: Vec<Piece>)
     requires slots { AreChunkSlots pieces.now slots.old.items }
-    requires made { AreIndexRanges pieces.now made.items }
+    requires made { AreIndexRanges pieces.now chunks.items }
     ensures { AreChunkSlots pieces.now slots.new.items }
 {
-    for piece in made {
+    for piece in chunks {
         store_chunk(slots, pieces, piece);
     }
 }
@@ -81,12 +81,12 @@ fn store_chunk(slots: &mut Vec<Option<Rows>>, pieces: &Pieces<'_>, piece: Piece)
 }
 
 // Returns the pass of a worker merged with the earlier passes, if there are any.
-fn join_passes(claims: &Claims, all: Option<Pass>, pass: Pass) -> Pass
-    requires all { IfSome all (λ other. other.draw ≡ claims.now) }
+fn join_passes(claims: &Claims, joined: Option<Pass>, pass: Pass) -> Pass
+    requires all { IfSome joined (λ other. other.draw ≡ claims.now) }
     requires pass { pass.draw ≡ claims.now }
     ensures { result.draw ≡ claims.now }
 {
-    match all {
+    match joined {
         Some(other) => claims.join(other, pass),
         None => pass,
     }

@@ -10,21 +10,21 @@ use rv_session::{Program, Session, Start};
 use rv_trace::{Bytes, Image, Plan, image_bytes, image_of_bytes, machine_at};
 use std::alloc::{AllocError, Global};
 
-/// Returns a session at the start of the run of the job at the index `place`, before gdb has sent anything, or `None` if the job is
+/// Returns a session at the start of the run of the job at the index `index`, before gdb has sent anything, or `None` if the job is
 /// refused. `path` is the path by which gdb knows the job's image.
 pub fn session_at(
     alloc: Global,
     plan: &Plan,
-    place: usize,
+    index: usize,
     path: Bytes,
 ) -> Result<Option<Session>, AllocError>
-    requires { place < length plan.now.jobs }
+    requires { index < length plan.now.jobs }
     ensures { IfOk result (λ found. (d : AJob) → MatchOption found
-        (is_ok (start_state_in plan.now.answers (job_at plan.now place d)) ≡ false)
-        (IsSessionOf plan.now.answers (job_at plan.now place d) path)) }
+        (is_ok (start_state_in plan.now.answers (job_at plan.now index d)) ≡ false)
+        (IsSessionOf plan.now.answers (job_at plan.now index d) path)) }
 {
-    let job = plan.job(place);
-    let Some(bytes) = image_bytes(plan, place) else {
+    let job = plan.job(index);
+    let Some(bytes) = image_bytes(plan, index) else {
         return Ok(None);
     };
     let Some(image) = image_of_bytes(alloc, job.isa, bytes)? else {
@@ -32,27 +32,27 @@ pub fn session_at(
     };
     let copy = Bytes::new(Vec::from_slice(alloc, bytes)?);
     let program = Program { path, image: copy };
-    session_of_image(alloc, plan, place, &image, program)
+    session_of_image(alloc, plan, index, &image, program)
 }
 
 // Returns a session at the start of the run of a job that has this image, or `None` if the job is refused.
 fn session_of_image(
     alloc: Global,
     plan: &Plan,
-    place: usize,
+    index: usize,
     image: &Image,
     program: Program,
 ) -> Result<Option<Session>, AllocError>
-    requires place { place < length plan.now.jobs }
-    requires image { (d : AJob) → image_in plan.now.answers (job_at plan.now place d) ≡ Some image.now }
-    requires bytes { (d : AJob) → image_bytes plan.now.answers (job_at plan.now place d) ≡ Some program.image }
+    requires index { index < length plan.now.jobs }
+    requires image { (d : AJob) → image_in plan.now.answers (job_at plan.now index d) ≡ Some image.now }
+    requires bytes { (d : AJob) → image_bytes plan.now.answers (job_at plan.now index d) ≡ Some program.image }
     ensures { IfOk result (λ found. (d : AJob) → MatchOption found
-        (is_ok (start_state_in plan.now.answers (job_at plan.now place d)) ≡ false)
-        (IsSessionOf plan.now.answers (job_at plan.now place d) program.path)) }
+        (is_ok (start_state_in plan.now.answers (job_at plan.now index d)) ≡ false)
+        (IsSessionOf plan.now.answers (job_at plan.now index d) program.path)) }
 {
-    let job = plan.job(place);
+    let job = plan.job(index);
     let (entry, isa) = (image.entry, job.isa);
-    match machine_at(alloc, plan, place, image)? {
+    match machine_at(alloc, plan, index, image)? {
         Ok(machine) => {
             let bus = machine.into_bus();
             let start = Start { bus, entry, isa };

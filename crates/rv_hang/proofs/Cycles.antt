@@ -79,9 +79,9 @@ quiet_same steps step zero s complete h quiet =
     (ap (λ k. (state_after k s).bus) (sym none), ap (λ k. (state_after k s).isa) (sym none))
 quiet_same steps step (suc n) s complete h quiet =
     let next : step + n + 1 ≡ step + suc n = omega arith in
-    let step = each_completes steps (step + n) s (omega arith) in
+    let completed = each_completes steps (step + n) s (omega arith) in
     let last = step_same (state_after (step + n) s) (state_after (step + n + 1) s)
-    (quiet (step + n) (omega arith) (omega arith)) step in
+    (quiet (step + n) (omega arith) (omega arith)) completed in
     subst (λ (k : ℕ). Same (state_after step s) (state_after k s)) next
     (both_same (state_after step s) (state_after (step + n) s) (state_after (step + n + 1) s)
     (quiet_same steps step n s complete (omega arith) (λ k l m. quiet k l (omega arith))) last)

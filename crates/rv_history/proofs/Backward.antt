@@ -5,9 +5,9 @@ use Rattle.rv_trace.specs.Run.{run_of, step_of}
 use Rattle.rv_trace.specs.State.{State}
 use Rattle.rv_trace.specs.Trace.{state_after}
 use Rattle.rv_trace.proofs.Public.{each_completes}
-use Rattle.rv_history.specs.declared.found.SearchEnd.{SearchEnd}
-use Rattle.rv_history.specs.declared.found.MoveResult.{MoveResult}
-use Rattle.rv_history.specs.declared.found.MoveResult.TheVariants as found
+use Rattle.rv_history.specs.declared.outcome.SearchEnd.{SearchEnd}
+use Rattle.rv_history.specs.declared.outcome.MoveResult.{MoveResult}
+use Rattle.rv_history.specs.declared.outcome.MoveResult.TheVariants as outcome
 use Rattle.rv_history.specs.declared.stepping.StepResult.{StepResult}
 use Rattle.rv_history.specs.declared.stepping.StepResult.TheVariants as stepped
 use Rattle.rv_history.specs.declared.stops.Stops.{Stops}
@@ -21,17 +21,17 @@ use Rattle.rv_history.proofs.Forward.{change_at, no_change_at}
 
 -- the stop before, as it is kept
 abbrev pub IsLastStop : Stops → ℕ → State → ℕ → SearchEnd → Type 0
-IsLastStop stops budget start from last = IsStopBefore stops budget start from last.place last.found
+IsLastStop stops budget start from last = IsStopBefore stops budget start from last.step last.outcome
 
 -- a change is behind one place alone
-change_before : (stops : Stops) (budget place : ℕ) (start : State) → IsChangeBefore stops budget start (place + 1)
-    → IsChangeAt stops budget start place
-change_before stops budget place start change =
-    let same : change.before ≡ place = let is = change.place_is in omega arith in
+change_before : (stops : Stops) (budget step : ℕ) (start : State) → IsChangeBefore stops budget start (step + 1)
+    → IsChangeAt stops budget start step
+change_before stops budget step start change =
+    let same : change.before ≡ step = let is = change.place_is in omega arith in
     subst (λ (k : ℕ). IsChangeAt stops budget start k) same change.change
 
 -- at the start there is nothing before
-begins : (stops : Stops) (budget : ℕ) (start : State) → IsStopBefore stops budget start 0 0 found.RunStart
+begins : (stops : Stops) (budget : ℕ) (start : State) → IsStopBefore stops budget start 0 0 outcome.RunStart
 begins stops budget start = record {
   order = omega arith;
   meets = (refl, λ below. absurd (omega arith));
@@ -39,26 +39,26 @@ begins stops budget start = record {
 }
 
 -- no break up to a place, and none at it
-no_break_later : (stops : Stops) (from place : ℕ) (start : State) → place ≤ from → (IsBreakAt stops start from → ⊥)
-    → (place < from → IsBreakAt stops start place → ⊥) → IsBreakAt stops start place → ⊥
-no_break_later stops from place start order absent before is =
-    elim (cases_eq place from) [
+no_break_later : (stops : Stops) (from step : ℕ) (start : State) → step ≤ from → (IsBreakAt stops start from → ⊥)
+    → (step < from → IsBreakAt stops start step → ⊥) → IsBreakAt stops start step → ⊥
+no_break_later stops from step start order absent before is =
+    elim (cases_eq step from) [
       | inl here ↦ absent (subst (λ (k : ℕ). IsBreakAt stops start k) here is)
       | inr other ↦ before (omega arith) is
     ]
 
 -- what a move meets, it meets from a place later, if there is no break where it began
-meets_later : (stops : Stops) (budget from place : ℕ) (start : State) (found : MoveResult) → place ≤ from
-    → (IsBreakAt stops start from → ⊥) → IsUninterrupted found → IsBackwardStop stops budget start from place found
-    → IsBackwardStop stops budget start (from + 1) place found
-meets_later stops budget from place start found.Breakpoint order absent unbroken meets = (omega arith, meets.1)
-meets_later stops budget from place start found.WatchTriggered order absent unbroken meets =
-    (meets.0, λ below is. no_break_later stops from place start order absent meets.1 is)
-meets_later stops budget from place start found.RunStart order absent unbroken meets =
-    (meets.0, λ below is. no_break_later stops from place start order absent meets.1 is)
-meets_later stops budget from place start (found.End ending) order absent unbroken meets = meets
-meets_later stops budget from place start found.Done order absent unbroken meets = meets
-meets_later stops budget from place start found.Interrupted order absent unbroken meets = absurd (unbroken refl)
+meets_later : (stops : Stops) (budget from step : ℕ) (start : State) (outcome : MoveResult) → step ≤ from
+    → (IsBreakAt stops start from → ⊥) → IsUninterrupted outcome → IsBackwardStop stops budget start from step outcome
+    → IsBackwardStop stops budget start (from + 1) step outcome
+meets_later stops budget from step start outcome.Breakpoint order absent unbroken meets = (omega arith, meets.1)
+meets_later stops budget from step start outcome.WatchTriggered order absent unbroken meets =
+    (meets.0, λ below is. no_break_later stops from step start order absent meets.1 is)
+meets_later stops budget from step start outcome.RunStart order absent unbroken meets =
+    (meets.0, λ below is. no_break_later stops from step start order absent meets.1 is)
+meets_later stops budget from step start (outcome.End ending) order absent unbroken meets = meets
+meets_later stops budget from step start outcome.Done order absent unbroken meets = meets
+meets_later stops budget from step start outcome.Interrupted order absent unbroken meets = absurd (unbroken refl)
 
 goes_later : (stops : Stops) (budget from j : ℕ) (start : State) → j ≤ from → (IsBreakAt stops start from → ⊥)
     → HasNoBackwardStop stops budget start from j → HasNoBackwardStop stops budget start (from + 1) j
@@ -77,11 +77,11 @@ goes_there stops budget from start none = record {
 
 -- behind a step that changes nothing, at whose place there is no breakpoint
 last_stays : (stops : Stops) (budget from : ℕ) (start : State) (last : SearchEnd) → (IsBreakAt stops start from → ⊥)
-    → (IsChangeAt stops budget start from → ⊥) → IsUninterrupted last.found → IsLastStop stops budget start from last
+    → (IsChangeAt stops budget start from → ⊥) → IsUninterrupted last.outcome → IsLastStop stops budget start from last
     → IsLastStop stops budget start (from + 1) last
 last_stays stops budget from start last absent none unbroken stop = record {
   order = let order = stop.order in omega arith;
-  meets = meets_later stops budget from last.place start last.found stop.order absent unbroken stop.meets;
+  meets = meets_later stops budget from last.step start last.outcome stop.order absent unbroken stop.meets;
   between = λ j low high. elim (cases_eq j (from + 1)) [
     | inl there ↦ rw there (goes_there stops budget from start none)
     | inr other ↦ goes_later stops budget from j start (omega arith) absent (stop.between j low (omega arith))
@@ -90,7 +90,7 @@ last_stays stops budget from start last absent none unbroken stop = record {
 
 -- the same where there is one
 last_breaks : (stops : Stops) (budget from : ℕ) (start : State) → IsBreakAt stops start from
-    → (IsChangeAt stops budget start from → ⊥) → IsStopBefore stops budget start (from + 1) from found.Breakpoint
+    → (IsChangeAt stops budget start from → ⊥) → IsStopBefore stops budget start (from + 1) from outcome.Breakpoint
 last_breaks stops budget from start is none = record {
   order = omega arith;
   meets = (omega arith, is);
@@ -101,7 +101,7 @@ last_breaks stops budget from start is none = record {
 
 -- behind a step that changes something
 last_changes : (stops : Stops) (budget from : ℕ) (start : State) → IsChangeAt stops budget start from
-    → IsStopBefore stops budget start (from + 1) (from + 1) found.WatchTriggered
+    → IsStopBefore stops budget start (from + 1) (from + 1) outcome.WatchTriggered
 last_changes stops budget from start change = record {
   order = omega arith;
   meets = (record { before = from; place_is = refl; change = change }, λ below. absurd (omega arith));
@@ -145,7 +145,7 @@ last_more stops budget begin from start s t last is (stepped.Ended ending) reach
 
 -- the last stop before a place is that before a later one, if the steps between them are quiet
 stays_over : (stops : Stops) (budget end more : ℕ) (start : State) (last : SearchEnd) → HaveNoStops stops budget start end (end + more)
-    → IsUninterrupted last.found → IsLastStop stops budget start end last → IsLastStop stops budget start (end + more) last
+    → IsUninterrupted last.outcome → IsLastStop stops budget start end last → IsLastStop stops budget start (end + more) last
 stays_over stops budget end zero start last quiet unbroken stop =
     subst (λ (k : ℕ). IsLastStop stops budget start k last) (sym (add-zero end)) stop
 stays_over stops budget end (suc more) start last quiet unbroken stop =
@@ -156,7 +156,7 @@ stays_over stops budget end (suc more) start last quiet unbroken stop =
     (stays_over stops budget end more start last (λ j low high. quiet j low (omega arith)) unbroken stop))
 
 pub last_before : (stops : Stops) (budget end from : ℕ) (start : State) (last : SearchEnd) → end ≤ from
-    → HaveNoStops stops budget start end from → IsUninterrupted last.found → IsLastStop stops budget start end last
+    → HaveNoStops stops budget start end from → IsUninterrupted last.outcome → IsLastStop stops budget start end last
     → IsLastStop stops budget start from last
 last_before stops budget end from start last order quiet unbroken stop =
     let more = from - end in
@@ -174,13 +174,13 @@ quiet_joined stops budget begin end from start one other j low high = elim (case
 
 -- where nothing is met at all, there is the beginning
 pub begins_over : (stops : Stops) (budget from : ℕ) (start : State) → HaveNoStops stops budget start 0 from
-    → IsStopBefore stops budget start from 0 found.RunStart
+    → IsStopBefore stops budget start from 0 outcome.RunStart
 begins_over stops budget from start quiet =
-    last_before stops budget 0 from start (record { place = 0; found = found.RunStart }) (omega arith) quiet (λ same. cc same)
+    last_before stops budget 0 from start (record { step = 0; outcome = outcome.RunStart }) (omega arith) quiet (λ same. cc same)
     (begins stops budget start)
 
 -- where an interrupt breaks it off, it stays
-pub stays_broken : (stops : Stops) (budget from : ℕ) (start : State) → IsStopBefore stops budget start from from found.Interrupted
+pub stays_broken : (stops : Stops) (budget from : ℕ) (start : State) → IsStopBefore stops budget start from from outcome.Interrupted
 stays_broken stops budget from start = record {
   order = omega arith;
   meets = refl;
@@ -198,13 +198,13 @@ stepped_place stops budget from start s t (stepped.Ended ending) reached goes di
 -- ---- one step back
 
 pub steps_back : (stops : Stops) (budget before from : ℕ) (start s t : State) → from ≡ before + 1 → IsReached start before s
-    → step_of s ≡ Ok t → TriggersNoWatch stops s t → IsStepBefore stops budget start from before found.Done
+    → step_of s ≡ Ok t → TriggersNoWatch stops s t → IsStepBefore stops budget start from before outcome.Done
 steps_back stops budget before from start s t is reached e same =
     (is, no_change_at stops budget before start s t reached e same)
 
 pub stays_behind_change : (stops : Stops) (budget before from : ℕ) (start s t : State) → from ≡ before + 1 → before < budget
     → IsReached start before s → step_of s ≡ Ok t → TriggersWatch stops s t
-    → IsStepBefore stops budget start from from found.WatchTriggered
+    → IsStepBefore stops budget start from from outcome.WatchTriggered
 stays_behind_change stops budget before from start s t is within reached e differ =
     (refl, record { before = before; place_is = is; change = change_at stops budget before start s t reached within e differ })
 
@@ -214,11 +214,11 @@ pub completes_before : (before from : ℕ) (start s : State) → from ≡ before
 completes_before before from start s is there reached =
     ap step_of reached.same ∙ each_completes from before start (omega arith)
 
-pub back_within : (stops : Stops) (budget from place : ℕ) (start : State) (found : MoveResult)
-    → IsStepBefore stops budget start from place found → place ≤ from
-back_within stops budget from place start found.Done stop = let is = stop.0 in omega arith
-back_within stops budget from place start found.WatchTriggered stop = let is = stop.0 in omega arith
-back_within stops budget from place start found.RunStart stop = let is = stop.0 in omega arith
-back_within stops budget from place start found.Breakpoint stop = absurd stop
-back_within stops budget from place start (found.End ending) stop = absurd stop
-back_within stops budget from place start found.Interrupted stop = absurd stop
+pub back_within : (stops : Stops) (budget from step : ℕ) (start : State) (outcome : MoveResult)
+    → IsStepBefore stops budget start from step outcome → step ≤ from
+back_within stops budget from step start outcome.Done stop = let is = stop.0 in omega arith
+back_within stops budget from step start outcome.WatchTriggered stop = let is = stop.0 in omega arith
+back_within stops budget from step start outcome.RunStart stop = let is = stop.0 in omega arith
+back_within stops budget from step start outcome.Breakpoint stop = absurd stop
+back_within stops budget from step start (outcome.End ending) stop = absurd stop
+back_within stops budget from step start outcome.Interrupted stop = absurd stop

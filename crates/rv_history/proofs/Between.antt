@@ -13,7 +13,7 @@ use Rattle.rv_trace.specs.State.{State}
 use Rattle.rv_trace.proofs.Public.{each_completes}
 use Rattle.rv_history.specs.declared.bounds.Bounds.{Bounds}
 use Rattle.rv_history.specs.declared.bounds.Bounds.TheVariants as bounds
-use Rattle.rv_history.specs.declared.found.SearchEnd.{SearchEnd}
+use Rattle.rv_history.specs.declared.outcome.SearchEnd.{SearchEnd}
 use Rattle.rv_history.specs.declared.stepping.StepResult.TheVariants as stepped
 use Rattle.rv_history.specs.declared.stops.Stops.{Stops}
 use Rattle.rv_history.specs.LastStop.{IsLastStopIn}
@@ -40,24 +40,24 @@ rest_completes n s t u e ran =
 
 -- what stays true behind a step that does not begin at a breakpoint is true behind such a run
 module _ (stops : Stops) (P : ℕ → Type 0) (start : State) (budget : ℕ)
-    (on : (place : ℕ) (s t : State) → IsReached start place s → place < budget → step_of s ≡ Ok t → is_break stops s.pc ≡ false
-    → P place → P (place + 1)) where
-  pub over_run : (n place : ℕ) (s t : State) → IsReached start place s → place + n ≤ budget → Completes n s t
-      → BeginsAtNone stops n s → P place → P (place + n) × IsReached start (place + n) t
-  over_run zero place s t reached within ran absent so =
-      let none : place ≡ place + zero = omega arith in
+    (on : (step : ℕ) (s t : State) → IsReached start step s → step < budget → step_of s ≡ Ok t → is_break stops s.pc ≡ false
+    → P step → P (step + 1)) where
+  pub over_run : (n step : ℕ) (s t : State) → IsReached start step s → step + n ≤ budget → Completes n s t
+      → BeginsAtNone stops n s → P step → P (step + n) × IsReached start (step + n) t
+  over_run zero step s t reached within ran absent so =
+      let none : step ≡ step + zero = omega arith in
       let here : s ≡ t = sym (ap (λ (r : RunResult). r.state) (run_none s)) ∙ ap (λ (r : RunResult). r.state) ran in (
         subst P none so,
-        subst (λ (k : ℕ). IsReached start k t) none (subst (λ (u : State). IsReached start place u) here reached),
+        subst (λ (k : ℕ). IsReached start k t) none (subst (λ (u : State). IsReached start step u) here reached),
       )
-  over_run (suc n) place s t reached within ran absent so =
-      by_step s (P (place + suc n) × IsReached start (place + suc n) t)
+  over_run (suc n) step s t reached within ran absent so =
+      by_step s (P (step + suc n) × IsReached start (step + suc n) t)
       (λ u e.
-      let sum : place + 1 + n ≡ place + suc n = omega arith in
+      let sum : step + 1 + n ≡ step + suc n = omega arith in
       let first : is_break stops s.pc ≡ false = ap (λ (r : RunResult). is_break stops r.state.pc) (sym (run_none s)) ∙ absent 0 (omega arith) in
-      let later = over_run n (place + 1) u t (next_place start s u place reached e) (omega arith) (rest_completes n s t u e ran)
+      let later = over_run n (step + 1) u t (next_place start s u step reached e) (omega arith) (rest_completes n s t u e ran)
       (λ j low. ap (λ (v : State). is_break stops v.pc) (sym (state_first j s u e)) ∙ absent (suc j) (omega arith))
-      (on place s u reached (omega arith) e first so) in
+      (on step s u reached (omega arith) e first so) in
       (subst P sum later.0, subst (λ (k : ℕ). IsReached start k t) sum later.1))
       (λ e is.
       let none = steps_end n s e is in
@@ -68,57 +68,57 @@ module _ (stops : Stops) (P : ℕ → Type 0) (start : State) (budget : ℕ)
 
 pub begins_at_none : (stops : Stops) (kept : DecodeCacheView) (pc : ℕ) → (is_break stops pc ≡ true → IsCached kept pc → ⊥) → IsCached kept pc
     → is_break stops pc ≡ false
-begins_at_none stops kept pc asleep is = elim (cases_Bool (is_break stops pc)) [
-  | inl breaks ↦ absurd (asleep breaks is)
+begins_at_none stops kept pc invalidated is = elim (cases_Bool (is_break stops pc)) [
+  | inl breaks ↦ absurd (invalidated breaks is)
   | inr none ↦ none
 ]
 
 pub asleep_more : (xs : List ℕ) (i d pc : ℕ) (old new : DecodeCacheView) → i < length xs → NoneBecomesValid old new
     → (IsCached new (slice_index_or xs i d) → ⊥) → (list_any (λ a. a == pc) (take i xs) ≡ true → IsCached old pc → ⊥)
     → list_any (λ a. a == pc) (take (i + 1) xs) ≡ true → IsCached new pc → ⊥
-asleep_more xs i d pc old new low none here before found is =
+asleep_more xs i d pc old new low none here before outcome is =
     elim (cases_Bool (list_any (λ a. a == pc) (take i xs))) [
       | inl earlier ↦ before earlier (none pc is)
       | inr other ↦
           let this : (slice_index_or xs i d == pc) ≡ true =
-          sym (ap (λ b. b || (slice_index_or xs i d == pc)) other) ∙ sym (list_any_more (λ a. a == pc) xs i d low) ∙ found in
+          sym (ap (λ b. b || (slice_index_or xs i d == pc)) other) ∙ sym (list_any_more (λ a. a == pc) xs i d low) ∙ outcome in
           here (subst (λ (a : ℕ). IsCached new a) (sym (eqb-true (slice_index_or xs i d) pc this)) is)
     ]
 
 -- ---- forwards
 
-no_halt : (stops : Stops) (within : Bounds) (from place pc : ℕ) → within ≡ bounds.All → is_break stops pc ≡ false
-    → (ltb from place && halts_at stops within pc) ≡ false
-no_halt stops within from place pc all absent =
+no_halt : (stops : Stops) (within : Bounds) (from step pc : ℕ) → within ≡ bounds.All → is_break stops pc ≡ false
+    → (ltb from step && halts_at stops within pc) ≡ false
+no_halt stops within from step pc all absent =
     let inside : is_outside within pc ≡ false = ap (λ b. is_outside b pc) all in
-    and_right (ltb from place) (halts_at stops within pc)
+    and_right (ltb from step) (halts_at stops within pc)
     ((λ i. absent i || is_outside within pc) ∙ inside)
 
-pub quiet_run : (stops : Stops) (within : Bounds) (budget from place n : ℕ) (start s t : State) → within ≡ bounds.All → AreUnwatched stops
-    → IsReached start place s → place + n ≤ budget → Completes n s t → BeginsAtNone stops n s
-    → QuietUpTo stops within budget start from place
-    → QuietUpTo stops within budget start from (place + n) × IsReached start (place + n) t
-quiet_run stops within budget from place n start s t all none reached few ran absent quiet =
+pub quiet_run : (stops : Stops) (within : Bounds) (budget from step n : ℕ) (start s t : State) → within ≡ bounds.All → AreUnwatched stops
+    → IsReached start step s → step + n ≤ budget → Completes n s t → BeginsAtNone stops n s
+    → QuietUpTo stops within budget start from step
+    → QuietUpTo stops within budget start from (step + n) × IsReached start (step + n) t
+quiet_run stops within budget from step n start s t all none reached few ran absent quiet =
     over_run stops (λ k. QuietUpTo stops within budget start from k) start budget
     (λ k u v there low e begins so. quiet_more stops within budget from k start u v there low e (is_unset stops u v none)
     (no_halt stops within from k u.pc all begins) so)
-    n place s t reached few ran absent quiet
+    n step s t reached few ran absent quiet
 
 -- ---- backwards
 
 -- a step within a run that comes to its end completes
-pub step_completes : (o : Option Ending) (end place : ℕ) (start s t : State) → IsReached start place s → place < last_step end start
+pub step_completes : (o : Option Ending) (end step : ℕ) (start s t : State) → IsReached start step s → step < last_step end start
     → MatchOption o (step_of s ≡ Ok t) (λ e. (step_of s ≡ Err e) × (t ≡ s)) → step_of s ≡ Ok t
-step_completes None end place start s t reached goes did = did
-step_completes (Some e) end place start s t reached goes did =
-    let ok = ap step_of reached.same ∙ each_completes end place start goes in absurd (cc (sym did.0, ok))
+step_completes None end step start s t reached goes did = did
+step_completes (Some e) end step start s t reached goes did =
+    let ok = ap step_of reached.same ∙ each_completes end step start goes in absurd (cc (sym did.0, ok))
 
-pub last_run : (stops : Stops) (budget begin place n : ℕ) (start s t : State) (last : Option SearchEnd) → AreUnwatched stops
-    → IsReached start place s → place + n ≤ last_step budget start → last_step budget start ≤ budget → Completes n s t
-    → BeginsAtNone stops n s → IsLastStopIn stops budget start begin place last
-    → IsLastStopIn stops budget start begin (place + n) last × IsReached start (place + n) t
-last_run stops budget begin place n start s t last none reached few within ran absent so =
+pub last_run : (stops : Stops) (budget begin step n : ℕ) (start s t : State) (last : Option SearchEnd) → AreUnwatched stops
+    → IsReached start step s → step + n ≤ last_step budget start → last_step budget start ≤ budget → Completes n s t
+    → BeginsAtNone stops n s → IsLastStopIn stops budget start begin step last
+    → IsLastStopIn stops budget start begin (step + n) last × IsReached start (step + n) t
+last_run stops budget begin step n start s t last none reached few within ran absent so =
     over_run stops (λ k. IsLastStopIn stops budget start begin k last) start (last_step budget start)
     (λ k u v there low e begins stop. last_more stops budget begin k start u v last false stepped.NotTriggered there low (sym begins)
     (e, is_unset stops u v none) (omega arith) stop)
-    n place s t reached few ran absent so
+    n step s t reached few ran absent so

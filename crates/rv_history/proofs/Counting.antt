@@ -13,53 +13,53 @@ use Rattle.rv_history.proofs.Reaching.{comes_within, ends_by_budget, ends_here}
 
 -- no place up to one has the count
 abbrev pub LacksUpTo : Count → ℕ → State → ℕ → Type 0
-LacksUpTo count value start place = (j : ℕ) → j < place → count_at count start j ≢ value
+LacksUpTo count value start step = (j : ℕ) → j < step → count_at count start j ≢ value
 
-count_here : (count : Count) (start s : State) (place : ℕ) → IsReached start place s
-    → count_value count (length start.bus.script) s.bus ≡ count_at count start place
-count_here count start s place reached = ap (λ (t : State). count_value count (length start.bus.script) t.bus) reached.same
+count_here : (count : Count) (start s : State) (step : ℕ) → IsReached start step s
+    → count_value count (length start.bus.script) s.bus ≡ count_at count start step
+count_here count start s step reached = ap (λ (t : State). count_value count (length start.bus.script) t.bus) reached.same
 
-pub lacks_more : (count : Count) (value place : ℕ) (start s : State) → IsReached start place s
-    → (count_value count (length start.bus.script) s.bus ≡ value → ⊥) → LacksUpTo count value start place
-    → LacksUpTo count value start (place + 1)
-lacks_more count value place start s reached other before j below is =
-    elim (cases_eq j place) [
-      | inl here ↦ other (count_here count start s place reached ∙ subst (λ (k : ℕ). count_at count start k ≡ value) here is)
+pub lacks_more : (count : Count) (value step : ℕ) (start s : State) → IsReached start step s
+    → (count_value count (length start.bus.script) s.bus ≡ value → ⊥) → LacksUpTo count value start step
+    → LacksUpTo count value start (step + 1)
+lacks_more count value step start s reached other before j below is =
+    elim (cases_eq j step) [
+      | inl here ↦ other (count_here count start s step reached ∙ subst (λ (k : ℕ). count_at count start k ≡ value) here is)
       | inr apart ↦ before j (omega arith) is
     ]
 
-pub found_here : (count : Count) (value budget place : ℕ) (start s : State) → IsReached start place s → place ≤ budget
-    → count_value count (length start.bus.script) s.bus ≡ value → LacksUpTo count value start place
-    → IsFirstStepIfAny count value budget start (Some place)
-found_here count value budget place start s reached within is before = record {
-  within = comes_within budget place start reached.completed within;
-  there = sym (count_here count start s place reached) ∙ is;
+pub found_here : (count : Count) (value budget step : ℕ) (start s : State) → IsReached start step s → step ≤ budget
+    → count_value count (length start.bus.script) s.bus ≡ value → LacksUpTo count value start step
+    → IsFirstStepIfAny count value budget start (Some step)
+found_here count value budget step start s reached within is before = record {
+  within = comes_within budget step start reached.completed within;
+  there = sym (count_here count start s step reached) ∙ is;
   first = before;
 }
 
-none_to_end : (count : Count) (value budget place : ℕ) (start s : State) → IsReached start place s
-    → place ≡ last_step budget start → (count_value count (length start.bus.script) s.bus ≡ value → ⊥)
-    → LacksUpTo count value start place → IsFirstStepIfAny count value budget start None
-none_to_end count value budget place start s reached end other before j within is =
-    lacks_more count value place start s reached other before j (omega arith) is
+none_to_end : (count : Count) (value budget step : ℕ) (start s : State) → IsReached start step s
+    → step ≡ last_step budget start → (count_value count (length start.bus.script) s.bus ≡ value → ⊥)
+    → LacksUpTo count value start step → IsFirstStepIfAny count value budget start None
+none_to_end count value budget step start s reached end other before j within is =
+    lacks_more count value step start s reached other before j (omega arith) is
 
-pub none_at_end : (count : Count) (value budget place : ℕ) (start s : State) (ending : Ending) → IsReached start place s
-    → place < budget → step_of s ≡ Err ending → (count_value count (length start.bus.script) s.bus ≡ value → ⊥)
-    → LacksUpTo count value start place → IsFirstStepIfAny count value budget start None
-none_at_end count value budget place start s ending reached within e other before =
-    none_to_end count value budget place start s reached (ends_here budget place start s ending reached within e).0 other before
+pub none_at_end : (count : Count) (value budget step : ℕ) (start s : State) (ending : Ending) → IsReached start step s
+    → step < budget → step_of s ≡ Err ending → (count_value count (length start.bus.script) s.bus ≡ value → ⊥)
+    → LacksUpTo count value start step → IsFirstStepIfAny count value budget start None
+none_at_end count value budget step start s ending reached within e other before =
+    none_to_end count value budget step start s reached (ends_here budget step start s ending reached within e).0 other before
 
-pub none_at_budget : (count : Count) (value budget place : ℕ) (start s : State) → IsReached start place s → place ≡ budget
-    → (count_value count (length start.bus.script) s.bus ≡ value → ⊥) → LacksUpTo count value start place
+pub none_at_budget : (count : Count) (value budget step : ℕ) (start s : State) → IsReached start step s → step ≡ budget
+    → (count_value count (length start.bus.script) s.bus ≡ value → ⊥) → LacksUpTo count value start step
     → IsFirstStepIfAny count value budget start None
-none_at_budget count value budget place start s reached all other before =
+none_at_budget count value budget step start s reached all other before =
     let there = subst (λ (k : ℕ). IsReached start k s) all reached in
-    none_to_end count value budget place start s reached (all ∙ (ends_by_budget budget start there.completed).0) other before
+    none_to_end count value budget step start s reached (all ∙ (ends_by_budget budget start there.completed).0) other before
 
-pub result_at_budget : (count : Count) (value budget place : ℕ) (start s : State) → IsReached start place s → place ≡ budget
-    → count_value count (length start.bus.script) s.bus ≡ value → LacksUpTo count value start place
+pub result_at_budget : (count : Count) (value budget step : ℕ) (start s : State) → IsReached start step s → step ≡ budget
+    → count_value count (length start.bus.script) s.bus ≡ value → LacksUpTo count value start step
     → IsFirstStepIfAny count value budget start (Some budget)
-result_at_budget count value budget place start s reached all is before =
+result_at_budget count value budget step start s reached all is before =
     found_here count value budget budget start s (subst (λ (k : ℕ). IsReached start k s) all reached) (omega arith) is
     (subst (λ (k : ℕ). LacksUpTo count value start k) all before)
 

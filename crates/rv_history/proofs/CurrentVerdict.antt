@@ -31,7 +31,7 @@ pub falling_some : {F : Type 0} (R : F → MachineAt → Bool → F → Type 0) 
     → IsFiltered R f xs ys → AreDecreasing xs → AreDecreasing ys
 falling_some R test f same xs ys filtered falling =
     subst AreDecreasing (sym (filter_same R test f same xs ys filtered))
-    (AllPairs-filter (λ one other. other.place < one.place) test xs falling)
+    (AllPairs-filter (λ one other. other.step < one.step) test xs falling)
 
 pub falling_first : (n : ℕ) (xs : List MachineAt) → AreDecreasing xs → AreDecreasing (take n xs)
 falling_first n xs falling i j d order within =
@@ -41,35 +41,35 @@ falling_first n xs falling i j d order within =
     rw (get_or-take n xs i d (omega (arith, order, near))) (rw (get_or-take n xs j d near) (falling i j d order far))
 
 -- what passes such a test is before a place
-pub before_place : {F : Type 0} (R : F → MachineAt → Bool → F → Type 0) (f : F) (place : ℕ)
-    → ((x : MachineAt) (b : Bool) (g : F) → R f x b g → (b ≡ ltb x.place place) × (g ≡ f)) → (xs ys : List MachineAt)
-    → IsFiltered R f xs ys → All (λ (x : MachineAt). x.place < place) ys
-before_place R f place same xs ys filtered =
-    let test : MachineAt → Bool = λ x. ltb x.place place in
-    All-same (λ (x : MachineAt). x.place < place) ys (filter test xs) (filter_same R test f same xs ys filtered)
-    (All-weaker (λ x. test x ≡ true) (λ (x : MachineAt). x.place < place) (λ x is. ltb-true x.place place is) (filter test xs)
+pub before_place : {F : Type 0} (R : F → MachineAt → Bool → F → Type 0) (f : F) (step : ℕ)
+    → ((x : MachineAt) (b : Bool) (g : F) → R f x b g → (b ≡ ltb x.step step) × (g ≡ f)) → (xs ys : List MachineAt)
+    → IsFiltered R f xs ys → All (λ (x : MachineAt). x.step < step) ys
+before_place R f step same xs ys filtered =
+    let test : MachineAt → Bool = λ x. ltb x.step step in
+    All-same (λ (x : MachineAt). x.step < step) ys (filter test xs) (filter_same R test f same xs ys filtered)
+    (All-weaker (λ x. test x ≡ true) (λ (x : MachineAt). x.step < step) (λ x is. ltb-true x.step step is) (filter test xs)
     (filter_passes test xs))
 
 pub falling_inserted : (done : Bool) (at : MachineAt) (xs : List MachineAt) → AreDecreasing xs
-    → All (λ (x : MachineAt). x.place < at.place) xs → AreDecreasing (if done then insert xs 0 at else xs)
-falling_inserted true at xs falling before = AllPairs-cons (λ one other. other.place < one.place) at xs before falling
+    → All (λ (x : MachineAt). x.step < at.step) xs → AreDecreasing (if done then insert xs 0 at else xs)
+falling_inserted true at xs falling before = AllPairs-cons (λ one other. other.step < one.step) at xs before falling
 falling_inserted false at xs falling before = falling
 
 -- the first of falling places up to one is the last of them
-pub last_is_first : (xs : List MachineAt) (i place : ℕ) (d : MachineAt) → AreDecreasing xs → i < length xs
-    → All (λ (other : MachineAt). place < other.place) (take i xs) → IsLastUpTo xs place (get_or xs i d).place
-last_is_first xs i place d falling within later k e far up =
+pub last_is_first : (xs : List MachineAt) (i step : ℕ) (d : MachineAt) → AreDecreasing xs → i < length xs
+    → All (λ (other : MachineAt). step < other.step) (take i xs) → IsLastUpTo xs step (get_or xs i d).step
+last_is_first xs i step d falling within later k e far up =
     elim (cases_lt k i) [
       | inl before ↦
           let taken = length-take i xs in
           let high = later k e (omega (arith, taken, before, far)) in
-          let same = ap (λ (at : MachineAt). at.place) (get_or-take i xs k e before) in
+          let same = ap (λ (at : MachineAt). at.step) (get_or-take i xs k e before) in
           absurd (omega (arith, high, same, up))
       | inr behind ↦
-          let same = ap (λ (at : MachineAt). at.place) (get_or_default xs i d e within) in
+          let same = ap (λ (at : MachineAt). at.step) (get_or_default xs i d e within) in
           elim (cases_eq k i) [
             | inl here ↦
-                let there = ap (λ n. (get_or xs n e).place) here in
+                let there = ap (λ n. (get_or xs n e).step) here in
                 omega (arith, same, there)
             | inr other ↦
                 let falls = falling i k e (omega arith) far in
@@ -85,11 +85,11 @@ few_inserted false at most xs some = let few = length-take (most - 1) xs in omeg
 -- with one more in front of the first of them, they are not too many, and fall
 pub kept_falling : (most : ℕ) (at : MachineAt) (done : Bool) (some first items : List MachineAt) → 0 < most
     → first ≡ take (most - 1) some → items ≡ (if done then insert first 0 at else first) → AreDecreasing some
-    → All (λ (x : MachineAt). x.place < at.place) some → (length items ≤ most) × AreDecreasing items
+    → All (λ (x : MachineAt). x.step < at.step) some → (length items ≤ most) × AreDecreasing items
 kept_falling most at done some first items room few is falling before =
     let Kept : List MachineAt → Type 0 = λ list. (length list ≤ most) × AreDecreasing list in
     subst Kept (sym is) (subst (λ list. Kept (if done then insert list 0 at else list)) (sym few) (
       few_inserted done at most some room,
       falling_inserted done at (take (most - 1) some) (falling_first (most - 1) some falling)
-          (All-take (λ (x : MachineAt). x.place < at.place) (most - 1) some before),
+          (All-take (λ (x : MachineAt). x.step < at.step) (most - 1) some before),
     ))

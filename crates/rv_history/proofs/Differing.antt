@@ -22,8 +22,8 @@ differing_at watches one other i watch within =
 
 -- the states by other names
 pub set_off_in : {E : Type 0} (result : Result (Option WatchHit) E) (stops : Stops) (one other here there : State)
-    → one ≡ here → other ≡ there → IfOk result (λ found. found ≡ first_triggered stops one other)
-    → IfOk result (λ found. found ≡ first_triggered stops here there)
-set_off_in result stops one other here there first second found =
+    → one ≡ here → other ≡ there → IfOk result (λ outcome. outcome ≡ first_triggered stops one other)
+    → IfOk result (λ outcome. outcome ≡ first_triggered stops here there)
+set_off_in result stops one other here there first second outcome =
     subst (λ (s : State). IfOk result (λ told. told ≡ first_triggered stops here s)) second
-    (subst (λ (s : State). IfOk result (λ told. told ≡ first_triggered stops s other)) first found)
+    (subst (λ (s : State). IfOk result (λ told. told ≡ first_triggered stops s other)) first outcome)

@@ -86,10 +86,10 @@ console_loads c a Word =
 
 loads : (c : BusContents) (a : ℕ) (w : Width) → ok_is (Loads c) (load_from c a w)
 loads c a w =
-    let found : Result (ℕ × BusContents) BusFault = cond (is_in_one_region c.regions a (size_of w)) (Ok (value_at c.memory a w, c)) (Err Access) in
-    let r : Result (ℕ × BusContents) BusFault = cond (touches_console a (size_of w)) (console_load c a w) found in
+    let outcome : Result (ℕ × BusContents) BusFault = cond (is_in_one_region c.regions a (size_of w)) (Ok (value_at c.memory a w, c)) (Err Access) in
+    let r : Result (ℕ × BusContents) BusFault = cond (touches_console a (size_of w)) (console_load c a w) outcome in
     by_test (Loads c) (rejects c.misaligned a w) (Err Misaligned) r tt
-    (by_test (Loads c) (touches_console a (size_of w)) (console_load c a w) found (console_loads c a w)
+    (by_test (Loads c) (touches_console a (size_of w)) (console_load c a w) outcome (console_loads c a w)
     (by_test {E = BusFault} (Loads c) (is_in_one_region c.regions a (size_of w)) (Ok (value_at c.memory a w, c)) (Err Access)
     (same_begins c.output c.output refl) tt))
 

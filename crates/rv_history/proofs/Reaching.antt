@@ -71,27 +71,27 @@ all_used (suc n) s h = by_step s ((run_of (suc n) s).ending ≡ Budget)
 pub at_start : (start s : State) → s ≡ start → IsReached start 0 s
 at_start start s is = record { completed = ap (λ r. r.steps) (run_none start); same = is ∙ sym (after_none start) }
 
-pub next_place : (start s t : State) (place : ℕ) → IsReached start place s → step_of s ≡ Ok t → IsReached start (place + 1) t
-next_place start s t place reached e =
-    let here : step_of (state_after place start) ≡ Ok t = ap step_of (sym reached.same) ∙ e in
-    let more = steps_more place 1 start reached.completed in
-    let one = one_steps (state_after place start) t here in record {
+pub next_place : (start s t : State) (step : ℕ) → IsReached start step s → step_of s ≡ Ok t → IsReached start (step + 1) t
+next_place start s t step reached e =
+    let here : step_of (state_after step start) ≡ Ok t = ap step_of (sym reached.same) ∙ e in
+    let more = steps_more step 1 start reached.completed in
+    let one = one_steps (state_after step start) t here in record {
       completed = omega arith;
-      same = sym (after_more place 1 start reached.completed ∙ one_state (state_after place start) t here);
+      same = sym (after_more step 1 start reached.completed ∙ one_state (state_after step start) t here);
     }
 
 -- the run comes to a place within its budget
-pub comes_within : (budget place : ℕ) (start : State) → (run_of place start).steps ≡ place → place ≤ budget
-    → place ≤ last_step budget start
-comes_within budget place start h within =
-    let rest = budget - place in
-    let sum : place + rest ≡ budget = omega arith in
-    let more = steps_more place rest start h in
+pub comes_within : (budget step : ℕ) (start : State) → (run_of step start).steps ≡ step → step ≤ budget
+    → step ≤ last_step budget start
+comes_within budget step start h within =
+    let rest = budget - step in
+    let sum : step + rest ≡ budget = omega arith in
+    let more = steps_more step rest start h in
     let same = ap (λ k. (run_of k start).steps) sum in
     omega arith
 
-pub comes : (budget place : ℕ) (start : State) → place ≤ last_step budget start → (run_of place start).steps ≡ place
-comes budget place start within = completes budget place start within
+pub comes : (budget step : ℕ) (start : State) → step ≤ last_step budget start → (run_of step start).steps ≡ step
+comes budget step start within = completes budget step start within
 
 -- the state behind all the steps that a run completes is its last one
 same_end : (budget : ℕ) (s : State) → state_after (run_of budget s).steps s ≡ (run_of budget s).state
@@ -106,12 +106,12 @@ pub same_ran : (r : RunResult) (ending : Ending) (steps : ℕ) (state : State) �
 same_ran r ending steps state first second third = rw (← first) (rw (← second) (rw (← third) refl))
 
 -- a run that goes on at a place
-pub run_from : (start s t : State) (from place steps : ℕ) (ending : Ending) → IsReached start from s → from ≤ place
-    → run_of (place - from) s ≡ record { ending = ending; steps = steps; state = t }
-    → run_of place start ≡ record { ending = ending; steps = from + steps; state = t }
-run_from start s t from place steps ending reached order ran =
-    let rest = place - from in
-    let sum : from + rest ≡ place = omega arith in
+pub run_from : (start s t : State) (from step steps : ℕ) (ending : Ending) → IsReached start from s → from ≤ step
+    → run_of (step - from) s ≡ record { ending = ending; steps = steps; state = t }
+    → run_of step start ≡ record { ending = ending; steps = from + steps; state = t }
+run_from start s t from step steps ending reached order ran =
+    let rest = step - from in
+    let sum : from + rest ≡ step = omega arith in
     let more = steps_more from rest start reached.completed in
     let here : run_of rest (state_after from start) ≡ record { ending = ending; steps = steps; state = t } =
     ap (λ u. run_of rest u) (sym reached.same) ∙ ran in
@@ -122,12 +122,12 @@ run_from start s t from place steps ending reached order ran =
     (after_more from rest start reached.completed ∙ ap (λ r. r.state) here))
 
 -- where a run ends is a place of it
-pub ran_to : (start t : State) (place steps : ℕ) (ending : Ending)
-    → run_of place start ≡ record { ending = ending; steps = steps; state = t } → IsReached start steps t
-ran_to start t place steps ending ran =
-    let count : (run_of place start).steps ≡ steps = ap (λ r. r.steps) ran in record {
-      completed = completes place steps start (omega arith);
-      same = sym (sym (ap (λ k. state_after k start) count) ∙ same_end place start ∙ ap (λ r. r.state) ran);
+pub ran_to : (start t : State) (step steps : ℕ) (ending : Ending)
+    → run_of step start ≡ record { ending = ending; steps = steps; state = t } → IsReached start steps t
+ran_to start t step steps ending ran =
+    let count : (run_of step start).steps ≡ steps = ap (λ r. r.steps) ran in record {
+      completed = completes step steps start (omega arith);
+      same = sym (sym (ap (λ k. state_after k start) count) ∙ same_end step start ∙ ap (λ r. r.state) ran);
     }
 
 -- a run completes no more steps than its budget has
@@ -138,36 +138,36 @@ within_budget (suc n) s = by_step s ((run_of (suc n) s).steps ≤ suc n)
     (λ e is. let none = steps_end n s e is in omega arith)
 
 -- so it comes to a place, if it completes as many steps
-pub ran_there : (start t : State) (place steps : ℕ) (ending : Ending)
-    → run_of place start ≡ record { ending = ending; steps = steps; state = t } → place ≤ steps → IsReached start place t
-ran_there start t place steps ending ran far =
+pub ran_there : (start t : State) (step steps : ℕ) (ending : Ending)
+    → run_of step start ≡ record { ending = ending; steps = steps; state = t } → step ≤ steps → IsReached start step t
+ran_there start t step steps ending ran far =
     let count = ap (λ r. r.steps) ran in
-    let few = within_budget place start in record {
+    let few = within_budget step start in record {
       completed = omega (arith, count, few, far);
       same = sym (ap (λ r. r.state) ran);
     }
 
 -- a step that completes within the budget is not the last
-pub goes_on : (budget place : ℕ) (start s t : State) → IsReached start place s → place < budget → step_of s ≡ Ok t
-    → place < last_step budget start
-goes_on budget place start s t reached within e =
-    let next = next_place start s t place reached e in
-    let there = comes_within budget (place + 1) start next.completed (omega arith) in
+pub goes_on : (budget step : ℕ) (start s t : State) → IsReached start step s → step < budget → step_of s ≡ Ok t
+    → step < last_step budget start
+goes_on budget step start s t reached within e =
+    let next = next_place start s t step reached e in
+    let there = comes_within budget (step + 1) start next.completed (omega arith) in
     omega arith
 
 -- a step that does not complete ends the run there
-pub ends_here : (budget place : ℕ) (start s : State) (ending : Ending) → IsReached start place s → place < budget
-    → step_of s ≡ Err ending → (place ≡ last_step budget start) × (ending ≡ (run_of budget start).ending)
-ends_here budget place start s ending reached within e =
-    let here : step_of (state_after place start) ≡ Err ending = ap step_of (sym reached.same) ∙ e in
-    let rest = budget - (place + 1) in
-    let sum : place + suc rest ≡ budget = omega arith in
-    let more = steps_more place (suc rest) start reached.completed in
-    let none = steps_end rest (state_after place start) ending here in
+pub ends_here : (budget step : ℕ) (start s : State) (ending : Ending) → IsReached start step s → step < budget
+    → step_of s ≡ Err ending → (step ≡ last_step budget start) × (ending ≡ (run_of budget start).ending)
+ends_here budget step start s ending reached within e =
+    let here : step_of (state_after step start) ≡ Err ending = ap step_of (sym reached.same) ∙ e in
+    let rest = budget - (step + 1) in
+    let sum : step + suc rest ≡ budget = omega arith in
+    let more = steps_more step (suc rest) start reached.completed in
+    let none = steps_end rest (state_after step start) ending here in
     let same = ap (λ k. (run_of k start).steps) sum in
-    let end = ap (λ r. r.ending) (run_ends rest (state_after place start) ending here) in (
+    let end = ap (λ r. r.ending) (run_ends rest (state_after step start) ending here) in (
       omega arith,
-      sym (sym (ap (λ k. (run_of k start).ending) sum) ∙ ending_more place (suc rest) start reached.completed ∙ end),
+      sym (sym (ap (λ k. (run_of k start).ending) sum) ∙ ending_more step (suc rest) start reached.completed ∙ end),
     )
 
 -- a run that comes to its budget ends there

@@ -13,7 +13,7 @@ use Rattle.rv_trace.specs.Bus.{BusContents}
 use Rattle.rv_trace.specs.Trace.{state_after}
 use Rattle.rv_history.specs.declared.bounds.Bounds.{Bounds}
 use Rattle.rv_history.specs.declared.bounds.Bounds.TheVariants as bounds
-use Rattle.rv_history.specs.declared.found.MoveResult.TheVariants as found
+use Rattle.rv_history.specs.declared.outcome.MoveResult.TheVariants as outcome
 use Rattle.rv_history.specs.declared.forward_move.MoveEnd.{MoveEnd}
 use Rattle.rv_history.specs.declared.forward_move.ForwardMove.{ForwardMove}
 use Rattle.rv_history.specs.declared.machine_at.MachineAt.{MachineAt}
@@ -21,7 +21,7 @@ use Rattle.rv_history.specs.declared.stops.Stops.{Stops}
 use Rattle.rv_history.specs.declared.stops.Watch.{Watch}
 use Rattle.rv_history.specs.declared.access.Access.{Access}
 use Rattle.rv_history.specs.declared.stops.WatchHit.{WatchHit}
-use Rattle.rv_history.specs.declared.stops.WatchHit.TheVariants as set_off
+use Rattle.rv_history.specs.declared.stops.WatchHit.TheVariants as hit
 use Rattle.rv_history.specs.Accesses.{access_at}
 use Rattle.rv_history.specs.StoredStates.{IsAt}
 use Rattle.rv_history.specs.LastStop.{HasNoStopAt}
@@ -44,12 +44,12 @@ pub nothing_touched : (stops : Stops) (access : Option Access) → (stops.reads 
     → hit_by_access stops access ≡ None
 nothing_touched stops None none = refl
 nothing_touched stops (Some access) none =
-    let found : List Watch → List Watch → Option WatchHit = λ reads accesses. hit_or set_off.Read (first_read access reads)
-    (hit_or set_off.Access (first_hit access accesses) None) in
-    ap (λ (reads : List Watch). found reads stops.accesses) none.0
-    ∙ ap (λ (accesses : List Watch). found [] accesses) none.1 ∙ nothing access.is_read
+    let outcome : List Watch → List Watch → Option WatchHit = λ reads accesses. hit_or hit.Read (first_read access reads)
+    (hit_or hit.Access (first_hit access accesses) None) in
+    ap (λ (reads : List Watch). outcome reads stops.accesses) none.0
+    ∙ ap (λ (accesses : List Watch). outcome [] accesses) none.1 ∙ nothing access.is_read
   where
-    nothing : (is_read : Bool) → hit_or set_off.Read (if is_read then None else None) None ≡ None
+    nothing : (is_read : Bool) → hit_or hit.Read (if is_read then None else None) None ≡ None
     nothing true = refl
     nothing false = refl
 
@@ -63,120 +63,120 @@ unset stops s t none (inr touches) = both_ways (is_some (access_hit stops s)) (u
 pub is_unset : (stops : Stops) (s t : State) → AreUnwatched stops → TriggersNoWatch stops s t
 is_unset stops s t none = (no_bytes stops s.bus none.0 ∙ sym (no_bytes stops t.bus none.0), untouched stops s none)
 
-no_change : (stops : Stops) (budget place : ℕ) (start : State) → AreUnwatched stops → IsChangeAt stops budget start place → ⊥
-no_change stops budget place start none change =
-    unset stops (state_after place start) (state_after (place + 1) start) none change.changes
+no_change : (stops : Stops) (budget step : ℕ) (start : State) → AreUnwatched stops → IsChangeAt stops budget start step → ⊥
+no_change stops budget step start none change =
+    unset stops (state_after step start) (state_after (step + 1) start) none change.triggers
 
-quiet_at : (stops : Stops) (budget place : ℕ) (start : State) → AreEmpty stops → HasNoStopAt stops budget start place
-quiet_at stops budget place start none = record {
-  no_break = λ is. both_ways (is_break stops (state_after place start).pc) (no_break stops (state_after place start).pc none) is;
-  no_change = no_change stops budget place start none.1;
+quiet_at : (stops : Stops) (budget step : ℕ) (start : State) → AreEmpty stops → HasNoStopAt stops budget start step
+quiet_at stops budget step start none = record {
+  no_break = λ is. both_ways (is_break stops (state_after step start).pc) (no_break stops (state_after step start).pc none) is;
+  no_change = no_change stops budget step start none.1;
 }
 
 pub begins_unstopped : (stops : Stops) (budget from : ℕ) (start : State) → AreEmpty stops
-    → IsStopBefore stops budget start from 0 found.RunStart
+    → IsStopBefore stops budget start from 0 outcome.RunStart
 begins_unstopped stops budget from start none = begins_over stops budget from start (λ j low high. quiet_at stops budget j start none)
 
 pub step_unwatched : (stops : Stops) (budget before from : ℕ) (start : State) → AreUnwatched stops → from ≡ before + 1
-    → IsStepBefore stops budget start from before found.Done
+    → IsStepBefore stops budget start from before outcome.Done
 step_unwatched stops budget before from start none is = (is, no_change stops budget before start none)
 
-no_halt : (stops : Stops) (place : ℕ) (start : State) → AreEmpty stops → IsHaltAt stops bounds.All start place → ⊥
-no_halt stops place start none is =
-    both_ways (halts_at stops bounds.All (state_after place start).pc)
-    (ap (λ b. b || false) (no_break stops (state_after place start).pc none)) is
+no_halt : (stops : Stops) (step : ℕ) (start : State) → AreEmpty stops → IsHaltAt stops bounds.All start step → ⊥
+no_halt stops step start none is =
+    both_ways (halts_at stops bounds.All (state_after step start).pc)
+    (ap (λ b. b || false) (no_break stops (state_after step start).pc none)) is
 
 -- a machine tells that a move does not stop there
-pub never_halted : (stops : Stops) (within : Bounds) (from place pc : ℕ) → AreEmpty stops → within ≡ bounds.All
-    → (ltb from place && halts_at stops within pc) ≡ false
-never_halted stops within from place pc none all =
-    ap (λ b. ltb from place && halts_at stops b pc) all ∙ ap (λ b. ltb from place && (b || false)) (no_break stops pc none)
-    ∙ never (ltb from place)
+pub never_halted : (stops : Stops) (within : Bounds) (from step pc : ℕ) → AreEmpty stops → within ≡ bounds.All
+    → (ltb from step && halts_at stops within pc) ≡ false
+never_halted stops within from step pc none all =
+    ap (λ b. ltb from step && halts_at stops b pc) all ∙ ap (λ b. ltb from step && (b || false)) (no_break stops pc none)
+    ∙ never (ltb from step)
   where
     never : (b : Bool) → (b && false) ≡ false
     never true = refl
     never false = refl
 
 -- nothing is met on the way
-goes_unstopped : (stops : Stops) (budget from place j : ℕ) (start : State) → AreEmpty stops → place ≤ last_step budget start
-    → j < place → HasNoForwardStop stops bounds.All budget start from j
-goes_unstopped stops budget from place j start none within before = record {
+goes_unstopped : (stops : Stops) (budget from step j : ℕ) (start : State) → AreEmpty stops → step ≤ last_step budget start
+    → j < step → HasNoForwardStop stops bounds.All budget start from j
+goes_unstopped stops budget from step j start none within before = record {
   no_halt = λ below is. no_halt stops j start none is;
   no_end = omega arith;
   no_change = no_change stops budget j start none.1;
 }
 
-ends_everywhere : (stops : Stops) (budget from place : ℕ) (start : State) (ending : Ending) → AreEmpty stops
-    → from ≤ last_step budget start → IsEndAt budget start place ending
-    → IsNextStop stops bounds.All budget start from place (found.End ending)
-ends_everywhere stops budget from place start ending none order there =
+ends_everywhere : (stops : Stops) (budget from step : ℕ) (start : State) (ending : Ending) → AreEmpty stops
+    → from ≤ last_step budget start → IsEndAt budget start step ending
+    → IsNextStop stops bounds.All budget start from step (outcome.End ending)
+ends_everywhere stops budget from step start ending none order there =
     let here = there.0 in record {
       order = omega arith;
       within = omega arith;
-      meets = (there, λ below is. no_halt stops place start none is);
-      between = λ j low high. goes_unstopped stops budget from place j start none (omega arith) high;
+      meets = (there, λ below is. no_halt stops step start none is);
+      between = λ j low high. goes_unstopped stops budget from step j start none (omega arith) high;
     }
 
-ends_anywhere : (stops : Stops) (within : Bounds) (budget from place : ℕ) (start : State) (ending : Ending) → AreEmpty stops
-    → within ≡ bounds.All → from ≤ last_step budget start → IsEndAt budget start place ending
-    → IsNextStop stops within budget start from place (found.End ending)
-ends_anywhere stops within budget from place start ending none all order end =
-    subst (λ (b : Bounds). IsNextStop stops b budget start from place (found.End ending)) (sym all)
-    (ends_everywhere stops budget from place start ending none order end)
+ends_anywhere : (stops : Stops) (within : Bounds) (budget from step : ℕ) (start : State) (ending : Ending) → AreEmpty stops
+    → within ≡ bounds.All → from ≤ last_step budget start → IsEndAt budget start step ending
+    → IsNextStop stops within budget start from step (outcome.End ending)
+ends_anywhere stops within budget from step start ending none all order end =
+    subst (λ (b : Bounds). IsNextStop stops b budget start from step (outcome.End ending)) (sym all)
+    (ends_everywhere stops budget from step start ending none order end)
 
 -- where a run of fewer steps ends before them, the whole run ends
-ends_within : (budget end place : ℕ) (start t : State) (ending : Ending)
-    → run_of end start ≡ record { ending = ending; steps = place; state = t } → place < end → end ≤ budget
-    → IsEndAt budget start place ending
-ends_within budget end place start t ending ran short within =
-    let reached = ran_to start t end place ending ran in
-    let count : (run_of end start).steps ≡ place = ap (λ r. r.steps) ran in
-    by_step t (IsEndAt budget start place ending)
-    (λ u e. let later = goes_on end place start t u reached short e in absurd (omega (arith, count, later)))
+ends_within : (budget end step : ℕ) (start t : State) (ending : Ending)
+    → run_of end start ≡ record { ending = ending; steps = step; state = t } → step < end → end ≤ budget
+    → IsEndAt budget start step ending
+ends_within budget end step start t ending ran short within =
+    let reached = ran_to start t end step ending ran in
+    let count : (run_of end start).steps ≡ step = ap (λ r. r.steps) ran in
+    by_step t (IsEndAt budget start step ending)
+    (λ u e. let later = goes_on end step start t u reached short e in absurd (omega (arith, count, later)))
     (λ other e.
-    let here = ends_here end place start t other reached short e in
-    let there = ends_here budget place start t other reached (omega (arith, short, within)) e in
+    let here = ends_here end step start t other reached short e in
+    let there = ends_here budget step start t other reached (omega (arith, short, within)) e in
     (there.0, sym (ap (λ r. r.ending) ran) ∙ sym here.1 ∙ there.1))
 
 -- a move is under way wherever it stands
-pub under_way : (stops : Stops) (start : State) (leg : ForwardMove) → AreEmpty stops → leg.bounds ≡ bounds.All → IsAt start leg.at
-    → leg.from ≤ leg.at.place → leg.at.place ≤ leg.budget → IsMoveInProgress stops start leg
-under_way stops start leg none all there order within = record {
+pub under_way : (stops : Stops) (start : State) (forward_move : ForwardMove) → AreEmpty stops → forward_move.bounds ≡ bounds.All → IsAt start forward_move.at
+    → forward_move.from ≤ forward_move.at.step → forward_move.at.step ≤ forward_move.budget → IsMoveInProgress stops start forward_move
+under_way stops start forward_move none all there order within = record {
   there = there;
   order = order;
   within = within;
-  quiet = λ j low high. subst (λ (b : Bounds). HasNoForwardStop stops b leg.budget start leg.from j) (sym all)
-      (goes_unstopped stops leg.budget leg.from leg.at.place j start none
-      (comes_within leg.budget leg.at.place start there.completed within) high);
+  quiet = λ j low high. subst (λ (b : Bounds). HasNoForwardStop stops b forward_move.budget start forward_move.from j) (sym all)
+      (goes_unstopped stops forward_move.budget forward_move.from forward_move.at.step j start none
+      (comes_within forward_move.budget forward_move.at.step start there.completed within) high);
 }
 
 -- a move that meets nothing comes to an end before its budget
-pub ends_before : (stops : Stops) (start : State) (leg : ForwardMove) (at : MachineAt) (arrived : MoveEnd) (end : ℕ) (ending : Ending)
-    → AreEmpty stops → leg.bounds ≡ bounds.All → leg.from ≤ at.place → arrived ≡ record { at = at; found = found.End ending }
-    → run_of end start ≡ record { ending = ending; steps = at.place; state = state_of at.machine } → at.place < end
-    → end ≤ leg.budget → IsArrival stops start leg arrived
-ends_before stops start leg at arrived end ending none all order is ran short within =
-    let there = ran_to start (state_of at.machine) end at.place ending ran in
-    let far = comes_within leg.budget at.place start there.completed (omega (arith, short, within)) in
-    subst (λ (a : MoveEnd). IsArrival stops start leg a) (sym is) (
+pub ends_before : (stops : Stops) (start : State) (forward_move : ForwardMove) (at : MachineAt) (arrived : MoveEnd) (end : ℕ) (ending : Ending)
+    → AreEmpty stops → forward_move.bounds ≡ bounds.All → forward_move.from ≤ at.step → arrived ≡ record { at = at; outcome = outcome.End ending }
+    → run_of end start ≡ record { ending = ending; steps = at.step; state = state_of at.machine } → at.step < end
+    → end ≤ forward_move.budget → IsArrival stops start forward_move arrived
+ends_before stops start forward_move at arrived end ending none all order is ran short within =
+    let there = ran_to start (state_of at.machine) end at.step ending ran in
+    let far = comes_within forward_move.budget at.step start there.completed (omega (arith, short, within)) in
+    subst (λ (a : MoveEnd). IsArrival stops start forward_move a) (sym is) (
       there,
-      ends_anywhere stops leg.bounds leg.budget leg.from at.place start ending none all (omega (arith, order, far))
-          (ends_within leg.budget end at.place start (state_of at.machine) ending ran short within),
+      ends_anywhere stops forward_move.bounds forward_move.budget forward_move.from at.step start ending none all (omega (arith, order, far))
+          (ends_within forward_move.budget end at.step start (state_of at.machine) ending ran short within),
     )
 
 -- or it comes to its budget
-pub ends_at : (stops : Stops) (start : State) (leg : ForwardMove) (at : MachineAt) (arrived : MoveEnd) → AreEmpty stops
-    → leg.bounds ≡ bounds.All → leg.from ≤ at.place → arrived ≡ record { at = at; found = found.End Budget } → IsAt start at
-    → at.place ≡ leg.budget → IsArrival stops start leg arrived
-ends_at stops start leg at arrived none all order is there end =
-    let full : (run_of leg.budget start).steps ≡ leg.budget = subst (λ (k : ℕ). (run_of k start).steps ≡ k) end there.completed in
-    let here : IsEndAt leg.budget start at.place Budget =
-    subst (λ (k : ℕ). IsEndAt leg.budget start k Budget) (sym end) (ends_by_budget leg.budget start full) in
-    let far = comes_within leg.budget at.place start there.completed (omega (arith, end)) in
-    subst (λ (a : MoveEnd). IsArrival stops start leg a) (sym is)
-    (there, ends_anywhere stops leg.bounds leg.budget leg.from at.place start Budget none all (omega (arith, order, far)) here)
+pub ends_at : (stops : Stops) (start : State) (forward_move : ForwardMove) (at : MachineAt) (arrived : MoveEnd) → AreEmpty stops
+    → forward_move.bounds ≡ bounds.All → forward_move.from ≤ at.step → arrived ≡ record { at = at; outcome = outcome.End Budget } → IsAt start at
+    → at.step ≡ forward_move.budget → IsArrival stops start forward_move arrived
+ends_at stops start forward_move at arrived none all order is there end =
+    let full : (run_of forward_move.budget start).steps ≡ forward_move.budget = subst (λ (k : ℕ). (run_of k start).steps ≡ k) end there.completed in
+    let here : IsEndAt forward_move.budget start at.step Budget =
+    subst (λ (k : ℕ). IsEndAt forward_move.budget start k Budget) (sym end) (ends_by_budget forward_move.budget start full) in
+    let far = comes_within forward_move.budget at.step start there.completed (omega (arith, end)) in
+    subst (λ (a : MoveEnd). IsArrival stops start forward_move a) (sym is)
+    (there, ends_anywhere stops forward_move.bounds forward_move.budget forward_move.from at.step start Budget none all (omega (arith, order, far)) here)
 
-pub ends_told : {E : Type 0} (stops : Stops) (start : State) (leg : ForwardMove) (result : Result MoveEnd E) → AreEmpty stops
-    → IfOk result (λ arrived. (none : Stops) → AreEmpty none → IsArrival none start leg arrived) → IfOk result (IsArrival stops start leg)
-ends_told stops start leg (Ok arrived) none arrives = arrives stops none
-ends_told stops start leg (Err error) none arrives = tt
+pub ends_told : {E : Type 0} (stops : Stops) (start : State) (forward_move : ForwardMove) (result : Result MoveEnd E) → AreEmpty stops
+    → IfOk result (λ arrived. (none : Stops) → AreEmpty none → IsArrival none start forward_move arrived) → IfOk result (IsArrival stops start forward_move)
+ends_told stops start forward_move (Ok arrived) none arrives = arrives stops none
+ends_told stops start forward_move (Err error) none arrives = tt

@@ -12,17 +12,17 @@ abbrev pub count_value : Count → ℕ → BusContents → ℕ
 count_value count.Printed script bus = length bus.output
 count_value count.Taken script bus = script - length bus.script
 
--- the value of a count after `place` steps of the run from `start`
+-- the value of a count after `step` steps of the run from `start`
 abbrev pub count_at : Count → State → ℕ → ℕ
-count_at count start place = count_value count (length start.bus.script) (state_after place start).bus
+count_at count start step = count_value count (length start.bus.script) (state_after step start).bus
 
--- `place` is the first step of the run at which the count has this value, and the run reaches it within the budget
-pub record IsFirstStepWith (count : Count) (value budget : ℕ) (start : State) (place : ℕ) : Type 0 where
-  pub within : place ≤ last_step budget start
-  pub there : count_at count start place ≡ value
-  pub first : (j : ℕ) → j < place → count_at count start j ≢ value
+-- `step` is the first step of the run at which the count has this value, and the run reaches it within the budget
+pub record IsFirstStepWith (count : Count) (value budget : ℕ) (start : State) (step : ℕ) : Type 0 where
+  pub within : step ≤ last_step budget start
+  pub there : count_at count start step ≡ value
+  pub first : (j : ℕ) → j < step → count_at count start j ≢ value
 
 -- the first step of the run at which the count has this value, or `None` if the run reaches no such step within the budget
 abbrev pub IsFirstStepIfAny : Count → ℕ → ℕ → State → Option ℕ → Type 0
-IsFirstStepIfAny count value budget start (Some place) = IsFirstStepWith count value budget start place
+IsFirstStepIfAny count value budget start (Some step) = IsFirstStepWith count value budget start step
 IsFirstStepIfAny count value budget start None = (j : ℕ) → j ≤ last_step budget start → count_at count start j ≢ value

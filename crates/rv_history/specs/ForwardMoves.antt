@@ -8,13 +8,13 @@ use Rattle.rv_history.specs.declared.forward_move.ForwardMove.{ForwardMove}
 use Rattle.rv_history.specs.declared.stops.Stops.{Stops}
 
 -- a forward move is at a step of the run from `start`, within its budget, and has passed no stop so far
-pub record IsMoveInProgress (stops : Stops) (start : State) (leg : ForwardMove) : Type 0 where
-  pub there : IsAt start leg.at
-  pub order : leg.from ≤ leg.at.place
-  pub within : leg.at.place ≤ leg.budget
-  pub quiet : (j : ℕ) → leg.from ≤ j → j < leg.at.place → HasNoForwardStop stops leg.bounds leg.budget start leg.from j
+pub record IsMoveInProgress (stops : Stops) (start : State) (forward_move : ForwardMove) : Type 0 where
+  pub there : IsAt start forward_move.at
+  pub order : forward_move.from ≤ forward_move.at.step
+  pub within : forward_move.at.step ≤ forward_move.budget
+  pub quiet : (j : ℕ) → forward_move.from ≤ j → j < forward_move.at.step → HasNoForwardStop stops forward_move.bounds forward_move.budget start forward_move.from j
 
 -- a forward move ended at its next stop, and its machine is in the state of the run at this step
 abbrev pub IsArrival : Stops → State → ForwardMove → MoveEnd → Type 0
-IsArrival stops start leg arrived =
-    IsAt start arrived.at × IsNextStop stops leg.bounds leg.budget start leg.from arrived.at.place arrived.found
+IsArrival stops start forward_move arrived =
+    IsAt start arrived.at × IsNextStop stops forward_move.bounds forward_move.budget start forward_move.from arrived.at.step arrived.outcome

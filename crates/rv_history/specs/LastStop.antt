@@ -3,28 +3,28 @@ use Rattle.std.specs.Prelude.{ℕ, ◌+◌, ◌<◌, ◌≤◌, Bool, Option, So
 use Rattle.rv_trace.specs.State.{State}
 use Rattle.rv_history.specs.Moves.{IsStopBefore, IsUninterrupted}
 use Rattle.rv_history.specs.Places.{IsBreakAt, IsChangeAt}
-use Rattle.rv_history.specs.declared.found.SearchEnd.{SearchEnd}
-use Rattle.rv_history.specs.declared.found.MoveResult.TheVariants as found
+use Rattle.rv_history.specs.declared.outcome.SearchEnd.{SearchEnd}
+use Rattle.rv_history.specs.declared.outcome.MoveResult.TheVariants as outcome
 use Rattle.rv_history.specs.declared.search_back.SearchedPart.{SearchedPart}
 use Rattle.rv_history.specs.declared.stepping.StepResult.{StepResult}
 use Rattle.rv_history.specs.declared.stepping.StepResult.TheVariants as stepped
 use Rattle.rv_history.specs.declared.stops.Stops.{Stops}
 
--- the last stop after the search has passed the step `place`: `place` if the Bool says that there is a breakpoint, or else `last`
+-- the last stop after the search has passed the step `step`: `step` if the Bool says that there is a breakpoint, or else `last`
 abbrev pub last_at : Option SearchEnd → ℕ → Bool → Option SearchEnd
-last_at last place is_break = if is_break then Some (record { place = place; found = found.Breakpoint }) else last
+last_at last step is_break = if is_break then Some (record { step = step; outcome = outcome.Breakpoint }) else last
 
--- the last stop after the search has passed the step `place`, or `None` if it has found none; given the last stop before, whether there is
--- a breakpoint at `place`, and the result of the step from there
+-- the last stop after the search has passed the step `step`, or `None` if it has found none; given the last stop before, whether there is
+-- a breakpoint at `step`, and the result of the step from there
 abbrev pub last_stop_after : Option SearchEnd → ℕ → Bool → StepResult → Option SearchEnd
-last_stop_after last place is_break stepped.WatchTriggered = Some (record { place = place + 1; found = found.WatchTriggered })
-last_stop_after last place is_break stepped.NotTriggered = last_at last place is_break
-last_stop_after last place is_break (stepped.Ended ending) = last_at last place is_break
+last_stop_after last step is_break stepped.WatchTriggered = Some (record { step = step + 1; outcome = outcome.WatchTriggered })
+last_stop_after last step is_break stepped.NotTriggered = last_at last step is_break
+last_stop_after last step is_break (stepped.Ended ending) = last_at last step is_break
 
--- there is no breakpoint at the step `place`, and the step from there triggers no watchpoint
-pub record HasNoStopAt (stops : Stops) (budget : ℕ) (start : State) (place : ℕ) : Type 0 where
-  pub no_break : IsBreakAt stops start place → ⊥
-  pub no_change : IsChangeAt stops budget start place → ⊥
+-- there is no breakpoint at the step `step`, and the step from there triggers no watchpoint
+pub record HasNoStopAt (stops : Stops) (budget : ℕ) (start : State) (step : ℕ) : Type 0 where
+  pub no_break : IsBreakAt stops start step → ⊥
+  pub no_change : IsChangeAt stops budget start step → ⊥
 
 -- from the step `begin` up to the step `end`, there are no breakpoints, and no step triggers a watchpoint
 abbrev pub HaveNoStops : Stops → ℕ → State → ℕ → ℕ → Type 0
@@ -32,7 +32,7 @@ HaveNoStops stops budget start begin end = (j : ℕ) → begin ≤ j → j < end
 
 -- the last stop of the run between the steps `begin` and `end`, or `None` if there is none
 abbrev pub IsLastStopIn : Stops → ℕ → State → ℕ → ℕ → Option SearchEnd → Type 0
-IsLastStopIn stops budget start begin end (Some last) = IsStopBefore stops budget start end last.place last.found × IsUninterrupted last.found
+IsLastStopIn stops budget start begin end (Some last) = IsStopBefore stops budget start end last.step last.outcome × IsUninterrupted last.outcome
 IsLastStopIn stops budget start begin end None = HaveNoStops stops budget start begin end
 
 -- the result of searching backwards from the step `end` to the beginning of a part of the run, for any budget of at least `end` steps

@@ -11,20 +11,20 @@ use Rattle.rv_history.specs.declared.stops.Stops.{Stops}
 abbrev pub last_step : ℕ → State → ℕ
 last_step budget start = (run_of budget start).steps
 
--- the run from `start` completes `place` steps, and `s` is its state after them
-pub record IsReached (start : State) (place : ℕ) (s : State) : Type 0 where
-  pub completed : (run_of place start).steps ≡ place
-  pub same : s ≡ state_after place start
+-- the run from `start` completes `step` steps, and `s` is its state after them
+pub record IsReached (start : State) (step : ℕ) (s : State) : Type 0 where
+  pub completed : (run_of step start).steps ≡ step
+  pub same : s ≡ state_after step start
 
--- the pc after `place` steps is a breakpoint
+-- the pc after `step` steps is a breakpoint
 abbrev pub IsBreakAt : Stops → State → ℕ → Type 0
-IsBreakAt stops start place = is_break stops (state_after place start).pc ≡ true
+IsBreakAt stops start step = is_break stops (state_after step start).pc ≡ true
 
--- the pc after `place` steps is a breakpoint or outside of the bounds
+-- the pc after `step` steps is a breakpoint or outside of the bounds
 abbrev pub IsHaltAt : Stops → Bounds → State → ℕ → Type 0
-IsHaltAt stops bounds start place = halts_at stops bounds (state_after place start).pc ≡ true
+IsHaltAt stops bounds start step = halts_at stops bounds (state_after step start).pc ≡ true
 
--- the run completes another step after its first `place` steps within the budget, and this step triggers a watchpoint
-pub record IsChangeAt (stops : Stops) (budget : ℕ) (start : State) (place : ℕ) : Type 0 where
-  pub completes : place < last_step budget start
-  pub changes : TriggersWatch stops (state_after place start) (state_after (place + 1) start)
+-- the run completes another step after its first `step` steps within the budget, and this step triggers a watchpoint
+pub record IsChangeAt (stops : Stops) (budget : ℕ) (start : State) (step : ℕ) : Type 0 where
+  pub completes : step < last_step budget start
+  pub triggers : TriggersWatch stops (state_after step start) (state_after (step + 1) start)

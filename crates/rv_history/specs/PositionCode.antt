@@ -9,5 +9,5 @@ use Rattle.rv_history.specs.Positions.{Position}
 -- the encoding of a `Position` as nested pairs for the prover
 abbrev pub position_code : Coded Position
 position_code = code_by (State × (ℕ × ℕ)) (coded× state_code (coded× coded_ℕ coded_ℕ))
-    (λ stand. (stand.start, (stand.budget, stand.place)))
-    (λ p. record { start = p.0; budget = p.1.0; place = p.1.1 }) (λ _. refl)
+    (λ stand. (stand.start, (stand.budget, stand.step)))
+    (λ p. record { start = p.0; budget = p.1.0; step = p.1.1 }) (λ _. refl)

@@ -10,7 +10,7 @@ use Rattle.rv_history.specs.declared.access.Access.{Access}
 use Rattle.rv_history.specs.declared.bounds.Bounds.{Bounds}
 use Rattle.rv_history.specs.declared.bounds.Bounds.TheVariants as bounds
 use Rattle.rv_history.specs.declared.stops.WatchHit.{WatchHit}
-use Rattle.rv_history.specs.declared.stops.WatchHit.TheVariants as set_off
+use Rattle.rv_history.specs.declared.stops.WatchHit.TheVariants as hit
 use Rattle.rv_history.specs.declared.stops.Stops.{Stops}
 use Rattle.rv_history.specs.declared.stops.Watch.{Watch}
 
@@ -68,8 +68,8 @@ hit_or told (Some address) other = Some (told address)
 -- none
 abbrev pub hit_by_access : Stops → Option Access → Option WatchHit
 hit_by_access stops None = None
-hit_by_access stops (Some access) = hit_or set_off.Read (first_read access stops.reads)
-    (hit_or set_off.Access (first_hit access stops.accesses) None)
+hit_by_access stops (Some access) = hit_or hit.Read (first_read access stops.reads)
+    (hit_or hit.Access (first_hit access stops.accesses) None)
 
 -- the first read watchpoint, or else the first access watchpoint, that the instruction at the pc triggers, or `None` if it triggers none
 abbrev pub access_hit : Stops → State → Option WatchHit
@@ -78,7 +78,7 @@ access_hit stops s = hit_by_access stops (access_at s)
 -- the first watchpoint that a step from the state `s` to the state `t` triggers, or `None`: watchpoints for changes come first, then for
 -- reads, then for accesses
 abbrev pub first_triggered : Stops → State → State → Option WatchHit
-first_triggered stops s t = hit_or set_off.Change (first_differing stops.watches s.bus t.bus) (access_hit stops s)
+first_triggered stops s t = hit_or hit.Change (first_differing stops.watches s.bus t.bus) (access_hit stops s)
 
 -- a step from state `s` to state `t` triggers a watchpoint
 abbrev pub TriggersWatch : Stops → State → State → Type 0

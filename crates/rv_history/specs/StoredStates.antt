@@ -8,7 +8,7 @@ use Rattle.rv_history.specs.Places.{IsReached}
 
 -- the run from `start` reaches the step of the machine, and the machine is in the state of the run there
 abbrev pub IsAt : State → MachineAt → Type 0
-IsAt start at = IsReached start at.place (state_of at.machine)
+IsAt start at = IsReached start at.step (state_of at.machine)
 
 -- for each of the machines, the run from `start` reaches its step, and it is in the state of the run there
 abbrev pub AreStates : State → List MachineAt → Type 0
@@ -16,8 +16,8 @@ AreStates start kept = All (IsAt start) kept
 
 -- the machines are at strictly decreasing steps
 abbrev pub AreDecreasing : List MachineAt → Type 0
-AreDecreasing kept = AllPairs (λ one other. other.place < one.place) kept
+AreDecreasing kept = AllPairs (λ one other. other.step < one.step) kept
 
--- each machine of the list that is not after the step `place` is not after the step `last`
+-- each machine of the list that is not after the step `step` is not after the step `last`
 abbrev pub IsLastUpTo : List MachineAt → ℕ → ℕ → Type 0
-IsLastUpTo kept place last = All (λ (other : MachineAt). other.place ≤ place → other.place ≤ last) kept
+IsLastUpTo kept step last = All (λ (other : MachineAt). other.step ≤ step → other.step ≤ last) kept

@@ -8,15 +8,15 @@ ghost use Rattle.rv_history.specs.LastStop.{IsSearchedPart};
 ghost use Rattle.rv_history.specs.ForwardMoves.{IsArrival, IsMoveInProgress};
 ghost use Rattle.rv_history.specs.Stops.{AreUnwatched, is_break};
 ghost use Rattle.rv_history.specs.declared.bounds.Bounds.TheVariants.{All as AllAddresses};
-ghost use Rattle.rv_history.specs.declared.found.MoveResult.TheVariants.{Interrupted};
+ghost use Rattle.rv_history.specs.declared.outcome.MoveResult.TheVariants.{Interrupted};
 
 use crate::checkpoints::Checkpoints;
 use crate::forward_move::{ForwardMove, MoveEnd};
-use crate::found::MoveResult;
+use crate::outcome::MoveResult;
 use crate::interrupt::Interrupt;
 use crate::search_back::{SearchedPart, last_stop_after};
 use crate::slices::{is_at_least_a_slice, is_slice_end, slice_end};
-use crate::stepping::{StepResult, step};
+use crate::stepping::{StepResult, execute_step};
 use crate::stops::Stops;
 use rv_trace::Machine;
 use std::alloc::{AllocError, Global};
@@ -25,79 +25,79 @@ use std::alloc::{AllocError, Global};
 /// breakpoints.
 pub(crate) fn next_breakpoint<I: Interrupt>(
     alloc: Global,
-    track: &mut Checkpoints,
-    mut leg: ForwardMove,
+    checkpoints: &mut Checkpoints,
+    mut forward_move: ForwardMove,
     stops: &Stops,
     interrupt: &mut I,
 ) -> Result<MoveEnd, AllocError>
-    requires way { IsMoveInProgress stops.now track.old leg }
-    requires unbounded { leg.bounds ≡ AllAddresses }
+    requires way { IsMoveInProgress stops.now checkpoints.old forward_move }
+    requires unbounded { forward_move.bounds ≡ AllAddresses }
     requires unwatched { AreUnwatched stops.now }
-    ensures stop { IfOk result (IsArrival stops.now track.old leg) }
-    ensures broken_off { IfOk result (λ arrived. arrived.found ≡ Interrupted → I.was_raised interrupt.new ≡ true) }
-    ensures same { track.new ≡ track.old }
+    ensures stop { IfOk result (IsArrival stops.now checkpoints.old forward_move) }
+    ensures interrupted { IfOk result (λ arrived. arrived.outcome ≡ Interrupted → I.was_raised interrupt.new ≡ true) }
+    ensures same { checkpoints.new ≡ checkpoints.old }
 {
-    'places: while leg.at.place < leg.budget {
-        if leg.is_stopped(stops) {
-            return Ok(leg.arrived(MoveResult::Breakpoint));
+    'places: while forward_move.at.step < forward_move.budget {
+        if forward_move.is_stopped(stops) {
+            return Ok(forward_move.arrived(MoveResult::Breakpoint));
         }
-        if leg.store_and_poll(alloc, track, interrupt)? {
-            return Ok(leg.arrived(MoveResult::Interrupted));
+        if forward_move.store_and_poll(alloc, checkpoints, interrupt)? {
+            return Ok(forward_move.arrived(MoveResult::Interrupted));
         }
-        let end = slice_end(leg.at.place, leg.budget);
-        if let Some(ending) = step(&mut leg.at.machine) {
-            return Ok(leg.arrived(MoveResult::End(ending)));
+        let end = slice_end(forward_move.at.step, forward_move.budget);
+        if let Some(ending) = execute_step(&mut forward_move.at.machine) {
+            return Ok(forward_move.arrived(MoveResult::End(ending)));
         }
-        leg.at.place += 1;
-        let left = end - leg.at.place;
-        leg.at.place += run_between(&mut leg.at.machine, stops, left);
+        forward_move.at.step += 1;
+        let left = end - forward_move.at.step;
+        forward_move.at.step += run_between(&mut forward_move.at.machine, stops, left);
     }
-    let found = leg.result_at_budget(stops);
-    Ok(leg.arrived(found))
+    let outcome = forward_move.result_at_budget(stops);
+    Ok(forward_move.arrived(outcome))
 }
 
 /// Searches the run from the last stored state up to the step `end` for its last breakpoint, if there are no watchpoints. Returns what it
 /// found, or `None` if an interrupt ends the search.
 pub(crate) fn search_breakpoints<I: Interrupt>(
     alloc: Global,
-    track: &Checkpoints,
+    checkpoints: &Checkpoints,
     end: u32,
     stops: &Stops,
     interrupt: &mut I,
 ) -> Result<Option<SearchedPart>, AllocError>
     requires some { 0 < end }
-    requires comes { (run_of end track.now).steps ≡ end }
+    requires comes { (run_of end checkpoints.now).steps ≡ end }
     requires unwatched { AreUnwatched stops.now }
-    ensures part { IfOk result (λ searched. IfSome searched (IsSearchedPart stops.now track.now end)) }
-    ensures broken_off { IfOk result (λ searched. IfNone searched (I.was_raised interrupt.new ≡ true)) }
+    ensures part { IfOk result (λ searched. IfSome searched (IsSearchedPart stops.now checkpoints.now end)) }
+    ensures interrupted { IfOk result (λ searched. IfNone searched (I.was_raised interrupt.new ≡ true)) }
 {
-    let mut at = track.before(alloc, end - 1)?;
-    let begin = at.place;
+    let mut at = checkpoints.before(alloc, end - 1)?;
+    let begin = at.step;
     let mut last = None;
-    'places: while at.place < end {
-        if is_slice_end(at.place)
-            && is_at_least_a_slice(at.place - begin)
+    'places: while at.step < end {
+        if is_slice_end(at.step)
+            && is_at_least_a_slice(at.step - begin)
             && interrupt.is_raised()
         {
             return Ok(None);
         }
-        let slice = slice_end(at.place, end);
+        let slice = slice_end(at.step, end);
         let is_break = stops.has_break(at.machine.pc());
-        let _ = step(&mut at.machine);
-        last = last_stop_after(last, at.place, is_break, StepResult::NotTriggered);
-        at.place += 1;
-        at.place += run_between(&mut at.machine, stops, slice - at.place);
+        let _ = execute_step(&mut at.machine);
+        last = last_stop_after(last, at.step, is_break, StepResult::NotTriggered);
+        at.step += 1;
+        at.step += run_between(&mut at.machine, stops, slice - at.step);
     }
     Ok(Some(SearchedPart { begin, last }))
 }
 
-// Executes at most `most` steps, none of them at a breakpoint, and returns how many it executed. Takes the time of a run.
-fn run_between(machine: &mut Machine, stops: &Stops, most: u32) -> u32
+// Executes at most `max_steps` steps, none of them at a breakpoint, and returns how many it executed. Takes the time of a run.
+fn run_between(machine: &mut Machine, stops: &Stops, max_steps: u32) -> u32
     ensures ran { run_of result (state_of machine.old)
         ≡ record { ending = Budget; steps = result; state = state_of machine.new } }
-    ensures within { result ≤ most }
+    ensures within { result ≤ max_steps }
     ensures no_break { (j : ℕ) → j < result → is_break stops.now (run_of j (state_of machine.old)).state.pc ≡ false }
 {
     stops.invalidate_breakpoints(machine);
-    machine.run_cached(most)
+    machine.run_cached(max_steps)
 }

@@ -11,7 +11,7 @@ use std::marker::Model;
 /// A bounded number of states of a run, at strictly decreasing steps.
 #[derive(Drop)]
 pub(crate) struct CheckpointList {
-    most: usize,
+    capacity: usize,
     items: Vec<MachineAt>,
 }
 
@@ -28,44 +28,44 @@ impl Model for CheckpointList {
 
     ghost view = { λ kept. kept.items.items };
 
-    ghost invariant = { λ kept. (0 < kept.most) × ((length kept.items.items ≤ kept.most) × AreDecreasing kept.items.items) };
+    ghost invariant = { λ kept. (0 < kept.capacity) × ((length kept.items.items ≤ kept.capacity) × AreDecreasing kept.items.items) };
 }
 
 impl CheckpointList {
-    /// Returns an empty list with room for `most` states, but at least for one.
-    pub(crate) fn new(alloc: Global, most: usize) -> CheckpointList
+    /// Returns an empty list with room for `capacity` states, but at least for one.
+    pub(crate) fn new(alloc: Global, capacity: usize) -> CheckpointList
         ensures { result ≡ [] }
     {
         CheckpointList {
-            most: most.max(1),
+            capacity: capacity.max(1),
             items: Vec::new(alloc),
         }
     }
 
     /// Whether the list has no room for another state.
     pub(crate) fn is_full(&self) -> bool {
-        self.most <= self.items.len()
+        self.capacity <= self.items.len()
     }
 
-    /// Returns the last stored state at or before the step `place`, or `None` if there is none.
-    pub(crate) fn last_up_to(&self, place: u32) -> Option<&MachineAt>
+    /// Returns the last stored state at or before the step `step`, or `None` if there is none.
+    pub(crate) fn last_up_to(&self, step: u32) -> Option<&MachineAt>
         ensures state { (start : State) → AreStates start self.now → IfSome result (λ at. IsAt start at.now) }
-        ensures before { IfSome result (λ at. at.now.place ≤ place) }
-        ensures last { IfSome result (λ at. IsLastUpTo self.now place at.now.place) }
-        ensures none { IfNone result (All (λ other. place < other.place) self.now) }
+        ensures before { IfSome result (λ at. at.now.step ≤ step) }
+        ensures last { IfSome result (λ at. IsLastUpTo self.now step at.now.step) }
+        ensures none { IfNone result (All (λ other. step < other.step) self.now) }
     {
         for at in &self.items {
-            if at.place <= place {
+            if at.step <= step {
                 return Some(at);
             }
         }
         None
     }
 
-    /// Whether the state at the step `place` is stored.
-    pub(crate) fn contains(&self, place: u32) -> bool {
-        match self.last_up_to(place) {
-            Some(at) => at.place == place,
+    /// Whether the state at the step `step` is stored.
+    pub(crate) fn contains(&self, step: u32) -> bool {
+        match self.last_up_to(step) {
+            Some(at) => at.step == step,
             None => false,
         }
     }
@@ -74,9 +74,9 @@ impl CheckpointList {
     pub(crate) fn store(&mut self, at: MachineAt) -> Result<(), AllocError>
         ensures { (start : State) → AreStates start self.old → IsAt start at → AreStates start self.new }
     {
-        let place = at.place;
-        self.items.retain(|other| other.place < place);
-        self.items.truncate(self.most - 1);
+        let step = at.step;
+        self.items.retain(|other| other.step < step);
+        self.items.truncate(self.capacity - 1);
         self.items.insert(0, at)?;
         Ok(())
     }
@@ -86,6 +86,6 @@ impl CheckpointList {
         requires { 0 < number }
         ensures { (start : State) → AreStates start self.old → AreStates start self.new }
     {
-        self.items.retain(|at| at.place % number == 0);
+        self.items.retain(|at| at.step % number == 0);
     }
 }

@@ -61,10 +61,10 @@ impl Model for Checkpoints {
 
     ghost coded = { state_code };
 
-    ghost view = { λ track. start_of track.start };
+    ghost view = { λ checkpoints. start_of checkpoints.start };
 
-    ghost invariant = { λ track. AreStates (start_of track.start) track.coarse
-        × (AreStates (start_of track.start) track.near × (0 < track.interval)) };
+    ghost invariant = { λ checkpoints. AreStates (start_of checkpoints.start) checkpoints.coarse
+        × (AreStates (start_of checkpoints.start) checkpoints.near × (0 < checkpoints.interval)) };
 }
 
 impl Checkpoints {
@@ -100,45 +100,45 @@ impl Checkpoints {
         &self.start
     }
 
-    /// Returns a machine with the last stored state at or before the step `place`.
-    pub(crate) fn before(&self, alloc: Global, place: u32) -> Result<MachineAt, AllocError>
-        ensures { IfOk result (λ at. IsAt self.now at × (at.place ≤ place)) }
+    /// Returns a machine with the last stored state at or before the step `step`.
+    pub(crate) fn before(&self, alloc: Global, step: u32) -> Result<MachineAt, AllocError>
+        ensures { IfOk result (λ at. IsAt self.now at × (at.step ≤ step)) }
     {
-        if let Some(kept) = self.last_stored(place) {
+        if let Some(kept) = self.last_stored(step) {
             return kept.try_clone(alloc);
         }
         let machine = self.start.machine(alloc)?;
-        Ok(MachineAt { place: 0, machine })
+        Ok(MachineAt { step: 0, machine })
     }
 
-    /// Returns `at` or a copy of the last stored state at or before the step `place`, whichever is later; `at` is not after that step.
+    /// Returns `at` or a copy of the last stored state at or before the step `step`, whichever is later; `at` is not after that step.
     pub(crate) fn later_of(
         &self,
         alloc: Global,
         at: MachineAt,
-        place: u32,
+        step: u32,
     ) -> Result<MachineAt, AllocError>
         requires there { IsAt self.now at }
-        requires within { at.place ≤ place }
+        requires within { at.step ≤ step }
         ensures there { IfOk result (IsAt self.now) }
-        ensures order { IfOk result (λ last. (at.place ≤ last.place) × (last.place ≤ place)) }
+        ensures order { IfOk result (λ last. (at.step ≤ last.step) × (last.step ≤ step)) }
     {
-        match self.last_stored(place) {
-            Some(kept) if at.place < kept.place => kept.try_clone(alloc),
+        match self.last_stored(step) {
+            Some(kept) if at.step < kept.step => kept.try_clone(alloc),
             _ => Ok(at),
         }
     }
 
-    // Returns the last stored state at or before the step `place`, or `None` if only the start is.
-    fn last_stored(&self, place: u32) -> Option<&MachineAt>
+    // Returns the last stored state at or before the step `step`, or `None` if only the start is.
+    fn last_stored(&self, step: u32) -> Option<&MachineAt>
         ensures state { IfSome result (λ at. IsAt self.now at.now) }
-        ensures before { IfSome result (λ at. at.now.place ≤ place) }
+        ensures before { IfSome result (λ at. at.now.step ≤ step) }
     {
-        let Some(near) = self.near.last_up_to(place) else {
-            return self.coarse.last_up_to(place);
+        let Some(near) = self.near.last_up_to(step) else {
+            return self.coarse.last_up_to(step);
         };
-        match self.coarse.last_up_to(place) {
-            Some(coarse) if near.place < coarse.place => Some(coarse),
+        match self.coarse.last_up_to(step) {
+            Some(coarse) if near.step < coarse.step => Some(coarse),
             _ => Some(near),
         }
     }
@@ -152,41 +152,41 @@ impl Checkpoints {
         Ok(at.machine)
     }
 
-    /// Returns the machine after `place` steps, or at the end of the run if that comes first, and how a run of at most `place` steps ends.
+    /// Returns the machine after `step` steps, or at the end of the run if that comes first, and how a run of at most `step` steps ends.
     /// Stores states on the way.
     pub(crate) fn reach(
         &mut self,
         alloc: Global,
-        place: u32,
+        step: u32,
     ) -> Result<(MachineAt, Ending), AllocError>
-        ensures run { IfOk result (λ reached. run_of place self.old
-            ≡ record { ending = reached.1; steps = reached.0.place; state = state_of reached.0.machine }) }
+        ensures run { IfOk result (λ reached. run_of step self.old
+            ≡ record { ending = reached.1; steps = reached.0.step; state = state_of reached.0.machine }) }
         ensures same { self.new ≡ self.old }
     {
-        let mut at = self.before(alloc, place)?;
-        while let Some(next) = self.next_step_to_store(at.place, place) {
+        let mut at = self.before(alloc, step)?;
+        while let Some(next) = self.next_step_to_store(at.step, step) {
             let _ = at.run_to_step(next);
-            if at.place < next {
+            if at.step < next {
                 break;
             }
             self.store(alloc, &at)?;
         }
-        let ending = at.run_to_step(place);
+        let ending = at.run_to_step(step);
         Ok((at, ending))
     }
 
-    /// Returns the machine at the step `place`, which the run reaches. Stores states on the way.
+    /// Returns the machine at the step `step`, which the run reaches. Stores states on the way.
     pub(crate) fn machine_at_step(
         &mut self,
         alloc: Global,
-        place: u32,
+        step: u32,
     ) -> Result<MachineAt, AllocError>
-        requires { (run_of place self.old).steps ≡ place }
-        ensures place { IfOk result (λ at. at.place ≡ place) }
+        requires { (run_of step self.old).steps ≡ step }
+        ensures step { IfOk result (λ at. at.step ≡ step) }
         ensures there { IfOk result (IsAt self.old) }
         ensures same { self.new ≡ self.old }
     {
-        let (at, _) = self.reach(alloc, place)?;
+        let (at, _) = self.reach(alloc, step)?;
         Ok(at)
     }
 
@@ -199,18 +199,18 @@ impl Checkpoints {
         requires { IsAt self.old at.now }
         ensures { self.new ≡ self.old }
     {
-        if at.place == 0 || at.place % self.interval != 0 || self.coarse.contains(at.place) {
+        if at.step == 0 || at.step % self.interval != 0 || self.coarse.contains(at.step) {
             return Ok(());
         }
         self.store(alloc, at)
     }
 
-    // Returns the next step after `at`, up to `place`, at which a state must be stored, or `None` if there is none.
-    fn next_step_to_store(&self, at: u32, place: u32) -> Option<u32>
-        requires { at ≤ place }
-        ensures { IfSome result (λ next. (at < next) × (next ≤ place)) }
+    // Returns the next step after `at`, up to `step`, at which a state must be stored, or `None` if there is none.
+    fn next_step_to_store(&self, at: u32, step: u32) -> Option<u32>
+        requires { at ≤ step }
+        ensures { IfSome result (λ next. (at < next) × (next ≤ step)) }
     {
-        let left = place - at;
+        let left = step - at;
         let stride = self.interval - at % self.interval;
         if stride <= left {
             return Some(at + stride);
@@ -231,7 +231,7 @@ impl Checkpoints {
             self.interval = self.interval.saturating_mul(2);
             self.coarse.retain_multiples(self.interval);
         }
-        if at.place % self.interval == 0 {
+        if at.step % self.interval == 0 {
             self.coarse.store(kept)
         } else {
             self.near.store(kept)

@@ -5,7 +5,7 @@ ghost use Rattle.rv_history.specs.Counts.{IsFirstStepIfAny, count_value};
 ghost use Rattle.rv_history.specs.Starts.{start_of};
 
 use crate::start::Start;
-use crate::stepping::step;
+use crate::stepping::execute_step;
 use rv_trace::Bus;
 use std::alloc::{AllocError, Global};
 
@@ -31,11 +31,11 @@ pub(crate) fn first_step_with(
 {
     let mut machine = start.machine(alloc)?;
     let script = start.bus.script_remaining();
-    for place in 0..budget {
+    for step in 0..budget {
         if count_value(count, script, machine.bus()) == value as usize {
-            return Ok(Some(place));
+            return Ok(Some(step));
         }
-        if step(&mut machine).is_some() {
+        if execute_step(&mut machine).is_some() {
             return Ok(None);
         }
     }

@@ -8,7 +8,7 @@ ghost use Rattle.rv_history.specs.Stops.{halts_at};
 
 use crate::bounds::Bounds;
 use crate::checkpoints::Checkpoints;
-use crate::found::MoveResult;
+use crate::outcome::MoveResult;
 use crate::interrupt::Interrupt;
 use crate::machine_at::MachineAt;
 use crate::slices::{is_at_least_a_slice, is_slice_end};
@@ -31,29 +31,29 @@ pub(crate) struct ForwardMove {
 #[derive(Drop)]
 pub(crate) struct MoveEnd {
     pub at: MachineAt,
-    pub found: MoveResult,
+    pub outcome: MoveResult,
 }
 
 impl ForwardMove {
     /// Returns the end of the move at its current step, with this result.
-    pub(crate) fn arrived(self, found: MoveResult) -> MoveEnd
-        ensures { result ≡ record { at = self.at; found = found } }
+    pub(crate) fn arrived(self, outcome: MoveResult) -> MoveEnd
+        ensures { result ≡ record { at = self.at; outcome = outcome } }
     {
-        MoveEnd { at: self.at, found }
+        MoveEnd { at: self.at, outcome }
     }
 
     /// Whether the move must stop at its current step: it is after its first step, and at a breakpoint or outside of the bounds.
     pub(crate) fn is_stopped(&self, stops: &Stops) -> bool
-        ensures { result ≡ (nat_lt self.now.from self.now.at.place
+        ensures { result ≡ (nat_lt self.now.from self.now.at.step
             && halts_at stops.now self.now.bounds (state_of self.now.at.machine).pc) }
     {
-        self.from < self.at.place && halts_at(stops, self.bounds, self.at.machine.pc())
+        self.from < self.at.step && halts_at(stops, self.bounds, self.at.machine.pc())
     }
 
     /// Returns the result of a move that has used up the budget: that it is at a breakpoint or outside of the bounds, or else the end of
     /// the run.
     pub(crate) fn result_at_budget(&self, stops: &Stops) -> MoveResult
-        ensures { result ≡ result_at_budget (nat_lt self.now.from self.now.at.place
+        ensures { result ≡ result_at_budget (nat_lt self.now.from self.now.at.step
             && halts_at stops.now self.now.bounds (state_of self.now.at.machine).pc) }
     {
         if self.is_stopped(stops) {
@@ -68,19 +68,19 @@ impl ForwardMove {
     pub(crate) fn store_and_poll<I: Interrupt>(
         &self,
         alloc: Global,
-        track: &mut Checkpoints,
+        checkpoints: &mut Checkpoints,
         interrupt: &mut I,
     ) -> Result<bool, AllocError>
-        requires there { IsAt track.old self.now.at }
-        requires order { self.now.from ≤ self.now.at.place }
+        requires there { IsAt checkpoints.old self.now.at }
+        requires order { self.now.from ≤ self.now.at.step }
         ensures raised { IfOk result (λ broken. IsTrue broken → I.was_raised interrupt.new ≡ true) }
-        ensures same { track.new ≡ track.old }
+        ensures same { checkpoints.new ≡ checkpoints.old }
     {
-        if !is_slice_end(self.at.place) {
+        if !is_slice_end(self.at.step) {
             return Ok(false);
         }
-        track.store_if_multiple(alloc, &self.at)?;
-        Ok(is_at_least_a_slice(self.at.place - self.from) && interrupt.is_raised())
+        checkpoints.store_if_multiple(alloc, &self.at)?;
+        Ok(is_at_least_a_slice(self.at.step - self.from) && interrupt.is_raised())
     }
 }
 

@@ -8,7 +8,7 @@ use crate::bounds::Bounds;
 use crate::checkpoints::Checkpoints;
 use crate::counts::{Count, first_step_with};
 use crate::forward_move::ForwardMove;
-use crate::found::{MoveResult, SearchEnd};
+use crate::outcome::{MoveResult, SearchEnd};
 use crate::interrupt::Interrupt;
 use crate::machine_at::MachineAt;
 use crate::search::next_stop;
@@ -24,9 +24,9 @@ use std::marker::Model;
 /// which states of the run are stored, except for where an interrupt ends a move.
 #[derive(Drop)]
 pub struct History {
-    track: Checkpoints,
+    checkpoints: Checkpoints,
     budget: u32,
-    place: u32,
+    step: u32,
     machine: Machine,
 }
 
@@ -41,9 +41,9 @@ impl Model for History {
 
     ghost coded = { position_code };
 
-    ghost view = { λ h. record { start = h.track; budget = h.budget; place = h.place } };
+    ghost view = { λ h. record { start = h.checkpoints; budget = h.budget; step = h.step } };
 
-    ghost invariant = { λ h. IsReached h.track h.place (state_of h.machine) × (h.place ≤ h.budget) };
+    ghost invariant = { λ h. IsReached h.checkpoints h.step (state_of h.machine) × (h.step ≤ h.budget) };
 }
 
 impl History {
@@ -55,13 +55,13 @@ impl History {
 
     /// Returns a history that is at the start of its run.
     pub fn new(alloc: Global, start: Start, budget: u32) -> Result<History, AllocError>
-        ensures { IfOk result (λ history. history ≡ record { start = start_of start; budget = budget; place = 0 }) }
+        ensures { IfOk result (λ history. history ≡ record { start = start_of start; budget = budget; step = 0 }) }
     {
         let machine = start.machine(alloc)?;
         Ok(History {
-            track: Checkpoints::new(alloc, start),
+            checkpoints: Checkpoints::new(alloc, start),
             budget,
-            place: 0,
+            step: 0,
             machine,
         })
     }
@@ -71,20 +71,20 @@ impl History {
     pub fn limit_memory(&mut self, alloc: Global, megabytes: u32)
         ensures { self.new ≡ self.old }
     {
-        self.track.limit_memory(alloc, megabytes);
+        self.checkpoints.limit_memory(alloc, megabytes);
     }
 
     /// Returns the current step, which is the number of completed steps.
-    pub fn place(&self) -> u32
-        ensures value { result ≡ self.now.place }
+    pub fn current_step(&self) -> u32
+        ensures value { result ≡ self.now.step }
         ensures within { result ≤ last_step self.now.budget self.now.start }
     {
-        self.place
+        self.step
     }
 
     /// Returns the machine in the state of the current step.
     pub fn machine(&self) -> &Machine
-        ensures { state_of result.now ≡ state_after self.now.place self.now.start }
+        ensures { state_of result.now ≡ state_after self.now.step self.now.start }
     {
         &self.machine
     }
@@ -98,35 +98,35 @@ impl History {
         bounds: Bounds,
         interrupt: &mut I,
     ) -> Result<MoveResult, AllocError>
-        ensures stop { IfOk result (IsNextStop stops.now bounds self.old.budget self.old.start self.old.place self.new.place) }
-        ensures broken_off { IfOk result (λ found. found ≡ MoveResult.Interrupted → I.was_raised interrupt.new ≡ true) }
-        ensures run { self.new ≡ record self.old { place = self.new.place } }
+        ensures stop { IfOk result (IsNextStop stops.now bounds self.old.budget self.old.start self.old.step self.new.step) }
+        ensures interrupted { IfOk result (λ outcome. outcome ≡ MoveResult.Interrupted → I.was_raised interrupt.new ≡ true) }
+        ensures run { self.new ≡ record self.old { step = self.new.step } }
         ensures same { OnErr result (self.new ≡ self.old) }
     {
         let machine = self.machine.try_clone(alloc)?;
-        let leg = ForwardMove {
-            from: self.place,
+        let forward_move = ForwardMove {
+            from: self.step,
             budget: self.budget,
             bounds,
             at: MachineAt {
-                place: self.place,
+                step: self.step,
                 machine,
             },
         };
-        let arrived = next_stop(alloc, &mut self.track, leg, stops, interrupt)?;
-        self.place = arrived.at.place;
+        let arrived = next_stop(alloc, &mut self.checkpoints, forward_move, stops, interrupt)?;
+        self.step = arrived.at.step;
         self.machine = arrived.at.machine;
-        Ok(arrived.found)
+        Ok(arrived.outcome)
     }
 
     /// Moves one step forwards, and returns why the move ended. Does not move at the end of the run, or if the step would trigger a
     /// watchpoint.
-    pub fn step(&mut self, alloc: Global, stops: &Stops) -> Result<MoveResult, AllocError>
-        ensures step { IfOk result (IsNextStep stops.now self.old.budget self.old.start self.old.place self.new.place) }
-        ensures run { self.new ≡ record self.old { place = self.new.place } }
+    pub fn step_forward(&mut self, alloc: Global, stops: &Stops) -> Result<MoveResult, AllocError>
+        ensures step { IfOk result (IsNextStep stops.now self.old.budget self.old.start self.old.step self.new.step) }
+        ensures run { self.new ≡ record self.old { step = self.new.step } }
         ensures same { OnErr result (self.new ≡ self.old) }
     {
-        if self.place == self.budget {
+        if self.step == self.budget {
             return Ok(MoveResult::End(Ending::Budget));
         }
         let mut machine = self.machine.try_clone(alloc)?;
@@ -135,7 +135,7 @@ impl History {
             StepResult::WatchTriggered => Ok(MoveResult::WatchTriggered),
             StepResult::NotTriggered => {
                 self.machine = machine;
-                self.place += 1;
+                self.step += 1;
                 Ok(MoveResult::Done)
             }
         }
@@ -149,23 +149,23 @@ impl History {
         stops: &Stops,
         interrupt: &mut I,
     ) -> Result<MoveResult, AllocError>
-        ensures stop { IfOk result (IsStopBefore stops.now self.old.budget self.old.start self.old.place self.new.place) }
-        ensures broken_off { IfOk result (λ found. found ≡ MoveResult.Interrupted → I.was_raised interrupt.new ≡ true) }
-        ensures run { self.new ≡ record self.old { place = self.new.place } }
+        ensures stop { IfOk result (IsStopBefore stops.now self.old.budget self.old.start self.old.step self.new.step) }
+        ensures interrupted { IfOk result (λ outcome. outcome ≡ MoveResult.Interrupted → I.was_raised interrupt.new ≡ true) }
+        ensures run { self.new ≡ record self.old { step = self.new.step } }
         ensures same { OnErr result (self.new ≡ self.old) }
     {
         if stops.is_empty() {
             let begin = SearchEnd {
-                place: 0,
-                found: MoveResult::RunStart,
+                step: 0,
+                outcome: MoveResult::RunStart,
             };
             return self.finish_search(alloc, begin);
         }
         // From now on there are stored states near the current step, and the parts of the search are short.
-        let _ = self.track.reach(alloc, self.place)?;
-        let arrival = stop_before(alloc, &self.track, self.place, stops, interrupt)?;
-        if let MoveResult::Interrupted = arrival.found {
-            return Ok(arrival.found);
+        let _ = self.checkpoints.reach(alloc, self.step)?;
+        let arrival = stop_before(alloc, &self.checkpoints, self.step, stops, interrupt)?;
+        if let MoveResult::Interrupted = arrival.outcome {
+            return Ok(arrival.outcome);
         }
         self.finish_search(alloc, arrival)
     }
@@ -173,31 +173,31 @@ impl History {
     /// Moves one step back, and returns why the move ended. Does not move at the start of the run, or after a step that triggers a
     /// watchpoint.
     pub fn step_back(&mut self, alloc: Global, stops: &Stops) -> Result<MoveResult, AllocError>
-        ensures step { IfOk result (IsStepBefore stops.now self.old.budget self.old.start self.old.place self.new.place) }
-        ensures run { self.new ≡ record self.old { place = self.new.place } }
+        ensures step { IfOk result (IsStepBefore stops.now self.old.budget self.old.start self.old.step self.new.step) }
+        ensures run { self.new ≡ record self.old { step = self.new.step } }
         ensures same { OnErr result (self.new ≡ self.old) }
     {
-        let arrival = step_before(alloc, &self.track, self.place, stops)?;
+        let arrival = step_before(alloc, &self.checkpoints, self.step, stops)?;
         self.finish_search(alloc, arrival)
     }
 
-    /// Moves to the step `place` if the run reaches it, and returns whether it does.
-    pub fn seek(&mut self, alloc: Global, place: u32) -> Result<bool, AllocError>
+    /// Moves to the step `step` if the run reaches it, and returns whether it does.
+    pub fn seek(&mut self, alloc: Global, step: u32) -> Result<bool, AllocError>
         ensures granted { IfOk result
-            (λ granted. IsTrue granted ↔ (place ≤ last_step self.old.budget self.old.start)) }
+            (λ granted. IsTrue granted ↔ (step ≤ last_step self.old.budget self.old.start)) }
         ensures moved { IfOk result
-            (λ granted. self.new ≡ (if granted then record self.old { place = place } else self.old)) }
+            (λ granted. self.new ≡ (if granted then record self.old { step = step } else self.old)) }
         ensures same { OnErr result (self.new ≡ self.old) }
     {
-        if place > self.budget {
+        if step > self.budget {
             return Ok(false);
         }
-        let (at, _) = self.track.reach(alloc, place)?;
-        if at.place < place {
+        let (at, _) = self.checkpoints.reach(alloc, step)?;
+        if at.step < step {
             return Ok(false);
         }
         self.machine = at.machine;
-        self.place = place;
+        self.step = step;
         Ok(true)
     }
 
@@ -209,15 +209,15 @@ impl History {
         value: u32,
     ) -> Result<bool, AllocError>
         ensures granted { IfOk result (λ granted. MatchBool granted
-            (IsFirstStepWith count value self.old.budget self.old.start self.new.place)
+            (IsFirstStepWith count value self.old.budget self.old.start self.new.step)
             (IsFirstStepIfAny count value self.old.budget self.old.start None × (self.new ≡ self.old))) }
-        ensures run { self.new ≡ record self.old { place = self.new.place } }
+        ensures run { self.new ≡ record self.old { step = self.new.step } }
         ensures same { OnErr result (self.new ≡ self.old) }
     {
-        match first_step_with(alloc, self.track.start(), self.budget, count, value)? {
-            Some(place) => {
-                let found = MoveResult::Done;
-                let _ = self.finish_search(alloc, SearchEnd { place, found })?;
+        match first_step_with(alloc, self.checkpoints.start(), self.budget, count, value)? {
+            Some(step) => {
+                let outcome = MoveResult::Done;
+                let _ = self.finish_search(alloc, SearchEnd { step, outcome })?;
                 Ok(true)
             }
             None => Ok(false),
@@ -231,12 +231,12 @@ impl History {
         alloc: Global,
         stops: &Stops,
     ) -> Result<Option<WatchHit>, AllocError>
-        ensures { self.now.place < last_step self.now.budget self.now.start → IfOk result
-            (λ found. found ≡ first_triggered stops.now (state_after self.now.place self.now.start)
-            (state_after (self.now.place + 1) self.now.start)) }
+        ensures { self.now.step < last_step self.now.budget self.now.start → IfOk result
+            (λ outcome. outcome ≡ first_triggered stops.now (state_after self.now.step self.now.start)
+            (state_after (self.now.step + 1) self.now.start)) }
     {
-        let steps = self.budget.min(self.place.saturating_add(1));
-        let ahead = self.track.machine_after(alloc, steps)?;
+        let steps = self.budget.min(self.step.saturating_add(1));
+        let ahead = self.checkpoints.machine_after(alloc, steps)?;
         stops.first_triggered(alloc, &self.machine, &ahead)
     }
 
@@ -247,25 +247,25 @@ impl History {
         stops: &Stops,
     ) -> Result<Option<WatchHit>, AllocError>
         ensures { IfOk result
-            (λ found. found ≡ first_triggered stops.now (state_after (self.now.place - 1) self.now.start)
-            (state_after self.now.place self.now.start)) }
+            (λ outcome. outcome ≡ first_triggered stops.now (state_after (self.now.step - 1) self.now.start)
+            (state_after self.now.step self.now.start)) }
     {
         let behind = self
-            .track
-            .machine_after(alloc, self.place.saturating_sub(1))?;
+            .checkpoints
+            .machine_after(alloc, self.step.saturating_sub(1))?;
         stops.first_triggered(alloc, &behind, &self.machine)
     }
 
     // Moves to the step where a search ended, and returns the result of the search.
     fn finish_search(&mut self, alloc: Global, arrival: SearchEnd) -> Result<MoveResult, AllocError>
-        requires { arrival.place ≤ last_step self.old.budget self.old.start }
-        ensures found { IfOk result (λ found. found ≡ arrival.found) }
-        ensures moved { IfOk result (λ found. self.new ≡ record self.old { place = arrival.place }) }
+        requires { arrival.step ≤ last_step self.old.budget self.old.start }
+        ensures outcome { IfOk result (λ outcome. outcome ≡ arrival.outcome) }
+        ensures moved { IfOk result (λ outcome. self.new ≡ record self.old { step = arrival.step }) }
         ensures same { OnErr result (self.new ≡ self.old) }
     {
-        let at = self.track.machine_at_step(alloc, arrival.place)?;
+        let at = self.checkpoints.machine_at_step(alloc, arrival.step)?;
         self.machine = at.machine;
-        self.place = arrival.place;
-        Ok(arrival.found)
+        self.step = arrival.step;
+        Ok(arrival.outcome)
     }
 }

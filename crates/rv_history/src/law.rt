@@ -6,7 +6,7 @@ ghost use Rattle.rv_history.specs.Moves.{IsNextStep, IsNextStop, IsStepBefore, I
 ghost use Rattle.rv_history.specs.Printing.{BeginsWith};
 ghost use Rattle.rv_history.specs.declared.bounds.Bounds.{Bounds};
 ghost use Rattle.rv_history.specs.declared.counts.Count.{Count};
-ghost use Rattle.rv_history.specs.declared.found.MoveResult.{MoveResult};
+ghost use Rattle.rv_history.specs.declared.outcome.MoveResult.{MoveResult};
 ghost use Rattle.rv_history.specs.declared.stops.Stops.{Stops};
 ghost use Rattle.rv_trace.specs.State.{State};
 ghost use Rattle.rv_trace.specs.Trace.{state_after};

@@ -12,7 +12,7 @@ mod checkpoint_list;
 mod checkpoints;
 mod counts;
 mod forward_move;
-mod found;
+mod outcome;
 mod history;
 mod interrupt;
 mod law;
@@ -27,7 +27,7 @@ mod watch_hits;
 
 pub use bounds::Bounds;
 pub use counts::Count;
-pub use found::MoveResult;
+pub use outcome::MoveResult;
 pub use history::History;
 pub use interrupt::Interrupt;
 pub use law::{console_only_grows, moves_are_determined};

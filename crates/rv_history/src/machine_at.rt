@@ -12,32 +12,32 @@ use std::alloc::{AllocError, Global};
 /// A machine, and how many steps of its run are completed.
 #[derive(Drop)]
 pub(crate) struct MachineAt {
-    pub place: u32,
+    pub step: u32,
     pub machine: Machine,
 }
 
 impl MachineAt {
     /// Returns a copy of the machine with its own memory, which does not change when the original runs.
     pub(crate) fn try_clone(&self, alloc: Global) -> Result<MachineAt, AllocError>
-        ensures place { IfOk result (λ at. at.place ≡ self.now.place) }
+        ensures step { IfOk result (λ at. at.step ≡ self.now.step) }
         ensures state { IfOk result (λ at. state_of at.machine ≡ state_of self.now.machine) }
     {
         let machine = self.machine.try_clone(alloc)?;
         Ok(MachineAt {
-            place: self.place,
+            step: self.step,
             machine,
         })
     }
 
-    /// Runs the machine to the step `place`, or to the end of the run if that comes first. Returns how this run ended.
-    pub(crate) fn run_to_step(&mut self, place: u32) -> Ending
-        requires { self.old.place ≤ place }
-        ensures ran { (start : State) → IsAt start self.old → run_of place start
-            ≡ record { ending = result; steps = self.new.place; state = state_of self.new.machine } }
-        ensures onward { self.old.place ≤ self.new.place }
+    /// Runs the machine to the step `step`, or to the end of the run if that comes first. Returns how this run ended.
+    pub(crate) fn run_to_step(&mut self, step: u32) -> Ending
+        requires { self.old.step ≤ step }
+        ensures ran { (start : State) → IsAt start self.old → run_of step start
+            ≡ record { ending = result; steps = self.new.step; state = state_of self.new.machine } }
+        ensures not_back { self.old.step ≤ self.new.step }
     {
-        let ran = self.machine.run(place - self.place);
-        self.place += ran.steps;
+        let ran = self.machine.run(step - self.step);
+        self.step += ran.steps;
         ran.ending
     }
 }

@@ -5,13 +5,13 @@ ghost use Rattle.rv_history.specs.StoredStates.{IsAt};
 ghost use Rattle.rv_history.specs.ForwardMoves.{IsArrival, IsMoveInProgress};
 ghost use Rattle.rv_history.specs.Stops.{AreEmpty};
 ghost use Rattle.rv_history.specs.declared.bounds.Bounds.TheVariants.{All as AllAddresses};
-ghost use Rattle.rv_history.specs.declared.found.MoveResult.TheVariants.{Interrupted};
+ghost use Rattle.rv_history.specs.declared.outcome.MoveResult.TheVariants.{Interrupted};
 ghost use Rattle.rv_history.specs.declared.stops.Stops.{Stops};
 
 use crate::breaks::next_breakpoint;
 use crate::checkpoints::Checkpoints;
 use crate::forward_move::{ForwardMove, MoveEnd};
-use crate::found::MoveResult;
+use crate::outcome::MoveResult;
 use crate::interrupt::Interrupt;
 use crate::slices::slice_end;
 use crate::stepping::{StepResult, step_with_watched_bytes};
@@ -22,96 +22,96 @@ use std::alloc::{AllocError, Global};
 /// Returns where a forward move ends, with the machine there and the result of the move. Stores states on the way.
 pub(crate) fn next_stop<I: Interrupt>(
     alloc: Global,
-    track: &mut Checkpoints,
-    leg: ForwardMove,
+    checkpoints: &mut Checkpoints,
+    forward_move: ForwardMove,
     stops: &Stops,
     interrupt: &mut I,
 ) -> Result<MoveEnd, AllocError>
-    requires { IsMoveInProgress stops.now track.old leg }
-    ensures stop { IfOk result (IsArrival stops.now track.old leg) }
-    ensures broken_off { IfOk result (λ arrived. arrived.found ≡ Interrupted → I.was_raised interrupt.new ≡ true) }
-    ensures same { track.new ≡ track.old }
+    requires { IsMoveInProgress stops.now checkpoints.old forward_move }
+    ensures stop { IfOk result (IsArrival stops.now checkpoints.old forward_move) }
+    ensures interrupted { IfOk result (λ arrived. arrived.outcome ≡ Interrupted → I.was_raised interrupt.new ≡ true) }
+    ensures same { checkpoints.new ≡ checkpoints.old }
 {
-    if !leg.bounds.is_unbounded() {
-        return next_stop_by_steps(alloc, track, leg, stops, interrupt);
+    if !forward_move.bounds.is_unbounded() {
+        return next_stop_by_steps(alloc, checkpoints, forward_move, stops, interrupt);
     }
     // Without stops to look for, the run goes at full speed.
     if stops.is_empty() {
-        return run_to_end(alloc, track, leg, interrupt);
+        return run_to_end(alloc, checkpoints, forward_move, interrupt);
     }
     if stops.have_no_watchpoints() {
-        return next_breakpoint(alloc, track, leg, stops, interrupt);
+        return next_breakpoint(alloc, checkpoints, forward_move, stops, interrupt);
     }
-    next_stop_by_steps(alloc, track, leg, stops, interrupt)
+    next_stop_by_steps(alloc, checkpoints, forward_move, stops, interrupt)
 }
 
 // Returns where a forward move ends, as [`next_stop`] does, but executes one step at a time.
 fn next_stop_by_steps<I: Interrupt>(
     alloc: Global,
-    track: &mut Checkpoints,
-    mut leg: ForwardMove,
+    checkpoints: &mut Checkpoints,
+    mut forward_move: ForwardMove,
     stops: &Stops,
     interrupt: &mut I,
 ) -> Result<MoveEnd, AllocError>
-    requires { IsMoveInProgress stops.now track.old leg }
-    ensures stop { IfOk result (IsArrival stops.now track.old leg) }
-    ensures broken_off { IfOk result (λ arrived. arrived.found ≡ Interrupted → I.was_raised interrupt.new ≡ true) }
-    ensures same { track.new ≡ track.old }
+    requires { IsMoveInProgress stops.now checkpoints.old forward_move }
+    ensures stop { IfOk result (IsArrival stops.now checkpoints.old forward_move) }
+    ensures interrupted { IfOk result (λ arrived. arrived.outcome ≡ Interrupted → I.was_raised interrupt.new ≡ true) }
+    ensures same { checkpoints.new ≡ checkpoints.old }
 {
-    let mut watched = stops.watched_bytes(alloc, leg.at.machine.bus())?;
-    'places: while leg.at.place < leg.budget {
-        if leg.is_stopped(stops) {
-            return Ok(leg.arrived(MoveResult::Breakpoint));
+    let mut watched = stops.watched_bytes(alloc, forward_move.at.machine.bus())?;
+    'places: while forward_move.at.step < forward_move.budget {
+        if forward_move.is_stopped(stops) {
+            return Ok(forward_move.arrived(MoveResult::Breakpoint));
         }
-        if leg.store_and_poll(alloc, track, interrupt)? {
-            return Ok(leg.arrived(MoveResult::Interrupted));
+        if forward_move.store_and_poll(alloc, checkpoints, interrupt)? {
+            return Ok(forward_move.arrived(MoveResult::Interrupted));
         }
-        match step_with_watched_bytes(alloc, &mut leg.at.machine, stops, &mut watched)? {
-            StepResult::Ended(ending) => return Ok(leg.arrived(MoveResult::End(ending))),
+        match step_with_watched_bytes(alloc, &mut forward_move.at.machine, stops, &mut watched)? {
+            StepResult::Ended(ending) => return Ok(forward_move.arrived(MoveResult::End(ending))),
             StepResult::WatchTriggered => {
                 // The machine is after the step, and the move before it.
-                let at = track.machine_at_step(alloc, leg.at.place)?;
-                let found = MoveResult::WatchTriggered;
-                return Ok(MoveEnd { at, found });
+                let at = checkpoints.machine_at_step(alloc, forward_move.at.step)?;
+                let outcome = MoveResult::WatchTriggered;
+                return Ok(MoveEnd { at, outcome });
             }
             StepResult::NotTriggered => {}
         }
-        leg.at.place += 1;
+        forward_move.at.step += 1;
     }
-    let found = leg.result_at_budget(stops);
-    Ok(leg.arrived(found))
+    let outcome = forward_move.result_at_budget(stops);
+    Ok(forward_move.arrived(outcome))
 }
 
 // Returns where a forward move ends, as [`next_stop`] does, if there are no breakpoints, watchpoints or bounds: at the end of the run,
 // unless it is interrupted.
 fn run_to_end<I: Interrupt>(
     alloc: Global,
-    track: &mut Checkpoints,
-    leg: ForwardMove,
+    checkpoints: &mut Checkpoints,
+    forward_move: ForwardMove,
     interrupt: &mut I,
 ) -> Result<MoveEnd, AllocError>
-    requires there { IsAt track.old leg.at }
-    requires order { leg.from ≤ leg.at.place }
-    requires within { leg.at.place ≤ leg.budget }
-    requires unbounded { leg.bounds ≡ AllAddresses }
-    ensures stop { IfOk result (λ arrived. (stops : Stops) → AreEmpty stops → IsArrival stops track.old leg arrived) }
-    ensures broken_off { IfOk result (λ arrived. arrived.found ≡ Interrupted → I.was_raised interrupt.new ≡ true) }
-    ensures same { track.new ≡ track.old }
+    requires there { IsAt checkpoints.old forward_move.at }
+    requires order { forward_move.from ≤ forward_move.at.step }
+    requires within { forward_move.at.step ≤ forward_move.budget }
+    requires unbounded { forward_move.bounds ≡ AllAddresses }
+    ensures stop { IfOk result (λ arrived. (stops : Stops) → AreEmpty stops → IsArrival stops checkpoints.old forward_move arrived) }
+    ensures interrupted { IfOk result (λ arrived. arrived.outcome ≡ Interrupted → I.was_raised interrupt.new ≡ true) }
+    ensures same { checkpoints.new ≡ checkpoints.old }
 {
-    let at = track.later_of(alloc, leg.at, leg.budget)?;
+    let at = checkpoints.later_of(alloc, forward_move.at, forward_move.budget)?;
     let mut way = ForwardMove {
-        from: leg.from,
-        budget: leg.budget,
-        bounds: leg.bounds,
+        from: forward_move.from,
+        budget: forward_move.budget,
+        bounds: forward_move.bounds,
         at,
     };
-    'places: while way.at.place < way.budget {
-        if way.store_and_poll(alloc, track, interrupt)? {
+    'places: while way.at.step < way.budget {
+        if way.store_and_poll(alloc, checkpoints, interrupt)? {
             return Ok(way.arrived(MoveResult::Interrupted));
         }
-        let end = slice_end(way.at.place, way.budget);
+        let end = slice_end(way.at.step, way.budget);
         let ending = way.at.run_to_step(end);
-        if way.at.place < end {
+        if way.at.step < end {
             return Ok(way.arrived(MoveResult::End(ending)));
         }
     }

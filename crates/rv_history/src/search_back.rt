@@ -4,11 +4,11 @@ ghost use Rattle.std.specs.Prelude.{◌≡◌, ◌≤◌, ◌<◌, ℕ, IfNone, 
 ghost use Rattle.rv_trace.specs.Run.{run_of};
 ghost use Rattle.rv_history.specs.LastStop.{IsSearchedPart, last_stop_after};
 ghost use Rattle.rv_history.specs.Moves.{IsStepBefore, IsStopBefore};
-ghost use Rattle.rv_history.specs.declared.found.MoveResult.TheVariants.{Interrupted};
+ghost use Rattle.rv_history.specs.declared.outcome.MoveResult.TheVariants.{Interrupted};
 
 use crate::breaks::search_breakpoints;
 use crate::checkpoints::Checkpoints;
-use crate::found::{MoveResult, SearchEnd};
+use crate::outcome::{MoveResult, SearchEnd};
 use crate::interrupt::Interrupt;
 use crate::slices::{is_at_least_a_slice, is_slice_end};
 use crate::stepping::{StepResult, step_watched, step_with_watched_bytes};
@@ -28,27 +28,27 @@ pub(crate) struct SearchedPart {
 /// for an interrupt after each part of the search, once it has searched at least a slice.
 pub(crate) fn stop_before<I: Interrupt>(
     alloc: Global,
-    track: &Checkpoints,
+    checkpoints: &Checkpoints,
     from: u32,
     stops: &Stops,
     interrupt: &mut I,
 ) -> Result<SearchEnd, AllocError>
-    requires { (run_of from track.now).steps ≡ from }
+    requires { (run_of from checkpoints.now).steps ≡ from }
     ensures stop { IfOk result (λ arrival. (budget : ℕ) → from ≤ budget
-        → IsStopBefore stops.now budget track.now from arrival.place arrival.found) }
-    ensures broken_off { IfOk result (λ arrival. arrival.found ≡ Interrupted → I.was_raised interrupt.new ≡ true) }
+        → IsStopBefore stops.now budget checkpoints.now from arrival.step arrival.outcome) }
+    ensures interrupted { IfOk result (λ arrival. arrival.outcome ≡ Interrupted → I.was_raised interrupt.new ≡ true) }
 {
-    let broken_off = SearchEnd {
-        place: from,
-        found: MoveResult::Interrupted,
+    let interrupted = SearchEnd {
+        step: from,
+        outcome: MoveResult::Interrupted,
     };
     let mut end = from;
     while 0 < end {
         if is_at_least_a_slice(from - end) && interrupt.is_raised() {
-            return Ok(broken_off);
+            return Ok(interrupted);
         }
-        let Some(part) = search_part(alloc, track, end, stops, interrupt)? else {
-            return Ok(broken_off);
+        let Some(part) = search_part(alloc, checkpoints, end, stops, interrupt)? else {
+            return Ok(interrupted);
         };
         if let Some(last) = part.last {
             return Ok(last);
@@ -56,8 +56,8 @@ pub(crate) fn stop_before<I: Interrupt>(
         end = part.begin;
     }
     Ok(SearchEnd {
-        place: 0,
-        found: MoveResult::RunStart,
+        step: 0,
+        outcome: MoveResult::RunStart,
     })
 }
 
@@ -65,55 +65,55 @@ pub(crate) fn stop_before<I: Interrupt>(
 // the search.
 fn search_part<I: Interrupt>(
     alloc: Global,
-    track: &Checkpoints,
+    checkpoints: &Checkpoints,
     end: u32,
     stops: &Stops,
     interrupt: &mut I,
 ) -> Result<Option<SearchedPart>, AllocError>
     requires some { 0 < end }
-    requires comes { (run_of end track.now).steps ≡ end }
-    ensures part { IfOk result (λ searched. IfSome searched (IsSearchedPart stops.now track.now end)) }
-    ensures broken_off { IfOk result (λ searched. IfNone searched (I.was_raised interrupt.new ≡ true)) }
+    requires comes { (run_of end checkpoints.now).steps ≡ end }
+    ensures part { IfOk result (λ searched. IfSome searched (IsSearchedPart stops.now checkpoints.now end)) }
+    ensures interrupted { IfOk result (λ searched. IfNone searched (I.was_raised interrupt.new ≡ true)) }
 {
     if stops.have_no_watchpoints() {
-        return search_breakpoints(alloc, track, end, stops, interrupt);
+        return search_breakpoints(alloc, checkpoints, end, stops, interrupt);
     }
-    let mut at = track.before(alloc, end - 1)?;
-    let begin = at.place;
+    let mut at = checkpoints.before(alloc, end - 1)?;
+    let begin = at.step;
     let mut watched = stops.watched_bytes(alloc, at.machine.bus())?;
     let mut last = None;
-    for place in begin..end {
-        if is_slice_end(place) && is_at_least_a_slice(place - begin) && interrupt.is_raised() {
+    for step in begin..end {
+        if is_slice_end(step) && is_at_least_a_slice(step - begin) && interrupt.is_raised() {
             return Ok(None);
         }
         let is_break = stops.has_break(at.machine.pc());
         let stepped = step_with_watched_bytes(alloc, &mut at.machine, stops, &mut watched)?;
-        last = last_stop_after(last, place, is_break, stepped);
+        last = last_stop_after(last, step, is_break, stepped);
     }
     Ok(Some(SearchedPart { begin, last }))
 }
 
-/// Returns the last stop after the search has passed the step `place`, or `None` if it has found none. `last` is the last stop before,
-/// `is_break` is whether there is a breakpoint at `place`, and `stepped` is the result of the step from there.
+/// Returns the last stop after the search has passed the step `step`, or `None` if it has found none. `last` is the last stop before,
+/// `is_break` is whether there is a breakpoint at `step`, and `stepped` is the result of the step from there.
 pub(crate) fn last_stop_after(
     last: Option<SearchEnd>,
-    place: u32,
+    step: u32,
     is_break: bool,
     stepped: StepResult,
 ) -> Option<SearchEnd>
-    requires { place < 0xFFFF_FFFF }
-    ensures { result ≡ last_stop_after last place is_break stepped }
+    requires { step < 0xFFFF_FFFF }
+    ensures { result ≡ last_stop_after last step is_break stepped }
 {
     match stepped {
         StepResult::WatchTriggered => Some(SearchEnd {
-            place: place + 1,
-            found: MoveResult::WatchTriggered,
+            step: step + 1,
+            outcome: MoveResult::WatchTriggered,
         }),
         StepResult::NotTriggered | StepResult::Ended(_) => {
             if is_break {
                 Some(SearchEnd {
-                    place,
-                    found: MoveResult::Breakpoint,
+                    step,
+                    outcome: MoveResult::Breakpoint,
                 })
             } else {
                 last
@@ -125,33 +125,33 @@ pub(crate) fn last_stop_after(
 /// Returns where a single step back from the step `from` ends, and its result, for any budget within which the run reaches this step.
 pub(crate) fn step_before(
     alloc: Global,
-    track: &Checkpoints,
+    checkpoints: &Checkpoints,
     from: u32,
     stops: &Stops,
 ) -> Result<SearchEnd, AllocError>
-    requires { (run_of from track.now).steps ≡ from }
+    requires { (run_of from checkpoints.now).steps ≡ from }
     ensures { IfOk result (λ arrival. (budget : ℕ) → from ≤ budget
-        → IsStepBefore stops.now budget track.now from arrival.place arrival.found) }
+        → IsStepBefore stops.now budget checkpoints.now from arrival.step arrival.outcome) }
 {
     if from == 0 {
         return Ok(SearchEnd {
-            place: 0,
-            found: MoveResult::RunStart,
+            step: 0,
+            outcome: MoveResult::RunStart,
         });
     }
     let before = from - 1;
     let done = SearchEnd {
-        place: before,
-        found: MoveResult::Done,
+        step: before,
+        outcome: MoveResult::Done,
     };
     if stops.have_no_watchpoints() {
         return Ok(done);
     }
-    let mut machine = track.machine_after(alloc, before)?;
+    let mut machine = checkpoints.machine_after(alloc, before)?;
     match step_watched(alloc, &mut machine, stops)? {
         StepResult::WatchTriggered => Ok(SearchEnd {
-            place: from,
-            found: MoveResult::WatchTriggered,
+            step: from,
+            outcome: MoveResult::WatchTriggered,
         }),
         StepResult::NotTriggered | StepResult::Ended(_) => Ok(done),
     }

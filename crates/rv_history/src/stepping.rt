@@ -43,10 +43,10 @@ pub(crate) fn step_with_watched_bytes(
 ) -> Result<StepResult, AllocError>
     requires { watched.old.items ≡ watched_bytes stops.now (state_of machine.old).bus }
     ensures step { IfOk result (IsStepped stops.now (state_of machine.old) (state_of machine.new)) }
-    ensures known { OnOk result (watched.new.items ≡ watched_bytes stops.now (state_of machine.new).bus) }
+    ensures same_bytes { OnOk result (watched.new.items ≡ watched_bytes stops.now (state_of machine.new).bus) }
 {
     let is_touched = stops.access_hit(machine).is_some();
-    if let Some(ending) = step(machine) {
+    if let Some(ending) = execute_step(machine) {
         return Ok(StepResult::Ended(ending));
     }
     if !stops.have_bytes(machine.bus(), watched.as_slice()) {
@@ -61,7 +61,7 @@ pub(crate) fn step_with_watched_bytes(
 
 /// Executes one step of a machine. Returns `None` if it completes, and otherwise the end of the run, with the machine unchanged. This is a
 /// run of one step, since a second caller of the machine's loop would slow down every run of the program.
-pub(crate) fn step(machine: &mut Machine) -> Option<Ending>
+pub(crate) fn execute_step(machine: &mut Machine) -> Option<Ending>
     ensures { MatchOption result (step_of (state_of machine.old) ≡ Ok (state_of machine.new))
         (λ e. (step_of (state_of machine.old) ≡ Err e) × (state_of machine.new ≡ state_of machine.old)) }
 {

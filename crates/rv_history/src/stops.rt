@@ -67,7 +67,7 @@ impl Stops {
     /// Invalidates the cached instructions at breakpoints, so that a run from the decode cache stops there.
     pub(crate) fn invalidate_breakpoints(&self, machine: &mut Machine)
         ensures state { state_of machine.new ≡ state_of machine.old }
-        ensures asleep { (pc : ℕ) → is_break self.now pc ≡ true → IsCached machine.new.kept pc → ⊥ }
+        ensures invalidated { (pc : ℕ) → is_break self.now pc ≡ true → IsCached machine.new.kept pc → ⊥ }
     {
         for address in self.breaks.as_slice() {
             machine.invalidate(*address);
@@ -116,7 +116,7 @@ impl Stops {
         one: &Bus,
         other: &Bus,
     ) -> Result<Option<u32>, AllocError>
-        ensures { IfOk result (λ found. found ≡ first_differing self.now.watches one.now other.now) }
+        ensures { IfOk result (λ outcome. outcome ≡ first_differing self.now.watches one.now other.now) }
     {
         for watch in self.watches.as_slice() {
             let mut here = Vec::new(alloc);

@@ -37,7 +37,7 @@ impl Stops {
         one: &Machine,
         other: &Machine,
     ) -> Result<Option<WatchHit>, AllocError>
-        ensures { IfOk result (λ found. found ≡ first_triggered self.now (state_of one.now) (state_of other.now)) }
+        ensures { IfOk result (λ outcome. outcome ≡ first_triggered self.now (state_of one.now) (state_of other.now)) }
     {
         match self.differing_watch(alloc, one.bus(), other.bus())? {
             Some(address) => Ok(Some(WatchHit::Change(address))),

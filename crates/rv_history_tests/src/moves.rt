@@ -82,7 +82,7 @@ pub fn history_of(alloc: Global, code: &str, budget: u32) -> Result<History, Fai
     let mut bus = Bus::new(alloc, map, Vec::new(alloc), Misaligned::Fault)?;
     let code = numbers(alloc, code)?;
     if code.len() > 0x100 || !bus.map().in_one(0x8000_0000, code.len() as u32) {
-        return Err("a place".into());
+        return Err("a step".into());
     }
     bus.place(0x8000_0000, &code);
     let start = Start {
@@ -166,7 +166,7 @@ fn registers_are_of_the_place(rt: HostRuntime) -> Result<(), Fail> {
     let mut history = history_of(alloc, CODE, 100)?;
     for (place, x6) in [(2, 0), (3, 3), (5, 2), (13, 0), (8, 1)] {
         assert!(rt; history.seek(alloc, place)?);
-        assert_eq!(rt; history.machine().reg(6), x6, "at {place}");
+        assert_eq!(rt; history.machine().reg(6), x6, "at {step}");
     }
     Ok(())
 }

@@ -18,8 +18,8 @@ faults_after_read kept n = if is_unreadable kept then one_more n else n
 
 -- the result of reading a path agrees with the contents of the files, if these are known
 abbrev pub AgreesWithContents : Option FileContents → List ℕ → Kept → Type 0
-AgreesWithContents known path (Content bytes) =
-    (length bytes ≤ max_file_size) × IfSome known (λ files. files path ≡ Some bytes)
-AgreesWithContents known path TooLong =
-    IfSome known (λ files. IsSomeAnd (files path) (λ bytes. max_file_size < length bytes))
-AgreesWithContents known path Unreadable = Unit {0}
+AgreesWithContents contents path (Content bytes) =
+    (length bytes ≤ max_file_size) × IfSome contents (λ files. files path ≡ Some bytes)
+AgreesWithContents contents path TooLong =
+    IfSome contents (λ files. IsSomeAnd (files path) (λ bytes. max_file_size < length bytes))
+AgreesWithContents contents path Unreadable = Unit {0}

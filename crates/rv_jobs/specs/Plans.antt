@@ -16,7 +16,7 @@ use Rattle.rv_lists.specs.Counts.{one_more}
 
 -- the paths of these results, in order
 abbrev pub paths_of : List PathResult → List (List ℕ)
-paths_of answers = map (λ (a : PathResult). a.path) answers
+paths_of results = map (λ (a : PathResult). a.path) results
 
 -- the results, each with its path, in order
 abbrev pub results_with : List (List ℕ) → List Kept → List PathResult
@@ -46,12 +46,12 @@ paths_used jobs = fold with_job_paths [] jobs
 
 -- the result for a path, or `None` if the path was not read
 abbrev pub result_of_path : List PathResult → List ℕ → Option Kept
-result_of_path answers path =
-    option_map (λ (a : PathResult). a.kept) (find (λ (a : PathResult). bytes_eq path a.path) answers)
+result_of_path results path =
+    option_map (λ (a : PathResult). a.kept) (find (λ (a : PathResult). bytes_eq path a.path) results)
 
 -- the result for a path; a path that was not read counts as unreadable
 abbrev pub result_or_unreadable : List PathResult → List ℕ → Kept
-result_or_unreadable answers path = unwrap_or (result_of_path answers path) Unreadable
+result_or_unreadable results path = unwrap_or (result_of_path results path) Unreadable
 
 -- the job that `same_as` of a job names, as a list, which is empty if there is no `same_as`; the argument is its index
 abbrev pub same_as_jobs : List Job → Option ℕ → List Job
@@ -68,19 +68,19 @@ abbrev pub jobs_needed_for : List Job → List ℕ → List Job
 jobs_needed_for jobs places = flat_map (jobs_needed_at jobs) places
 
 -- each path of the job has a result
-pub record HasResults (answers : List PathResult) (job : Job) : Type 0 where
-  pub image : IsTrue (is_some (result_of_path answers job.image))
-  pub reference : IfSome job.expect_signature (λ path. IsTrue (is_some (result_of_path answers path)))
+pub record HasResults (results : List PathResult) (job : Job) : Type 0 where
+  pub image : IsTrue (is_some (result_of_path results job.image))
+  pub reference : IfSome job.expect_signature (λ path. IsTrue (is_some (result_of_path results path)))
   pub console :
-      IfSome (console_path job.expect_console) (λ path. IsTrue (is_some (result_of_path answers path)))
+      IfSome (console_path job.expect_console) (λ path. IsTrue (is_some (result_of_path results path)))
 
 -- each result agrees with the contents of the files, if these are known
 abbrev pub AgreeWithContents : Option FileContents → List PathResult → Type 0
-AgreeWithContents known answers = All (λ (a : PathResult). AgreesWithContents known a.path a.kept) answers
+AgreeWithContents contents results = All (λ (a : PathResult). AgreesWithContents contents a.path a.kept) results
 
 -- the number of unreadable paths among these results
 abbrev pub unreadable_count : List PathResult → ℕ
-unreadable_count answers = count_by (λ (a : PathResult). is_unreadable a.kept) answers
+unreadable_count results = count_by (λ (a : PathResult). is_unreadable a.kept) results
 
 -- the count `n` after `k` increments by `one_more`, which stops at a maximum
 unfoldable pub after_increments : ℕ → ℕ → ℕ

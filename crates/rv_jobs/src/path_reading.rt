@@ -51,23 +51,23 @@ impl<'a> PathResults<'a> {
         store: &mut S,
         jobs: &'a [Job],
         place: usize,
-        noted: &mut Vec<Option<ResultIndices>>,
+        recorded: &mut Vec<Option<ResultIndices>>,
     ) -> Result<PathResults<'a>, AllocError>
         requires jobs { AreValidJobs jobs.now }
         requires place { place < length jobs.now }
-        requires noted { AreRecorded (paths_of self) jobs.now noted.old.items }
+        requires noted { AreRecorded (paths_of self) jobs.now recorded.old.items }
         ensures same { S.contents store.new ≡ S.contents store.old }
         ensures paths { IfOk result (λ a. paths_of a
             ≡ fold with_job_paths (paths_of self.entry) (jobs_needed_at jobs.now place)) }
-        ensures noted { IfOk result (λ a. AreRecorded (paths_of a) jobs.now noted.new.items) }
+        ensures noted { IfOk result (λ a. AreRecorded (paths_of a) jobs.now recorded.new.items) }
         ensures kept { AgreeWithContents (S.contents store.old) self.entry
             → IfOk result (AgreeWithContents (S.contents store.old)) }
         ensures faults { (n : ℕ) → S.fault_count store.old ≡ after_increments n (unreadable_count self.entry)
             → IfOk result (λ a. S.fault_count store.new ≡ after_increments n (unreadable_count a)) }
     {
-        let own = self.read_paths_at_index(alloc, store, jobs, place, noted)?;
+        let own = self.read_paths_at_index(alloc, store, jobs, place, recorded)?;
         match jobs[place].same_as {
-            Some(other) => own.read_paths_at_index(alloc, store, jobs, other, noted),
+            Some(other) => own.read_paths_at_index(alloc, store, jobs, other, recorded),
             None => Ok(own),
         }
     }
@@ -79,24 +79,24 @@ impl<'a> PathResults<'a> {
         store: &mut S,
         jobs: &'a [Job],
         place: usize,
-        noted: &mut Vec<Option<ResultIndices>>,
+        recorded: &mut Vec<Option<ResultIndices>>,
     ) -> Result<PathResults<'a>, AllocError>
         requires place { place < length jobs.now }
-        requires noted { AreRecorded (paths_of self) jobs.now noted.old.items }
+        requires noted { AreRecorded (paths_of self) jobs.now recorded.old.items }
         ensures same { S.contents store.new ≡ S.contents store.old }
         ensures paths { IfOk result (λ a. paths_of a
             ≡ with_job_paths (paths_of self.entry) (slice_index_or jobs.now place (single_job [] 0 []))) }
-        ensures noted { IfOk result (λ a. AreRecorded (paths_of a) jobs.now noted.new.items) }
+        ensures noted { IfOk result (λ a. AreRecorded (paths_of a) jobs.now recorded.new.items) }
         ensures kept { AgreeWithContents (S.contents store.old) self.entry
             → IfOk result (AgreeWithContents (S.contents store.old)) }
         ensures faults { (n : ℕ) → S.fault_count store.old ≡ after_increments n (unreadable_count self.entry)
             → IfOk result (λ a. S.fault_count store.new ≡ after_increments n (unreadable_count a)) }
     {
-        if noted[place].is_some() {
+        if recorded[place].is_some() {
             return Ok(self);
         }
         let (asked, places) = read_paths_of_job(alloc, store, self, &jobs[place])?;
-        noted[place] = Some(places);
+        recorded[place] = Some(places);
         Ok(asked)
     }
 }
@@ -105,18 +105,18 @@ impl<'a> PathResults<'a> {
 fn read_paths_of_job<'a, S: Store>(
     alloc: Global,
     store: &mut S,
-    asked: PathResults<'a>,
+    results: PathResults<'a>,
     job: &'a Job,
 ) -> Result<(PathResults<'a>, ResultIndices), AllocError>
     ensures same { S.contents store.new ≡ S.contents store.old }
-    ensures paths { IfOk result (λ a. paths_of a.0 ≡ with_job_paths (paths_of asked.entry) job.now) }
+    ensures paths { IfOk result (λ a. paths_of a.0 ≡ with_job_paths (paths_of results.entry) job.now) }
     ensures places { IfOk result (λ a. AreResultIndices (paths_of a.0) job.now a.1) }
-    ensures kept { AgreeWithContents (S.contents store.old) asked.entry
+    ensures kept { AgreeWithContents (S.contents store.old) results.entry
         → IfOk result (λ a. AgreeWithContents (S.contents store.old) a.0) }
-    ensures faults { (n : ℕ) → S.fault_count store.old ≡ after_increments n (unreadable_count asked.entry)
+    ensures faults { (n : ℕ) → S.fault_count store.old ≡ after_increments n (unreadable_count results.entry)
         → IfOk result (λ a. S.fault_count store.new ≡ after_increments n (unreadable_count a.0)) }
 {
-    let (first, image) = asked.read_path_once(alloc, store, job.image.as_str())?;
+    let (first, image) = results.read_path_once(alloc, store, job.image.as_str())?;
     let (second, reference) = read_path_if_any(alloc, store, first, reference_path(job))?;
     let (third, console) = read_path_if_any(alloc, store, second, console_path(job))?;
     let places = ResultIndices {
@@ -151,25 +151,25 @@ pub(crate) fn console_path(job: &Job) -> Option<&str>
 fn read_path_if_any<'a, S: Store>(
     alloc: Global,
     store: &mut S,
-    asked: PathResults<'a>,
+    results: PathResults<'a>,
     path: Option<&'a str>,
 ) -> Result<(PathResults<'a>, Option<usize>), AllocError>
     ensures same { S.contents store.new ≡ S.contents store.old }
     ensures paths { IfOk result (λ a. paths_of a.0
-        ≡ with_path_if_any (paths_of asked.entry) (option_map (λ p. p.now) path.entry)) }
+        ≡ with_path_if_any (paths_of results.entry) (option_map (λ p. p.now) path.entry)) }
     ensures place { IfOk result (λ a. option_map (index_in (paths_of a.0))
         (option_map (λ p. p.now) path.entry) ≡ option_map (λ k. Some k) a.1) }
-    ensures kept { AgreeWithContents (S.contents store.old) asked.entry
+    ensures kept { AgreeWithContents (S.contents store.old) results.entry
         → IfOk result (λ a. AgreeWithContents (S.contents store.old) a.0) }
-    ensures faults { (n : ℕ) → S.fault_count store.old ≡ after_increments n (unreadable_count asked.entry)
+    ensures faults { (n : ℕ) → S.fault_count store.old ≡ after_increments n (unreadable_count results.entry)
         → IfOk result (λ a. S.fault_count store.new ≡ after_increments n (unreadable_count a.0)) }
 {
     match path {
         Some(path) => {
-            let (asked, place) = asked.read_path_once(alloc, store, path)?;
-            Ok((asked, Some(place)))
+            let (results, place) = results.read_path_once(alloc, store, path)?;
+            Ok((results, Some(place)))
         }
-        None => Ok((asked, None)),
+        None => Ok((results, None)),
     }
 }
 
@@ -177,47 +177,47 @@ fn read_path_if_any<'a, S: Store>(
 /// jobs have an index.
 pub(crate) fn result_indices(
     alloc: Global,
-    asked: &PathResults,
+    results: &PathResults,
     jobs: &[Job],
-    noted: &[Option<ResultIndices>],
+    recorded: &[Option<ResultIndices>],
 ) -> Result<Vec<Found>, AllocError>
-    requires { AreRecorded (paths_of asked.now) jobs.now noted.now }
-    ensures { IfOk result (λ found. ArePartialResultIndicesOfJobs (paths_of asked.now) jobs.now found.items) }
+    requires { AreRecorded (paths_of results.now) jobs.now recorded.now }
+    ensures { IfOk result (λ found. ArePartialResultIndicesOfJobs (paths_of results.now) jobs.now found.items) }
 {
     let mut found = Vec::with_capacity(alloc, jobs.len())?;
     for at in 0..jobs.len() {
-        found.push(result_indices_of_job(asked, &jobs[at], noted[at]))?;
+        found.push(result_indices_of_job(results, &jobs[at], recorded[at]))?;
     }
     Ok(found)
 }
 
-/// Returns the indices of the results for a job's paths. If `noted` does not have them, only paths that were read for other jobs have an
+/// Returns the indices of the results for a job's paths. If `recorded` does not have them, only paths that were read for other jobs have an
 /// index.
-fn result_indices_of_job(asked: &PathResults, job: &Job, noted: Option<ResultIndices>) -> Found
-    requires { IfSome noted (λ places. AreResultIndices (paths_of asked.now) job.now places) }
-    ensures { IsFound (paths_of asked.now) job.now result }
+fn result_indices_of_job(results: &PathResults, job: &Job, recorded: Option<ResultIndices>) -> Found
+    requires { IfSome recorded (λ places. AreResultIndices (paths_of results.now) job.now places) }
+    ensures { IsFound (paths_of results.now) job.now result }
 {
-    match noted {
+    match recorded {
         Some(places) => Found {
             image: Some(places.image),
             reference: places.reference,
             console: places.console,
         },
         None => Found {
-            image: asked.index_of_path(job.image.as_str()),
-            reference: index_of_path_if_any(asked, reference_path(job)),
-            console: index_of_path_if_any(asked, console_path(job)),
+            image: results.index_of_path(job.image.as_str()),
+            reference: index_of_path_if_any(results, reference_path(job)),
+            console: index_of_path_if_any(results, console_path(job)),
         },
     }
 }
 
 /// Returns the index of a path's result, or `None` if there is no path or it has no result.
-fn index_of_path_if_any(asked: &PathResults, path: Option<&str>) -> Option<usize>
-    ensures { result ≡ option_and_then (index_in (paths_of asked.now))
+fn index_of_path_if_any(results: &PathResults, path: Option<&str>) -> Option<usize>
+    ensures { result ≡ option_and_then (index_in (paths_of results.now))
         (option_map (λ p. p.now) path.entry) }
 {
     match path {
-        Some(path) => asked.index_of_path(path),
+        Some(path) => results.index_of_path(path),
         None => None,
     }
 }

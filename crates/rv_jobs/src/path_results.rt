@@ -41,11 +41,11 @@ impl<'a> Model for PathResults<'a> {
 }
 
 impl<'a> PathResults<'a> {
-    /// Returns an empty list of results, with room to look up `room` paths.
-    pub(crate) fn new(alloc: Global, room: usize) -> Result<PathResults<'a>, AllocError>
+    /// Returns an empty list of results, with room to look up `capacity` paths.
+    pub(crate) fn new(alloc: Global, capacity: usize) -> Result<PathResults<'a>, AllocError>
         ensures { IfOk result (λ answers. answers ≡ []) }
     {
-        let places = HashMap::with_capacity_and_hasher(alloc, room, BuildHasherDefault::new())?;
+        let places = HashMap::with_capacity_and_hasher(alloc, capacity, BuildHasherDefault::new())?;
         Ok(PathResults {
             answers: Vec::new(alloc),
             paths: Vec::new(alloc),

@@ -162,12 +162,12 @@ impl Plan {
     }
 
     // Returns the result at an index, or an unreadable result if there is no index.
-    fn result_or_unread(&self, at: Option<usize>) -> &Kept
-        requires { IfSome at (λ k. k < length self.now.answers) }
-        ensures { (path : List ℕ) → index_in (paths_of self.now.answers) path ≡ at
+    fn result_or_unread(&self, index: Option<usize>) -> &Kept
+        requires { IfSome index (λ k. k < length self.now.answers) }
+        ensures { (path : List ℕ) → index_in (paths_of self.now.answers) path ≡ index
             → result.now ≡ result_or_unreadable self.now.answers path }
     {
-        match at {
+        match index {
             Some(place) => &self.answers[place],
             None => &self.unread,
         }

@@ -72,11 +72,11 @@ impl<J: StreamSpec> Observer<ReportedRow> for FailureTexts<'_, J> {
     ghost stops = { λ _. ⊥ };
 
     // Keeps the text of a row that is a failure. If an allocation fails, drops all texts and keeps no more.
-    fn see(&mut self, made: &ReportedRow) -> Flow {
+    fn see(&mut self, output: &ReportedRow) -> Flow {
         if self.is_closed {
             return Flow::Continue;
         }
-        let text = self.text_if_kept(made);
+        let text = self.text_if_kept(output);
         if let Some(text) = &text {
             self.room = self.room.saturating_sub(text.len());
         }

@@ -45,10 +45,10 @@ abbrev pub IsKeyAndValue : List ℕ → Option Data → List ℕ → Type 0
 IsKeyAndValue key None told = told ≡ missing_key_text key
 IsKeyAndValue key (Some value) told = (shown : List ℕ) × IsShownValue value shown × (told ≡ key ++ codes " = " ++ shown)
 
--- `told` is the key with its value, or that it is missing, and then `wanted`, which is expected of the value
+-- `told` is the key with its value, or that it is missing, and then `expected`, which is expected of the value
 abbrev pub IsExpectedValue : List ℕ → Option Data → List ℕ → List ℕ → Type 0
-IsExpectedValue key value wanted told =
-    (met : List ℕ) × IsKeyAndValue key value met × (told ≡ met ++ (codes ": " ++ wanted))
+IsExpectedValue key value expected told =
+    (met : List ℕ) × IsKeyAndValue key value met × (told ≡ met ++ (codes ": " ++ expected))
 
 -- ---- errors of the whole list
 
@@ -105,10 +105,10 @@ abbrev pub nearest_job_text : List (Option (List ℕ)) → Option (List ℕ) →
 nearest_job_text names (Some name) = codes "; a similar name exists: " ++ quoted name
 nearest_job_text names None = codes "; the earlier jobs are " ++ names_text (present names)
 
--- `told` suggests the name that is probably meant by the job name `wanted`, or else all of these names
+-- `told` suggests the name that is probably meant by the job name `expected`, or else all of these names
 abbrev pub IsJobNameSuggestion : List (Option (List ℕ)) → List ℕ → List ℕ → Type 0
-IsJobNameSuggestion names wanted told =
-    (near : Option (List ℕ)) × IsNearName names wanted near × (told ≡ nearest_job_text names near)
+IsJobNameSuggestion names expected told =
+    (near : Option (List ℕ)) × IsNearName names expected near × (told ≡ nearest_job_text names near)
 
 -- ---- expected values
 
@@ -132,7 +132,7 @@ inserted_text rest.FaultKinds = first_fault_kinds_text (length fault_kinds)
 -- the words of an explanation, without the key and its value
 abbrev pub explained_text : Explanation → List ℕ
 explained_text (told.Text text) = text.now
-explained_text (told.Expected wanted) = wanted.now.before.now ++ (inserted_text wanted.now.rest ++ wanted.now.behind.now)
+explained_text (told.Expected expected) = expected.now.before.now ++ (inserted_text expected.now.rest ++ expected.now.behind.now)
 
 -- the text that says what is expected of the bad value, given the error, or `None` if it depends on more than the error
 abbrev pub expected_of_error : What → Option (List ℕ)

@@ -56,7 +56,7 @@ job_heading line_numbers names number = line_text (slice_get line_numbers (numbe
 
 -- the text between the path and the explanation of an error: the heading of the job with this number, or `: error: ` if the number is 0
 abbrev pub fault_location : List ℕ → List (Option (List ℕ)) → ℕ → List ℕ
-fault_location lines names number = if number == 0 then codes ": error: " else job_heading lines names number
+fault_location line_numbers names number = if number == 0 then codes ": error: " else job_heading line_numbers names number
 
 -- the text between the path and the explanation of an error of the job with this number, given the list's text and its document; empty if
 -- the text is not a document
@@ -80,5 +80,5 @@ borrowed_names names = map borrowed_name names
 
 -- the text between the path and the explanation of an error of the job with this number, given the list as it was parsed again
 abbrev pub location_in_view : FaultView → ℕ → List ℕ
-location_in_view (look.NoToml text error) number = []
-location_in_view (look.List list) number = fault_location list.lines.items (borrowed_names list.names.items) number
+location_in_view (view.NoToml text error) number = []
+location_in_view (view.List list) number = fault_location list.lines.items (borrowed_names list.names.items) number

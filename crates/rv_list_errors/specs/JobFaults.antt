@@ -141,7 +141,7 @@ script_explanation_of ms = script_explanation (text_at_key (codes "input") ms) (
 -- the key whose value this explanation shows, or `None` if it shows none
 abbrev pub explained_key : Explanation → Option (List ℕ)
 explained_key (told.Text text) = None
-explained_key (told.Expected wanted) = Some wanted.now.key.now
+explained_key (told.Expected expected) = Some expected.now.key.now
 
 -- the number of bytes that a text of this length represents, or 0 if the number is never shown
 abbrev pub shown_byte_count : Bytes → ℕ → ℕ
@@ -161,18 +161,18 @@ text_length (Some text) = length text
 
 -- the text that says what is expected of the value of a key
 abbrev pub expected_text : Expected → List ℕ
-expected_text wanted = wanted.before.now ++ (inserted_text wanted.rest ++ wanted.behind.now)
+expected_text expected = expected.before.now ++ (inserted_text expected.rest ++ expected.behind.now)
 
 -- `told` is the key with its value, or that it is missing, then the number of bytes if there are too many, and then what is expected
 abbrev pub ExplainsExpectedValue : Expected → Members → List ℕ → Type 0
-ExplainsExpectedValue wanted ms told = (met : List ℕ) × IsKeyAndValue wanted.key.now (get_member wanted.key.now ms) met
-    × (told ≡ met ++ (bytes_text wanted.rest (shown_byte_count wanted.bytes (text_length (text_at_key wanted.key.now ms)))
-    ++ (codes ": " ++ expected_text wanted)))
+ExplainsExpectedValue expected ms told = (met : List ℕ) × IsKeyAndValue expected.key.now (get_member expected.key.now ms) met
+    × (told ≡ met ++ (bytes_text expected.rest (shown_byte_count expected.bytes (text_length (text_at_key expected.key.now ms)))
+    ++ (codes ": " ++ expected_text expected)))
 
 -- `told` is the text of an explanation, given the values of the job
 abbrev pub IsTextOfExplanation : Explanation → Members → List ℕ → Type 0
 IsTextOfExplanation (told.Text text) ms told = told ≡ text.now
-IsTextOfExplanation (told.Expected wanted) ms told = ExplainsExpectedValue wanted.now ms told
+IsTextOfExplanation (told.Expected expected) ms told = ExplainsExpectedValue expected.now ms told
 
 -- the key whose value is bad, given the error, or `None` if it depends on more than the error
 abbrev pub key_of : What → Option (List ℕ)
@@ -229,20 +229,20 @@ is_of_kind kind.Regions = is_region_array
 
 -- whether the job has this key, with a value that does not have the type of the key
 abbrev pub has_wrong_type_at : Members → List ℕ × ValueType → Bool
-has_wrong_type_at ms known = not (is_absent_or (is_of_kind known.1) known.0 ms)
+has_wrong_type_at ms key = not (is_absent_or (is_of_kind key.1) key.0 ms)
 
 -- a key and its type in the code's table, as contracts see them
 abbrev pub key_and_type : Bor (List ℕ) × ValueType → List ℕ × ValueType
-key_and_type known = (known.0.now, known.1)
+key_and_type key = (key.0.now, key.1)
 
 -- whether the job has this key of the code's table, with a value that does not have the type of the key
 abbrev pub has_wrong_type_at_key : Members → Bor (List ℕ) × ValueType → Bool
-has_wrong_type_at_key ms known = has_wrong_type_at ms (key_and_type known)
+has_wrong_type_at_key ms key = has_wrong_type_at ms (key_and_type key)
 
 -- `told` explains that the value of this key has the wrong type; without a key, that some type is invalid
 abbrev pub ExplainsWrongTypeOfKey : Members → Option (List ℕ × ValueType) → List ℕ → Type 0
 ExplainsWrongTypeOfKey ms None told = told ≡ codes "invalid type"
-ExplainsWrongTypeOfKey ms (Some known) told = ExplainsWrongType known.0 known.1 ms told
+ExplainsWrongTypeOfKey ms (Some key) told = ExplainsWrongType key.0 key.1 ms told
 
 -- `told` explains the first key of the job, in the order of the format, whose value has the wrong type
 abbrev pub ExplainsFirstWrongType : Members → List ℕ → Type 0
@@ -255,10 +255,10 @@ abbrev pub job_of_name_text : Option ℕ → List ℕ
 job_of_name_text None = []
 job_of_name_text (Some number) = codes ", but job " ++ (decimal number ++ codes " has this name")
 
--- `told` is a key for a name with its value, then `wanted`, which is expected, and then the number of the first job with this name, if any
+-- `told` is a key for a name with its value, then `expected`, which is expected, and then the number of the first job with this name, if any
 abbrev pub ExplainsName : List (Option (List ℕ)) → List ℕ → List ℕ → Members → List ℕ → Type 0
-ExplainsName names key wanted ms told = (met : List ℕ) × IsKeyAndValue key (get_member key ms) met
-    × (told ≡ met ++ (codes ": " ++ (wanted ++ job_of_name_text (number_of_name names (text_at_key key ms)))))
+ExplainsName names key expected ms told = (met : List ℕ) × IsKeyAndValue key (get_member key ms) met
+    × (told ≡ met ++ (codes ": " ++ (expected ++ job_of_name_text (number_of_name names (text_at_key key ms)))))
 
 -- the text that says what is expected of a job's name that an earlier job has
 abbrev pub unique_name_text : List ℕ
@@ -316,8 +316,8 @@ ExplainsFaultOfList list fault told = 0 < fault.job → ExplainsJobFault
 
 -- `told` explains this error of a list that was parsed again; if it is not a document, any text will do
 abbrev pub ExplainsFaultInView : FaultView → JobError → List ℕ → Type 0
-ExplainsFaultInView (look.NoToml text error) fault told = ⊤
-ExplainsFaultInView (look.List list) fault told = ExplainsFaultOfList list fault told
+ExplainsFaultInView (view.NoToml text error) fault told = ⊤
+ExplainsFaultInView (view.List list) fault told = ExplainsFaultOfList list fault told
 
 -- the message is `head`, followed by a text that satisfies the predicate
 abbrev pub HasHeadAndTail : (List ℕ → Type 0) → List ℕ → List ℕ → Type 0

@@ -104,16 +104,16 @@ impl<'a> FaultLineWriter<'a> {
         self.push_located_faults(alloc, bytes, fault.job, found.as_slice())
     }
 
-    // Appends a line for each error in `found`, all of which are errors of the job with this number, counted from 1.
+    // Appends a line for each error in `faults`, all of which are errors of the job with this number, counted from 1.
     fn push_located_faults(
         &mut self,
         alloc: Global,
         bytes: &mut Vec<u8>,
         number: u32,
-        found: &[LocatedFault],
+        faults: &[LocatedFault],
     ) -> Result<(), AllocError>
         requires numbered { 0 < number }
-        requires some { 0 < length found.now }
+        requires some { 0 < length faults.now }
         ensures file { self.new.file ≡ self.old.file }
         ensures list { self.new.list ≡ self.old.list }
         ensures text { self.new.cursor.text.now ≡ self.old.cursor.text.now }
@@ -121,7 +121,7 @@ impl<'a> FaultLineWriter<'a> {
             (IsLocatedMessage self.old.file.now self.old.cursor.text.now (borrowed_names self.old.list.names.items) number)
             bytes.old.items bytes.new.items) }
     {
-        for fault in found {
+        for fault in faults {
             let message = self.located_message(alloc, number, fault)?;
             push_message_line(bytes, message.as_slice())?;
         }

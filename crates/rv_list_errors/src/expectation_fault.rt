@@ -52,16 +52,16 @@ fn reference_or_console_explanation(table: &Table) -> Explanation
     )
 }
 
-// Returns the explanation of a bad `expect_signature`, or `rest` if it is missing or good. `path` is its text, and `is_asked` is whether
+// Returns the explanation of a bad `expect_signature`, or `otherwise` if it is missing or good. `path` is its text, and `has_signature` is whether
 // the job has a signature.
-fn reference_explanation(is_asked: bool, path: Option<&str>, rest: Explanation) -> Explanation
+fn reference_explanation(has_signature: bool, path: Option<&str>, otherwise: Explanation) -> Explanation
     ensures { (explained_key result, explained_text result)
-        ≡ reference_explanation is_asked (borrowed_name path.entry) (explained_key rest, explained_text rest) }
+        ≡ reference_explanation has_signature (borrowed_name path.entry) (explained_key otherwise, explained_text otherwise) }
 {
     match path {
-        Some(_) if !is_asked => Explanation::Expected(&WITHOUT_SIGNATURE),
+        Some(_) if !has_signature => Explanation::Expected(&WITHOUT_SIGNATURE),
         Some(path) if is_invalid_path(path) => Explanation::Expected(&EXPECT_SIGNATURE),
-        _ => rest,
+        _ => otherwise,
     }
 }
 

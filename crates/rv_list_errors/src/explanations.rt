@@ -235,23 +235,23 @@ pub(crate) fn push_explanation(message: &mut Message, table: &Table, told: Expla
     }
 }
 
-// Appends the key of `wanted` with the job's value, or that the key is missing, and then what is expected of the value.
-fn push_expected(message: &mut Message, table: &Table, wanted: &Expected)
-    ensures { AppendsTextThat message.old message.new (ExplainsExpectedValue wanted.now (table_view table.now)) }
+// Appends the key of `expected` with the job's value, or that the key is missing, and then what is expected of the value.
+fn push_expected(message: &mut Message, table: &Table, expected: &Expected)
+    ensures { AppendsTextThat message.old message.new (ExplainsExpectedValue expected.now (table_view table.now)) }
 {
-    push_key_and_value(message, table, wanted.key);
-    push_expected_text(message, reported_byte_count(table, wanted), wanted);
+    push_key_and_value(message, table, expected.key);
+    push_expected_text(message, reported_byte_count(table, expected), expected);
 }
 
 // Appends the number of bytes in parentheses, if it exceeds the maximum, and then what is expected of the value.
-fn push_expected_text(message: &mut Message, bytes: u64, wanted: &Expected)
-    ensures { Adds message.old message.new (bytes_text wanted.now.rest bytes ++ (codes ": " ++ expected_text wanted.now)) }
+fn push_expected_text(message: &mut Message, bytes: u64, expected: &Expected)
+    ensures { Adds message.old message.new (bytes_text expected.now.rest bytes ++ (codes ": " ++ expected_text expected.now)) }
 {
-    push_byte_count(message, bytes, wanted.rest);
+    push_byte_count(message, bytes, expected.rest);
     message.push(": ");
-    message.push(wanted.before);
-    push_inserted_text(message, wanted.rest);
-    message.push(wanted.behind);
+    message.push(expected.before);
+    push_inserted_text(message, expected.rest);
+    message.push(expected.behind);
 }
 
 // Appends the number of bytes in parentheses, if it exceeds the maximum, or else nothing.
@@ -299,12 +299,12 @@ fn push_fault_kind(message: &mut Message, place: usize)
     message.push_quoted(FaultKind::ALL[place].name());
 }
 
-// Returns the number of bytes that the text at the key of `wanted` represents, or 0 if there is no text, or if `wanted` says that the
+// Returns the number of bytes that the text at the key of `expected` represents, or 0 if there is no text, or if `expected` says that the
 // number is never shown.
-fn reported_byte_count(table: &Table, wanted: &Expected) -> u64
-    ensures { result ≡ shown_byte_count wanted.now.bytes (text_length (text_at_key wanted.now.key.now (table_view table.now))) }
+fn reported_byte_count(table: &Table, expected: &Expected) -> u64
+    ensures { result ≡ shown_byte_count expected.now.bytes (text_length (text_at_key expected.now.key.now (table_view table.now))) }
 {
-    shown_byte_count(wanted.bytes, text_at_key(table, wanted.key))
+    shown_byte_count(expected.bytes, text_at_key(table, expected.key))
 }
 
 // Returns the number of bytes that a text represents: its length, or half of it for hexadecimal digits. Returns 0 if there is no text, or

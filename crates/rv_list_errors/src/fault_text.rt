@@ -30,18 +30,18 @@ pub(crate) enum FaultView<'a> {
 pub(crate) fn message_of_fault(
     alloc: Global,
     file: &str,
-    look: &FaultView<'_>,
+    view: &FaultView<'_>,
     fault: JobError,
     suggestion: Suggestion,
 ) -> Result<Vec<u8>, AllocError>
-    ensures head { IfOk result (λ message. BeginsWith (file.now ++ location_in_view look.now fault.job) message.items) }
-    ensures told { IfOk result (λ message. HasHeadAndTail (ExplainsFaultInView look.now fault)
-        (file.now ++ location_in_view look.now fault.job) message.items) }
+    ensures head { IfOk result (λ message. BeginsWith (file.now ++ location_in_view view.now fault.job) message.items) }
+    ensures told { IfOk result (λ message. HasHeadAndTail (ExplainsFaultInView view.now fault)
+        (file.now ++ location_in_view view.now fault.job) message.items) }
 {
     let mut message = Vec::new(alloc);
     push_text(&mut message, file)?;
-    push_fault_location(&mut message, look, fault.job)?;
-    let explanation = fault_explanation(alloc, look, fault, suggestion)?;
+    push_fault_location(&mut message, view, fault.job)?;
+    let explanation = fault_explanation(alloc, view, fault, suggestion)?;
     message.extend_from_slice(explanation.as_slice())?;
     Ok(message)
 }
@@ -67,12 +67,12 @@ pub(crate) fn list_fault_message(
 // if the list is not TOML.
 fn push_fault_location(
     message: &mut Vec<u8>,
-    look: &FaultView<'_>,
+    view: &FaultView<'_>,
     job: u32,
 ) -> Result<(), AllocError>
-    ensures { OnOk result (message.new.items ≡ message.old.items ++ location_in_view look.now job) }
+    ensures { OnOk result (message.new.items ≡ message.old.items ++ location_in_view view.now job) }
 {
-    match look {
+    match view {
         FaultView::NoToml(_, _) => Ok(()),
         FaultView::List(list) => push_location_in_list(message, list, job),
     }
@@ -161,13 +161,13 @@ fn push_name_in_quotes(message: &mut Vec<u8>, name: Option<&str>) -> Result<(), 
 // Returns the explanation of an error, which follows its location.
 fn fault_explanation(
     alloc: Global,
-    look: &FaultView<'_>,
+    view: &FaultView<'_>,
     fault: JobError,
     suggestion: Suggestion,
 ) -> Result<Vec<u8>, AllocError>
-    ensures { IfOk result (λ told. ExplainsFaultInView look.now fault told.items) }
+    ensures { IfOk result (λ told. ExplainsFaultInView view.now fault told.items) }
 {
-    match look {
+    match view {
         FaultView::NoToml(text, error) => not_toml_explanation(alloc, text, error),
         FaultView::List(list) => explanation_in_list(alloc, list, fault, suggestion),
     }

@@ -53,15 +53,15 @@ fn push_fault_lines(
     alloc: Global,
     bytes: &mut Vec<u8>,
     file: &str,
-    look: &FaultView<'_>,
+    view: &FaultView<'_>,
     faults: &[JobError],
 ) -> Result<(), AllocError>
     ensures { OnOk result (AppendsLineOfEach
-        (λ fault message. HasHeadAndTail (ExplainsFaultInView look.now fault) (file.now ++ location_in_view look.now fault.job) message)
+        (λ fault message. HasHeadAndTail (ExplainsFaultInView view.now fault) (file.now ++ location_in_view view.now fault.job) message)
         faults.now bytes.old.items bytes.new.items) }
 {
     for (at, fault) in faults.iter().enumerate() {
-        let message = message_of_fault(alloc, file, look, *fault, suggestion_for_fault(at))?;
+        let message = message_of_fault(alloc, file, view, *fault, suggestion_for_fault(at))?;
         push_spans(
             bytes,
             &[Span::Printable(message.as_slice()), Span::Text("\n")],

@@ -194,16 +194,16 @@ impl<'a> FaultyJob<'a> {
         }
     }
 
-    // Returns `both`, the explanation that two keys cannot both be set, if the key `other` is in `met`, the keys before this one, and has a
+    // Returns `explanation`, the explanation that two keys cannot both be set, if the key `other` is in `met`, the keys before this one, and has a
     // text; otherwise `None`.
     fn both_set_explanation(
         &self,
         other: &str,
         met: &CheckedKeys,
-        both: &'static str,
+        explanation: &'static str,
     ) -> Option<Explanation> {
         if met.has(other) && text_at_key(self.table, other).is_some() {
-            Some(Explanation::Text(both))
+            Some(Explanation::Text(explanation))
         } else {
             None
         }

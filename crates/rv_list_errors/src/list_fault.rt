@@ -109,15 +109,15 @@ fn push_no_jobs(message: &mut Message, table: &Table) {
 }
 
 // Appends that a list has too many jobs, and how many.
-fn push_too_many_jobs(message: &mut Message, jobs: usize)
-    ensures { Adds message.old message.new (too_many_jobs_text jobs) }
+fn push_too_many_jobs(message: &mut Message, count: usize)
+    ensures { Adds message.old message.new (too_many_jobs_text count) }
 {
     message.push_number_between(
         "too many jobs: expected at most ",
         MAX_JOBS as u64,
         ", found ",
     );
-    message.push_number(jobs as u64);
+    message.push_number(count as u64);
 }
 
 // Appends the first unknown key of the whole list.

@@ -61,75 +61,75 @@ pub(crate) fn faults_of_job(
 }
 
 impl<'a> FaultyJob<'a> {
-    // Adds an error to `found` for each required key that the job lacks, at the offset where the job begins.
+    // Adds an error to `faults` for each required key that the job lacks, at the offset where the job begins.
     fn find_absent_keys(
         &self,
         alloc: Global,
         place: usize,
-        found: &mut Vec<LocatedFault>,
+        faults: &mut Vec<LocatedFault>,
     ) -> Result<(), AllocError> {
         for key in &REQUIRED_KEYS {
             if value_at_key(self.table, key).is_none() {
                 let mut message = Message::new(alloc);
                 push_absent_key(&mut message, self.table, key);
                 let explanation = message.finish()?;
-                found.push(LocatedFault { place, explanation })?;
+                faults.push(LocatedFault { place, explanation })?;
             }
         }
         Ok(())
     }
 
-    // Adds to `found` the error of each bad key, at its first occurrence. After `MAX_FAULTS` errors, adds a note that the later keys are
+    // Adds to `faults` the error of each bad key, at its first occurrence. After `MAX_FAULTS` errors, adds a note that the later keys are
     // not checked, and stops.
     fn find_bad_keys(
         &self,
         alloc: Global,
         text: &str,
-        found: &mut Vec<LocatedFault>,
+        faults: &mut Vec<LocatedFault>,
     ) -> Result<(), AllocError> {
         let keys = job_keys(alloc, text)?;
         let mut met = CheckedKeys::none(alloc);
         for key in keys.as_slice() {
             let name = key.name.as_str();
             if !met.has(name) {
-                if found.len() == MAX_FAULTS {
-                    return self.stop_at_key(alloc, key, found);
+                if faults.len() == MAX_FAULTS {
+                    return self.stop_at_key(alloc, key, faults);
                 }
-                self.find_key_fault(alloc, key, &met, found)?;
+                self.find_key_fault(alloc, key, &met, faults)?;
                 met.add(name)?;
             }
         }
         Ok(())
     }
 
-    // Adds a note to `found` that this key and the later keys of the job are not checked, because there are too many errors.
+    // Adds a note to `faults` that this key and the later keys of the job are not checked, because there are too many errors.
     fn stop_at_key(
         &self,
         alloc: Global,
         key: &JobKey<'_>,
-        found: &mut Vec<LocatedFault>,
+        faults: &mut Vec<LocatedFault>,
     ) -> Result<(), AllocError> {
         let mut message = Message::new(alloc);
         message.push("too many errors: the rest of the keys of this job are not checked");
         let explanation = message.finish()?;
         let place = self.list.offset_of_suffix(key.text);
-        found.push(LocatedFault { place, explanation })?;
+        faults.push(LocatedFault { place, explanation })?;
         Ok(())
     }
 
-    // Adds to `found` the error of a key or of its value, if it has one. `met` are the keys before it.
+    // Adds to `faults` the error of a key or of its value, if it has one. `met` are the keys before it.
     fn find_key_fault(
         &self,
         alloc: Global,
         key: &JobKey<'_>,
         met: &CheckedKeys<'_>,
-        found: &mut Vec<LocatedFault>,
+        faults: &mut Vec<LocatedFault>,
     ) -> Result<(), AllocError> {
         let mut message = Message::new(alloc);
         if self.push_key_fault(&mut message, key.name.as_str(), met) {
             let explanation = message.finish()?;
             let place = self.list.offset_of_suffix(key.text);
-            found.push(LocatedFault { place, explanation })?;
+            faults.push(LocatedFault { place, explanation })?;
         }
         Ok(())
     }

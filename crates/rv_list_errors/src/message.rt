@@ -65,12 +65,12 @@ impl Message {
     }
 
     /// Appends a number between two texts.
-    pub(crate) fn push_number_between(&mut self, before: &str, number: u64, behind: &str)
-        ensures { Adds self.old self.new (before.now ++ (decimal number ++ behind.now)) }
+    pub(crate) fn push_number_between(&mut self, before: &str, number: u64, after: &str)
+        ensures { Adds self.old self.new (before.now ++ (decimal number ++ after.now)) }
     {
         self.push(before);
         self.push_number(number);
-        self.push(behind);
+        self.push(after);
     }
 
     /// Appends a word as eight hexadecimal digits.

@@ -18,21 +18,21 @@ use crate::values::{push_key_and_value, text_at_key};
 use rv_lists::limits::MAX_NAME_LEN;
 use toml::Table;
 
-/// Appends a key for a name and its value, then `wanted`, which says what is expected, and then the number of the first job with this name,
+/// Appends a key for a name and its value, then `expected`, which says what is expected, and then the number of the first job with this name,
 /// if there is one.
 pub(crate) fn push_name_fault(
     message: &mut Message,
     list: &List<'_>,
     table: &Table,
     key: &str,
-    wanted: &str,
+    expected: &str,
 )
     ensures { AppendsTextThat message.old message.new
-        (ExplainsName (borrowed_names list.now.names.items) key.now wanted.now (table_view table.now)) }
+        (ExplainsName (borrowed_names list.now.names.items) key.now expected.now (table_view table.now)) }
 {
     push_key_and_value(message, table, key);
     message.push(": ");
-    message.push(wanted);
+    message.push(expected);
     push_job_of_name(message, list.job_number_of_name(text_at_key(table, key)));
 }
 
@@ -85,15 +85,15 @@ pub(crate) fn push_unknown_same_as(
 
 // Appends the name of a job before an index that is nearest to an unknown name, or all names of these jobs if none is near. Appends nothing
 // if some job has the name.
-fn push_nearest_job(message: &mut Message, list: &List<'_>, wanted: Option<&str>, place: usize)
+fn push_nearest_job(message: &mut Message, list: &List<'_>, name: Option<&str>, place: usize)
     ensures { AppendsTextThat message.old message.new (BeginsWith []) }
 {
-    if list.job_number_of_name(wanted).is_some() {
+    if list.job_number_of_name(name).is_some() {
         return;
     }
     let earlier = first_names(list.names.as_slice(), place);
     if !earlier.is_empty() {
-        push_nearest_name(message, earlier, wanted.unwrap_or(""));
+        push_nearest_name(message, earlier, name.unwrap_or(""));
     }
 }
 
@@ -192,29 +192,29 @@ fn push_first_names(message: &mut Message, names: &[Option<&str>], count: usize)
 }
 
 // Appends a name, if it exists and the maximum has not been reached, and returns how many have been appended.
-fn push_next_name(message: &mut Message, name: Option<&str>, told: usize, count: usize) -> usize
-    requires { told ≤ max_listed_names }
-    ensures told { result ≡ min (told + length (present (borrowed_name name.entry ∷ []))) max_listed_names }
+fn push_next_name(message: &mut Message, name: Option<&str>, listed: usize, count: usize) -> usize
+    requires { listed ≤ max_listed_names }
+    ensures told { result ≡ min (listed + length (present (borrowed_name name.entry ∷ []))) max_listed_names }
     ensures text { Adds message.old message.new
-        (names_from count told (take (max_listed_names - told) (present (borrowed_name name.entry ∷ [])))) }
+        (names_from count listed (take (max_listed_names - listed) (present (borrowed_name name.entry ∷ [])))) }
 {
     match name {
-        Some(name) => push_name_if_listed(message, name, told, count),
-        None => told,
+        Some(name) => push_name_if_listed(message, name, listed, count),
+        None => listed,
     }
 }
 
 // Appends a name unless the maximum has been reached, and returns how many have been appended.
-fn push_name_if_listed(message: &mut Message, name: &str, told: usize, count: usize) -> usize
-    requires { told ≤ max_listed_names }
-    ensures told { result ≡ min (told + 1) max_listed_names }
-    ensures text { Adds message.old message.new (names_from count told (take (max_listed_names - told) (name.now ∷ []))) }
+fn push_name_if_listed(message: &mut Message, name: &str, listed: usize, count: usize) -> usize
+    requires { listed ≤ max_listed_names }
+    ensures told { result ≡ min (listed + 1) max_listed_names }
+    ensures text { Adds message.old message.new (names_from count listed (take (max_listed_names - listed) (name.now ∷ []))) }
 {
-    if told == MAX_LISTED_NAMES {
-        return told;
+    if listed == MAX_LISTED_NAMES {
+        return listed;
     }
-    push_listed_name(message, name, told, count);
-    told + 1
+    push_listed_name(message, name, listed, count);
+    listed + 1
 }
 
 // Appends the separator before the name at an index, and the name in quotes.

@@ -28,7 +28,7 @@ is_in_word byte next = is_word byte || (byte == space && is_ascii_digit next)
 -- the text without the leading bytes that belong to a word
 abbrev pub after_word_bytes : List ℕ → List ℕ
 after_word_bytes [] = []
-after_word_bytes (byte ∷ rest) = if is_in_word byte (first rest) then after_word_bytes rest else byte ∷ rest
+after_word_bytes (byte ∷ suffix) = if is_in_word byte (first suffix) then after_word_bytes suffix else byte ∷ suffix
 
 -- the text after a word, which is an unquoted key or a value that is not a string, or `None` if the text begins with no word
 unfoldable pub after_word : List ℕ → Option (List ℕ)
@@ -99,13 +99,13 @@ Step = Bool × ScanState × List ℕ
 -- the result of scanning the header of an element of an array of tables, whose opening brackets are already skipped, or `None` if it is
 -- malformed
 unfoldable pub array_header : List ℕ → Option Step
-array_header inside = key (skip_ws inside) >>= (λ name.
+array_header text = key (skip_ws text) >>= (λ name.
     if first name.1 == right_bracket && slice_index name.1 1 == right_bracket
     then Some (is_job name.0, Table, text_after_line (drop 2 name.1)) else None)
 
 -- the result of scanning the header of a table, whose opening bracket is already skipped, or `None` if it is malformed
 unfoldable pub table_header : List ℕ → Option Step
-table_header inside = key (skip_ws inside) >>= (λ name.
+table_header text = key (skip_ws text) >>= (λ name.
     if first name.1 == right_bracket then Some (false, Table, text_after_line (drop 1 name.1)) else None)
 
 -- the result of scanning the header with which the text begins, or `None` if it is malformed
@@ -163,9 +163,9 @@ job_texts_from (suc n) next text =
 unfoldable pub jobs_of_text : List ℕ → List (List ℕ)
 jobs_of_text text = job_texts_from (suc (length text)) Top (skip_blank text)
 
--- the line of a text, counted from 1, on which its suffix `rest` begins
+-- the line of a text, counted from 1, on which its suffix `suffix` begins
 abbrev pub line_of_suffix : List ℕ → List ℕ → ℕ
-line_of_suffix text rest = line_at (length text - length rest) text
+line_of_suffix text suffix = line_at (length text - length suffix) text
 
 -- the lines, counted from 1, on which the jobs of a list's text begin
 abbrev pub job_lines : List ℕ → List ℕ

@@ -89,18 +89,18 @@ fn skip_job_start(alloc: Global, job: &str) -> Result<(KeyContext, &str), ParseE
 /// Scans an entry or a header in the text of a job. Returns its name, if it has one, and the text after it.
 pub(crate) fn scan_key_step(
     alloc: Global,
-    here: &str,
+    text: &str,
     inside: KeyContext,
 ) -> Result<KeyStep<'_>, ParseError>
-    ensures named { IfOk result (λ step. IfSome step.name (λ name. BeginsWithName (string_bytes name) here.now)) }
-    ensures shorter { IfOk result (λ step. length step.rest.now < length here.now) }
+    ensures named { IfOk result (λ step. IfSome step.name (λ name. BeginsWithName (string_bytes name) text.now)) }
+    ensures shorter { IfOk result (λ step. length step.rest.now < length text.now) }
 {
     match inside {
-        KeyContext::InlineTable => scan_inline_entry(alloc, here),
-        _ if first(here) == b'[' => scan_inner_header(alloc, here),
-        KeyContext::Table => scan_job_entry(alloc, here),
+        KeyContext::InlineTable => scan_inline_entry(alloc, text),
+        _ if first(text) == b'[' => scan_inner_header(alloc, text),
+        KeyContext::Table => scan_job_entry(alloc, text),
         KeyContext::Subtable => {
-            let Step { rest, .. } = scan_step(alloc, here, ScanState::Table)?;
+            let Step { rest, .. } = scan_step(alloc, text, ScanState::Table)?;
             Ok(KeyStep {
                 name: None,
                 inside,
@@ -111,12 +111,12 @@ pub(crate) fn scan_key_step(
 }
 
 // Scans an entry of a job's table. Returns the first part of its key, and the text after the entry.
-fn scan_job_entry(alloc: Global, here: &str) -> Result<KeyStep<'_>, ParseError>
-    ensures named { IfOk result (λ step. IfSome step.name (λ name. BeginsWithName (string_bytes name) here.now)) }
-    ensures shorter { IfOk result (λ step. length step.rest.now < length here.now) }
+fn scan_job_entry(alloc: Global, text: &str) -> Result<KeyStep<'_>, ParseError>
+    ensures named { IfOk result (λ step. IfSome step.name (λ name. BeginsWithName (string_bytes name) text.now)) }
+    ensures shorter { IfOk result (λ step. length step.rest.now < length text.now) }
 {
-    let Step { rest, .. } = scan_step(alloc, here, ScanState::Table)?;
-    let (name, _) = scan_name(alloc, here)?;
+    let Step { rest, .. } = scan_step(alloc, text, ScanState::Table)?;
+    let (name, _) = scan_name(alloc, text)?;
     Ok(KeyStep {
         name: Some(name),
         inside: KeyContext::Table,
@@ -126,11 +126,11 @@ fn scan_job_entry(alloc: Global, here: &str) -> Result<KeyStep<'_>, ParseError>
 
 // Scans an entry of a job's inline table. Returns the first part of its key, and the text after the entry. Fails at the brace that closes
 // the table, which ends the job.
-fn scan_inline_entry(alloc: Global, here: &str) -> Result<KeyStep<'_>, ParseError>
-    ensures named { IfOk result (λ step. IfSome step.name (λ name. BeginsWithName (string_bytes name) here.now)) }
-    ensures shorter { IfOk result (λ step. length step.rest.now < length here.now) }
+fn scan_inline_entry(alloc: Global, text: &str) -> Result<KeyStep<'_>, ParseError>
+    ensures named { IfOk result (λ step. IfSome step.name (λ name. BeginsWithName (string_bytes name) text.now)) }
+    ensures shorter { IfOk result (λ step. length step.rest.now < length text.now) }
 {
-    let (name, behind) = scan_name(alloc, here)?;
+    let (name, behind) = scan_name(alloc, text)?;
     let rest = skip_value(alloc, skip_equals_sign(behind))?;
     Ok(KeyStep {
         name: Some(name),
@@ -140,23 +140,23 @@ fn scan_inline_entry(alloc: Global, here: &str) -> Result<KeyStep<'_>, ParseErro
 }
 
 // Scans a key, and returns its first part and the text after the key.
-fn scan_name(alloc: Global, here: &str) -> Result<(String, &str), ParseError>
-    ensures named { IfOk result (λ found. BeginsWithKey (string_bytes found.0) here.now) }
-    ensures shorter { IfOk result (λ found. length found.1.now < length here.now) }
+fn scan_name(alloc: Global, text: &str) -> Result<(String, &str), ParseError>
+    ensures named { IfOk result (λ found. BeginsWithKey (string_bytes found.0) text.now) }
+    ensures shorter { IfOk result (λ found. length found.1.now < length text.now) }
 {
-    let (key, behind) = dotted_key(alloc, here)?;
+    let (key, behind) = dotted_key(alloc, text)?;
     let name = String::from_str(alloc, part_or_last(&key, 0))?;
     Ok((name, behind))
 }
 
 // Scans a header after the beginning of a job. The header of another job or table ends the job; the header of a table in the job has the
 // part after `job` as its name.
-fn scan_inner_header(alloc: Global, here: &str) -> Result<KeyStep<'_>, ParseError>
-    requires { slice_index here.now 0 ≡ left_bracket }
-    ensures named { IfOk result (λ step. IfSome step.name (λ name. BeginsWithName (string_bytes name) here.now)) }
-    ensures shorter { IfOk result (λ step. length step.rest.now < length here.now) }
+fn scan_inner_header(alloc: Global, text: &str) -> Result<KeyStep<'_>, ParseError>
+    requires { slice_index text.now 0 ≡ left_bracket }
+    ensures named { IfOk result (λ step. IfSome step.name (λ name. BeginsWithName (string_bytes name) text.now)) }
+    ensures shorter { IfOk result (λ step. length step.rest.now < length text.now) }
 {
-    let Step { is_job, rest, .. } = scan_step(alloc, here, ScanState::Table)?;
+    let Step { is_job, rest, .. } = scan_step(alloc, text, ScanState::Table)?;
     if is_job {
         return Ok(KeyStep {
             name: None,
@@ -165,7 +165,7 @@ fn scan_inner_header(alloc: Global, here: &str) -> Result<KeyStep<'_>, ParseErro
         });
     }
     Ok(KeyStep {
-        name: scan_table_name(alloc, here)?,
+        name: scan_table_name(alloc, text)?,
         inside: KeyContext::Subtable,
         rest,
     })

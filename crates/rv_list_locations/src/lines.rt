@@ -36,14 +36,14 @@ impl<'a> LineRecorder<'a> {
         }
     }
 
-    /// Records the line of the byte before which the text has all but `left` bytes, or the line of the last recorded byte if that is later.
-    pub(crate) fn push_line(&mut self, left: usize) -> Result<(), AllocError>
+    /// Records the line of the byte before which the text has all but `remaining` bytes, or the line of the last recorded byte if that is later.
+    pub(crate) fn push_line(&mut self, remaining: usize) -> Result<(), AllocError>
         ensures text { self.new.text.now ≡ self.old.text.now }
-        ensures counted { self.new.counted ≡ max (length self.old.text.now - left) self.old.counted }
+        ensures counted { self.new.counted ≡ max (length self.old.text.now - remaining) self.old.counted }
         ensures noted { OnOk result (self.new.noted.items
             ≡ self.old.noted.items ++ line_at self.new.counted self.old.text.now ∷ []) }
     {
-        let place = self.text.len().saturating_sub(left).max(self.counted);
+        let place = self.text.len().saturating_sub(remaining).max(self.counted);
         let line = self.line + line_feed_count(&self.text[self.counted..place]);
         self.counted = place;
         self.line = line;
@@ -70,12 +70,12 @@ pub struct Location {
     pub column: usize,
 }
 
-/// Returns the line and column of the byte at index `count`, or of the end of the text if it is shorter.
-pub fn line_and_column(text: &[u8], count: usize) -> Location
-    ensures line { result.line ≡ line_at count text.now }
-    ensures column { result.column ≡ column_at count text.now }
+/// Returns the line and column of the byte at index `index`, or of the end of the text if it is shorter.
+pub fn line_and_column(text: &[u8], index: usize) -> Location
+    ensures line { result.line ≡ line_at index text.now }
+    ensures column { result.column ≡ column_at index text.now }
 {
-    let before = &text[..count.min(text.len())];
+    let before = &text[..index.min(text.len())];
     Location {
         line: line_feed_count(before) + 1,
         column: character_count_of_last_line(before) + 1,

@@ -24,34 +24,34 @@ struct Entries<'a> {
     inside: KeyContext,
 }
 
-/// Returns the key that a text sets for the second time, which begins where `left` bytes of the text remain, or `None` if no key is found
+/// Returns the key that a text sets for the second time, which begins where `remaining` bytes of the text remain, or `None` if no key is found
 /// there.
 pub fn repeated_key<'a>(
     alloc: Global,
     text: &'a str,
-    left: usize,
+    remaining: usize,
 ) -> Result<Option<RepeatedKey<'a>>, AllocError> {
-    match find_repeated_key(alloc, skip_byte_order_mark(text), left) {
+    match find_repeated_key(alloc, skip_byte_order_mark(text), remaining) {
         Ok(found) => Ok(found),
         Err(ParseError::OutOfMemory) => Err(AllocError),
         Err(_) => Ok(None),
     }
 }
 
-// Scans the text, which has no byte order mark, up to the header, entry or element where `left` bytes remain, and returns the key that is
+// Scans the text, which has no byte order mark, up to the header, entry or element where `remaining` bytes remain, and returns the key that is
 // repeated there, or `None` if there is none.
 fn find_repeated_key<'a>(
     alloc: Global,
     text: &'a str,
-    left: usize,
+    remaining: usize,
 ) -> Result<Option<RepeatedKey<'a>>, ParseError> {
     let mut here = skip_blank_lines(text);
     let mut table = here;
     let mut what = ScanState::Top;
     'steps: while !here.is_empty() {
         let Step { next, rest, .. } = scan_step(alloc, here, what)?;
-        if rest.len() < left {
-            return repeated_key_in_step(alloc, table, here, left);
+        if rest.len() < remaining {
+            return repeated_key_in_step(alloc, table, here, remaining);
         }
         if first(here) == b'[' {
             table = rest;
@@ -62,16 +62,16 @@ fn find_repeated_key<'a>(
     Ok(None)
 }
 
-// Returns the key that a header, an entry or an element repeats: its own key if it begins where `left` bytes remain, or else a key of an
+// Returns the key that a header, an entry or an element repeats: its own key if it begins where `remaining` bytes remain, or else a key of an
 // inline table in it.
 fn repeated_key_in_step<'a>(
     alloc: Global,
     table: &'a str,
     step: &'a str,
-    left: usize,
+    remaining: usize,
 ) -> Result<Option<RepeatedKey<'a>>, ParseError> {
-    if left < step.len() {
-        return repeated_key_in_inline_table(alloc, step, left);
+    if remaining < step.len() {
+        return repeated_key_in_inline_table(alloc, step, remaining);
     }
     if first(step) == b'[' {
         let (key, _) = dotted_key(alloc, after_brackets(step))?;
@@ -84,15 +84,15 @@ fn repeated_key_in_step<'a>(
     Ok(Some(repeated_key_of_entry(alloc, entries, step)?))
 }
 
-// Returns the key that is repeated in the innermost inline table that is open where `left` bytes remain, or `None` if there is none.
+// Returns the key that is repeated in the innermost inline table that is open where `remaining` bytes remain, or `None` if there is none.
 fn repeated_key_in_inline_table<'a>(
     alloc: Global,
     step: &'a str,
-    left: usize,
+    remaining: usize,
 ) -> Result<Option<RepeatedKey<'a>>, ParseError> {
     let mut open = Vec::new(alloc);
     let mut here = step;
-    'tokens: while left < here.len() {
+    'tokens: while remaining < here.len() {
         let sign = first(here);
         here = skip_blank_lines(skip_token(alloc, here)?);
         match sign {

@@ -162,11 +162,11 @@ fn scan_header(alloc: Global, text: &str) -> Result<Step<'_>, ParseError>
 // Scans the header of an element of an array of tables, whose opening brackets are already skipped. A job begins there if the key is `job`.
 // Returns whether it does, what comes next, and the text after the header.
 #[tactic(auto, unfolding(crate::specs::JobLocations::array_header))]
-fn scan_array_header(alloc: Global, inside: &str) -> Result<Step<'_>, ParseError>
-    ensures step { GivesStep result (spec.array_header inside.now) }
-    ensures shorter { IfOk result (λ step. length step.rest.now < length inside.now) }
+fn scan_array_header(alloc: Global, text: &str) -> Result<Step<'_>, ParseError>
+    ensures step { GivesStep result (spec.array_header text.now) }
+    ensures shorter { IfOk result (λ step. length step.rest.now < length text.now) }
 {
-    let (is_job, rest) = scan_key(alloc, skip_ws(inside))?;
+    let (is_job, rest) = scan_key(alloc, skip_ws(text))?;
     if first(rest) == b']' && byte_at(rest, 1) == b']' {
         Ok(Step {
             is_job,
@@ -180,11 +180,11 @@ fn scan_array_header(alloc: Global, inside: &str) -> Result<Step<'_>, ParseError
 
 // Scans the header of a table, whose opening bracket is already skipped. Returns what comes next, and the text after the header.
 #[tactic(auto, unfolding(crate::specs::JobLocations::table_header))]
-fn scan_table_header(alloc: Global, inside: &str) -> Result<Step<'_>, ParseError>
-    ensures step { GivesStep result (spec.table_header inside.now) }
-    ensures shorter { IfOk result (λ step. length step.rest.now < length inside.now) }
+fn scan_table_header(alloc: Global, text: &str) -> Result<Step<'_>, ParseError>
+    ensures step { GivesStep result (spec.table_header text.now) }
+    ensures shorter { IfOk result (λ step. length step.rest.now < length text.now) }
 {
-    let (_, rest) = scan_key(alloc, skip_ws(inside))?;
+    let (_, rest) = scan_key(alloc, skip_ws(text))?;
     if first(rest) == b']' {
         Ok(Step {
             is_job: false,

@@ -60,11 +60,11 @@ fn push_value_spans(alloc: Global, text: &str, spans: &mut Vec<ValueSpan>) -> Re
     Ok(())
 }
 
-// Whether the text begins with a header. `what` is what the scan expects here.
-fn is_header(here: &str, what: ScanState) -> bool {
-    match what {
+// Whether the text begins with a header. `next` is what the scan expects here.
+fn is_header(text: &str, next: ScanState) -> bool {
+    match next {
         ScanState::Element => false,
-        ScanState::Top | ScanState::Table => first(here) == b'[',
+        ScanState::Top | ScanState::Table => first(text) == b'[',
     }
 }
 

@@ -44,12 +44,12 @@ fn symbols_from_names(alloc: Global, names: &[Value]) -> Result<Option<Symbols>,
 }
 
 // Returns the name at an index of the value of `signature`, or an error if it is invalid.
-fn signature_symbol(alloc: Global, names: &[Value], at: usize) -> Result<Text, What>
-    requires { at < length names.now }
-    ensures value { MatchesUnlessOutOfMemory result (signature_symbol at (items_view names.now)) }
+fn signature_symbol(alloc: Global, names: &[Value], index: usize) -> Result<Text, What>
+    requires { index < length names.now }
+    ensures value { MatchesUnlessOutOfMemory result (signature_symbol index (items_view names.now)) }
     ensures named { IfOk result (λ t. 0 < length t) }
 {
-    match element_text(names, at) {
+    match element_text(names, index) {
         Some(text) => {
             if is_signature_symbol(text) {
                 Ok(Text::copy(alloc, text)?)
@@ -62,12 +62,12 @@ fn signature_symbol(alloc: Global, names: &[Value], at: usize) -> Result<Text, W
 }
 
 // Returns the text at an index, or `None` if the value there is not a text.
-fn element_text<'a>(values: &'a [Value], at: usize) -> Option<&'a str>
-    requires { at < length values.now }
+fn element_text<'a>(values: &'a [Value], index: usize) -> Option<&'a str>
+    requires { index < length values.now }
     ensures { option_map (λ t. t.now) result
-        ≡ option_and_then as_str (get_item at (items_view values.now)) }
+        ≡ option_and_then as_str (get_item index (items_view values.now)) }
 {
-    values[at].as_str()
+    values[index].as_str()
 }
 
 // Whether a text may name a symbol of a signature: it is 1 to 255 bytes long and has no zero byte.

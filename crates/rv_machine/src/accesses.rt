@@ -28,20 +28,20 @@ impl Hart {
         pc: &mut u32,
         instr: Instr,
         width: Width,
-        extend: LoadExtension,
+        extension: LoadExtension,
         next: u32,
     ) -> Result<(), Incomplete>
         requires { IsWellFormed instr }
         ensures behind { self.new.pc ≡ self.old.pc }
         ensures effect { MatchResult result
-            (λ _. load_of width extend (with_pc self.old pc.old) instr next
+            (λ _. load_of width extension (with_pc self.old pc.old) instr next
             ≡ Ok (with_pc self.new pc.new))
-            (λ _. (is_ok (load_of width extend (with_pc self.old pc.old) instr next) ≡ false)
+            (λ _. (is_ok (load_of width extension (with_pc self.old pc.old) instr next) ≡ false)
             × (self.new ≡ self.old) × (pc.new ≡ pc.old)) }
     {
         let address = add_offset(self.registers[instr.rs1 as usize], instr.imm);
         match self.bus.load(address, width) {
-            Ok(value) => self.complete(pc, instr.rd, load_value(value, width, extend), next),
+            Ok(value) => self.complete(pc, instr.rd, load_value(value, width, extension), next),
             Err(_) => Err(Incomplete),
         }
     }
@@ -78,11 +78,11 @@ impl Hart {
 
 // Returns a loaded value as a word, sign- or zero-extended from the width of the load.
 #[inline]
-fn load_value(value: u32, width: Width, extend: LoadExtension) -> u32
+fn load_value(value: u32, width: Width, extension: LoadExtension) -> u32
     requires { value < 2 ^ (8 * size_of width) }
-    ensures { result ≡ load_value extend width value }
+    ensures { result ≡ load_value extension width value }
 {
-    match (extend, width) {
+    match (extension, width) {
         (LoadExtension::Sign, Width::Byte) => sign_extend(value, 8).cast_unsigned(),
         (LoadExtension::Sign, Width::Half) => sign_extend(value, 16).cast_unsigned(),
         _ => value,

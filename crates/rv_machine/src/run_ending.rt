@@ -71,12 +71,12 @@ impl Hart {
         &mut self,
         instr: Instr,
         width: Width,
-        extend: LoadExtension,
+        extension: LoadExtension,
         next: u32,
     ) -> Ending
         requires formed { IsWellFormed instr }
-        requires ends { is_ok (load_of width extend self.old instr next) ≡ false }
-        ensures { (load_of width extend self.old instr next ≡ Err result)
+        requires ends { is_ok (load_of width extension self.old instr next) ≡ false }
+        ensures { (load_of width extension self.old instr next ≡ Err result)
             × (self.new ≡ self.old) }
     {
         let address = add_offset(self.registers[instr.rs1 as usize], instr.imm);

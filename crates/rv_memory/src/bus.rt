@@ -117,16 +117,16 @@ impl Bus {
         Ok(())
     }
 
-    // Writes the low bytes of a value at an address, whose bytes in memory are at `place`, and marks them as stored to.
+    // Writes the low bytes of a value at an address, whose bytes in memory are at `range`, and marks them as stored to.
     #[inline(always)]
-    fn put(&mut self, place: BufferRange, addr: u32, width: Width, value: u32)
-        requires { IsStoredAt self.old.regions addr (size_of width) place.at place.writable }
+    fn put(&mut self, range: BufferRange, addr: u32, width: Width, value: u32)
+        requires { IsStoredAt self.old.regions addr (size_of width) range.at range.writable }
         ensures { self.new ≡ put self.old addr width value }
     {
         // Only the contract uses the address.
         let _ = addr;
-        write_value(&mut self.bytes, place.at, width, value);
-        mark(&mut self.marks, place.at, width, self.generation);
+        write_value(&mut self.bytes, range.at, width, value);
+        mark(&mut self.marks, range.at, width, self.generation);
     }
 
     /// Returns the halfword at an address, which may be odd, or the reason why the fetch is rejected.

@@ -8,35 +8,35 @@ use crate::access::Width;
 
 /// Marks the bytes of an access at an index as stored to in a generation.
 #[inline]
-pub(crate) fn mark(marks: &mut [u16], at: usize, width: Width, generation: u16)
-    requires { at + size_of width ≤ length marks.old }
-    ensures { marks.new ≡ with_marks_at marks.old at width generation }
+pub(crate) fn mark(marks: &mut [u16], index: usize, width: Width, generation: u16)
+    requires { index + size_of width ≤ length marks.old }
+    ensures { marks.new ≡ with_marks_at marks.old index width generation }
 {
     match width {
-        Width::Byte => marks[at] = generation,
+        Width::Byte => marks[index] = generation,
         Width::Half => {
-            marks[at] = generation;
-            marks[at + 1] = generation;
+            marks[index] = generation;
+            marks[index + 1] = generation;
         }
         Width::Word => {
-            marks[at] = generation;
-            marks[at + 1] = generation;
-            marks[at + 2] = generation;
-            marks[at + 3] = generation;
+            marks[index] = generation;
+            marks[index + 1] = generation;
+            marks[index + 2] = generation;
+            marks[index + 3] = generation;
         }
     }
 }
 
 /// Whether one of the four marks at an index equals `generation`.
 #[inline]
-pub(crate) fn has_mark(marks: &[u16], at: usize, generation: u16) -> bool
-    requires { at + 4 ≤ length marks.now }
-    ensures { result ≡ any_marked marks.now at generation }
+pub(crate) fn has_mark(marks: &[u16], index: usize, generation: u16) -> bool
+    requires { index + 4 ≤ length marks.now }
+    ensures { result ≡ any_marked marks.now index generation }
 {
-    marks[at] == generation
-        || marks[at + 1] == generation
-        || marks[at + 2] == generation
-        || marks[at + 3] == generation
+    marks[index] == generation
+        || marks[index + 1] == generation
+        || marks[index + 2] == generation
+        || marks[index + 3] == generation
 }
 
 /// Returns the marks and the next generation, in which no byte is marked. After the last generation, all marks are reset and the first

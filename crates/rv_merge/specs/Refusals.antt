@@ -38,11 +38,11 @@ pub record Differ {X : Type 0} (value : Shard → X) (bytes other_bytes : List �
   pub differ : value shard ≡ value other → ⊥
 
 -- the two texts are different reports of the same shard
-pub record AreDifferentReports (bytes others : List ℕ) : Type 0 where
+pub record AreDifferentReports (bytes other_bytes : List ℕ) : Type 0 where
   pub shard : Shard
   pub is : IsReportAt (extent.Shard shard) bytes
-  pub of : IsReportAt (extent.Shard shard) others
-  pub differ : bytes ≡ others → ⊥
+  pub of : IsReportAt (extent.Shard shard) other_bytes
+  pub differ : bytes ≡ other_bytes → ⊥
 
 -- the row at the index `place` has the name of an earlier row
 pub record IsRepeatedName (rows : List Row) (place : ℕ) : Type 0 where
@@ -94,5 +94,5 @@ pub record IsMissingShard (n : ℕ) (texts : List (List ℕ)) : Type 0 where
 abbrev pub HasMergeError : List (List ℕ) → MergeError → Type 0
 HasMergeError texts error.OutOfMemory = Unit {0}
 HasMergeError texts error.NoTexts = texts ≡ []
-HasMergeError texts (error.Text at why) = (at < length texts) × HasFlaw texts at why
+HasMergeError texts (error.Text at flaw) = (at < length texts) × HasFlaw texts at flaw
 HasMergeError texts (error.Missing n) = IsMissingShard n texts

@@ -18,13 +18,13 @@ use Rattle.rv_merge.specs.Parts.{Run, shard_in}
 abbrev pub is_in_shard : ℕ → ℕ → ℕ → Bool
 is_in_shard shards n place = place % shards == n - 1
 
--- for each of `jobs` jobs, in list order, whether shard `n` of `shards` shards has it
+-- for each of `job_count` jobs, in list order, whether shard `n` of `shards` shards has it
 abbrev pub shard_selection : ℕ → ℕ → ℕ → List Bool
-shard_selection shards n jobs = map (is_in_shard shards n) (range_with_len 0 jobs)
+shard_selection shards n job_count = map (is_in_shard shards n) (range_with_len 0 job_count)
 
--- the indices of the jobs that shard `n` of `shards` shards has, in a list with `jobs` jobs
+-- the indices of the jobs that shard `n` of `shards` shards has, in a list with `job_count` jobs
 abbrev pub shard_indices : ℕ → ℕ → ℕ → List ℕ
-shard_indices shards n jobs = filter (is_in_shard shards n) (range_with_len 0 jobs)
+shard_indices shards n job_count = filter (is_in_shard shards n) (range_with_len 0 job_count)
 
 -- the report of shard `n` of a run, with the rows of its jobs in this plan
 abbrev pub shard_report : Run → ℕ → PlanView → SavedReport

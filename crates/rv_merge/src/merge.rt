@@ -49,19 +49,19 @@ fn gather_parts(alloc: Global, texts: &[&[u8]]) -> Result<MergeState, MergeError
 }
 
 // Returns the gathered rows, or an error if a shard has no text or two rows have the same name.
-fn rows_of_parts(alloc: Global, gathered: MergeState) -> Result<Rows, MergeError>
-    requires { 0 < length gathered.sources.items }
-    ensures rows { IfOk result (λ rows. IsComplete gathered.sources.items gathered.slots.items
+fn rows_of_parts(alloc: Global, state: MergeState) -> Result<Rows, MergeError>
+    requires { 0 < length state.sources.items }
+    ensures rows { IfOk result (λ rows. IsComplete state.sources.items state.slots.items
         rows) }
-    ensures err { IfErr result (ExplainsIncomplete gathered.sources.items gathered.slots.items) }
+    ensures err { IfErr result (ExplainsIncomplete state.sources.items state.slots.items) }
 {
-    if let Some(shard) = first_missing_shard(&gathered.sources) {
+    if let Some(shard) = first_missing_shard(&state.sources) {
         return Err(MergeError::Missing(shard + 1));
     }
-    let rows = rows_from_slots(alloc, gathered.slots)?;
+    let rows = rows_from_slots(alloc, state.slots)?;
     match first_repeated_name(alloc, &rows)? {
         None => Ok(Rows::new(rows)),
-        Some(place) => Err(repeated_name_error(&gathered.sources, place)),
+        Some(place) => Err(repeated_name_error(&state.sources, place)),
     }
 }
 

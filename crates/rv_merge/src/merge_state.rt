@@ -58,26 +58,26 @@ fn empty_slots<T: Drop>(alloc: Global, count: u32) -> Result<Vec<Option<T>>, All
 /// Adds the rows of a part, whose text is at an index, unless its shard already had an identical text. Returns an error if the part belongs
 /// to another run, or its shard already had a different text.
 pub(crate) fn add_part(
-    gathered: &mut MergeState,
+    state: &mut MergeState,
     texts: &[&[u8]],
     at: usize,
     part: Part,
 ) -> Result<(), MergeError>
     requires at { at < length texts.now }
     requires text { IsTextOf (report_of_part part) (nth_text (bytes_of_texts texts.now) at) }
-    requires holds { IsMergeStateAfter (bytes_of_texts texts.now) at gathered.old }
-    ensures added { OnOk result (IsMergeStateAfter (bytes_of_texts texts.now) (at + 1) gathered.new) }
+    requires holds { IsMergeStateAfter (bytes_of_texts texts.now) at state.old }
+    ensures added { OnOk result (IsMergeStateAfter (bytes_of_texts texts.now) (at + 1) state.new) }
     ensures err { IfErr result (HasMergeError (bytes_of_texts texts.now)) }
 {
-    if let Some(flaw) = other_run_flaw(&gathered.first, &part.shard) {
+    if let Some(flaw) = other_run_flaw(&state.first, &part.shard) {
         return Err(MergeError::Text(at, flaw));
     }
     let shard = part.shard.number as usize - 1;
-    match gathered.sources[shard] {
+    match state.sources[shard] {
         None => {
-            gathered.sources[shard] = Some(at);
+            state.sources[shard] = Some(at);
             let rows = part.rows.into_vec();
-            fill_slots(&mut gathered.slots, part.numbers.as_slice(), rows);
+            fill_slots(&mut state.slots, part.numbers.as_slice(), rows);
             Ok(())
         }
         Some(earlier) if are_same_texts(texts, earlier, at) => Ok(()),

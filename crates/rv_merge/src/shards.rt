@@ -10,19 +10,19 @@ use std::alloc::{AllocError, Global};
 /// `number - 1` when divided by the number of shards.
 pub fn shard_selection(
     alloc: Global,
-    jobs: usize,
+    job_count: usize,
     number: u32,
     shards: u32,
 ) -> Result<Vec<bool>, AllocError>
     requires low { 0 < number }
     requires high { number ≤ shards }
-    ensures marks { IfOk result (λ marks. marks.items ≡ shard_selection shards number jobs) }
-    ensures counted { IfOk result (λ marks. length marks.items ≡ jobs) }
+    ensures marks { IfOk result (λ marks. marks.items ≡ shard_selection shards number job_count) }
+    ensures counted { IfOk result (λ marks. length marks.items ≡ job_count) }
     ensures places { IfOk result
-        (λ marks. selected_indices marks.items jobs ≡ shard_indices shards number jobs) }
+        (λ marks. selected_indices marks.items job_count ≡ shard_indices shards number job_count) }
 {
     let mut marks = Vec::new(alloc);
-    for place in 0..jobs {
+    for place in 0..job_count {
         marks.push(place % shards as usize == number as usize - 1)?;
     }
     Ok(marks)

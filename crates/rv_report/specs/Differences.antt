@@ -34,32 +34,32 @@ abbrev pub begins_row : List ℕ → Bool
 begins_row text = bytes_eq (take 4 text) (take (length text) (codes "job "))
 
 -- whether the line that differs can still be the beginning of a report's line: its first word equals the expected one; or it can begin a
--- row, `rest`, where the expected text has its last line, which begins with the byte `other`
+-- row, `remaining`, where the expected text has its last line, which begins with the byte `expected`
 abbrev pub can_begin_report_line : FirstWordState → ℕ → List ℕ → Bool
-can_begin_report_line word.NotStarted other rest = begins_last_line other && begins_row rest
-can_begin_report_line word.Started other rest = false
-can_begin_report_line word.Ended other rest = true
+can_begin_report_line word.NotStarted expected remaining = begins_last_line expected && begins_row remaining
+can_begin_report_line word.Started expected remaining = false
+can_begin_report_line word.Ended expected remaining = true
 
 -- ---- the first difference
 
--- the error at the first difference, if `rest` differs from a text whose next byte is `other`: this line; or `Truncated` if `rest` ends in
+-- the error at the first difference, if `remaining` differs from a text whose next byte is `expected`: this line; or `Truncated` if `remaining` ends in
 -- this line, which can still be the beginning of a report's line
 abbrev pub read_error_at : ℕ → FirstWordState → ℕ → List ℕ → ReadError
-read_error_at line met other rest =
-    if can_begin_report_line met other rest && (line_feed_count rest == 0) then Truncated else Line line
+read_error_at line word expected remaining =
+    if can_begin_report_line word expected remaining && (line_feed_count remaining == 0) then Truncated else Line line
 
 -- the number of the line after the byte `b`: one more if `b` is a line feed, and otherwise `line`
 abbrev pub line_after_byte : ℕ → ℕ → ℕ
 line_after_byte line b = if b == 10 then line + 1 else line
 
--- the error at the first difference between the bytes and a text; before them, `line` was the number of the line, and `met` is how much of
+-- the error at the first difference between the bytes and a text; before them, `line` was the number of the line, and `word` is how much of
 -- its first word had been read
 unfoldable pub read_error_from : ℕ → FirstWordState → List ℕ → List ℕ → ReadError
-read_error_from line met text [] = Truncated
-read_error_from line met [] (b ∷ bs) = Line line
-read_error_from line met (t ∷ ts) (b ∷ bs) =
-    if b == t then read_error_from (line_after_byte line b) (word_after_byte met b) ts bs
-    else read_error_at line met t (b ∷ bs)
+read_error_from line word text [] = Truncated
+read_error_from line word [] (b ∷ bs) = Line line
+read_error_from line word (t ∷ ts) (b ∷ bs) =
+    if b == t then read_error_from (line_after_byte line b) (word_after_byte word b) ts bs
+    else read_error_at line word t (b ∷ bs)
 
 -- the error at the first difference between the bytes and a whole text: a line, counted from 1, or `Truncated`
 abbrev pub first_read_error : List ℕ → List ℕ → ReadError
@@ -81,6 +81,6 @@ IsOkOrOutOfMemory x (Err e) = e ≡ OutOfMemory
 
 -- the first error is that memory ran out, or it equals the second error
 abbrev pub IsSameReadError : ReadError → ReadError → Type 0
-IsSameReadError OutOfMemory place = Unit {0}
-IsSameReadError (Line line) place = place ≡ Line line
-IsSameReadError Truncated place = place ≡ Truncated
+IsSameReadError OutOfMemory other = Unit {0}
+IsSameReadError (Line line) other = other ≡ Line line
+IsSameReadError Truncated other = other ≡ Truncated

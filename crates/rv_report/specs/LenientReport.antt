@@ -222,97 +222,97 @@ padded_words count words = words ++ replicate (count - length words) 0
 
 -- the row that has the values of the unfinished row and this verdict
 unfoldable pub unfinished_row : Verdict → ReaderStateView → Row
-unfinished_row verdict g = record {
-  name = g.name;
-  ending = g.ending;
-  steps = g.steps;
-  console = g.console;
-  signature = if g.signed then Some g.words else None;
+unfinished_row verdict state = record {
+  name = state.name;
+  ending = state.ending;
+  steps = state.steps;
+  console = state.console;
+  signature = if state.signed then Some state.words else None;
   verdict = verdict;
 }
 
 -- the state after the unfinished row is finished with this verdict and added to the rows
 unfoldable pub with_finished_row : Verdict → ReaderStateView → ReaderStateView
-with_finished_row verdict g =
-    state_between_rows (g.numbers ++ g.number ∷ []) (g.rows ++ unfinished_row verdict g ∷ []) g.extent
+with_finished_row verdict state =
+    state_between_rows (state.numbers ++ state.number ∷ []) (state.rows ++ unfinished_row verdict state ∷ []) state.extent
 
 -- the state after a line that cannot come next: all later lines are ignored
 abbrev pub with_stage_done : ReaderStateView → ReaderStateView
-with_stage_done g = record g { stage = stage.Done }
+with_stage_done state = record state { stage = stage.Done }
 
 -- the state after a line between rows: the first line of a row, unless there are too many, or the last line of the report
 unfoldable pub after_job_or_last_line : List ℕ → ReaderStateView → ReaderStateView
-after_job_or_last_line line g =
-    if (slice_index line 0 == 106) && nat_lt (length g.rows) max_jobs then
-    record g { number = job_number_of_line line; name = job_name_of_line line; is_in_row = true; stage = stage.Ending }
-    else if slice_index line 0 == 112 then with_stage_done (record g { extent = part_extent_of_line line })
-    else with_stage_done g
+after_job_or_last_line line state =
+    if (slice_index line 0 == 106) && nat_lt (length state.rows) max_jobs then
+    record state { number = job_number_of_line line; name = job_name_of_line line; is_in_row = true; stage = stage.Ending }
+    else if slice_index line 0 == 112 then with_stage_done (record state { extent = part_extent_of_line line })
+    else with_stage_done state
 
 -- the state after the line that should have the ending of a row
 unfoldable pub after_end_line : List ℕ → ReaderStateView → ReaderStateView
-after_end_line line g =
-    if slice_index line 0 == 101 then record g { ending = row_ending_of_line line; stage = stage.Steps }
-    else with_stage_done g
+after_end_line line state =
+    if slice_index line 0 == 101 then record state { ending = row_ending_of_line line; stage = stage.Steps }
+    else with_stage_done state
 
 -- the state after the line that should have the steps of a row
 unfoldable pub after_steps_line : List ℕ → ReaderStateView → ReaderStateView
-after_steps_line line g =
+after_steps_line line state =
     if (slice_index line 0 == 115) && (slice_index line 1 == 116) then
-    record g { steps = decimal_number (drop 6 line); stage = stage.Console }
-    else with_stage_done g
+    record state { steps = decimal_number (drop 6 line); stage = stage.Console }
+    else with_stage_done state
 
 -- the state after the line that should have the console of a row
 unfoldable pub after_console_line : List ℕ → ReaderStateView → ReaderStateView
-after_console_line line g =
+after_console_line line state =
     if slice_index line 0 == 99 then
-    record g { console = hex_bytes (drop 8 line); stage = stage.Signature }
-    else with_stage_done g
+    record state { console = hex_bytes (drop 8 line); stage = stage.Signature }
+    else with_stage_done state
 
 -- the state after the line that should have the number of words of a row's signature; a dash, for no signature, is read as 0 words
 unfoldable pub after_signature_line : List ℕ → ReaderStateView → ReaderStateView
-after_signature_line line g =
+after_signature_line line state =
     if ((slice_index line 0 == 115) && (slice_index line 1 == 105))
     && nat_le (decimal_number (drop 10 line)) max_words then
-    record g {
+    record state {
       signed = not (slice_index line 10 == 45);
       count = decimal_number (drop 10 line);
       words = [];
       stage = stage.Words;
     }
-    else with_stage_done g
+    else with_stage_done state
 
 -- the state after the line that should have a word of the signature, or the verdict if all words have been read
 unfoldable pub after_word_or_verdict_line : List ℕ → ReaderStateView → ReaderStateView
-after_word_or_verdict_line line g =
-    if is_hex_word line && nat_lt (length g.words) g.count then
-    record g { words = g.words ++ hex_word line ∷ [] }
-    else if (slice_index line 0 == 118) && (length g.words == g.count) then
-    with_finished_row (verdict_of_line line) g
-    else with_stage_done g
+after_word_or_verdict_line line state =
+    if is_hex_word line && nat_lt (length state.words) state.count then
+    record state { words = state.words ++ hex_word line ∷ [] }
+    else if (slice_index line 0 == 118) && (length state.words == state.count) then
+    with_finished_row (verdict_of_line line) state
+    else with_stage_done state
 
 -- the state after one more line, given the stage, which says what the line should have
 abbrev pub with_line_at_stage : Stage → List ℕ → ReaderStateView → ReaderStateView
-with_line_at_stage stage.BetweenRows line g = after_job_or_last_line line g
-with_line_at_stage stage.Ending line g = after_end_line line g
-with_line_at_stage stage.Steps line g = after_steps_line line g
-with_line_at_stage stage.Console line g = after_console_line line g
-with_line_at_stage stage.Signature line g = after_signature_line line g
-with_line_at_stage stage.Words line g = after_word_or_verdict_line line g
-with_line_at_stage stage.Done line g = g
+with_line_at_stage stage.BetweenRows line state = after_job_or_last_line line state
+with_line_at_stage stage.Ending line state = after_end_line line state
+with_line_at_stage stage.Steps line state = after_steps_line line state
+with_line_at_stage stage.Console line state = after_console_line line state
+with_line_at_stage stage.Signature line state = after_signature_line line state
+with_line_at_stage stage.Words line state = after_word_or_verdict_line line state
+with_line_at_stage stage.Done line state = state
 
 -- the state after one more line
 unfoldable pub with_line : List ℕ → ReaderStateView → ReaderStateView
-with_line line g = with_line_at_stage g.stage line g
+with_line line state = with_line_at_stage state.stage line state
 
 -- the state after these lines
 unfoldable pub with_lines : List (List ℕ) → ReaderStateView → ReaderStateView
-with_lines [] g = g
-with_lines (line ∷ lines) g = with_lines lines (with_line line g)
+with_lines [] state = state
+with_lines (line ∷ lines) state = with_lines lines (with_line line state)
 
 -- the state after the unfinished row, if there is one, is finished with the verdict `none` and added to the rows
 unfoldable pub with_unfinished_row : ReaderStateView → ReaderStateView
-with_unfinished_row g =
-    if g.is_in_row then with_finished_row verdict.Unasked (record g { words = padded_words g.count g.words }) else g
+with_unfinished_row state =
+    if state.is_in_row then with_finished_row verdict.Unasked (record state { words = padded_words state.count state.words }) else state
 
 -- the state after all lines of a text, with an unfinished row finished
 unfoldable pub state_after_text : List ℕ → ReaderStateView

@@ -20,10 +20,10 @@ use Rattle.rv_report.specs.declared.saved.SavedReport.{SavedReport}
 
 -- ---- which jobs
 
--- whether the job numbers increase strictly, are all greater than `before`, and are at most `last`
+-- whether the job numbers increase strictly, are all greater than `previous`, and are at most `limit`
 unfoldable pub are_increasing : ℕ → ℕ → List ℕ → Bool
-are_increasing before last [] = true
-are_increasing before last (n ∷ ns) = nat_lt before n && (nat_le n last && are_increasing n last ns)
+are_increasing previous limit [] = true
+are_increasing previous limit (n ∷ ns) = nat_lt previous n && (nat_le n limit && are_increasing n limit ns)
 
 -- whether the job numbers are `next`, `next` + `step`, `next` + 2 `step` and so on, up to `limit`
 unfoldable pub are_evenly_spaced : ℕ → ℕ → ℕ → List ℕ → Bool

@@ -5,18 +5,18 @@ use Rattle.rv_report.specs.LenientReport.{ReaderStateView}
 
 -- the state of reading a report that the fields of `ReaderState` represent
 abbrev pub reader_state_view : ReaderState → ReaderStateView
-reader_state_view g = record {
-  numbers = g.numbers.items;
-  rows = g.rows.items;
-  extent = g.extent;
-  number = g.number;
-  name = string_bytes g.name;
-  ending = g.ending;
-  steps = g.steps;
-  console = g.console.items;
-  signed = g.signed;
-  count = g.count;
-  words = g.words.items;
-  is_in_row = g.is_in_row;
-  stage = g.stage;
+reader_state_view state = record {
+  numbers = state.numbers.items;
+  rows = state.rows.items;
+  extent = state.extent;
+  number = state.number;
+  name = string_bytes state.name;
+  ending = state.ending;
+  steps = state.steps;
+  console = state.console.items;
+  signed = state.signed;
+  count = state.count;
+  words = state.words.items;
+  is_in_row = state.is_in_row;
+  stage = state.stage;
 }

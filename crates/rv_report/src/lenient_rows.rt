@@ -98,16 +98,16 @@ fn initial_state(alloc: Global) -> Result<ReaderState, AllocError>
 
 // Reads the next line.
 #[tactic(auto, unfolding(crate::specs::LenientReport::with_line))]
-fn add_line(alloc: Global, gathering: &mut ReaderState, line: &[u8]) -> Result<(), AllocError>
-    ensures { OnOk result (reader_state_view gathering.new ≡ with_line line.now (reader_state_view gathering.old)) }
+fn add_line(alloc: Global, state: &mut ReaderState, line: &[u8]) -> Result<(), AllocError>
+    ensures { OnOk result (reader_state_view state.new ≡ with_line line.now (reader_state_view state.old)) }
 {
-    match gathering.stage {
-        Stage::BetweenRows => add_job_or_last_line(alloc, gathering, line),
-        Stage::Ending => Ok(add_end_line(gathering, line)),
-        Stage::Steps => Ok(add_steps_line(gathering, line)),
-        Stage::Console => add_console_line(alloc, gathering, line),
-        Stage::Signature => Ok(add_signature_line(gathering, line)),
-        Stage::Words => add_word_or_verdict_line(alloc, gathering, line),
+    match state.stage {
+        Stage::BetweenRows => add_job_or_last_line(alloc, state, line),
+        Stage::Ending => Ok(add_end_line(state, line)),
+        Stage::Steps => Ok(add_steps_line(state, line)),
+        Stage::Console => add_console_line(alloc, state, line),
+        Stage::Signature => Ok(add_signature_line(state, line)),
+        Stage::Words => add_word_or_verdict_line(alloc, state, line),
         Stage::Done => Ok(()),
     }
 }
@@ -116,50 +116,50 @@ fn add_line(alloc: Global, gathering: &mut ReaderState, line: &[u8]) -> Result<(
 #[tactic(auto, unfolding(crate::specs::LenientReport::after_job_or_last_line))]
 fn add_job_or_last_line(
     alloc: Global,
-    gathering: &mut ReaderState,
+    state: &mut ReaderState,
     line: &[u8],
 ) -> Result<(), AllocError>
-    ensures { OnOk result (reader_state_view gathering.new ≡ after_job_or_last_line line.now (reader_state_view gathering.old)) }
+    ensures { OnOk result (reader_state_view state.new ≡ after_job_or_last_line line.now (reader_state_view state.old)) }
 {
     match byte_at(line, 0) {
-        b'j' if gathering.rows.len() < MAX_JOBS => {
-            gathering.name = job_name_of_line(alloc, line)?;
-            gathering.number = job_number_of_line(line);
-            gathering.is_in_row = true;
-            gathering.stage = Stage::Ending;
+        b'j' if state.rows.len() < MAX_JOBS => {
+            state.name = job_name_of_line(alloc, line)?;
+            state.number = job_number_of_line(line);
+            state.is_in_row = true;
+            state.stage = Stage::Ending;
         }
         b'p' => {
-            gathering.extent = part_extent_of_line(alloc, line)?;
-            gathering.stage = Stage::Done;
+            state.extent = part_extent_of_line(alloc, line)?;
+            state.stage = Stage::Done;
         }
-        _ => gathering.stage = Stage::Done,
+        _ => state.stage = Stage::Done,
     }
     Ok(())
 }
 
 // Reads the line that should have the ending of a row.
 #[tactic(auto, unfolding(crate::specs::LenientReport::after_end_line))]
-fn add_end_line(gathering: &mut ReaderState, line: &[u8])
-    ensures { reader_state_view gathering.new ≡ after_end_line line.now (reader_state_view gathering.old) }
+fn add_end_line(state: &mut ReaderState, line: &[u8])
+    ensures { reader_state_view state.new ≡ after_end_line line.now (reader_state_view state.old) }
 {
     if byte_at(line, 0) == b'e' {
-        gathering.ending = row_ending_of_line(line);
-        gathering.stage = Stage::Steps;
+        state.ending = row_ending_of_line(line);
+        state.stage = Stage::Steps;
     } else {
-        gathering.stage = Stage::Done;
+        state.stage = Stage::Done;
     }
 }
 
 // Reads the line that should have the steps of a row.
 #[tactic(auto, unfolding(crate::specs::LenientReport::after_steps_line))]
-fn add_steps_line(gathering: &mut ReaderState, line: &[u8])
-    ensures { reader_state_view gathering.new ≡ after_steps_line line.now (reader_state_view gathering.old) }
+fn add_steps_line(state: &mut ReaderState, line: &[u8])
+    ensures { reader_state_view state.new ≡ after_steps_line line.now (reader_state_view state.old) }
 {
     if byte_at(line, 0) == b's' && byte_at(line, 1) == b't' {
-        gathering.steps = decimal_number(tail_from(line, 6));
-        gathering.stage = Stage::Console;
+        state.steps = decimal_number(tail_from(line, 6));
+        state.stage = Stage::Console;
     } else {
-        gathering.stage = Stage::Done;
+        state.stage = Stage::Done;
     }
 }
 
@@ -167,33 +167,33 @@ fn add_steps_line(gathering: &mut ReaderState, line: &[u8])
 #[tactic(auto, unfolding(crate::specs::LenientReport::after_console_line))]
 fn add_console_line(
     alloc: Global,
-    gathering: &mut ReaderState,
+    state: &mut ReaderState,
     line: &[u8],
 ) -> Result<(), AllocError>
-    ensures { OnOk result (reader_state_view gathering.new ≡ after_console_line line.now (reader_state_view gathering.old)) }
+    ensures { OnOk result (reader_state_view state.new ≡ after_console_line line.now (reader_state_view state.old)) }
 {
     if byte_at(line, 0) == b'c' {
-        gathering.console = hex_bytes(alloc, tail_from(line, 8))?;
-        gathering.stage = Stage::Signature;
+        state.console = hex_bytes(alloc, tail_from(line, 8))?;
+        state.stage = Stage::Signature;
     } else {
-        gathering.stage = Stage::Done;
+        state.stage = Stage::Done;
     }
     Ok(())
 }
 
 // Reads the line that should have the number of words of a row's signature.
 #[tactic(auto, unfolding(crate::specs::LenientReport::after_signature_line))]
-fn add_signature_line(gathering: &mut ReaderState, line: &[u8])
-    ensures { reader_state_view gathering.new ≡ after_signature_line line.now (reader_state_view gathering.old) }
+fn add_signature_line(state: &mut ReaderState, line: &[u8])
+    ensures { reader_state_view state.new ≡ after_signature_line line.now (reader_state_view state.old) }
 {
     let count = decimal_number(tail_from(line, 10));
     if byte_at(line, 0) == b's' && byte_at(line, 1) == b'i' && count <= MAX_WORDS {
-        gathering.signed = byte_at(line, 10) != b'-';
-        gathering.count = count;
-        gathering.words.clear();
-        gathering.stage = Stage::Words;
+        state.signed = byte_at(line, 10) != b'-';
+        state.count = count;
+        state.words.clear();
+        state.stage = Stage::Words;
     } else {
-        gathering.stage = Stage::Done;
+        state.stage = Stage::Done;
     }
 }
 
@@ -201,32 +201,32 @@ fn add_signature_line(gathering: &mut ReaderState, line: &[u8])
 #[tactic(auto, unfolding(crate::specs::LenientReport::after_word_or_verdict_line))]
 fn add_word_or_verdict_line(
     alloc: Global,
-    gathering: &mut ReaderState,
+    state: &mut ReaderState,
     line: &[u8],
 ) -> Result<(), AllocError>
-    ensures { OnOk result (reader_state_view gathering.new ≡ after_word_or_verdict_line line.now (reader_state_view gathering.old)) }
+    ensures { OnOk result (reader_state_view state.new ≡ after_word_or_verdict_line line.now (reader_state_view state.old)) }
 {
-    if is_hex_word(line) && gathering.words.len() < gathering.count as usize {
-        gathering.words.push(hex_word(line))?;
+    if is_hex_word(line) && state.words.len() < state.count as usize {
+        state.words.push(hex_word(line))?;
         Ok(())
-    } else if byte_at(line, 0) == b'v' && gathering.words.len() == gathering.count as usize {
-        finish_row(alloc, gathering, verdict_of_line(line))
+    } else if byte_at(line, 0) == b'v' && state.words.len() == state.count as usize {
+        finish_row(alloc, state, verdict_of_line(line))
     } else {
-        gathering.stage = Stage::Done;
+        state.stage = Stage::Done;
         Ok(())
     }
 }
 
 // If there is an unfinished row, finishes it with the verdict `none` and adds it to the rows.
 #[tactic(auto, unfolding(crate::specs::LenientReport::with_unfinished_row))]
-fn finish_unfinished_row(alloc: Global, gathering: &mut ReaderState) -> Result<(), AllocError>
-    ensures { OnOk result (reader_state_view gathering.new ≡ with_unfinished_row (reader_state_view gathering.old)) }
+fn finish_unfinished_row(alloc: Global, state: &mut ReaderState) -> Result<(), AllocError>
+    ensures { OnOk result (reader_state_view state.new ≡ with_unfinished_row (reader_state_view state.old)) }
 {
-    if !gathering.is_in_row {
+    if !state.is_in_row {
         return Ok(());
     }
-    pad_signature_words(&mut gathering.words, gathering.count)?;
-    finish_row(alloc, gathering, Verdict::Unasked)
+    pad_signature_words(&mut state.words, state.count)?;
+    finish_row(alloc, state, Verdict::Unasked)
 }
 
 // Appends zeros up to `count` words.
@@ -244,47 +244,47 @@ fn pad_signature_words(words: &mut Vec<u32>, count: u32) -> Result<(), AllocErro
 #[tactic(auto, unfolding(crate::specs::LenientReport::with_finished_row, crate::specs::LenientReport::state_between_rows, crate::specs::LenientReport::unfinished_row))]
 fn finish_row(
     alloc: Global,
-    gathering: &mut ReaderState,
+    state: &mut ReaderState,
     verdict: Verdict,
 ) -> Result<(), AllocError>
-    ensures { OnOk result (reader_state_view gathering.new ≡ with_finished_row verdict (reader_state_view gathering.old)) }
+    ensures { OnOk result (reader_state_view state.new ≡ with_finished_row verdict (reader_state_view state.old)) }
 {
-    gathering.numbers.push(gathering.number)?;
-    let row = take_row(alloc, gathering, verdict)?;
-    gathering.rows.push(row)?;
+    state.numbers.push(state.number)?;
+    let row = take_row(alloc, state, verdict)?;
+    state.rows.push(row)?;
     Ok(())
 }
 
 // Returns the row that has the values of the unfinished row and this verdict; afterwards there is no unfinished row.
 #[tactic(auto, unfolding(crate::specs::LenientReport::state_between_rows, crate::specs::LenientReport::unfinished_row))]
-fn take_row(alloc: Global, gathering: &mut ReaderState, verdict: Verdict) -> Result<Row, AllocError>
-    ensures row { IfOk result (λ row. row ≡ unfinished_row verdict (reader_state_view gathering.old)) }
-    ensures rest { OnOk result (reader_state_view gathering.new ≡ state_between_rows (reader_state_view gathering.old).numbers
-        (reader_state_view gathering.old).rows (reader_state_view gathering.old).extent) }
+fn take_row(alloc: Global, state: &mut ReaderState, verdict: Verdict) -> Result<Row, AllocError>
+    ensures row { IfOk result (λ row. row ≡ unfinished_row verdict (reader_state_view state.old)) }
+    ensures rest { OnOk result (reader_state_view state.new ≡ state_between_rows (reader_state_view state.old).numbers
+        (reader_state_view state.old).rows (reader_state_view state.old).extent) }
 {
     let dash = String::from_str(alloc, "-")?;
-    let name = mem::replace(&mut gathering.name, dash);
-    let console = mem::replace(&mut gathering.console, Vec::new(alloc));
-    let words = mem::replace(&mut gathering.words, Vec::new(alloc));
-    let signature = if gathering.signed {
+    let name = mem::replace(&mut state.name, dash);
+    let console = mem::replace(&mut state.console, Vec::new(alloc));
+    let words = mem::replace(&mut state.words, Vec::new(alloc));
+    let signature = if state.signed {
         Some(Words::new(words))
     } else {
         None
     };
     let row = Row {
         name: Text::new(name),
-        ending: gathering.ending,
-        steps: gathering.steps,
+        ending: state.ending,
+        steps: state.steps,
         console: Bytes::new(console),
         signature,
         verdict,
     };
-    gathering.number = 0;
-    gathering.ending = RowEnd::Budget;
-    gathering.steps = 0;
-    gathering.signed = false;
-    gathering.count = 0;
-    gathering.is_in_row = false;
-    gathering.stage = Stage::BetweenRows;
+    state.number = 0;
+    state.ending = RowEnd::Budget;
+    state.steps = 0;
+    state.signed = false;
+    state.count = 0;
+    state.is_in_row = false;
+    state.stage = Stage::BetweenRows;
     Ok(row)
 }

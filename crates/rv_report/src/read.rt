@@ -91,12 +91,12 @@ fn first_read_error(text: &[u8], bytes: &[u8]) -> ReadError
     ReadError::Truncated
 }
 
-// Returns the error, given that the remaining bytes `rest` differ in their first byte from a text whose next byte is `other`: this line, or
-// `Truncated` if `rest` ends in this line, and the line can still be the beginning of a report's line.
-fn read_error_at(line: usize, met: FirstWordState, other: u8, rest: &[u8]) -> ReadError
-    ensures { result ≡ read_error_at line met other rest.now }
+// Returns the error, given that the remaining bytes `remaining` differ in their first byte from a text whose next byte is `expected`: this line, or
+// `Truncated` if `remaining` ends in this line, and the line can still be the beginning of a report's line.
+fn read_error_at(line: usize, word: FirstWordState, expected: u8, remaining: &[u8]) -> ReadError
+    ensures { result ≡ read_error_at line word expected remaining.now }
 {
-    if met.can_begin_report_line(other, rest) && !has_line_feed(rest) {
+    if word.can_begin_report_line(expected, remaining) && !has_line_feed(remaining) {
         ReadError::Truncated
     } else {
         ReadError::Line(line)
@@ -146,11 +146,11 @@ impl FirstWordState {
     }
 
     // Whether the line that differs from the expected text can still be the beginning of a report's line, judging by its first word.
-    fn can_begin_report_line(self, other: u8, rest: &[u8]) -> bool
-        ensures { result ≡ can_begin_report_line self other rest.now }
+    fn can_begin_report_line(self, expected: u8, remaining: &[u8]) -> bool
+        ensures { result ≡ can_begin_report_line self expected remaining.now }
     {
         match self {
-            FirstWordState::NotStarted => begins_last_line(other) && begins_row(rest),
+            FirstWordState::NotStarted => begins_last_line(expected) && begins_row(remaining),
             FirstWordState::Started => false,
             FirstWordState::Ended => true,
         }

@@ -87,34 +87,34 @@ impl Shard {
     }
 }
 
-// Whether the job numbers increase strictly, are all greater than `before`, and are at most `last`.
-fn are_increasing(before: u32, last: u32, numbers: &[u32]) -> bool
-    ensures { result ≡ are_increasing before last numbers.now }
+// Whether the job numbers increase strictly, are all greater than `previous`, and are at most `last`.
+fn are_increasing(previous: u32, last: u32, numbers: &[u32]) -> bool
+    ensures { result ≡ are_increasing previous last numbers.now }
 {
-    let mut before = before;
+    let mut previous = previous;
     for number in numbers {
-        if *number <= before || last < *number {
+        if *number <= previous || last < *number {
             return false;
         }
-        before = *number;
+        previous = *number;
     }
     true
 }
 
-// Whether the job numbers are `first`, `first` + `step`, `first` + 2 `step` and so on, up to `last`.
-fn are_evenly_spaced(first: usize, step: usize, last: usize, numbers: &[u32]) -> bool
+// Whether the job numbers are `first`, `first` + `step`, `first` + 2 `step` and so on, up to `limit`.
+fn are_evenly_spaced(first: usize, step: usize, limit: usize, numbers: &[u32]) -> bool
     requires first { first ≤ max_jobs }
     requires step { step ≤ max_jobs }
-    requires last { last ≤ max_jobs }
-    ensures { result ≡ are_evenly_spaced first step last numbers.now }
+    requires last { limit ≤ max_jobs }
+    ensures { result ≡ are_evenly_spaced first step limit numbers.now }
 {
     let mut next = first;
     for number in numbers {
         let number = *number as usize;
-        if number != next || last < number {
+        if number != next || limit < number {
             return false;
         }
         next += step;
     }
-    last < next
+    limit < next
 }

@@ -30,9 +30,9 @@ use Rattle.rv_report.specs.declared.row.RowEnd.TheVariants as ending
 
 -- the bytes of a file if it was read, or the first refusal if it is unreadable, or the second if it is too long
 abbrev pub content_or_refusal : Kept → Refusal → Refusal → Result (List ℕ) Refusal
-content_or_refusal (kept.Content bytes) unreadable long = Ok bytes
-content_or_refusal kept.Unreadable unreadable long = Err unreadable
-content_or_refusal kept.TooLong unreadable long = Err long
+content_or_refusal (kept.Content bytes) unreadable too_long = Ok bytes
+content_or_refusal kept.Unreadable unreadable too_long = Err unreadable
+content_or_refusal kept.TooLong unreadable too_long = Err too_long
 
 -- the bytes of a file with expected results, or the refusal if it was not read; `None` if the job names no file
 abbrev pub reference_or_refusal : Option Kept → Result (Option (List ℕ)) Refusal

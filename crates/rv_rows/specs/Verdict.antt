@@ -49,13 +49,13 @@ has_expected_exit (Some code) end = exits_with code end
 -- whether a run ended in the expected way: by using up its budget, or with a fault of the expected kind
 abbrev pub meets_expected_end : ExpectedEnd → RowEnd → Bool
 meets_expected_end expected.Budget ending.Budget = true
-meets_expected_end (expected.Fault kind) (ending.Fault met pc value) = is_same_kind kind met
+meets_expected_end (expected.Fault kind) (ending.Fault actual pc value) = is_same_kind kind actual
 meets_expected_end _ _ = false
 
 -- whether a run ended in the expected way; true if no end is expected
 abbrev pub has_expected_end : Option ExpectedEnd → RowEnd → Bool
 has_expected_end None end = true
-has_expected_end (Some how) end = meets_expected_end how end
+has_expected_end (Some expected) end = meets_expected_end expected end
 
 -- ---- the console
 

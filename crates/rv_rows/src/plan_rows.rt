@@ -63,7 +63,7 @@ pub fn row_at_with_recent(
     row_with_verdict(alloc, plan, i, outcome, same)
 }
 
-/// Returns the row of the job at an index with this outcome. `same` says whether the outcome equals the outcome of the job that `same_as`
+/// Returns the row of the job at an index with this outcome. `is_same` says whether the outcome equals the outcome of the job that `same_as`
 /// names.
 #[tactic(auto, unfolding(crate::specs::Rows::row_of))]
 pub(crate) fn row_with_verdict(
@@ -71,11 +71,11 @@ pub(crate) fn row_with_verdict(
     plan: &Plan,
     i: usize,
     outcome: Outcome,
-    same: bool,
+    is_same: bool,
 ) -> Result<Row, AllocError>
     requires place { i < length plan.now.jobs }
     requires outcome { outcome_at plan.now i ≡ Some outcome }
-    requires same { (d : AJob) → let job = slice_index_or plan.now.jobs i d in same
+    requires same { (d : AJob) → let job = slice_index_or plan.now.jobs i d in is_same
         ≡ matches_same_as job.same_as (same_as_outcome plan.now job) outcome }
     ensures { IfOk result (λ row. (d : AJob) → row
         ≡ row_of plan.now (slice_index_or plan.now.jobs i d)) }
@@ -86,7 +86,7 @@ pub(crate) fn row_with_verdict(
         &outcome,
         signature_reference_bytes(plan, i),
         expected_console_bytes(plan, i),
-        same,
+        is_same,
     );
     row_of_outcome(alloc, job.name.as_str(), outcome, verdict)
 }

@@ -12,17 +12,17 @@ use rv_jobs::{ExpectedConsole, ExpectedEnd, Job};
 use rv_report::{RowEnd, Text, Verdict, Words, are_word_lines};
 
 /// Returns the verdict on the outcome of a job. `reference` and `console` are the bytes of the files with the expected signature and
-/// console, if they were read; `same` says whether the outcome equals the outcome of the job that `same_as` names.
+/// console, if they were read; `is_same` says whether the outcome equals the outcome of the job that `same_as` names.
 #[tactic(auto, unfolding(crate::specs::Verdict::verdict_of))]
 pub(crate) fn verdict_of(
     job: &Job,
     outcome: &Outcome,
     reference: Option<&[u8]>,
     console: Option<&[u8]>,
-    same: bool,
+    is_same: bool,
 ) -> Verdict
-    // For every outcome of the named job such that `same` correctly states whether the two are equal.
-    ensures { (other : Option AnOutcome) → same ≡ matches_same_as job.now.same_as other outcome.now
+    // For every outcome of the named job such that `is_same` correctly states whether the two are equal.
+    ensures { (other : Option AnOutcome) → is_same ≡ matches_same_as job.now.same_as other outcome.now
         → result ≡ verdict_of job.now outcome.now (option_map (λ bytes. bytes.now) reference.entry)
         (option_map (λ bytes. bytes.now) console.entry) other }
 {
@@ -41,7 +41,7 @@ pub(crate) fn verdict_of(
     if !has_expected_signature(&job.expect_signature, reference, outcome) {
         return Verdict::Fail;
     }
-    if !same {
+    if !is_same {
         return Verdict::Fail;
     }
     Verdict::Pass

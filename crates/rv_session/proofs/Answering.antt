@@ -12,8 +12,8 @@ use Rattle.rv_session.specs.declared.session.Session.{Session}
 -- a request that changes nothing is none of these
 pub record IsLook (request : Request) : Type 0 where
   pub no_write : (register : Register) (value : ℕ) → request ≡ ask.WriteRegister register value → ⊥
-  pub no_set : (place : Stoppoint) → request ≡ ask.Set place → ⊥
-  pub no_clear : (place : Stoppoint) → request ≡ ask.Clear place → ⊥
+  pub no_set : (stoppoint : Stoppoint) → request ≡ ask.Set stoppoint → ⊥
+  pub no_clear : (stoppoint : Stoppoint) → request ≡ ask.Clear stoppoint → ⊥
   pub no_move : (requested : Move) → request ≡ ask.Move requested → ⊥
   pub no_command : (text : List ℕ) → request ≡ ask.Command text → ⊥
   pub no_restart : request ≡ ask.Restart → ⊥
@@ -24,8 +24,8 @@ pub record IsLook (request : Request) : Type 0 where
 pub looked : (session : Session) (request : Request) (reply : Reply) → IsLook request → reply ≡ read_only_reply session request
     → IsReply session request reply session
 looked session (ask.WriteRegister register value) reply look is = absurd (look.no_write register value refl)
-looked session (ask.Set place) reply look is = absurd (look.no_set place refl)
-looked session (ask.Clear place) reply look is = absurd (look.no_clear place refl)
+looked session (ask.Set stoppoint) reply look is = absurd (look.no_set step refl)
+looked session (ask.Clear stoppoint) reply look is = absurd (look.no_clear step refl)
 looked session (ask.Move requested) reply look is = absurd (look.no_move requested refl)
 looked session (ask.Command text) reply look is = absurd (look.no_command text refl)
 looked session ask.Restart reply look is = absurd (look.no_restart refl)

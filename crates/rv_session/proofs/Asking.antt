@@ -24,10 +24,10 @@ use Rattle.rv_session.specs.declared.session.Session.{Session}
 unasked : (next other : Session) → next ≡ other → other.requested ≡ None → next.requested ≡ None
 unasked next other is none = ap (λ (s : Session). s.requested) is ∙ none
 
-placed_unasked : (session next : Session) (place : ℕ) (moves : Bool) → session.requested ≡ None
-    → next ≡ (if moves then at_step session place else session) → next.requested ≡ None
-placed_unasked session next place true none is = unasked next (at_step session place) is none
-placed_unasked session next place false none is = unasked next session is none
+placed_unasked : (session next : Session) (step : ℕ) (moves : Bool) → session.requested ≡ None
+    → next ≡ (if moves then at_step session step else session) → next.requested ≡ None
+placed_unasked session next step true none is = unasked next (at_step session step) is none
+placed_unasked session next step false none is = unasked next session is none
 
 set_unasked : (session next : Session) (outcome : Result Stops Refusal) (reply : Reply) → session.requested ≡ None
     → IsSetReply session outcome reply next → next.requested ≡ None
@@ -40,16 +40,16 @@ written_unasked session next (reg.Hart number) value reply none written = unaske
 written_unasked session next reg.Steps value reply none written =
     placed_unasked session next value (nat_le value (last_step session.history.budget session.history.start)) none written.1
 written_unasked session next reg.Printed value reply none written =
-    unasked next (at_step session next.history.place) written.run none
+    unasked next (at_step session next.history.step) written.run none
 written_unasked session next reg.Taken value reply none written =
-    unasked next (at_step session next.history.place) written.run none
+    unasked next (at_step session next.history.step) written.run none
 
 answered_may : (session next : Session) (request : Request) (reply : Reply) → session.is_over ≡ false → session.requested ≡ None
     → IsReply session request reply next → IsOpenIfRequested next
 answered_may session next (ask.Move requested) reply going none answered = inr (ap (λ (s : Session). s.is_over) answered.1 ∙ going)
 answered_may session next (ask.WriteRegister register value) reply going none answered =
     inl (written_unasked session next register value reply none answered)
-answered_may session next (ask.Set place) reply going none answered =
+answered_may session next (ask.Set stoppoint) reply going none answered =
     inl (set_unasked session next answered.outcome reply none answered.set)
 answered_may session next (ask.Command text) reply going none answered =
     inl (placed_unasked session next 0 (is_reset text) none answered.1)

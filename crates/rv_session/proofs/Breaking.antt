@@ -9,10 +9,10 @@ use Rattle.rv_session.specs.declared.session.Session.{Session}
 moved_more : (end_text : List ℕ) (one other : Bool) (session next : Session) (requested : Move) (reply : Reply)
     → (one ≡ true → other ≡ true) → IsMoved end_text one session requested reply next → IsMoved end_text other session requested reply next
 moved_more end_text one other session next requested reply more moved = record {
-  place = moved.place;
-  found = moved.found;
+  step = moved.step;
+  outcome = moved.outcome;
   gone = moved.gone;
-  broken_off = λ broken. more (moved.broken_off broken);
+  interrupted = λ broken. more (moved.interrupted broken);
   reply_is = moved.reply_is;
   next_is = moved.next_is;
 }

@@ -6,7 +6,7 @@ use Rattle.std.proofs.Math.Bridge.{le_prop}
 use Rattle.rv_history.specs.Moves.{IsInterrupted, IsUninterrupted}
 use Rattle.rv_history.specs.declared.counts.Count.{Count}
 use Rattle.rv_history.specs.declared.counts.Count.TheVariants as count
-use Rattle.rv_history.specs.declared.found.MoveResult.{MoveResult}
+use Rattle.rv_history.specs.declared.outcome.MoveResult.{MoveResult}
 use Rattle.rv_history.specs.declared.bounds.Bounds.TheVariants as bounds
 use Rattle.rv_history.specs.declared.stops.Stops.{Stops}
 use Rattle.rv_history.specs.declared.stops.Watch.{Watch}
@@ -54,43 +54,43 @@ gone_one move.ContinueBack stops budget from p q start one other first second wh
 gone_one move.StepBack stops budget from p q start one other first second whole again =
     one_step_before stops budget from p q start one other first second
 
-unbroken : (may_break : Bool) (found : MoveResult) → may_break ≡ false → (IsInterrupted found → may_break ≡ true) → IsUninterrupted found
-unbroken may_break found never broken is = both_ways may_break never (broken is)
+unbroken : (may_break : Bool) (outcome : MoveResult) → may_break ≡ false → (IsInterrupted outcome → may_break ≡ true) → IsUninterrupted outcome
+unbroken may_break outcome never broken is = both_ways may_break never (broken is)
 
 moved_one : (end_text : List ℕ) (may_break : Bool) (session one other : Session) (requested : Move) (reply again : Reply) → may_break ≡ false
     → IsMoved end_text may_break session requested reply one → IsMoved end_text may_break session requested again other → (reply ≡ again) × (one ≡ other)
 moved_one end_text may_break session one other requested reply again never first second =
-    let same = gone_one requested session.stops session.history.budget session.history.place first.place second.place
-    session.history.start first.found second.found first.gone second.gone
-    (unbroken may_break first.found never first.broken_off) (unbroken may_break second.found never second.broken_off) in
-    let said : ℕ → MoveResult → Reply = λ place found.
-    reply_with_end (console_before_stop session requested (state_at session place)) (end_text_at end_text found)
-    (stop_text (stop_of session requested place found)) in
-    let stands : ℕ → MoveResult → Session = λ place found. record session {
-      history = record session.history { place = place };
-      shown = console_sent_after session requested (state_at session place);
-      last = stop_of session requested place found;
+    let same = gone_one requested session.stops session.history.budget session.history.step first.step second.step
+    session.history.start first.outcome second.outcome first.gone second.gone
+    (unbroken may_break first.outcome never first.interrupted) (unbroken may_break second.outcome never second.interrupted) in
+    let said : ℕ → MoveResult → Reply = λ step outcome.
+    reply_with_end (console_before_stop session requested (state_at session step)) (end_text_at end_text outcome)
+    (stop_text (stop_of session requested step outcome)) in
+    let stands : ℕ → MoveResult → Session = λ step outcome. record session {
+      history = record session.history { step = step };
+      shown = console_sent_after session requested (state_at session step);
+      last = stop_of session requested step outcome;
     } in (
-      first.reply_is ∙ ap (λ (k : ℕ). said k first.found) same.0 ∙ ap (said second.place) same.1 ∙ sym second.reply_is,
-      first.next_is ∙ ap (λ (k : ℕ). stands k first.found) same.0 ∙ ap (stands second.place) same.1 ∙ sym second.next_is,
+      first.reply_is ∙ ap (λ (k : ℕ). said k first.outcome) same.0 ∙ ap (said second.step) same.1 ∙ sym second.reply_is,
+      first.next_is ∙ ap (λ (k : ℕ). stands k first.outcome) same.0 ∙ ap (stands second.step) same.1 ∙ sym second.next_is,
     )
 
 -- ---- seeks
 
 sought_as_one : (session one other : Session) (count : Count) (value : ℕ) (grants again : Bool)
     → IsSeekResult grants session count value one → IsSeekResult again session count value other
-    → (grants ≡ again) × (one.history.place ≡ other.history.place)
+    → (grants ≡ again) × (one.history.step ≡ other.history.step)
 sought_as_one session one other count value true true first second = (
   refl,
   one_first_with count value session.history.budget
-      one.history.place other.history.place session.history.start first second,
+      one.history.step other.history.step session.history.start first second,
 )
 sought_as_one session one other count value true false first second =
-    absurd (second.0 one.history.place first.within first.there)
+    absurd (second.0 one.history.step first.within first.there)
 sought_as_one session one other count value false true first second =
-    absurd (first.0 other.history.place second.within second.there)
+    absurd (first.0 other.history.step second.within second.there)
 sought_as_one session one other count value false false first second =
-    (refl, ap (λ (s : Session). s.history.place) (first.1 ∙ sym second.1))
+    (refl, ap (λ (s : Session). s.history.step) (first.1 ∙ sym second.1))
 
 sought_one : (session one other : Session) (count : Count) (value : ℕ) (reply again : Reply)
     → IsSeekHandled session count value reply one → IsSeekHandled session count value again other → (reply ≡ again) × (one ≡ other)
@@ -138,7 +138,7 @@ watch_one range one other first second =
     (eqb-true one.address range.address here.0 ∙ sym (eqb-true other.address range.address there.0))
     (eqb-true one.count range.count here.1 ∙ sym (eqb-true other.count range.count there.1))
 
-added_one : (stops one other : Stops) (place : Stoppoint) → IsTableAdded stops place one → IsTableAdded stops place other → one ≡ other
+added_one : (stops one other : Stops) (stoppoint : Stoppoint) → IsTableAdded stops stoppoint one → IsTableAdded stops stoppoint other → one ≡ other
 added_one stops one other (trap.Break address) first second = first ∙ sym second
 added_one stops one other (trap.Watch kind range) first second =
     let same : first.watches ≡ second.watches = first.added.next_is
@@ -147,30 +147,30 @@ added_one stops one other (trap.Watch kind range) first second =
     ∙ sym second.added.next_is in
     first.next_is ∙ ap (with_watches stops kind) same ∙ sym second.next_is
 
-added_unless_one : (stops one other : Stops) (place : Stoppoint) (is : Bool) → IsAddedUnless is stops place one
-    → IsAddedUnless is stops place other → one ≡ other
-added_unless_one stops one other place true first second = first ∙ sym second
-added_unless_one stops one other place false first second = added_one stops one other place first second
+added_unless_one : (stops one other : Stops) (stoppoint : Stoppoint) (is : Bool) → IsAddedUnless is stops stoppoint one
+    → IsAddedUnless is stops stoppoint other → one ≡ other
+added_unless_one stops one other stoppoint true first second = first ∙ sym second
+added_unless_one stops one other stoppoint false first second = added_one stops one other stoppoint first second
 
-trapped_one : (stops : Stops) (bus : BusContents) (place : Stoppoint) (one other : Result Stops Refusal) → IsStoppointAdded stops bus place one
-    → IsStoppointAdded stops bus place other → one ≡ other
-trapped_one stops bus place (Ok one) (Ok other) first second =
-    ap (λ (s : Stops). Ok s) (added_unless_one stops one other place (is_set stops place) first.1 second.1)
-trapped_one stops bus place (Ok one) (Err other) first second =
-    let none : stoppoint_refusal stops bus place ≡ None = first.0 in absurd (cc (none, second))
-trapped_one stops bus place (Err one) (Ok other) first second =
-    let none : stoppoint_refusal stops bus place ≡ None = second.0 in absurd (cc (none, first))
-trapped_one stops bus place (Err one) (Err other) first second = cc (first, second)
+trapped_one : (stops : Stops) (bus : BusContents) (stoppoint : Stoppoint) (one other : Result Stops Refusal) → IsStoppointAdded stops bus stoppoint one
+    → IsStoppointAdded stops bus stoppoint other → one ≡ other
+trapped_one stops bus stoppoint (Ok one) (Ok other) first second =
+    ap (λ (s : Stops). Ok s) (added_unless_one stops one other stoppoint (is_set stops stoppoint) first.1 second.1)
+trapped_one stops bus stoppoint (Ok one) (Err other) first second =
+    let none : stoppoint_refusal stops bus stoppoint ≡ None = first.0 in absurd (cc (none, second))
+trapped_one stops bus stoppoint (Err one) (Ok other) first second =
+    let none : stoppoint_refusal stops bus stoppoint ≡ None = second.0 in absurd (cc (none, first))
+trapped_one stops bus stoppoint (Err one) (Err other) first second = cc (first, second)
 
 set_one : (session one other : Session) (outcome : Result Stops Refusal) (reply again : Reply) → IsSetReply session outcome reply one
     → IsSetReply session outcome again other → (reply ≡ again) × (one ≡ other)
 set_one session one other (Ok stops) reply again first second = (first.0 ∙ sym second.0, first.1 ∙ sym second.1)
 set_one session one other (Err refusal) reply again first second = (first.0 ∙ sym second.0, first.1 ∙ sym second.1)
 
-trap_one : (session one other : Session) (place : Stoppoint) (reply again : Reply) → IsStoppointSet session place reply one
-    → IsStoppointSet session place again other → (reply ≡ again) × (one ≡ other)
-trap_one session one other place reply again first second =
-    let same = trapped_one session.stops (state_at session session.history.place).bus place first.outcome second.outcome
+trap_one : (session one other : Session) (stoppoint : Stoppoint) (reply again : Reply) → IsStoppointSet session stoppoint reply one
+    → IsStoppointSet session stoppoint again other → (reply ≡ again) × (one ≡ other)
+trap_one session one other stoppoint reply again first second =
+    let same = trapped_one session.stops (state_at session session.history.stoppoint).bus stoppoint first.outcome second.outcome
     first.trapped second.trapped in
     set_one session one other second.outcome reply again
     (subst (λ (o : Result Stops Refusal). IsSetReply session o reply one) same first.set) second.set
@@ -181,8 +181,8 @@ answered_one : (session one other : Session) (request : Request) (reply again : 
     → IsReply session request again other → (reply ≡ again) × (one ≡ other)
 answered_one session one other (ask.WriteRegister register value) reply again first second =
     written_one session one other register value reply again first second
-answered_one session one other (ask.Set place) reply again first second =
-    trap_one session one other place reply again first second
+answered_one session one other (ask.Set stoppoint) reply again first second =
+    trap_one session one other step reply again first second
 answered_one session one other request reply again first second = (first.0 ∙ sym second.0, first.1 ∙ sym second.1)
 
 taken_one : (session one other : Session) (body out more : List ℕ) → IsPacketResponse session body out one

@@ -70,13 +70,13 @@ by_fields session next other is start budget program script shown = quiet_by ses
 stays : (session next : Session) → next ≡ session → IsQuiet session next
 stays session next is = by_fields session next session is refl refl refl refl refl
 
-goes : (session next : Session) (place : ℕ) → next ≡ at_step session place → IsQuiet session next
-goes session next place is = by_fields session next (at_step session place) is refl refl refl refl refl
+goes : (session next : Session) (step : ℕ) → next ≡ at_step session step → IsQuiet session next
+goes session next step is = by_fields session next (at_step session step) is refl refl refl refl refl
 
-stays_or_goes : (session next : Session) (place : ℕ) (moves : Bool)
-    → next ≡ (if moves then at_step session place else session) → IsQuiet session next
-stays_or_goes session next place true is = goes session next place is
-stays_or_goes session next place false is = stays session next is
+stays_or_goes : (session next : Session) (step : ℕ) (moves : Bool)
+    → next ≡ (if moves then at_step session step else session) → IsQuiet session next
+stays_or_goes session next step true is = goes session next step is
+stays_or_goes session next step false is = stays session next is
 
 set_quiet : (session next : Session) (outcome : Result Stops Refusal) (reply : Reply) → IsSetReply session outcome reply next
     → IsQuiet session next
@@ -89,16 +89,16 @@ written_quiet : (session next : Session) (register : Register) (value : ℕ) (re
 written_quiet session next (reg.Hart number) value reply written = stays session next written.1
 written_quiet session next reg.Steps value reply written =
     stays_or_goes session next value (nat_le value (last_step session.history.budget session.history.start)) written.1
-written_quiet session next reg.Printed value reply written = goes session next next.history.place written.run
-written_quiet session next reg.Taken value reply written = goes session next next.history.place written.run
+written_quiet session next reg.Printed value reply written = goes session next next.history.step written.run
+written_quiet session next reg.Taken value reply written = goes session next next.history.step written.run
 
 answered_quiet : (session next : Session) (request : Request) (reply : Reply) → IsReply session request reply next
     → IsQuiet session next
 answered_quiet session next (ask.Move requested) reply answered = by_fields session next _ answered.1 refl refl refl refl refl
 answered_quiet session next (ask.WriteRegister register value) reply answered =
     written_quiet session next register value reply answered
-answered_quiet session next (ask.Set place) reply answered = set_quiet session next answered.outcome reply answered.set
-answered_quiet session next (ask.Clear place) reply answered = by_fields session next _ answered.1 refl refl refl refl refl
+answered_quiet session next (ask.Set stoppoint) reply answered = set_quiet session next answered.outcome reply answered.set
+answered_quiet session next (ask.Clear stoppoint) reply answered = by_fields session next _ answered.1 refl refl refl refl refl
 answered_quiet session next (ask.Command text) reply answered =
     stays_or_goes session next 0 (is_reset text) answered.1
 answered_quiet session next ask.Restart reply answered = by_fields session next _ answered.1 refl refl refl refl refl

@@ -5,8 +5,8 @@ use Rattle.std.proofs.lemmas.Bool.{cases_lt}
 use Rattle.std.proofs.lemmas.List.{drop_all, take-append-drop, take-append-le}
 use Rattle.rv_history.specs.Moves.{IsNextStep}
 use Rattle.rv_history.specs.Places.{last_step}
-use Rattle.rv_history.specs.declared.found.MoveResult.{MoveResult}
-use Rattle.rv_history.specs.declared.found.MoveResult.TheVariants as found
+use Rattle.rv_history.specs.declared.outcome.MoveResult.{MoveResult}
+use Rattle.rv_history.specs.declared.outcome.MoveResult.TheVariants as outcome
 use Rattle.rv_history.specs.declared.stops.Stops.{Stops}
 use Rattle.rv_history.proofs.Public.{printed_stays}
 use Rattle.rv_history.specs.State.{State}
@@ -43,25 +43,25 @@ shown_within front rest shown within = let long = length-append front rest in om
 
 -- ---- of moves
 
-stepped_within : (stops : Stops) (budget from place : ℕ) (start : State) (found : MoveResult)
-    → IsNextStep stops budget start from place found → place ≤ last_step budget start
-stepped_within stops budget from place start found.Done step = let there = step.0 in let goes = step.1 in omega arith
-stepped_within stops budget from place start (found.End ending) step =
+stepped_within : (stops : Stops) (budget from step : ℕ) (start : State) (outcome : MoveResult)
+    → IsNextStep stops budget start from step outcome → step ≤ last_step budget start
+stepped_within stops budget from step start outcome.Done step = let there = step.0 in let goes = step.1 in omega arith
+stepped_within stops budget from step start (outcome.End ending) step =
     let there = step.0 in let end = step.1.0 in omega arith
-stepped_within stops budget from place start found.WatchTriggered step =
+stepped_within stops budget from step start outcome.WatchTriggered step =
     let there = step.0 in let goes = step.1.completes in omega arith
-stepped_within stops budget from place start found.Breakpoint step = absurd step
-stepped_within stops budget from place start found.RunStart step = absurd step
-stepped_within stops budget from place start found.Interrupted step = absurd step
+stepped_within stops budget from step start outcome.Breakpoint step = absurd step
+stepped_within stops budget from step start outcome.RunStart step = absurd step
+stepped_within stops budget from step start outcome.Interrupted step = absurd step
 
-went_within : (requested : Move) (stops : Stops) (budget from place : ℕ) (start : State) (found : MoveResult)
-    → is_forward requested ≡ true → IsMoveResult requested stops budget start from place found → place ≤ last_step budget start
-went_within move.Continue stops budget from place start found forward gone = gone.within
-went_within move.Step stops budget from place start found forward gone =
-    stepped_within stops budget from place start found gone
-went_within (move.StepWithin low high) stops budget from place start found forward gone = gone.within
-went_within move.ContinueBack stops budget from place start found forward gone = absurd (cc forward)
-went_within move.StepBack stops budget from place start found forward gone = absurd (cc forward)
+went_within : (requested : Move) (stops : Stops) (budget from step : ℕ) (start : State) (outcome : MoveResult)
+    → is_forward requested ≡ true → IsMoveResult requested stops budget start from step outcome → step ≤ last_step budget start
+went_within move.Continue stops budget from step start outcome forward gone = gone.within
+went_within move.Step stops budget from step start outcome forward gone =
+    stepped_within stops budget from step start outcome gone
+went_within (move.StepWithin low high) stops budget from step start outcome forward gone = gone.within
+went_within move.ContinueBack stops budget from step start outcome forward gone = absurd (cc forward)
+went_within move.StepBack stops budget from step start outcome forward gone = absurd (cc forward)
 
 -- what goes out on a move, and how many went out then
 abbrev pub Shows : Session → State → List ℕ → ℕ → List ℕ → Type 0
@@ -80,31 +80,31 @@ shows_forward session s end rest shown is first within =
           (shown_within front rest session.shown long),
     )
 
-shows_on : (session : Session) (requested : Move) (place : ℕ) (found : MoveResult) (shown : List ℕ) (forward : Bool)
+shows_on : (session : Session) (requested : Move) (step : ℕ) (outcome : MoveResult) (shown : List ℕ) (forward : Bool)
     → is_forward requested ≡ forward
-    → IsMoveResult requested session.stops session.history.budget session.history.start session.history.place place found
+    → IsMoveResult requested session.stops session.history.budget session.history.start session.history.step step outcome
     → HasSentConsole session shown
     → Shows session (state_at session (last_step session.history.budget session.history.start))
-    (console_before_stop session requested (state_at session place)) (console_sent_after session requested (state_at session place)) shown
-shows_on session requested place found shown true forward gone before =
+    (console_before_stop session requested (state_at session step)) (console_sent_after session requested (state_at session step)) shown
+shows_on session requested step outcome shown true forward gone before =
     let last = last_step session.history.budget session.history.start in
-    let within = went_within requested session.stops session.history.budget session.history.place place session.history.start found
+    let within = went_within requested session.stops session.history.budget session.history.step step session.history.start outcome
     forward gone in
-    let stays = printed_stays place last session.history.start within in
-    rw forward (shows_forward session (state_at session place) (state_at session last) stays.rest shown stays.whole_is
+    let stays = printed_stays step last session.history.start within in
+    rw forward (shows_forward session (state_at session step) (state_at session last) stays.rest shown stays.whole_is
     before.first_bytes before.within)
-shows_on session requested place found shown false forward gone before =
+shows_on session requested step outcome shown false forward gone before =
     rw forward (append-nil shown ∙ before.first_bytes, before.within)
 
 pub shown_once : (end_text : List ℕ) (may_break : Bool) (session next : Session) (requested : Move) (reply : Reply) (shown : List ℕ) → HasSentConsole session shown
     → IsMoved end_text may_break session requested reply next → HasSentConsole next (shown ++ reply.printed)
 shown_once end_text may_break session next requested reply shown before moved =
     let last = last_step session.history.budget session.history.start in
-    let shows = shows_on session requested moved.place moved.found shown (is_forward requested) refl moved.gone before in
-    let printed : reply.printed ≡ console_before_stop session requested (state_at session moved.place) =
+    let shows = shows_on session requested moved.step moved.outcome shown (is_forward requested) refl moved.gone before in
+    let printed : reply.printed ≡ console_before_stop session requested (state_at session moved.step) =
     ap (λ (r : Reply). r.printed) moved.reply_is in
     let same : console_of_run next ≡ console_of_run session = ap console_of_run moved.next_is in
-    let counted : next.shown ≡ console_sent_after session requested (state_at session moved.place) =
+    let counted : next.shown ≡ console_sent_after session requested (state_at session moved.step) =
     ap (λ (s : Session). s.shown) moved.next_is in record {
       first_bytes = ap (λ (text : List ℕ). shown ++ text) printed ∙ shows.0
           ∙ ap (λ (k : ℕ). take k (console_of_run session)) (sym counted) ∙ ap (take next.shown) (sym same);

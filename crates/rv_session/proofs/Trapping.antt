@@ -10,21 +10,21 @@ use Rattle.rv_gdb_protocol.specs.declared.request.Refusal.TheVariants as refusal
 use Rattle.rv_gdb_protocol.specs.declared.request.Stoppoint.{Stoppoint}
 use Rattle.rv_session.specs.Stoppoints.{IsTableAdded, IsStoppointAdded, IsWatchAdded, can_be_set, is_full, is_set}
 
-pub cannot_be : (stops : Stops) (bus : BusContents) (place : Stoppoint) → can_be_set bus place ≡ false
-    → IsStoppointAdded stops bus place (Err refusal.Malformed)
-cannot_be stops bus place can = rw can refl
+pub cannot_be : (stops : Stops) (bus : BusContents) (stoppoint : Stoppoint) → can_be_set bus stoppoint ≡ false
+    → IsStoppointAdded stops bus stoppoint (Err refusal.Malformed)
+cannot_be stops bus stoppoint can = rw can refl
 
-pub set_already : (stops next : Stops) (bus : BusContents) (place : Stoppoint) → can_be_set bus place ≡ true → is_set stops place ≡ true
-    → next ≡ stops → IsStoppointAdded stops bus place (Ok next)
-set_already stops next bus place can set same = (rw (can, set) refl, rw set same)
+pub set_already : (stops next : Stops) (bus : BusContents) (stoppoint : Stoppoint) → can_be_set bus stoppoint ≡ true → is_set stops stoppoint ≡ true
+    → next ≡ stops → IsStoppointAdded stops bus stoppoint (Ok next)
+set_already stops next bus stoppoint can set same = (rw (can, set) refl, rw set same)
 
-pub too_many : (stops : Stops) (bus : BusContents) (place : Stoppoint) → can_be_set bus place ≡ true → is_set stops place ≡ false
-    → is_full stops ≡ true → IsStoppointAdded stops bus place (Err refusal.TooManyStoppoints)
-too_many stops bus place can set full = rw (can, set, full) refl
+pub too_many : (stops : Stops) (bus : BusContents) (stoppoint : Stoppoint) → can_be_set bus stoppoint ≡ true → is_set stops stoppoint ≡ false
+    → is_full stops ≡ true → IsStoppointAdded stops bus stoppoint (Err refusal.TooManyStoppoints)
+too_many stops bus stoppoint can set full = rw (can, set, full) refl
 
-pub set_now : (stops next : Stops) (bus : BusContents) (place : Stoppoint) → can_be_set bus place ≡ true → is_set stops place ≡ false
-    → is_full stops ≡ false → IsTableAdded stops place next → IsStoppointAdded stops bus place (Ok next)
-set_now stops next bus place can set full added = (rw (can, set, full) refl, rw set added)
+pub set_now : (stops next : Stops) (bus : BusContents) (stoppoint : Stoppoint) → can_be_set bus stoppoint ≡ true → is_set stops stoppoint ≡ false
+    → is_full stops ≡ false → IsTableAdded stops stoppoint next → IsStoppointAdded stops bus stoppoint (Ok next)
+set_now stops next bus stoppoint can set full added = (rw (can, set, full) refl, rw set added)
 
 -- one more watch
 pub watch_added : (old copied pushed next : List Watch) (watch : Watch) (range : Range) → copied ≡ old

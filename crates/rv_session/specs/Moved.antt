@@ -4,10 +4,10 @@ use Rattle.rv_history.specs.Moves.{IsInterrupted, IsNextStep, IsNextStop, IsStep
 use Rattle.rv_history.specs.Places.{last_step}
 use Rattle.rv_history.specs.Stops.{first_triggered}
 use Rattle.rv_history.specs.declared.bounds.Bounds.TheVariants as bounds
-use Rattle.rv_history.specs.declared.found.MoveResult.{MoveResult}
-use Rattle.rv_history.specs.declared.found.MoveResult.TheVariants as found
+use Rattle.rv_history.specs.declared.outcome.MoveResult.{MoveResult}
+use Rattle.rv_history.specs.declared.outcome.MoveResult.TheVariants as outcome
 use Rattle.rv_history.specs.declared.stops.WatchHit.{WatchHit}
-use Rattle.rv_history.specs.declared.stops.WatchHit.TheVariants as set_off
+use Rattle.rv_history.specs.declared.stops.WatchHit.TheVariants as hit
 use Rattle.rv_history.specs.declared.stops.Stops.{Stops}
 use Rattle.rv_history.specs.State.{State}
 use Rattle.rv_history.specs.declared_ending.Ending.{Ending}
@@ -31,14 +31,14 @@ is_forward (move.StepWithin low high) = true
 is_forward move.ContinueBack = false
 is_forward move.StepBack = false
 
--- the move, made at step `from` of the run that starts in the state `start`, ends at the step `place` with the result `found`
+-- the move, made at step `from` of the run that starts in the state `start`, ends at the step `step` with the result `outcome`
 abbrev pub IsMoveResult : Move → Stops → ℕ → State → ℕ → ℕ → MoveResult → Type 0
-IsMoveResult move.Continue stops budget start from place found = IsNextStop stops bounds.All budget start from place found
-IsMoveResult move.Step stops budget start from place found = IsNextStep stops budget start from place found
-IsMoveResult (move.StepWithin low high) stops budget start from place found =
-    IsNextStop stops (bounds.Within low high) budget start from place found
-IsMoveResult move.ContinueBack stops budget start from place found = IsStopBefore stops budget start from place found
-IsMoveResult move.StepBack stops budget start from place found = IsStepBefore stops budget start from place found
+IsMoveResult move.Continue stops budget start from step outcome = IsNextStop stops bounds.All budget start from step outcome
+IsMoveResult move.Step stops budget start from step outcome = IsNextStep stops budget start from step outcome
+IsMoveResult (move.StepWithin low high) stops budget start from step outcome =
+    IsNextStop stops (bounds.Within low high) budget start from step outcome
+IsMoveResult move.ContinueBack stops budget start from step outcome = IsStopBefore stops budget start from step outcome
+IsMoveResult move.StepBack stops budget start from step outcome = IsStepBefore stops budget start from step outcome
 
 -- the stop that reports this end of the run
 abbrev pub end_stop : Ending → Stop
@@ -48,35 +48,35 @@ end_stop ending.Budget = stop.Budget
 
 -- the stop that reports this watchpoint hit; a stop without a reason if there is no hit
 abbrev pub stop_of_watch_hit : Option WatchHit → Stop
-stop_of_watch_hit (Some (set_off.Change address)) = stop.Watch watch.Writes address
-stop_of_watch_hit (Some (set_off.Read address)) = stop.Watch watch.Reads address
-stop_of_watch_hit (Some (set_off.Access address)) = stop.Watch watch.Accesses address
+stop_of_watch_hit (Some (hit.Change address)) = stop.Watch watch.Writes address
+stop_of_watch_hit (Some (hit.Read address)) = stop.Watch watch.Reads address
+stop_of_watch_hit (Some (hit.Access address)) = stop.Watch watch.Accesses address
 stop_of_watch_hit None = stop.Trap
 
 -- the first watchpoint that triggers between the states at the steps `one` and `other`; `None` if none does
 abbrev pub watch_between : Session → ℕ → ℕ → Option WatchHit
 watch_between session one other = first_triggered session.stops (state_at session one) (state_at session other)
 
--- the stop for a watchpoint hit at step `place`: the step after it triggers the watchpoint if the move was forwards, and the step before it
+-- the stop for a watchpoint hit at step `step`: the step after it triggers the watchpoint if the move was forwards, and the step before it
 -- if it was backwards
 abbrev pub watch_stop : Session → Move → ℕ → Stop
-watch_stop session requested place = stop_of_watch_hit
-    (if is_forward requested then watch_between session place (place + 1) else watch_between session (place - 1) place)
+watch_stop session requested step = stop_of_watch_hit
+    (if is_forward requested then watch_between session step (step + 1) else watch_between session (step - 1) step)
 
 -- if the move found a watchpoint hit and went forwards, the session is before the last step of its run, so that there is a step that
 -- triggered it
 abbrev pub CanReportHit : Session → Move → MoveResult → Type 0
-CanReportHit session requested what = what ≡ found.WatchTriggered → is_forward requested ≡ true
-    → session.history.place < last_step session.history.budget session.history.start
+CanReportHit session requested what = what ≡ outcome.WatchTriggered → is_forward requested ≡ true
+    → session.history.step < last_step session.history.budget session.history.start
 
--- the stop that reports the result `found` of a move to the step `place`
+-- the stop that reports the result `outcome` of a move to the step `step`
 abbrev pub stop_of : Session → Move → ℕ → MoveResult → Stop
-stop_of session requested place found.Done = stop.Trap
-stop_of session requested place found.Breakpoint = stop.Trap
-stop_of session requested place found.WatchTriggered = watch_stop session requested place
-stop_of session requested place (found.End ending) = end_stop ending
-stop_of session requested place found.RunStart = stop.RunStart
-stop_of session requested place found.Interrupted = stop.Interrupt
+stop_of session requested step outcome.Done = stop.Trap
+stop_of session requested step outcome.Breakpoint = stop.Trap
+stop_of session requested step outcome.WatchTriggered = watch_stop session requested step
+stop_of session requested step (outcome.End ending) = end_stop ending
+stop_of session requested step outcome.RunStart = stop.RunStart
+stop_of session requested step outcome.Interrupted = stop.Interrupt
 
 -- the console output that is sent before the stop in the state `s`: after a forward move, all output that was not sent before; after a
 -- backward move, nothing
@@ -89,25 +89,25 @@ console_sent_after session requested s = if is_forward requested then max sessio
 
 -- `end_text`, the text about the end of the run, if the move reached the end; otherwise an empty text
 abbrev pub end_text_at : List ℕ → MoveResult → List ℕ
-end_text_at end_text (found.End ending) = end_text
-end_text_at end_text found.Done = []
-end_text_at end_text found.Breakpoint = []
-end_text_at end_text found.WatchTriggered = []
-end_text_at end_text found.RunStart = []
-end_text_at end_text found.Interrupted = []
+end_text_at end_text (outcome.End ending) = end_text
+end_text_at end_text outcome.Done = []
+end_text_at end_text outcome.Breakpoint = []
+end_text_at end_text outcome.WatchTriggered = []
+end_text_at end_text outcome.RunStart = []
+end_text_at end_text outcome.Interrupted = []
 
 -- the session makes the move `requested`: `reply` is the reply, and `next` is the session after it; `end_text` is the text about the end of
 -- the run, and `may_break` says whether the move can be interrupted
 pub record IsMoved (end_text : List ℕ) (may_break : Bool) (session : Session) (requested : Move) (reply : Reply) (next : Session)
     : Type 0 where
-  pub place : ℕ
-  pub found : MoveResult
-  pub gone : IsMoveResult requested session.stops session.history.budget session.history.start session.history.place place found
-  pub broken_off : IsInterrupted found → may_break ≡ true
-  pub reply_is : reply ≡ reply_with_end (console_before_stop session requested (state_at session place)) (end_text_at end_text found)
-      (stop_text (stop_of session requested place found))
+  pub step : ℕ
+  pub outcome : MoveResult
+  pub gone : IsMoveResult requested session.stops session.history.budget session.history.start session.history.step step outcome
+  pub interrupted : IsInterrupted outcome → may_break ≡ true
+  pub reply_is : reply ≡ reply_with_end (console_before_stop session requested (state_at session step)) (end_text_at end_text outcome)
+      (stop_text (stop_of session requested step outcome))
   pub next_is : next ≡ record session {
-    history = record session.history { place = place };
-    shown = console_sent_after session requested (state_at session place);
-    last = stop_of session requested place found;
+    history = record session.history { step = step };
+    shown = console_sent_after session requested (state_at session step);
+    last = stop_of session requested step outcome;
   }

@@ -49,7 +49,7 @@ hart_value session number = if nat_lt number 32 then register (here session) num
 -- the value of a register of the target description at the current step
 abbrev pub value_of : Session → Register → ℕ
 value_of session (reg.Hart number) = hart_value session number
-value_of session reg.Steps = session.history.place
+value_of session reg.Steps = session.history.step
 value_of session reg.Printed = shown_count (length (here session).bus.output)
 value_of session reg.Taken = shown_count (script_bytes_consumed session)
 
@@ -117,7 +117,7 @@ is_reset text = bytes_eq text (codes "reset") || bytes_eq text (codes "reset hal
 -- the output of a `monitor` command other than a reset
 abbrev pub command_text : Session → List ℕ → List ℕ
 command_text session text =
-    if bytes_eq text (codes "when") then decimal session.history.place ++ codes " steps executed\n"
+    if bytes_eq text (codes "when") then decimal session.history.step ++ codes " steps executed\n"
     else if bytes_eq text (codes "console") then (here session).bus.output
     else if bytes_eq text (codes "input") then
     decimal (script_bytes_consumed session) ++ codes " of " ++ decimal session.script ++ codes " bytes read\n"
@@ -129,7 +129,7 @@ command_text session text =
 -- the session is unchanged
 abbrev pub IsSeekResult : Bool → Session → Count → ℕ → Session → Type 0
 IsSeekResult true session count value next =
-    IsFirstStepWith count value session.history.budget session.history.start next.history.place
+    IsFirstStepWith count value session.history.budget session.history.start next.history.step
 IsSeekResult false session count value next =
     IsFirstStepIfAny count value session.history.budget session.history.start None × (next ≡ session)
 
@@ -139,13 +139,13 @@ pub record IsSeekHandled (session : Session) (count : Count) (value : ℕ) (repl
   pub is_granted : Bool
   pub reply_is : reply ≡ ok_if is_granted refusal.NotReached
   pub sought : IsSeekResult is_granted session count value next
-  pub run : next ≡ at_step session next.history.place
+  pub run : next ≡ at_step session next.history.step
 
--- a request to move to the step `place`: the reply is `OK` if the run reaches it; otherwise it is a refusal, and the session is unchanged
+-- a request to move to the step `step`: the reply is `OK` if the run reaches it; otherwise it is a refusal, and the session is unchanged
 abbrev pub IsStepSeekHandled : Session → ℕ → Reply → Session → Type 0
-IsStepSeekHandled session place reply next =
-    (reply ≡ ok_if (nat_le place (last_step session.history.budget session.history.start)) refusal.NotReached)
-    × (next ≡ (if nat_le place (last_step session.history.budget session.history.start) then at_step session place else session))
+IsStepSeekHandled session step reply next =
+    (reply ≡ ok_if (nat_le step (last_step session.history.budget session.history.start)) refusal.NotReached)
+    × (next ≡ (if nat_le step (last_step session.history.budget session.history.start) then at_step session step else session))
 
 -- a write to a register: if it is a register of the hart, the write is granted only if the value does not change; if it is a count of the
 -- run, the session moves to the first step at which the count has the value
@@ -162,10 +162,10 @@ abbrev pub IsSetReply : Session → Result Stops Refusal → Reply → Session �
 IsSetReply session (Ok stops) reply next = (reply ≡ granted) × (next ≡ record session { stops = stops })
 IsSetReply session (Err refusal) reply next = (reply ≡ refused refusal) × (next ≡ session)
 
--- `reply` is the reply to a request to set the stoppoint `place`, and `next` is the session after it
-pub record IsStoppointSet (session : Session) (place : Stoppoint) (reply : Reply) (next : Session) : Type 0 where
+-- `reply` is the reply to a request to set the stoppoint `stoppoint`, and `next` is the session after it
+pub record IsStoppointSet (session : Session) (stoppoint : Stoppoint) (reply : Reply) (next : Session) : Type 0 where
   pub outcome : Result Stops Refusal
-  pub trapped : IsStoppointAdded session.stops (here session).bus place outcome
+  pub trapped : IsStoppointAdded session.stops (here session).bus stoppoint outcome
   pub set : IsSetReply session outcome reply next
 
 -- the reply to a `monitor` command: `OK` for a reset, and otherwise its output followed by `OK`
@@ -183,9 +183,9 @@ IsCommandHandled session text reply next =
 abbrev pub IsReply : Session → Request → Reply → Session → Type 0
 IsReply session (ask.Move requested) reply next = (reply ≡ empty_reply) × (next ≡ record session { requested = Some requested })
 IsReply session (ask.WriteRegister register value) reply next = IsRegisterWriteHandled session register value reply next
-IsReply session (ask.Set place) reply next = IsStoppointSet session place reply next
-IsReply session (ask.Clear place) reply next =
-    (reply ≡ granted) × (next ≡ record session { stops = without_stoppoint session.stops place })
+IsReply session (ask.Set stoppoint) reply next = IsStoppointSet session stoppoint reply next
+IsReply session (ask.Clear stoppoint) reply next =
+    (reply ≡ granted) × (next ≡ record session { stops = without_stoppoint session.stops stoppoint })
 IsReply session (ask.Command text) reply next = IsCommandHandled session text reply next
 IsReply session ask.Restart reply next =
     (reply ≡ with_body (stop_text stop.Trap)) × (next ≡ record (at_step session 0) { last = stop.Trap })

@@ -13,7 +13,7 @@ use Rattle.rv_session.specs.declared.session.Session.{Session}
 abbrev pub at_start : Start → ℕ → Program → Session
 at_start start budget program = record {
   reader = between_packets;
-  history = record { start = start_of start; budget = budget; place = 0 };
+  history = record { start = start_of start; budget = budget; step = 0 };
   program = program;
   script = length start.bus.script;
   stops = record { breaks = []; watches = []; reads = []; accesses = [] };
@@ -25,17 +25,17 @@ at_start start budget program = record {
   is_over = false;
 }
 
--- the state of the session's run after `place` steps
+-- the state of the session's run after `step` steps
 abbrev pub state_at : Session → ℕ → State
-state_at session place = state_after place session.history.start
+state_at session step = state_after step session.history.start
 
 -- the state at the session's current step
 abbrev pub here : Session → State
-here session = state_at session session.history.place
+here session = state_at session session.history.step
 
--- the session at the step `place` of its run
+-- the session at the step `step` of its run
 abbrev pub at_step : Session → ℕ → Session
-at_step session place = record session { history = record session.history { place = place } }
+at_step session step = record session { history = record session.history { step = step } }
 
 -- if a move is requested, the session is not over
 abbrev pub IsOpenIfRequested : Session → Type 0

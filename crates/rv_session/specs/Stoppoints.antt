@@ -54,9 +54,9 @@ is_full stops = nat_le max_stoppoints ((length stops.breaks + length stops.watch
 
 -- why the stoppoint cannot be set: it is invalid, or it is not set yet and the maximum number is reached; `None` if it can be set
 abbrev pub stoppoint_refusal : Stops → BusContents → Stoppoint → Option Refusal
-stoppoint_refusal stops bus place =
-    if not (can_be_set bus place) then Some refusal.Malformed
-    else if is_set stops place then None
+stoppoint_refusal stops bus stoppoint =
+    if not (can_be_set bus stoppoint) then Some refusal.Malformed
+    else if is_set stops stoppoint then None
     else if is_full stops then Some refusal.TooManyStoppoints else None
 
 -- the stops without this stoppoint
@@ -85,11 +85,11 @@ IsTableAdded stops (trap.Watch kind range) next = IsKindAdded stops kind range n
 
 -- `next` is `stops` with this stoppoint added, or `stops` itself if the Bool says that the stoppoint is already set
 abbrev pub IsAddedUnless : Bool → Stops → Stoppoint → Stops → Type 0
-IsAddedUnless true stops place next = next ≡ stops
-IsAddedUnless false stops place next = IsTableAdded stops place next
+IsAddedUnless true stops stoppoint next = next ≡ stops
+IsAddedUnless false stops stoppoint next = IsTableAdded stops stoppoint next
 
--- the result of a request to set the stoppoint `place`: the new stops, which are unchanged if it was already set, or the refusal
+-- the result of a request to set the stoppoint `stoppoint`: the new stops, which are unchanged if it was already set, or the refusal
 abbrev pub IsStoppointAdded : Stops → BusContents → Stoppoint → Result Stops Refusal → Type 0
-IsStoppointAdded stops bus place (Ok next) = (stoppoint_refusal stops bus place ≡ None)
-    × IsAddedUnless (is_set stops place) stops place next
-IsStoppointAdded stops bus place (Err refusal) = stoppoint_refusal stops bus place ≡ Some refusal
+IsStoppointAdded stops bus stoppoint (Ok next) = (stoppoint_refusal stops bus stoppoint ≡ None)
+    × IsAddedUnless (is_set stops stoppoint) stops stoppoint next
+IsStoppointAdded stops bus stoppoint (Err refusal) = stoppoint_refusal stops bus stoppoint ≡ Some refusal

@@ -16,15 +16,15 @@ pub trait EndText {
     // The text about the run's end.
     ghost end_text: { Self → List ℕ };
 
-    /// Appends the text about the run's end, given the machine after `place` steps of the run. The nearer the end of the run is, the less
+    /// Appends the text about the run's end, given the machine after `steps` steps of the run. The nearer the end of the run is, the less
     /// time the call takes.
     fn push_end_text(
         &self,
         alloc: Global,
-        place: u32,
+        steps: u32,
         machine: &Machine,
         text: &mut Vec<u8>,
     ) -> Result<(), AllocError>
-        requires { IsReached (start self.now) place (state_of machine.now) }
+        requires { IsReached (start self.now) steps (state_of machine.now) }
         ensures { OnOk result (text.new.items ≡ text.old.items ++ end_text self.now) };
 }

@@ -43,5 +43,5 @@ pub fn console_is_sent_only_for_moves()
 pub fn ends_are_reported()
     ensures { (end_text : List ℕ) (may_break : Bool) (session next : Session) (requested : Move) (reply : Reply)
         (moved : IsMoved end_text may_break session requested reply next)
-        → (end_kind_of_stop next.last ≡ end_kind_of_move_result moved.found) × (reply.end_text ≡ text_at_end (end_kind_of_stop next.last) end_text) }
+        → (end_kind_of_stop next.last ≡ end_kind_of_move_result moved.outcome) × (reply.end_text ≡ text_at_end (end_kind_of_stop next.last) end_text) }
 {}

@@ -43,9 +43,9 @@ impl Session {
 
     // Returns the output of `monitor when`: the number of executed steps.
     fn steps_text(&self, alloc: Global) -> Result<Vec<u8>, AllocError>
-        ensures { IfOk result (λ text. text.items ≡ decimal self.now.history.place ++ codes " steps executed\n") }
+        ensures { IfOk result (λ text. text.items ≡ decimal self.now.history.step ++ codes " steps executed\n") }
     {
-        let text = format!(in alloc; "{} steps executed\n", self.history.place())?;
+        let text = format!(in alloc; "{} steps executed\n", self.history.current_step())?;
         Ok(text.into_bytes())
     }
 

@@ -2,7 +2,7 @@
 
 ghost use Rattle.std.specs.Prelude.{◌≡◌, IfOk, None, OnOk, is_some, true};
 ghost use Rattle.rv_history.specs.Moves.{IsInterrupted};
-ghost use Rattle.rv_history.specs.declared.found.MoveResult.TheVariants as found;
+ghost use Rattle.rv_history.specs.declared.outcome.MoveResult.TheVariants as outcome;
 ghost use Rattle.rv_gdb_protocol.specs.Stops.{stop_text};
 ghost use Rattle.rv_session.specs.Moved.{CanReportHit, IsMoveResult, IsMoved, end_stop, end_text_at, is_forward, console_before_stop, console_sent_after, stop_of, watch_stop, stop_of_watch_hit};
 ghost use Rattle.rv_session.specs.Incoming.{IsRequestedMoveMade};
@@ -53,9 +53,9 @@ impl Session {
         ensures { IfOk result
             (λ reply. IsMoved (E.end_text end.now) (I.was_raised interrupt.new) self.old requested reply self.new) }
     {
-        let found = self.make_move(alloc, requested, interrupt)?;
-        let stop = self.stop_of(alloc, requested, found)?;
-        let text = self.end_text_at(alloc, end, found)?;
+        let outcome = self.make_move(alloc, requested, interrupt)?;
+        let stop = self.stop_of(alloc, requested, outcome)?;
+        let text = self.end_text_at(alloc, end, outcome)?;
         self.stop_reply(alloc, requested, stop, text)
     }
 
@@ -67,16 +67,16 @@ impl Session {
         interrupt: &mut I,
     ) -> Result<MoveResult, AllocError>
         ensures gone { IfOk result (IsMoveResult requested self.old.stops self.old.history.budget self.old.history.start
-            self.old.history.place self.new.history.place) }
-        ensures broken_off { IfOk result (λ found. IsInterrupted found → I.was_raised interrupt.new ≡ true) }
-        ensures same { self.new ≡ at_step self.old self.new.history.place }
+            self.old.history.step self.new.history.step) }
+        ensures interrupted { IfOk result (λ outcome. IsInterrupted outcome → I.was_raised interrupt.new ≡ true) }
+        ensures same { self.new ≡ at_step self.old self.new.history.step }
     {
         match requested {
             Move::Continue => {
                 self.history
                     .go_on(alloc, &self.stops, Bounds::All, interrupt)
             }
-            Move::Step => self.history.step(alloc, &self.stops),
+            Move::Step => self.history.step_forward(alloc, &self.stops),
             Move::StepWithin(low, high) => {
                 let bounds = Bounds::Within(low, high);
                 self.history.go_on(alloc, &self.stops, bounds, interrupt)
@@ -87,11 +87,11 @@ impl Session {
     }
 
     // Returns the stop that reports the result of a move.
-    fn stop_of(&self, alloc: Global, requested: Move, found: MoveResult) -> Result<Stop, AllocError>
-        requires { CanReportHit self.now requested found }
-        ensures { IfOk result (λ stop. stop ≡ stop_of self.now requested self.now.history.place found) }
+    fn stop_of(&self, alloc: Global, requested: Move, outcome: MoveResult) -> Result<Stop, AllocError>
+        requires { CanReportHit self.now requested outcome }
+        ensures { IfOk result (λ stop. stop ≡ stop_of self.now requested self.now.history.step outcome) }
     {
-        match found {
+        match outcome {
             MoveResult::Done | MoveResult::Breakpoint => Ok(Stop::Trap),
             MoveResult::RunStart => Ok(Stop::RunStart),
             MoveResult::Interrupted => Ok(Stop::Interrupt),
@@ -103,8 +103,8 @@ impl Session {
     // Returns the stop for a watchpoint hit: the next step triggers the watchpoint if the move was forwards, and the preceding step if it
     // was backwards.
     fn watch_stop(&self, alloc: Global, requested: Move) -> Result<Stop, AllocError>
-        requires { CanReportHit self.now requested found.WatchTriggered }
-        ensures { IfOk result (λ stop. stop ≡ watch_stop self.now requested self.now.history.place) }
+        requires { CanReportHit self.now requested outcome.WatchTriggered }
+        ensures { IfOk result (λ stop. stop ≡ watch_stop self.now requested self.now.history.step) }
     {
         if is_forward(requested) {
             let ahead = self.history.watch_hit_by_next_step(alloc, &self.stops)?;
@@ -120,16 +120,16 @@ impl Session {
         &self,
         alloc: Global,
         end: &E,
-        found: MoveResult,
+        outcome: MoveResult,
     ) -> Result<Vec<u8>, AllocError>
         requires { E.start end.now ≡ self.now.history.start }
-        ensures { IfOk result (λ text. text.items ≡ end_text_at (E.end_text end.now) found) }
+        ensures { IfOk result (λ text. text.items ≡ end_text_at (E.end_text end.now) outcome) }
     {
         let mut text = Vec::new(alloc);
-        match found {
+        match outcome {
             MoveResult::End(_) => {
-                let (place, machine) = (self.history.place(), self.history.machine());
-                end.push_end_text(alloc, place, machine, &mut text)?;
+                let (step, machine) = (self.history.current_step(), self.history.machine());
+                end.push_end_text(alloc, step, machine, &mut text)?;
             }
             MoveResult::Done
             | MoveResult::Breakpoint
@@ -189,10 +189,10 @@ fn is_forward(requested: Move) -> bool
 }
 
 // Returns the stop that reports this watchpoint hit; a stop without a reason if there is no hit.
-fn stop_of_watch_hit(set_off: Option<WatchHit>) -> Stop
-    ensures { result ≡ stop_of_watch_hit set_off }
+fn stop_of_watch_hit(hit: Option<WatchHit>) -> Stop
+    ensures { result ≡ stop_of_watch_hit hit }
 {
-    match set_off {
+    match hit {
         Some(WatchHit::Change(address)) => Stop::Watch(WatchKind::Writes, address),
         Some(WatchHit::Read(address)) => Stop::Watch(WatchKind::Reads, address),
         Some(WatchHit::Access(address)) => Stop::Watch(WatchKind::Accesses, address),

@@ -43,7 +43,7 @@ impl Session {
     {
         match register {
             Register::Hart(number) => self.hart_value(number),
-            Register::Steps => self.history.place(),
+            Register::Steps => self.history.current_step(),
             Register::Printed => shown_count(self.history.machine().bus().console().len()),
             Register::Taken => shown_count(self.script_bytes_consumed()),
         }

@@ -21,10 +21,10 @@ impl Session {
 
     /// Handles `P21=`: moves to the step with this number, and returns `OK`. If the run does not reach this step, returns a refusal and
     /// does not move.
-    pub(crate) fn seek_step(&mut self, alloc: Global, place: u32) -> Result<Reply, AllocError>
-        ensures { IfOk result (λ reply. IsStepSeekHandled self.old place reply self.new) }
+    pub(crate) fn seek_step(&mut self, alloc: Global, step: u32) -> Result<Reply, AllocError>
+        ensures { IfOk result (λ reply. IsStepSeekHandled self.old step reply self.new) }
     {
-        let granted = self.history.seek(alloc, place)?;
+        let granted = self.history.seek(alloc, step)?;
         Reply::ok_if(alloc, granted, Refusal::NotReached)
     }
 

@@ -71,11 +71,11 @@ impl Session {
     }
 
     /// Returns the current step: how many steps of the run are completed.
-    pub fn place(&self) -> u32
-        ensures value { result ≡ self.now.history.place }
+    pub fn current_step(&self) -> u32
+        ensures value { result ≡ self.now.history.step }
         ensures within { result ≤ last_step self.now.history.budget self.now.history.start }
     {
-        self.history.place()
+        self.history.current_step()
     }
 
     /// Whether a move is requested and not made yet.

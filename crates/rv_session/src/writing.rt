@@ -90,11 +90,11 @@ fn has_byte_at(bus: &Bus, address: u64, byte: u8) -> bool
     address < END_OF_ADDRESSES && is_byte(bus.byte(address as u32), byte)
 }
 
-// Whether `found` has a value, and the value is `byte`.
-fn is_byte(found: Option<u8>, byte: u8) -> bool
-    ensures { result ≡ is_byte found byte }
+// Whether `outcome` has a value, and the value is `byte`.
+fn is_byte(outcome: Option<u8>, byte: u8) -> bool
+    ensures { result ≡ is_byte outcome byte }
 {
-    match found {
+    match outcome {
         Some(other) => other == byte,
         None => false,
     }

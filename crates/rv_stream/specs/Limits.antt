@@ -19,7 +19,7 @@ failures_left_after fails (suc remaining) (row ∷ rows) = failures_left_after f
 -- the rows up to and including the failure that stops the run; all rows without a limit
 abbrev pub rows_up_to : Option ℕ → (Row → Bool) → List Row → List Row
 rows_up_to None fails rows = rows
-rows_up_to (Some most) fails rows = rows_until fails most rows
+rows_up_to (Some max_failures) fails rows = rows_until fails max_failures rows
 
 -- the rows of a run with this limit, given the rows of the run without a limit
 abbrev pub rows_within : FailureLimit → List Row → List Row

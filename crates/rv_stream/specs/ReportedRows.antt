@@ -7,12 +7,12 @@ use Rattle.rv_stream.specs.declared.reported_row.ReportedRow.{ReportedRow}
 use Rattle.rv_stream.specs.Limits.{failures_left_after, rows_up_to}
 use Rattle.rv_expect.specs.Judgement.{JudgeView, fails}
 
--- `told` is the row of the batch's job `number`, with the job's index in the list and the text that `line` returns for the index and the
+-- `told` is the row of the batch's job `number`, with the job's index in the list and the text that `row_text` returns for the index and the
 -- row
-pub record IsReportedRow (line : ℕ → Row → List ℕ) (batch : Batch) (number : ℕ) (told : ReportedRow) : Type 0 where
+pub record IsReportedRow (row_text : ℕ → Row → List ℕ) (batch : Batch) (number : ℕ) (told : ReportedRow) : Type 0 where
   pub index : told.index ≡ index_of_number batch number
   pub row : told.row ≡ row_of_number batch number
-  pub text : told.text.items ≡ line told.index told.row
+  pub text : told.text.items ≡ row_text told.index told.row
 
 -- the rows in the reported rows, without their indices and texts
 abbrev pub rows_of_reported : List ReportedRow → List Row
@@ -24,11 +24,11 @@ texts_of_reported told = map (λ (t : ReportedRow). t.text.items) told
 
 -- the number of further failures that stop the run after these rows; `None` without a limit
 abbrev pub failures_left_after_row : Option ℕ → JudgeView → List Row → Option ℕ
-failures_left_after_row most judging rows = option_map (λ number. failures_left_after (fails judging) number rows) most
+failures_left_after_row max_failures judging rows = option_map (λ number. failures_left_after (fails judging) number rows) max_failures
 
--- `kept` are the rows up to the failure that stops the run, unless an allocation failed, as `refused` says; `left` is the number of further
+-- `collected` are the rows up to the failure that stops the run, unless an allocation failed, as `refused` says; `left` is the number of further
 -- failures that stop the run
-pub record AreRowsUpToFailure (most : Option ℕ) (judging : JudgeView) (left : Option ℕ) (refused : Bool) (kept rows : List Row) : Type 0 where
-  pub kept_all : refused ≡ false → kept ≡ rows
-  pub left_is : left ≡ failures_left_after_row most judging rows
-  pub within : rows_up_to most (fails judging) rows ≡ rows
+pub record AreRowsUpToFailure (max_failures : Option ℕ) (judging : JudgeView) (left : Option ℕ) (refused : Bool) (collected rows : List Row) : Type 0 where
+  pub kept_all : refused ≡ false → collected ≡ rows
+  pub left_is : left ≡ failures_left_after_row max_failures judging rows
+  pub within : rows_up_to max_failures (fails judging) rows ≡ rows

@@ -3,12 +3,12 @@ use Rattle.std.specs.Prelude.{ℕ, List, [], ◌∷◌}
 use Rattle.std.specs.List.{concat}
 use Rattle.rv_fleet.specs.declared_row.Row.{Row}
 
--- the texts that `line` returns for the rows and the indices of their jobs, as a list
+-- the texts that `row_text` returns for the rows and the indices of their jobs, as a list
 abbrev pub row_text_list : (ℕ → Row → List ℕ) → List ℕ → List Row → List (List ℕ)
-row_text_list line [] rows = []
-row_text_list line (place ∷ places) [] = []
-row_text_list line (place ∷ places) (row ∷ rows) = line place row ∷ row_text_list line places rows
+row_text_list row_text [] rows = []
+row_text_list row_text (place ∷ places) [] = []
+row_text_list row_text (place ∷ places) (row ∷ rows) = row_text place row ∷ row_text_list row_text places rows
 
--- the texts that `line` returns for the rows and the indices of their jobs, one after another
+-- the texts that `row_text` returns for the rows and the indices of their jobs, one after another
 abbrev pub joined_row_texts : (ℕ → Row → List ℕ) → List ℕ → List Row → List ℕ
-joined_row_texts line places rows = concat (row_text_list line places rows)
+joined_row_texts row_text places rows = concat (row_text_list row_text places rows)

@@ -79,10 +79,10 @@ impl<J: StreamSpec, T: RowReporter, W: Sink + Drop> Observer<ReportedRow>
     ghost stops = { λ s. IsSomeAnd s.outbox (λ box. is_some box.failed ≡ true) };
 
     // Buffers the text of a row, and returns whether the run should continue. Without a sink, does nothing.
-    fn see(&mut self, made: &ReportedRow) -> Flow {
+    fn see(&mut self, output: &ReportedRow) -> Flow {
         let (alloc, reporter) = (self.alloc, self.reporter);
         match &mut self.outbox {
-            Some(outbox) => outbox.push_text(alloc, reporter, made),
+            Some(outbox) => outbox.push_text(alloc, reporter, output),
             None => Flow::Continue,
         }
     }

@@ -56,10 +56,10 @@ impl<J: StreamSpec> Listener<ReportedRow> for RowsUpToFailure<'_, J> {
     ghost stops = { λ s. (s.left ≡ Some 0) ⊎ (s.refused ≡ true) };
 
     // Stores a row, and returns whether the run should continue: not after the failure that stops it.
-    fn receive(&mut self, made: ReportedRow) -> Flow {
-        let failed = self.judge.fails(&made.row);
+    fn receive(&mut self, output: ReportedRow) -> Flow {
+        let failed = self.judge.fails(&output.row);
         self.left = failures_left_after_row(self.left, failed);
-        self.refused = keep_row(&mut self.rows, made.row);
+        self.refused = keep_row(&mut self.rows, output.row);
         if self.refused || self.left == Some(0) {
             Flow::Stop
         } else {

@@ -45,35 +45,35 @@ pub fn stream_rows<
     crew: &Crew<'_, R>,
     batch: &Batch<'_>,
     limit: &FailureLimit<'_>,
-    to: ReporterOutput<'_, T, W>,
+    output: ReporterOutput<'_, T, W>,
     observer: B,
 ) -> (W, B, Result<Rows, StreamError>)
-    requires before { (J.before ≡ W.accepted to.out) × (J.failures ≡ W.failure_count to.out) }
+    requires before { (J.before ≡ W.accepted output.out) × (J.failures ≡ W.failure_count output.out) }
     requires ends { (J.most ≡ limit.now.failures) × (J.judging ≡ judge_view limit.now.judge) }
     requires seen { B.has_seen observer [] }
     requires goes { B.stops observer → ⊥ }
     ensures rows { IfOk result.2 (λ rows. rows ≡ rows_within limit.now (batch_rows batch.now)) }
     ensures few { IfOk result.2 (λ rows. length rows ≤ length batch.now.places.now) }
-    ensures all { OnOk result.2 (Appends (W.accepted to.entry.out) (W.accepted result.0) (joined_row_texts (T.line to.entry.reporter.now)
+    ensures all { OnOk result.2 (Appends (W.accepted output.entry.out) (W.accepted result.0) (joined_row_texts (T.line output.entry.reporter.now)
         batch.now.places.now (rows_within limit.now (batch_rows batch.now)))) }
-    ensures counted { OnOk result.2 (W.failure_count result.0 ≡ W.failure_count to.entry.out) }
-    ensures part { OnErr result.2 (AppendsPrefix (W.accepted to.entry.out) (W.accepted result.0)
-        (joined_row_texts (T.line to.entry.reporter.now) batch.now.places.now (rows_within limit.now (batch_rows batch.now)))) }
-    ensures seen { OnOk result.2 (HasSeenRows (B.has_seen result.1) (T.line to.entry.reporter.now) batch.now.places.now
+    ensures counted { OnOk result.2 (W.failure_count result.0 ≡ W.failure_count output.entry.out) }
+    ensures part { OnErr result.2 (AppendsPrefix (W.accepted output.entry.out) (W.accepted result.0)
+        (joined_row_texts (T.line output.entry.reporter.now) batch.now.places.now (rows_within limit.now (batch_rows batch.now)))) }
+    ensures seen { OnOk result.2 (HasSeenRows (B.has_seen result.1) (T.line output.entry.reporter.now) batch.now.places.now
         (rows_within limit.now (batch_rows batch.now))) }
-    ensures seen_some { OnErr result.2 (HasSeenSomeRows (B.has_seen result.1) (T.line to.entry.reporter.now) batch.now.places.now
+    ensures seen_some { OnErr result.2 (HasSeenSomeRows (B.has_seen result.1) (T.line output.entry.reporter.now) batch.now.places.now
         (rows_within limit.now (batch_rows batch.now))) }
     ensures stopped { IfErr result.2 (λ error. error ≡ ObserverStopped → B.stops result.1) }
 {
     if let Some(0) = limit.failures {
-        return (to.out, observer, Ok(Rows::new(Vec::new(crew.alloc))));
+        return (output.out, observer, Ok(Rows::new(Vec::new(crew.alloc))));
     }
     let work = ReportedRowWork {
         batch,
-        reporter: to.reporter,
+        reporter: output.reporter,
     };
     let listener = Both {
-        first: TextSender::<J, W>::new(crew.alloc, to.out),
+        first: TextSender::<J, W>::new(crew.alloc, output.out),
         second: Both {
             first: observer,
             second: RowsUpToFailure::<J>::new(crew.alloc, limit),
@@ -103,23 +103,23 @@ pub fn stream_rows<
 
 // Returns the rows of a run, or an error if it ended before its last row.
 fn rows_of_run<J: StreamSpec>(
-    ran: Result<Flow, RunError>,
-    kept: RowsUpToFailure<'_, J>,
+    outcome: Result<Flow, RunError>,
+    listener: RowsUpToFailure<'_, J>,
 ) -> Result<Rows, StreamError>
-    ensures rows { IfOk result (λ rows. rows ≡ kept.entry.rows.items) }
-    ensures kept { IfOk result (λ _. kept.entry.refused ≡ false) }
-    ensures ran { IfOk result (λ _. is_ok ran ≡ true) }
-    ensures ended { IfOk result (λ _. ran ≡ Ok Stop → kept.entry.left ≡ Some 0) }
+    ensures rows { IfOk result (λ rows. rows ≡ listener.entry.rows.items) }
+    ensures kept { IfOk result (λ _. listener.entry.refused ≡ false) }
+    ensures ran { IfOk result (λ _. is_ok outcome ≡ true) }
+    ensures ended { IfOk result (λ _. outcome ≡ Ok Stop → listener.entry.left ≡ Some 0) }
     ensures stopped { IfErr result (λ error. error ≡ ObserverStopped
-        → (ran ≡ Ok Stop) × ((kept.entry.refused ≡ false) × (kept.entry.left ≡ Some 0 → ⊥))) }
+        → (outcome ≡ Ok Stop) × ((listener.entry.refused ≡ false) × (listener.entry.left ≡ Some 0 → ⊥))) }
 {
-    let flow = ran?;
-    if kept.refused {
+    let flow = outcome?;
+    if listener.refused {
         // Out of memory: keeping a row fails for that alone.
         return Err(StreamError::OutOfMemory);
     }
     match flow {
-        Flow::Stop if kept.left != Some(0) => Err(StreamError::ObserverStopped),
-        _ => Ok(Rows::new(kept.rows)),
+        Flow::Stop if listener.left != Some(0) => Err(StreamError::ObserverStopped),
+        _ => Ok(Rows::new(listener.rows)),
     }
 }

@@ -43,8 +43,8 @@ impl<J: StreamSpec, W: Sink + Drop> Observer<ReportedRow> for TextSender<J, W> {
     ghost stops = { λ s. is_some s.outbox.failed ≡ true };
 
     // Buffers the text of a row, and returns whether the run should continue.
-    fn see(&mut self, made: &ReportedRow) -> Flow {
-        match self.outbox.unsent.extend_from_slice(made.text.as_slice()) {
+    fn see(&mut self, output: &ReportedRow) -> Flow {
+        match self.outbox.unsent.extend_from_slice(output.text.as_slice()) {
             Ok(()) => Flow::Continue,
             Err(_) => {
                 // Out of memory: `extend_from_slice` fails by that alone.

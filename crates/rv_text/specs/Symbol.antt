@@ -9,7 +9,7 @@ hexadecimal number = digits 16 false number
 
 -- the text `NAME+0xOFFSET` for the name of a symbol and the offset from it
 unfoldable pub symbol_text : List ℕ × ℕ → List ℕ
-symbol_text place = printable_name place.0 ++ codes "+0x" ++ hexadecimal place.1
+symbol_text symbol = printable_name symbol.0 ++ codes "+0x" ++ hexadecimal symbol.1
 
 -- the text ` (NAME+0xOFFSET)` for the name of a symbol and the offset from it; empty if there is no symbol
 abbrev pub symbol_in_brackets : Option (List ℕ × ℕ) → List ℕ

@@ -26,10 +26,10 @@ space_reference Element c = None
 
 -- the reference of a character that is markup, or that an XML parser would change; `None` for any other character
 abbrev pub character_reference : XmlContext → ℕ → Option (List ℕ)
-character_reference within c =
+character_reference context c =
     if c == 60 then Some (codes "&lt;") else if c == 62 then Some (codes "&gt;")
     else if c == 38 then Some (codes "&amp;") else if c == 34 then Some (codes "&quot;")
-    else if c == 0xD then Some (codes "&#13;") else space_reference within c
+    else if c == 0xD then Some (codes "&#13;") else space_reference context c
 
 -- the reference if it is given, and otherwise the character `c` in UTF-8
 abbrev pub reference_or_character : Option (List ℕ) → ℕ → List ℕ
@@ -38,7 +38,7 @@ reference_or_character None c = encode_utf8 c
 
 -- the text of a character in an attribute or an element: its reference if it has one, and otherwise the character in UTF-8
 abbrev pub character_text : XmlContext → ℕ → List ℕ
-character_text within c = reference_or_character (character_reference within c) c
+character_text context c = reference_or_character (character_reference context c) c
 
 -- ---- the first character
 
@@ -63,8 +63,8 @@ escape byte = codes "\\x" ++ encode_lower (byte ∷ [])
 
 -- the text of an XML character, or the escape of `byte` if no character is given
 abbrev pub character_or_escape : XmlContext → ℕ → Option ℕ → List ℕ
-character_or_escape within byte (Some c) = character_text within c
-character_or_escape within byte None = escape byte
+character_or_escape context byte (Some c) = character_text context c
+character_or_escape context byte None = escape byte
 
 -- the number of bytes of a character after its first; 0 if there is no character
 abbrev pub bytes_after_first : Option ℕ → ℕ
@@ -75,21 +75,21 @@ bytes_after_first None = 0
 
 -- the text in XML for the bytes after the first `remaining`, which continue a character that began before them
 unfoldable pub xml_text_from : XmlContext → ℕ → List ℕ → List ℕ
-xml_text_from within remaining [] = []
-xml_text_from within zero (byte ∷ rest) = let front = first_xml_character (byte ∷ rest) in
-    character_or_escape within byte front ++ xml_text_from within (bytes_after_first front) rest
-xml_text_from within (suc remaining) (byte ∷ rest) = xml_text_from within remaining rest
+xml_text_from context remaining [] = []
+xml_text_from context zero (byte ∷ rest) = let front = first_xml_character (byte ∷ rest) in
+    character_or_escape context byte front ++ xml_text_from context (bytes_after_first front) rest
+xml_text_from context (suc remaining) (byte ∷ rest) = xml_text_from context remaining rest
 
 -- the text in XML, in an attribute or an element, for these bytes: XML characters are unchanged or replaced by their references, and every
 -- other byte is replaced by its escape
 abbrev pub xml_text : XmlContext → List ℕ → List ℕ
-xml_text within bytes = xml_text_from within 0 bytes
+xml_text context bytes = xml_text_from context 0 bytes
 
 -- ---- the beginning of the bytes: a character or one byte
 
 -- the text in XML for the first XML character of these bytes, or for their first byte if they do not begin with an XML character
 abbrev pub first_xml_text : XmlContext → List ℕ → List ℕ
-first_xml_text within bytes = character_or_escape within (slice_index bytes 0) (first_xml_character bytes)
+first_xml_text context bytes = character_or_escape context (slice_index bytes 0) (first_xml_character bytes)
 
 -- the bytes without their first XML character, or without their first byte if they do not begin with an XML character
 abbrev pub after_first_xml_text : List ℕ → List ℕ
@@ -98,10 +98,10 @@ after_first_xml_text bytes = drop (bytes_after_first (first_xml_character bytes)
 -- ---- text of XML documents
 
 -- the text consists of XML characters, each in UTF-8 or, if it has a reference, as that reference
-pub record IsXmlText (within : XmlContext) (text : List ℕ) : Type 0 where
+pub record IsXmlText (context : XmlContext) (text : List ℕ) : Type 0 where
   pub characters : List ℕ
   pub taken : list_all is_xml_character characters ≡ true
-  pub written : text ≡ flat_map (character_text within) characters
+  pub written : text ≡ flat_map (character_text context) characters
 
 -- the text is the UTF-8 encoding of XML characters
 pub record IsXmlCharacters (text : List ℕ) : Type 0 where

@@ -4,10 +4,10 @@ ghost use Rattle.std.specs.Prelude.{◌≡◌, ◌+◌, drop, slice_index};
 ghost use Rattle.std.specs.Str.{continuation_len};
 
 /// Returns the byte at an index, or 0 if there is no such index.
-pub fn byte_at(text: &[u8], place: usize) -> u8
-    ensures { result ≡ slice_index text.now place }
+pub fn byte_at(text: &[u8], index: usize) -> u8
+    ensures { result ≡ slice_index text.now index }
 {
-    if place < text.len() { text[place] } else { 0 }
+    if index < text.len() { text[index] } else { 0 }
 }
 
 /// Returns the text without its first `count` bytes; empty if it has no more bytes than that.
@@ -36,14 +36,14 @@ pub(crate) fn char_len(first: u8) -> usize
     }
 }
 
-/// Returns the actual and the expected bytes, both without the bytes before the index `place`.
+/// Returns the actual and the expected bytes, both without the bytes before the index `index`.
 pub fn actual_and_expected_from<'a>(
-    place: usize,
+    index: usize,
     actual: &'a [u8],
     expected: &'a [u8],
 ) -> (&'a [u8], &'a [u8])
-    ensures actual { result.0.now ≡ drop place actual.now }
-    ensures expected { result.1.now ≡ drop place expected.now }
+    ensures actual { result.0.now ≡ drop index actual.now }
+    ensures expected { result.1.now ≡ drop index expected.now }
 {
-    (tail_from(actual, place), tail_from(expected, place))
+    (tail_from(actual, index), tail_from(expected, index))
 }

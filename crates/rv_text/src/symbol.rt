@@ -35,17 +35,17 @@ pub fn push_symbol(
     push_symbol_between(alloc, bytes, "", symbol, "")
 }
 
-// Appends the text `before`, a symbol and the offset from it as `NAME+0xOFFSET`, and the text `behind`.
+// Appends the text `before`, a symbol and the offset from it as `NAME+0xOFFSET`, and the text `after`.
 #[tactic(auto, unfolding(crate::specs::Symbol::symbol_text))]
 fn push_symbol_between<'a>(
     alloc: Global,
     bytes: &mut Vec<u8>,
     before: &'a str,
     symbol: SymbolAt<'a>,
-    behind: &'a str,
+    after: &'a str,
 ) -> Result<(), AllocError>
     ensures { OnOk result (bytes.new.items ≡ bytes.old.items
-        ++ (before.now ++ symbol_text (symbol.entry.name.now, symbol.entry.offset) ++ behind.now)) }
+        ++ (before.now ++ symbol_text (symbol.entry.name.now, symbol.entry.offset) ++ after.now)) }
 {
     let offset = symbol.offset;
     let digits = format!(in alloc; "{offset:x}")?;
@@ -56,7 +56,7 @@ fn push_symbol_between<'a>(
             Span::Name(symbol.name),
             Span::Text("+0x"),
             Span::Text(digits.as_str()),
-            Span::Text(behind),
+            Span::Text(after),
         ],
     )
 }

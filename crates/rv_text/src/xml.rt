@@ -21,15 +21,15 @@ pub enum XmlContext {
 pub fn push_xml_text(
     alloc: Global,
     text: &mut String,
-    within: XmlContext,
+    context: XmlContext,
     bytes: &[u8],
 ) -> Result<(), AllocError>
     ensures { OnOk result (string_bytes text.new
-        ≡ string_bytes text.old ++ xml_text within bytes.now) }
+        ≡ string_bytes text.old ++ xml_text context bytes.now) }
 {
     let mut rest = bytes;
     while !rest.is_empty() {
-        rest = push_first_xml_text(alloc, text, within, rest)?;
+        rest = push_first_xml_text(alloc, text, context, rest)?;
     }
     Ok(())
 }
@@ -39,18 +39,18 @@ pub fn push_xml_text(
 fn push_first_xml_text<'a>(
     alloc: Global,
     text: &mut String,
-    within: XmlContext,
+    context: XmlContext,
     bytes: &'a [u8],
 ) -> Result<&'a [u8], AllocError>
     requires { 0 < length bytes.now }
     ensures text { OnOk result (string_bytes text.new
-        ≡ string_bytes text.old ++ first_xml_text within bytes.now) }
+        ≡ string_bytes text.old ++ first_xml_text context bytes.now) }
     ensures behind { IfOk result (λ rest. rest.now ≡ after_first_xml_text bytes.now) }
     ensures shorter { IfOk result (λ rest. length rest.now < length bytes.now) }
 {
     match first_xml_character(bytes) {
         Some(character) => {
-            push_character(text, within, character)?;
+            push_character(text, context, character)?;
             Ok(tail_from(bytes, character.len_utf8()))
         }
         None => {
@@ -107,21 +107,21 @@ fn is_xml_character(character: char) -> bool
 }
 
 // Appends the reference of a character if it has one, and otherwise the character in UTF-8.
-fn push_character(text: &mut String, within: XmlContext, character: char) -> Result<(), AllocError>
+fn push_character(text: &mut String, context: XmlContext, character: char) -> Result<(), AllocError>
     ensures { OnOk result (string_bytes text.new
-        ≡ string_bytes text.old ++ character_text within character) }
+        ≡ string_bytes text.old ++ character_text context character) }
 {
-    match character_reference(within, character) {
+    match character_reference(context, character) {
         Some(reference) => text.push_str(reference),
         None => text.push(character),
     }
 }
 
 // Returns the reference of a character that is markup, or that an XML parser would change; `None` for any other character.
-fn character_reference(within: XmlContext, character: char) -> Option<&'static str>
-    ensures { option_map (λ text. text.now) result ≡ character_reference within character }
+fn character_reference(context: XmlContext, character: char) -> Option<&'static str>
+    ensures { option_map (λ text. text.now) result ≡ character_reference context character }
 {
-    match (within, character) {
+    match (context, character) {
         (_, '<') => Some("&lt;"),
         (_, '>') => Some("&gt;"),
         (_, '&') => Some("&amp;"),

@@ -81,11 +81,11 @@ address_text image file address =
 
 -- the text that says what an instruction wrote; empty if it wrote nothing
 unfoldable pub write_effect_text : Image → List ℕ → WriteEffect → List ℕ
-write_effect_text image file wrote.Nothing = []
-write_effect_text image file (wrote.Register number value) = register_text number value
-write_effect_text image file (wrote.Loaded number value address) =
+write_effect_text image file write.Nothing = []
+write_effect_text image file (write.Register number value) = register_text number value
+write_effect_text image file (write.Loaded number value address) =
     loaded_text number value ++ codes "from " ++ address_text image file address
-write_effect_text image file (wrote.Stored address width value) =
+write_effect_text image file (write.Stored address width value) =
     address_text image file address ++ codes " <- " ++ stored_value_text width value
 
 -- the assembly text, and in the next column `effect_text`, the text about its effect, unless that is empty

@@ -13,9 +13,9 @@ use Rattle.rv_trace.specs.declared.trace.Trace.{Trace}
 use Rattle.rv_trace.specs.Code.{code_at}
 use Rattle.rv_trace.specs.Steps.{steps_from}
 
--- the job at an index of a plan, or `other` if there is no such index
+-- the job at an index of a plan, or `default` if there is no such index
 abbrev pub job_at : PlanView → ℕ → Job → Job
-job_at plan place other = slice_index_or plan.jobs place other
+job_at plan place default = slice_index_or plan.jobs place default
 
 -- the bytes of a job's image, or `None` if they were not read
 abbrev pub image_bytes : List PathResult → Job → Option (List ℕ)
@@ -38,15 +38,15 @@ trace_up_to steps s = record {
   registers = registers_of s;
 }
 
--- the trace of a run that begins in the state `s` and completes this many steps: the last `last` instructions, or all if there are fewer,
+-- the trace of a run that begins in the state `s` and completes this many steps: the last `max_steps` instructions, or all if there are fewer,
 -- and the state after them
 unfoldable pub trace_of : ℕ → ℕ → State → Trace
-trace_of steps last s =
-    let shown = min steps last in
+trace_of steps max_steps s =
+    let shown = min steps max_steps in
     let t = state_after (steps - shown) s in
     trace_up_to (steps_from shown t) (state_after shown t)
 
 -- the trace of the run of a plan's job that completes this many steps, or `None` if the job is refused
 unfoldable pub trace_in : PlanView → Job → ℕ → ℕ → Option Trace
-trace_in plan job steps last =
-    option_map (trace_of steps last) (result_ok (start_state_in plan.answers job))
+trace_in plan job steps max_steps =
+    option_map (trace_of steps max_steps) (result_ok (start_state_in plan.answers job))

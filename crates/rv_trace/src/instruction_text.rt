@@ -53,12 +53,12 @@ pub(crate) fn push_write_effect(
     alloc: Global,
     bytes: &mut Vec<u8>,
     elf: &ElfFile<'_>,
-    wrote: WriteEffect,
+    write: WriteEffect,
 ) -> Result<(), AllocError>
     ensures { OnOk result (bytes.new.items ≡ bytes.old.items
-        ++ write_effect_text elf.now.image.now elf.now.bytes.now wrote) }
+        ++ write_effect_text elf.now.image.now elf.now.bytes.now write) }
 {
-    match wrote {
+    match write {
         WriteEffect::Nothing => Ok(()),
         WriteEffect::Register(number, value) => push_register(bytes, number, value),
         WriteEffect::Loaded(number, value, from) => {

@@ -26,19 +26,19 @@ pub struct Trace {
     pub registers: [u32; 32],
 }
 
-/// Returns the trace of a run that completes `steps` steps: the last `last` instructions, or all if there are fewer, and the state at the
+/// Returns the trace of a run that completes `steps` steps: the last `max_steps` instructions, or all if there are fewer, and the state at the
 /// end. Takes the time of that run, and memory for each instruction shown.
 #[tactic(auto, unfolding(crate::specs::Trace::trace_of))]
 pub fn trace_run(
     alloc: Global,
     machine: Machine,
     steps: u32,
-    last: u32,
+    max_steps: u32,
 ) -> Result<Trace, AllocError>
-    ensures { IfOk result (λ trace. trace ≡ trace_of steps last (state_of machine)) }
+    ensures { IfOk result (λ trace. trace ≡ trace_of steps max_steps (state_of machine)) }
 {
     let mut machine = machine;
-    let shown = steps.min(last);
+    let shown = steps.min(max_steps);
     let _ = machine.run(steps - shown);
     let steps = trace_next_steps(alloc, &mut machine, shown)?;
     let pc = machine.pc();
@@ -56,13 +56,13 @@ pub fn trace_job(
     alloc: Global,
     job: &JobImage<'_>,
     steps: u32,
-    last: u32,
+    max_steps: u32,
 ) -> Result<Option<Trace>, AllocError>
     ensures { IfOk result (λ trace. (d : AJob) → trace
-        ≡ trace_in job.now.plan.now (job_at job.now.plan.now job.now.place d) steps last) }
+        ≡ trace_in job.now.plan.now (job_at job.now.plan.now job.now.place d) steps max_steps) }
 {
     match machine_at(alloc, job.plan, job.place, job.image)? {
-        Ok(machine) => Ok(Some(trace_run(alloc, machine, steps, last)?)),
+        Ok(machine) => Ok(Some(trace_run(alloc, machine, steps, max_steps)?)),
         Err(_) => Ok(None),
     }
 }

@@ -12,19 +12,19 @@ no_spot = record { depth = 0; function = 0; calls = 0; steps = 0 }
 abbrev none : Subtree
 none = record { function = 0; place = 0; end = 0; own = 0; inclusive = 0; calls = 0 }
 
-pub bounds-behind-spots : goal.bounds-behind-spots
-bounds-behind-spots c =
-    child_within c.args.spots.now c.args.place c.loop-end.end c.args.behind.now c.loop-end.invariant.behind c.loop-end-test.true
+pub bounds-later-spots : goal.bounds-later-spots
+bounds-later-spots c =
+    child_within c.args.spots.now c.args.place c.loop-end.end c.args.later.now c.loop-end.invariant.behind c.loop-end-test.true
     c.requires.behind
 
 pub overflow_add-inclusive : goal.overflow_add-inclusive
 overflow_add-inclusive c =
     let spots = c.args.spots.now in
     let end = c.loop-end.end in
-    let is = child_is spots c.args.place end c.args.behind.now none no_spot c.loop-end.invariant.behind c.loop-end-test.true
+    let is = child_is spots c.args.place end c.args.later.now none no_spot c.loop-end.invariant.behind c.loop-end-test.true
     c.requires.behind in
     let fits = child_fits spots c.args.place (get_or spots c.args.place no_spot) end c.loop-end.inclusive no_spot
-    (get_or c.args.behind.now (length spots - 1 - end) none) c.loop-end.invariant c.loop-end-test.true c.if-spot-spots.true is in
+    (get_or c.args.later.now (length spots - 1 - end) none) c.loop-end.invariant c.loop-end-test.true c.if-spot-spots.true is in
     let all = one_of_all spots c.args.place no_spot c.requires.within in
     let few = c.requires.steps in
     omega (arith, fits, all, few)
@@ -34,9 +34,9 @@ loop-end-smaller c =
     let spots = c.args.spots.now in
     let end = c.loop-end.end in
     let within = c.loop-end-test.true in
-    let is = child_is spots c.args.place end c.args.behind.now none no_spot c.loop-end.invariant.behind within c.requires.behind in
+    let is = child_is spots c.args.place end c.args.later.now none no_spot c.loop-end.invariant.behind within c.requires.behind in
     let further = child_further end (get_or spots end no_spot) (drop (end + 1) spots)
-    (get_or c.args.behind.now (length spots - 1 - end) none) is in
+    (get_or c.args.later.now (length spots - 1 - end) none) is in
     omega (arith, further, within)
 
 pub loop-end-preserved : goal.loop-end-preserved
@@ -44,5 +44,5 @@ loop-end-preserved c =
     let spots = c.args.spots.now in
     let end = c.loop-end.end in
     one_child spots c.args.place (get_or spots c.args.place no_spot) end c.loop-end.inclusive no_spot
-    (get_or c.args.behind.now (length spots - 1 - end) none) c.loop-end.invariant c.loop-end-test.true c.if-spot-spots.true
-    (child_is spots c.args.place end c.args.behind.now none no_spot c.loop-end.invariant.behind c.loop-end-test.true c.requires.behind)
+    (get_or c.args.later.now (length spots - 1 - end) none) c.loop-end.invariant c.loop-end-test.true c.if-spot-spots.true
+    (child_is spots c.args.place end c.args.later.now none no_spot c.loop-end.invariant.behind c.loop-end-test.true c.requires.behind)

@@ -11,24 +11,24 @@ pub returns-then-place-counts : goal.returns-then-place-counts
 returns-then-place-counts c =
     let cs = c.args.counts.now in
     let n = c.index_of_address-place.result in
-    let place : IsPlaceOf c.args.from cs n = record {
+    let place : IsPlaceOf c.args.start cs n = record {
       within = c.index_of_address-place.ensures.within;
       lower = c.index_of_address-place.ensures.lower;
       higher = c.index_of_address-place.ensures.higher;
     } in
-    ap (λ at. ltb at c.args.behind) c.from.ensures
-    ∙ sym (any_within c.args.from c.args.behind 0 cs n empty_entry c.requires place
-    ∙ ap (λ b. b && ltb (get_or cs n empty_entry).address c.args.behind) (lt-ltb n (length cs) c.if-place-counts.true))
+    ap (λ at. ltb at c.args.end) c.from.ensures
+    ∙ sym (any_within c.args.start c.args.end 0 cs n empty_entry c.requires place
+    ∙ ap (λ b. b && ltb (get_or cs n empty_entry).address c.args.end) (lt-ltb n (length cs) c.if-place-counts.true))
 
 pub returns-else-place-counts : goal.returns-else-place-counts
 returns-else-place-counts c =
     let cs = c.args.counts.now in
     let n = c.index_of_address-place.result in
-    let place : IsPlaceOf c.args.from cs n = record {
+    let place : IsPlaceOf c.args.start cs n = record {
       within = c.index_of_address-place.ensures.within;
       lower = c.index_of_address-place.ensures.lower;
       higher = c.index_of_address-place.ensures.higher;
     } in
     le-ltb n (length cs) c.if-place-counts.false
-    ∙ sym (any_within c.args.from c.args.behind 0 cs n empty_entry c.requires place
-    ∙ ap (λ b. b && ltb (get_or cs n empty_entry).address c.args.behind) (le-ltb n (length cs) c.if-place-counts.false))
+    ∙ sym (any_within c.args.start c.args.end 0 cs n empty_entry c.requires place
+    ∙ ap (λ b. b && ltb (get_or cs n empty_entry).address c.args.end) (le-ltb n (length cs) c.if-place-counts.false))

@@ -10,7 +10,7 @@ use Rattle.rv_diff.proofs.diff.push_added_and_changed_lines.Goals as goal
 
 pub loop-row-preserved : goal.loop-row-preserved
 loop-row-preserved c =
-    let compare = c.args.compare in
+    let compare = c.args.mode in
     let before = c.args.old.now in
     let row = c.row-item.result in
     let other = row_named before row.name in
@@ -52,7 +52,7 @@ loop-row-preserved c =
 
 pub returns-clause-text : goal.returns-clause-text
 returns-clause-text c =
-    text_all (λ row. changes_of_row c.args.compare (row_named c.args.old.now row.name) row) c.args.new.now
+    text_all (λ row. changes_of_row c.args.mode (row_named c.args.old.now row.name) row) c.args.new.now
     c.loop-row.row-index c.args.text.now.items c.loop-row.text.items c.loop-row-test.false c.loop-row.invariant.text
 
 pub returns-clause-added : goal.returns-clause-added
@@ -62,5 +62,5 @@ returns-clause-added c =
 
 pub returns-clause-changed : goal.returns-clause-changed
 returns-clause-changed c =
-    count_all (λ row. is_changed c.args.compare (row_named c.args.old.now row.name) row) c.args.new.now
+    count_all (λ row. is_changed c.args.mode (row_named c.args.old.now row.name) row) c.args.new.now
     c.loop-row.row-index c.loop-row.changed c.loop-row-test.false c.loop-row.invariant.changed

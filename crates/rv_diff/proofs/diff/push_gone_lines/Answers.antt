@@ -15,18 +15,18 @@ loop-row-preserved c =
     let other = row_named after row.name in
     let so_far = c.loop-row.text.items in
     let found = c.find.ensures ∙ (λ i. row_named (c.in_ok-after.ensures i) (c.as_str.ensures i)) in
-    let change : c.change_of.result ≡ change_of c.args.compare (Some row) other =
-    c.change_of.ensures ∙ ap (change_of c.args.compare (Some row)) found in
+    let change : c.change_of.result ≡ change_of c.args.mode (Some row) other =
+    c.change_of.ensures ∙ ap (change_of c.args.mode (Some row)) found in
     let one : (c.match-change_of.text.items ≡ so_far ++ gone_line other row)
     × (c.match-change_of.gone ≡ c.loop-row.gone + cond (is_none other) 1 0) =
     elim c.match-change_of.branch [
       | in-Gone+in_ok-push_sign_line w ↦
-          (let alone = gone_is_alone c.args.compare row other (sym change ∙ w.in-Gone.is) in (
+          (let alone = gone_is_alone c.args.mode row other (sym change ∙ w.in-Gone.is) in (
             ap (λ text. text.items) w.text-is ∙ w.in_ok-push_sign_line.ensures ∙ ap (λ o. so_far ++ gone_line o row) (sym alone),
             one_where_passing (is_none other) c.loop-row.gone c.match-change_of.gone (ap is_none alone) w.gone-is,
           ))
       | in_default w ↦
-          (let stays = stays_where_not_gone c.args.compare row other (λ is. w.in_default.not-Gone (change ∙ is)) in (
+          (let stays = stays_where_not_gone c.args.mode row other (λ is. w.in_default.not-Gone (change ∙ is)) in (
             ap (λ text. text.items) w.text-is ∙ sym (append-nil so_far) ∙ ap (λ xs. so_far ++ xs) (sym stays.0),
             same_where_failing (is_none other) c.loop-row.gone c.match-change_of.gone stays.1 w.gone-is,
           ))

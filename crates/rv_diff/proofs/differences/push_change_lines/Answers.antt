@@ -9,7 +9,7 @@ use Rattle.rv_diff.proofs.differences.push_change_lines.Goals as goal
 pub returns : goal.returns
 unfolding change_lines
 returns c =
-    let compare = c.args.compare in
+    let compare = c.args.mode in
     let old = c.args.old.now in
     let new = c.args.new.now in
     let ending : List ℕ = change_line new.name (are_same_endings compare old.ending new.ending)

@@ -2,7 +2,7 @@ use Rattle.rv_elf.proofs.Opening.{opening_memory_none, bytes_there, fits_bus, on
 use Rattle.rv_elf.proofs.loading.load.Goals as goal
 
 pub loop-segment-init : goal.loop-segment-init
-loop-segment-init c = opening_memory_none c.args.bus.now c.args.file.now c.args.at c.requires.new
+loop-segment-init c = opening_memory_none c.args.bus.now c.args.file.now c.args.load_at c.requires.new
 
 pub write_segment-requires-clause-inside : goal.write_segment-requires-clause-inside
 write_segment-requires-clause-inside c =
@@ -13,10 +13,10 @@ pub write_segment-requires-clause-fits : goal.write_segment-requires-clause-fits
 write_segment-requires-clause-fits c =
     fits_bus c.args.file.now c.args.image.now c.as_slice-segment-items.result.now c.as_slice-segment-items.ensures
     c.requires.image c.loop-segment.segment-index c.loop-segment-test.true
-    c.args.bus.now c.args.at c.requires.fits c.loop-segment.bus c.loop-segment.invariant
+    c.args.bus.now c.args.load_at c.requires.fits c.loop-segment.bus c.loop-segment.invariant
 
 pub loop-segment-preserved : goal.loop-segment-preserved
 loop-segment-preserved c =
     one_more c.args.file.now c.args.image.now c.as_slice-segment-items.result.now c.as_slice-segment-items.ensures
     c.requires.image c.loop-segment.segment-index c.loop-segment-test.true
-    c.args.bus.now c.args.at c.requires.fits c.loop-segment.bus c.loop-segment.invariant c.write_segment.new.bus c.write_segment.ensures
+    c.args.bus.now c.args.load_at c.requires.fits c.loop-segment.bus c.loop-segment.invariant c.write_segment.new.bus c.write_segment.ensures

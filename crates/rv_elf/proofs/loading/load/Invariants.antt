@@ -6,5 +6,5 @@ abbrev pub invariant-loop-segment : goal.invariant-loop-segment
 invariant-loop-segment l =
     l.bus ≡ record l.fn.bus {
       memory = initial_memory l.fn.bus.regions
-          (take l.segment-index l.fn.image.segments) l.fn.file l.fn.at;
+          (take l.segment-index l.fn.image.segments) l.fn.file l.fn.load_at;
     }

@@ -6,5 +6,5 @@ use Rattle.rv_elf.proofs.loading.unfit_segment.Goals as goal
 
 pub returns : goal.returns
 returns c = find_from_yields_List
-    (λ segment. not (segment_fits c.args.map.now c.args.at segment)) _ _ _ c.find.ensures.ran
+    (λ segment. not (segment_fits c.args.map.now c.args.load_at segment)) _ _ _ c.find.ensures.ran
     (YieldsList-from_slice c.args.segments.now c.iter.ensures.rest) (λ x b q k. search (rules, tests))

@@ -15,7 +15,7 @@ loop-k-init c = record { best_so_far = refl; below = tt }
 
 pub loop-k-preserved : goal.loop-k-preserved
 loop-k-preserved c =
-    let p = is_candidate c.args.sought c.args.segments.now c.args.strings.now c.args.addr in
+    let p = is_candidate c.args.kind c.args.segments.now c.args.strings.now c.args.addr in
     let more = one_more p (λ j. symbol_at_offset c.args.table.now (16 * j)) c.loop-k.k c.symbol_at_offset-symbol.result
     c.loop-k.best in
     elim c.if-is_nearer_than_best.branch [
@@ -24,7 +24,7 @@ loop-k-preserved c =
           record {
             best_so_far = w.best-is ∙ more true c.symbol_at_offset-symbol.ensures c.loop-k.invariant.best_so_far
                 (and_from _ _ (sym c.is_nearer_than_best.ensures ∙ w.if-is_nearer_than_best.true) passes);
-            below = rw w.best-is (candidate_below c.args.sought c.args.segments.now c.args.strings.now c.args.addr
+            below = rw w.best-is (candidate_below c.args.kind c.args.segments.now c.args.strings.now c.args.addr
                 c.symbol_at_offset-symbol.result passes);
           }
       | else-is_nearer_than_best w ↦ record {

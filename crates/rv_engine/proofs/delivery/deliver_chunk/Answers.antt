@@ -6,7 +6,7 @@ use Rattle.rv_engine.proofs.delivery.deliver_chunk.Goals as goal
 pub loop-made-init : goal.loop-made-init
 loop-made-init g c = record {
   received = heard_as g.J.RunSpec.is_result g.J.RunSpec.jobs (g.L.Listener.has_received c.args.listener.now) _ _
-      (let e : min (c.args.piece * g.J.RunSpec.group) g.J.RunSpec.jobs ≡ min (c.args.piece * g.J.RunSpec.group) g.J.RunSpec.jobs + 0 = omega arith in e)
+      (let e : min (c.args.chunk * g.J.RunSpec.group) g.J.RunSpec.jobs ≡ min (c.args.chunk * g.J.RunSpec.group) g.J.RunSpec.jobs + 0 = omega arith in e)
       c.requires.received.0;
   goes = c.requires.received.1;
   front = refl;
@@ -23,7 +23,7 @@ loop-made-preserved g c =
     let whole : before ++ made ∷ rest ≡ c.args.results.items =
     ap (λ (l : List g.row.H.Denot). before ++ l) (sym steps) ∙ c.loop-made.invariant.front
     ∙ c.into_iter-made-iterator.ensures.into_iter_gives.0 in record {
-      received = piece_more g.J.RunSpec.is_result g.J.RunSpec.jobs g.J.RunSpec.group c.args.piece c.args.results.items c.requires.results
+      received = piece_more g.J.RunSpec.is_result g.J.RunSpec.jobs g.J.RunSpec.group c.args.chunk c.args.results.items c.requires.results
           (g.L.Listener.has_received c.loop-made.listener) (g.L.Listener.has_received c.receive.new.self) before made rest whole
           c.loop-made.invariant.received c.receive.ensures.received;
       goes = c.receive.ensures.goes c.in_default.is;
@@ -44,7 +44,7 @@ returns-in-Stop g c =
     let whole : before ++ made ∷ rest ≡ c.args.results.items =
     ap (λ (l : List g.row.H.Denot). before ++ l) (sym steps) ∙ c.loop-made.invariant.front
     ∙ c.into_iter-made-iterator.ensures.into_iter_gives.0 in
-    let more = piece_more g.J.RunSpec.is_result g.J.RunSpec.jobs g.J.RunSpec.group c.args.piece c.args.results.items c.requires.results
+    let more = piece_more g.J.RunSpec.is_result g.J.RunSpec.jobs g.J.RunSpec.group c.args.chunk c.args.results.items c.requires.results
     (g.L.Listener.has_received c.loop-made.listener) (g.L.Listener.has_received c.receive.new.self) before made rest whole
     c.loop-made.invariant.received c.receive.ensures.received in
     (heard_some g.J.RunSpec.is_result g.J.RunSpec.jobs (g.L.Listener.has_received c.receive.new.self) _ more, c.receive.ensures.stops c.in-Stop.is)
@@ -56,7 +56,7 @@ returns g c =
     let empty : into_iter_items c.loop-made.made-iterator ≡ [] = nothing_left _ (sym c.loop-made.invariant.left ∙ none.0) in
     let all : before ≡ c.args.results.items =
     sym (append-nil before) ∙ rw empty at c.loop-made.invariant.front ∙ c.into_iter-made-iterator.ensures.into_iter_gives.0 in (
-      piece_heard g.J.RunSpec.is_result g.J.RunSpec.jobs g.J.RunSpec.group c.args.piece c.args.results.items c.requires.results
+      piece_heard g.J.RunSpec.is_result g.J.RunSpec.jobs g.J.RunSpec.group c.args.chunk c.args.results.items c.requires.results
           (g.L.Listener.has_received c.loop-made.listener) (length before) (ap length all) c.loop-made.invariant.received,
       c.loop-made.invariant.goes,
     )

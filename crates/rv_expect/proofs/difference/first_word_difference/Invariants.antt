@@ -4,7 +4,7 @@ use Rattle.rv_expect.proofs.difference.first_word_difference.Given as goal
 
 abbrev pub invariant-loop-place : goal.invariant-loop-place
 invariant-loop-place l = record {
-  same : difference_from l.place (drop l.place l.met) (drop l.place l.expected)
-      ≡ difference_from 0 l.met l.expected;
+  same : difference_from l.place (drop l.place l.actual) (drop l.place l.expected)
+      ≡ difference_from 0 l.actual l.expected;
   within : l.place ≤ length l.expected;
 }

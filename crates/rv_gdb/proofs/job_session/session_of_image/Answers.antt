@@ -12,23 +12,23 @@ use Rattle.rv_gdb.proofs.job_session.session_of_image.Goals as goal
 pub invariant_of-start-clause-even : goal.invariant_of-start-clause-even
 invariant_of-start-clause-even c =
     let d = c.job-job.result.now in
-    even_of c.args.plan.now.answers (job_at c.args.plan.now c.args.place d) c.args.image.now c.args.program.image (c.requires.bytes d)
+    even_of c.args.plan.now.answers (job_at c.args.plan.now c.args.index d) c.args.image.now c.args.program.image (c.requires.bytes d)
     (c.requires.image d)
 
 pub invariant_of-start-clause-aligned : goal.invariant_of-start-clause-aligned
 invariant_of-start-clause-aligned c =
     let plan = c.args.plan.now in
     let d = c.job-job.result.now in
-    let job = job_at plan c.args.place d in
-    let same = get_or_read plan.jobs c.args.place c.job-job.result.now c.requires.place c.job-job.ensures.value d in
+    let job = job_at plan c.args.index d in
+    let same = get_or_read plan.jobs c.args.index c.job-job.result.now c.requires.index c.job-job.ensures.value d in
     rw (ap (λ (j : Job). j.isa) same)
     (aligned_of plan.answers job c.args.image.now c.args.program.image (c.requires.bytes d) (c.requires.image d))
 
 pub returns-in_ok-new-in-Ok : goal.returns-in_ok-new-in-Ok
 returns-in_ok-new-in-Ok c = λ d.
     let plan = c.args.plan.now in
-    let job = job_at plan c.args.place d in
-    let same = get_or_read plan.jobs c.args.place c.job-job.result.now c.requires.place c.job-job.ensures.value d in
+    let job = job_at plan c.args.index d in
+    let same = get_or_read plan.jobs c.args.index c.job-job.result.now c.requires.index c.job-job.ensures.value d in
     let isa = ap (λ (j : Job). j.isa) same in
     let bytes = c.requires.bytes d in
     let image = c.requires.image d in

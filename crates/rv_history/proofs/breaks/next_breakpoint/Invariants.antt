@@ -4,10 +4,10 @@ use Rattle.rv_history.proofs.breaks.next_breakpoint.Given as goal
 
 abbrev pub invariant-places : goal.invariant-places
 invariant-places g l = record {
-  way : IsMoveInProgress l.stops l.initial.track l.leg;
-  leg : l.leg ≡ record l.fn.leg { at = l.leg.at };
-  same : l.track ≡ l.initial.track;
+  way : IsMoveInProgress l.stops l.initial.checkpoints l.forward_move;
+  forward_move : l.forward_move ≡ record l.fn.forward_move { at = l.forward_move.at };
+  same : l.checkpoints ≡ l.initial.checkpoints;
 }
 
 abbrev pub decreases-places : goal.decreases-places
-decreases-places g l = l.leg.budget - l.leg.at.place
+decreases-places g l = l.forward_move.budget - l.forward_move.at.step

@@ -6,11 +6,11 @@ use Rattle.rv_history.proofs.breaks.search_breakpoints.Given as goal
 
 abbrev pub invariant-places : goal.invariant-places
 invariant-places g l = record {
-  reached : IsReached l.track l.at.place (state_of l.at.machine);
-  low : l.begin ≤ l.at.place;
-  within : l.at.place ≤ l.end;
-  last : (budget : ℕ) → l.end ≤ budget → IsLastStopIn l.stops budget l.track l.begin l.at.place l.last;
+  reached : IsReached l.checkpoints l.at.step (state_of l.at.machine);
+  low : l.begin ≤ l.at.step;
+  within : l.at.step ≤ l.end;
+  last : (budget : ℕ) → l.end ≤ budget → IsLastStopIn l.stops budget l.checkpoints l.begin l.at.step l.last;
 }
 
 abbrev pub decreases-places : goal.decreases-places
-decreases-places g l = l.end - l.at.place
+decreases-places g l = l.end - l.at.step

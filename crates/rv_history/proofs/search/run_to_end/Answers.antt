@@ -26,40 +26,40 @@ store_and_poll-requires-clause-there g c =
 pub returns-then-branch-clause-stop : goal.returns-then-branch-clause-stop
 returns-then-branch-clause-stop g c = λ stops none.
     let way = c.places.way in
-    let all = all_addresses c.args.leg way c.places.invariant.way c.requires.unbounded in
-    arrives_broken stops c.args.track.now c.args.leg way c.arrived.result
-    (under_way stops c.args.track.now way none all c.places.invariant.there c.places.invariant.order c.places.invariant.within)
+    let all = all_addresses c.args.forward_move way c.places.invariant.way c.requires.unbounded in
+    arrives_broken stops c.args.checkpoints.now c.args.forward_move way c.arrived.result
+    (under_way stops c.args.checkpoints.now way none all c.places.invariant.there c.places.invariant.order c.places.invariant.within)
     c.places.invariant.way c.arrived.ensures
-    (never_halted stops way.bounds way.from way.at.place (state_of way.at.machine).pc none all)
+    (never_halted stops way.bounds way.from way.at.step (state_of way.at.machine).pc none all)
 
 pub returns-then-way-end-clause-stop : goal.returns-then-way-end-clause-stop
 returns-then-way-end-clause-stop g c = λ stops none.
-    let start = c.args.track.now in
+    let start = c.args.checkpoints.now in
     let at = c.run_to_step-ending.new.self in
     let ran = c.run_to_step-ending.ensures.ran start c.places.invariant.there in
     let begun = c.places.invariant.order in
     let from = ap (λ (l : ForwardMove). l.from) c.places.invariant.way in
     let budget = ap (λ (l : ForwardMove). l.budget) c.places.invariant.way in
     let end = c.slice_end-end.ensures.within in
-    let onward : c.places.way.at.place ≤ at.place = c.run_to_step-ending.ensures.onward in
-    ends_before stops start c.args.leg at c.arrived-then-way-end.result c.slice_end-end.result c.run_to_step-ending.result none c.requires.unbounded
-    (omega (arith, begun, from, onward)) c.arrived-then-way-end.ensures ran c.if-way-end.true (omega (arith, budget, end))
+    let not_back : c.places.way.at.step ≤ at.step = c.run_to_step-ending.ensures.not_back in
+    ends_before stops start c.args.forward_move at c.arrived-then-way-end.result c.slice_end-end.result c.run_to_step-ending.result none c.requires.unbounded
+    (omega (arith, begun, from, not_back)) c.arrived-then-way-end.ensures ran c.if-way-end.true (omega (arith, budget, end))
 
 pub places-preserved : goal.places-preserved
 places-preserved g c =
-    let start = c.args.track.now in
+    let start = c.args.checkpoints.now in
     let at = c.run_to_step-ending.new.self in
     let end = c.slice_end-end.result in
     let ran = c.run_to_step-ending.ensures.ran start c.places.invariant.there in
     let begun = c.places.invariant.order in
-    let onward = c.run_to_step-ending.ensures.onward in
+    let not_back = c.run_to_step-ending.ensures.not_back in
     let count = ap (λ r. r.steps) ran in
     let few = within_budget end start in
     let within = c.slice_end-end.ensures.within in record {
-      there = ran_to start (state_of at.machine) end at.place c.run_to_step-ending.result ran;
-      order = omega (arith, begun, onward);
+      there = ran_to start (state_of at.machine) end at.step c.run_to_step-ending.result ran;
+      order = omega (arith, begun, not_back);
       within = omega (arith, count, few, within);
-      way = still_on c.args.leg c.places.way _ c.places.invariant.way refl;
+      way = still_on c.args.forward_move c.places.way _ c.places.invariant.way refl;
       same = c.store_and_poll.ensures.same ∙ c.places.invariant.same;
     }
 
@@ -73,5 +73,5 @@ returns-clause-stop g c = λ stops none.
     let within = c.places.invariant.within in
     let from = ap (λ (l : ForwardMove). l.from) c.places.invariant.way in
     let budget = ap (λ (l : ForwardMove). l.budget) c.places.invariant.way in
-    ends_at stops c.args.track.now c.args.leg c.places.way.at c.arrived-2.result none c.requires.unbounded
+    ends_at stops c.args.checkpoints.now c.args.forward_move c.places.way.at c.arrived-2.result none c.requires.unbounded
     (omega (arith, begun, from)) c.arrived-2.ensures c.places.invariant.there (omega (arith, within, budget, c.places-test.false))

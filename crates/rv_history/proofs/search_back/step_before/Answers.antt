@@ -8,12 +8,12 @@ use Rattle.rv_history.proofs.search_back.step_before.Goals as goal
 
 pub returns-then-have_no_watchpoints : goal.returns-then-have_no_watchpoints
 returns-then-have_no_watchpoints c = λ budget within.
-    step_unwatched c.args.stops.now budget (c.args.from - 1) c.args.from c.args.track.now
+    step_unwatched c.args.stops.now budget (c.args.from - 1) c.args.from c.args.checkpoints.now
     (c.have_no_watchpoints.ensures.0 c.if-have_no_watchpoints.true) (omega arith)
 
 pub returns-in-WatchTriggered : goal.returns-in-WatchTriggered
 returns-in-WatchTriggered c = λ budget within.
-    let start = c.args.track.now in
+    let start = c.args.checkpoints.now in
     let before = c.args.from - 1 in
     let there = completes c.args.from before start (omega (arith, c.requires)) in
     let reached : IsReached start before (state_of c.in_ok-machine.machine) = record {
@@ -26,7 +26,7 @@ returns-in-WatchTriggered c = λ budget within.
 
 pub returns : goal.returns
 returns c = λ budget within.
-    let start = c.args.track.now in
+    let start = c.args.checkpoints.now in
     let s = state_of c.in_ok-machine.machine in
     let t = state_of c.step_watched.new.machine in
     let before = c.args.from - 1 in

@@ -6,22 +6,22 @@ use Rattle.rv_history.proofs.search_back.stop_before.Goals as goal
 
 pub search_part-requires-clause-comes : goal.search_part-requires-clause-comes
 search_part-requires-clause-comes g c =
-    completes c.args.from c.loop-end.end c.args.track.now (let order = c.loop-end.invariant.order in omega (arith, c.requires))
+    completes c.args.from c.loop-end.end c.args.checkpoints.now (let order = c.loop-end.invariant.order in omega (arith, c.requires))
 
 pub returns-in-Some-last-clause-stop : goal.returns-in-Some-last-clause-stop
 returns-in-Some-last-clause-stop g c = λ budget within.
     let order = c.loop-end.invariant.order in
     let part = rw c.in-Some.is at c.in_ok-part.ensures.part in
-    let found = rw c.in-Some-last.is at part.last budget (omega (arith, order, within)) in
-    last_before c.args.stops.now budget c.loop-end.end c.args.from c.args.track.now c.in-Some-last.last order
-    (c.loop-end.invariant.quiet budget within) found.1 found.0
+    let outcome = rw c.in-Some-last.is at part.last budget (omega (arith, order, within)) in
+    last_before c.args.stops.now budget c.loop-end.end c.args.from c.args.checkpoints.now c.in-Some-last.last order
+    (c.loop-end.invariant.quiet budget within) outcome.1 outcome.0
 
-pub returns-in-Some-last-clause-broken_off : goal.returns-in-Some-last-clause-broken_off
-returns-in-Some-last-clause-broken_off g c = λ is.
+pub returns-in-Some-last-clause-interrupted : goal.returns-in-Some-last-clause-interrupted
+returns-in-Some-last-clause-interrupted g c = λ is.
     let order = c.loop-end.invariant.order in
     let part = rw c.in-Some.is at c.in_ok-part.ensures.part in
-    let found = rw c.in-Some-last.is at part.last c.args.from order in
-    absurd (found.1 is)
+    let outcome = rw c.in-Some-last.is at part.last c.args.from order in
+    absurd (outcome.1 is)
 
 pub loop-end-preserved : goal.loop-end-preserved
 loop-end-preserved g c =
@@ -30,14 +30,14 @@ loop-end-preserved g c =
     let before = part.begin in record {
       order = omega (arith, order, before);
       quiet = λ budget within.
-          let found = rw c.in_default-last.is at part.last budget (omega (arith, order, within)) in
-          quiet_joined c.args.stops.now budget c.in-Some.part.begin c.loop-end.end c.args.from c.args.track.now
-          found (c.loop-end.invariant.quiet budget within);
+          let outcome = rw c.in_default-last.is at part.last budget (omega (arith, order, within)) in
+          quiet_joined c.args.stops.now budget c.in-Some.part.begin c.loop-end.end c.args.from c.args.checkpoints.now
+          outcome (c.loop-end.invariant.quiet budget within);
     }
 
 pub returns-clause-stop : goal.returns-clause-stop
 returns-clause-stop g c = λ budget within.
     let none : c.loop-end.end ≡ 0 = omega arith in
-    begins_over c.args.stops.now budget c.args.from c.args.track.now
-    (subst (λ (k : ℕ). HaveNoStops c.args.stops.now budget c.args.track.now k c.args.from) none
+    begins_over c.args.stops.now budget c.args.from c.args.checkpoints.now
+    (subst (λ (k : ℕ). HaveNoStops c.args.stops.now budget c.args.checkpoints.now k c.args.from) none
     (c.loop-end.invariant.quiet budget within))

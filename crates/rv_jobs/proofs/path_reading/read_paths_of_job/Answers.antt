@@ -13,7 +13,7 @@ returns-clause-places g c =
 
 pub returns-clause-paths : goal.returns-clause-paths
 returns-clause-paths g c =
-    let asked = paths_of c.args.asked in
+    let asked = paths_of c.args.results in
     let job = c.args.job.now in
     let first : paths_of c.in_ok-first.first ≡ with_path asked job.image =
     c.in_ok-first.ensures.paths ∙ ap (with_path asked) c.as_str.ensures in

@@ -8,7 +8,7 @@ pub loop-at-preserved : goal.loop-at-preserved
 loop-at-preserved c =
     let inv = c.loop-at.invariant in (
       omega (arith, ap (length {A = Found}) c.in_ok-push.ensures.items, length-append {A = Found}, inv.0),
-      found_more (paths_of c.args.asked.now) c.args.jobs.now c.loop-at.found.items c.push.new.self.items c.loop-at.at
+      found_more (paths_of c.args.results.now) c.args.jobs.now c.loop-at.found.items c.push.new.self.items c.loop-at.at
           c.index-jobs-at.result c.result_indices_of_job.result c.loop-at-test.true c.index-jobs-at.is inv.0
           c.in_ok-push.ensures.items
           c.result_indices_of_job.ensures inv.1,

@@ -9,4 +9,4 @@ use Rattle.rv_jobs.proofs.path_reading.result_indices.Given as goal
 abbrev pub invariant-loop-at : goal.invariant-loop-at
 invariant-loop-at l = (length l.found.items ≡ l.at)
     × ((i : ℕ) (d : Job) (e : Found) → i < l.at
-    → IsFound (paths_of l.fn.asked) (slice_index_or l.fn.jobs i d) (slice_index_or l.found.items i e))
+    → IsFound (paths_of l.fn.results) (slice_index_or l.fn.jobs i d) (slice_index_or l.found.items i e))

@@ -9,7 +9,7 @@ use Rattle.rv_list_errors.proofs.explanations.push_expected.Goals as goal
 
 pub returns : goal.returns
 returns c =
-    let wanted = c.args.wanted.now in
+    let wanted = c.args.expected.now in
     let ms = table_view c.args.table.now in
     some_then c.args.message.now c.push_key_and_value.new.message c.push_expected_text.new.message
     (IsKeyAndValue wanted.key.now (get_member wanted.key.now ms)) (ExplainsExpectedValue wanted ms)

@@ -6,5 +6,5 @@ use Rattle.rv_list_errors.proofs.faults.push_fault_lines.Given as goal
 
 abbrev pub invariant-loop-at : goal.invariant-loop-at
 invariant-loop-at l =
-    AppendsLineOfEach (λ fault message. HasHeadAndTail (ExplainsFaultInView l.look fault) (l.file ++ location_in_view l.look fault.job) message)
+    AppendsLineOfEach (λ fault message. HasHeadAndTail (ExplainsFaultInView l.view fault) (l.file ++ location_in_view l.view fault.job) message)
     (take l.at l.faults) l.initial.bytes.items l.bytes.items

@@ -8,5 +8,5 @@ use Rattle.rv_list_errors.proofs.list_fault.push_too_many_jobs.Goals as goal
 pub returns : goal.returns
 returns c =
     adds_then c.args.message.now c.push_number_between.new.self c.push_number.new.self
-    (codes "too many jobs: expected at most " ++ (decimal max_jobs ++ codes ", found ")) (decimal c.args.jobs)
+    (codes "too many jobs: expected at most " ++ (decimal max_jobs ++ codes ", found ")) (decimal c.args.count)
     c.push_number_between.ensures c.push_number.ensures

@@ -11,7 +11,7 @@ use Rattle.rv_list_errors.proofs.names.push_name_fault.Goals as goal
 pub returns : goal.returns
 returns c =
     let key = c.args.key.now in
-    let wanted = c.args.wanted.now in
+    let wanted = c.args.expected.now in
     let ms = table_view c.args.table.now in
     let names = borrowed_names c.args.list.now.names.items in
     let text = job_of_name_text c.job_number_of_name.result in

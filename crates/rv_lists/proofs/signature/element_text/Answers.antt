@@ -8,5 +8,5 @@ use Rattle.rv_lists.proofs.signature.element_text.Goals as goal
 pub returns : goal.returns
 returns c =
     c.as_str.ensures ∙ ap (option_and_then as_str)
-    (ap (λ v. Some (view v)) c.index-values-at.is
-    ∙ get_item_within c.args.values.now c.args.at c.index-values-at.result c.requires)
+    (ap (λ v. Some (view v)) c.index-values-index.is
+    ∙ get_item_within c.args.values.now c.args.index c.index-values-index.result c.requires)

@@ -13,7 +13,7 @@ use Rattle.rv_merge.proofs.merge_state.add_part.Goals as goal
 pub returns-in-Some-clause-err : goal.returns-in-Some-clause-err
 returns-in-Some-clause-err c = (
   omega (arith, length-bytes_of c.args.texts.now, c.requires.at),
-  has_other_run (bytes_of_texts c.args.texts.now) c.args.at c.args.gathered.now.first c.args.part.shard c.in-Some.flaw
+  has_other_run (bytes_of_texts c.args.texts.now) c.args.at c.args.state.now.first c.args.part.shard c.in-Some.flaw
       c.requires.holds.first
       (record {
         report = report_of_part c.args.part;
@@ -26,7 +26,7 @@ returns-in-Some-clause-err c = (
 
 pub overflow_sub-shard : goal.overflow_sub-shard
 overflow_sub-shard c =
-    let g = c.args.gathered.now in
+    let g = c.args.state.now in
     let p = c.args.part in
     let w = shard_within (bytes_of_texts c.args.texts.now) c.args.at g.first g.sources.items g.slots.items c.requires.holds
     p.shard p.numbers p.rows c.requires.text c.in_default.ensures in
@@ -34,7 +34,7 @@ overflow_sub-shard c =
 
 pub index-requires : goal.index-requires
 index-requires c =
-    let g = c.args.gathered.now in
+    let g = c.args.state.now in
     let p = c.args.part in
     let w = shard_within (bytes_of_texts c.args.texts.now) c.args.at g.first g.sources.items g.slots.items c.requires.holds
     p.shard p.numbers p.rows c.requires.text c.in_default.ensures in
@@ -42,7 +42,7 @@ index-requires c =
 
 pub index_mut-requires : goal.index_mut-requires
 index_mut-requires c =
-    let g = c.args.gathered.now in
+    let g = c.args.state.now in
     let p = c.args.part in
     let w = shard_within (bytes_of_texts c.args.texts.now) c.args.at g.first g.sources.items g.slots.items c.requires.holds
     p.shard p.numbers p.rows c.requires.text c.in_default.ensures in
@@ -50,7 +50,7 @@ index_mut-requires c =
 
 pub fill_slots-requires-clause-numbers : goal.fill_slots-requires-clause-numbers
 fill_slots-requires-clause-numbers c =
-    let g = c.args.gathered.now in
+    let g = c.args.state.now in
     let p = c.args.part in
     let within = number_within (bytes_of_texts c.args.texts.now) c.args.at g.first g.sources.items g.slots.items
     c.requires.holds p.shard p.numbers p.rows c.requires.text c.in_default.ensures in
@@ -60,7 +60,7 @@ fill_slots-requires-clause-numbers c =
 
 pub returns-in-None-clause-added : goal.returns-in-None-clause-added
 returns-in-None-clause-added c =
-    let g = c.args.gathered.now in
+    let g = c.args.state.now in
     let p = c.args.part in
     let none = read_none g.sources.items (p.shard.number - 1) c.index.result.now c.index.ensures c.in-None.is in
     let more = holds_more (bytes_of_texts c.args.texts.now) c.args.at g.first g.sources.items g.slots.items c.requires.holds
@@ -73,7 +73,7 @@ returns-in-None-clause-added c =
 
 pub are_same_texts-requires-clause-place : goal.are_same_texts-requires-clause-place
 are_same_texts-requires-clause-place c =
-    let g = c.args.gathered.now in
+    let g = c.args.state.now in
     let p = c.args.part in
     let w = shard_within (bytes_of_texts c.args.texts.now) c.args.at g.first g.sources.items g.slots.items c.requires.holds
     p.shard p.numbers p.rows c.requires.text c.in_default.ensures in
@@ -84,7 +84,7 @@ are_same_texts-requires-clause-place c =
 
 pub returns-in-Some-index-clause-added : goal.returns-in-Some-index-clause-added
 returns-in-Some-index-clause-added c =
-    let g = c.args.gathered.now in
+    let g = c.args.state.now in
     let p = c.args.part in
     let w = shard_within (bytes_of_texts c.args.texts.now) c.args.at g.first g.sources.items g.slots.items c.requires.holds
     p.shard p.numbers p.rows c.requires.text c.in_default.ensures in
@@ -95,7 +95,7 @@ returns-in-Some-index-clause-added c =
 
 pub returns-clause-err : goal.returns-clause-err
 returns-clause-err c =
-    let g = c.args.gathered.now in
+    let g = c.args.state.now in
     let p = c.args.part in
     let w = shard_within (bytes_of_texts c.args.texts.now) c.args.at g.first g.sources.items g.slots.items c.requires.holds
     p.shard p.numbers p.rows c.requires.text c.in_default.ensures in

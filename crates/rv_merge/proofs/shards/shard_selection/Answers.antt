@@ -17,14 +17,14 @@ loop-place-preserved c =
 
 pub returns-clause-counted : goal.returns-clause-counted
 returns-clause-counted c =
-    let last : c.loop-place.place ≡ c.args.jobs = omega arith in
+    let last : c.loop-place.place ≡ c.args.job_count = omega arith in
     ap length c.loop-place.invariant
     ∙ length-map (range_with_len 0 c.loop-place.place) (is_in_shard c.args.shards c.args.number)
     ∙ length-range_with_len 0 c.loop-place.place ∙ last
 
 pub returns-clause-places : goal.returns-clause-places
 returns-clause-places c =
-    let last : c.loop-place.place ≡ c.args.jobs = omega arith in
-    ap (λ (l : List Bool). selected_indices l c.args.jobs)
+    let last : c.loop-place.place ≡ c.args.job_count = omega arith in
+    ap (λ (l : List Bool). selected_indices l c.args.job_count)
     (c.loop-place.invariant ∙ ap (shard_selection c.args.shards c.args.number) last)
-    ∙ marked_by (is_in_shard c.args.shards c.args.number) c.args.jobs
+    ∙ marked_by (is_in_shard c.args.shards c.args.number) c.args.job_count

@@ -1,18 +1,18 @@
 use Rattle.std.proofs.Common.{◌∙◌, sym, arith}
 use Rattle.rv_report.proofs.FieldLoops.{rising_no, rising_on, rising_end}
-use Rattle.rv_report.proofs.saved.are_increasing.Goals.{then-number-before-via-then-number-before}
-use Rattle.rv_report.proofs.saved.are_increasing.Goals.{then-number-before-via-else-number-before+then-last-number}
+use Rattle.rv_report.proofs.saved.are_increasing.Goals.{then-number-previous-via-then-number-previous}
+use Rattle.rv_report.proofs.saved.are_increasing.Goals.{then-number-previous-via-else-number-previous+then-last-number}
 use Rattle.rv_report.proofs.saved.are_increasing.Goals as goal
 
-pub returns-then-number-before : goal.returns-then-number-before
-returns-then-number-before c =
+pub returns-then-number-previous : goal.returns-then-number-previous
+returns-then-number-previous c =
     let before = c.loop-number.before in
     let i = c.loop-number.number-index in
-    elim c.then-number-before.branch [
-      | then-number-before-via-then-number-before w ↦
+    elim c.then-number-previous.branch [
+      | then-number-previous-via-then-number-previous w ↦
           sym (rising_no before c.args.last c.args.numbers.now i (omega arith) (λ low high. omega arith))
           ∙ c.loop-number.invariant
-      | then-number-before-via-else-number-before+then-last-number w ↦
+      | then-number-previous-via-else-number-previous+then-last-number w ↦
           sym (rising_no before c.args.last c.args.numbers.now i (omega arith) (λ low high. omega arith))
           ∙ c.loop-number.invariant
     ]

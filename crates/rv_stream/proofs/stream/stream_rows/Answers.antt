@@ -26,7 +26,7 @@ some_is_none (Some error) none some = cc
 pub returns-in-Ok-clause-rows : goal.returns-in-Ok-clause-rows
 returns-in-Ok-clause-rows g c =
     let s = c.run_jobs-received.result.0 in
-    let line = g.T.RowReporter.line c.args.to.reporter.now in
+    let line = g.T.RowReporter.line c.args.output.reporter.now in
     let batch = c.args.batch.now in
     let places = batch.places.now in
     let most = g.J.StreamSpec.most in
@@ -57,7 +57,7 @@ returns-in-Ok-clause-rows g c =
 pub returns-in-Ok-clause-few : goal.returns-in-Ok-clause-few
 returns-in-Ok-clause-few g c =
     let s = c.run_jobs-received.result.0 in
-    let line = g.T.RowReporter.line c.args.to.reporter.now in
+    let line = g.T.RowReporter.line c.args.output.reporter.now in
     let batch = c.args.batch.now in
     let places = batch.places.now in
     let most = g.J.StreamSpec.most in
@@ -93,7 +93,7 @@ returns-in-Ok-clause-few g c =
 pub returns-in-Ok-clause-all : goal.returns-in-Ok-clause-all
 returns-in-Ok-clause-all g c =
     let s = c.run_jobs-received.result.0 in
-    let line = g.T.RowReporter.line c.args.to.reporter.now in
+    let line = g.T.RowReporter.line c.args.output.reporter.now in
     let batch = c.args.batch.now in
     let places = batch.places.now in
     let most = g.J.StreamSpec.most in
@@ -128,7 +128,7 @@ returns-in-Ok-clause-all g c =
 pub returns-in-Ok-clause-counted : goal.returns-in-Ok-clause-counted
 returns-in-Ok-clause-counted g c =
     let s = c.run_jobs-received.result.0 in
-    let line = g.T.RowReporter.line c.args.to.reporter.now in
+    let line = g.T.RowReporter.line c.args.output.reporter.now in
     let batch = c.args.batch.now in
     let places = batch.places.now in
     let most = g.J.StreamSpec.most in
@@ -162,7 +162,7 @@ returns-in-Ok-clause-counted g c =
 pub returns-in-Ok-clause-part : goal.returns-in-Ok-clause-part
 returns-in-Ok-clause-part g c =
     let s = c.run_jobs-received.result.0 in
-    let line = g.T.RowReporter.line c.args.to.reporter.now in
+    let line = g.T.RowReporter.line c.args.output.reporter.now in
     let batch = c.args.batch.now in
     let places = batch.places.now in
     let most = g.J.StreamSpec.most in
@@ -189,14 +189,14 @@ returns-in-Ok-clause-part g c =
     (begun_of_all received line places every begun before taken
     (c.finish-out.ensures.begun (concat (texts_of_reported begun.seen.reported)) begun.seen.seen.0)) in
     let start = sym c.requires.before.0 in
-    let part_from : AppendsPrefix (g.W.Sink.accepted c.args.to.out) taken (joined_row_texts line places (rows_within c.args.limit.now (batch_rows batch))) =
+    let part_from : AppendsPrefix (g.W.Sink.accepted c.args.output.out) taken (joined_row_texts line places (rows_within c.args.limit.now (batch_rows batch))) =
     subst (λ (b : Option (List ℕ)). AppendsPrefix b taken (joined_row_texts line places (rows_within c.args.limit.now (batch_rows batch)))) c.requires.before.0 part in
     on_error c.rows_of_run.result _ part_from
 
 pub returns-in-Err-clause-part : goal.returns-in-Err-clause-part
 returns-in-Err-clause-part g c =
     let s = c.run_jobs-received.result.0 in
-    let line = g.T.RowReporter.line c.args.to.reporter.now in
+    let line = g.T.RowReporter.line c.args.output.reporter.now in
     let batch = c.args.batch.now in
     let places = batch.places.now in
     let most = g.J.StreamSpec.most in
@@ -223,14 +223,14 @@ returns-in-Err-clause-part g c =
     (begun_of_all received line places every begun before taken
     (c.finish-out.ensures.begun (concat (texts_of_reported begun.seen.reported)) begun.seen.seen.0)) in
     let start = sym c.requires.before.0 in
-    let part_from : AppendsPrefix (g.W.Sink.accepted c.args.to.out) taken (joined_row_texts line places (rows_within c.args.limit.now (batch_rows batch))) =
+    let part_from : AppendsPrefix (g.W.Sink.accepted c.args.output.out) taken (joined_row_texts line places (rows_within c.args.limit.now (batch_rows batch))) =
     subst (λ (b : Option (List ℕ)). AppendsPrefix b taken (joined_row_texts line places (rows_within c.args.limit.now (batch_rows batch)))) c.requires.before.0 part in
     part_from
 
 pub returns-in-Ok-clause-seen : goal.returns-in-Ok-clause-seen
 returns-in-Ok-clause-seen g c =
     let s = c.run_jobs-received.result.0 in
-    let line = g.T.RowReporter.line c.args.to.reporter.now in
+    let line = g.T.RowReporter.line c.args.output.reporter.now in
     let batch = c.args.batch.now in
     let places = batch.places.now in
     let most = g.J.StreamSpec.most in
@@ -264,7 +264,7 @@ returns-in-Ok-clause-seen g c =
 pub returns-in-Ok-clause-seen_some : goal.returns-in-Ok-clause-seen_some
 returns-in-Ok-clause-seen_some g c =
     let s = c.run_jobs-received.result.0 in
-    let line = g.T.RowReporter.line c.args.to.reporter.now in
+    let line = g.T.RowReporter.line c.args.output.reporter.now in
     let batch = c.args.batch.now in
     let places = batch.places.now in
     let most = g.J.StreamSpec.most in
@@ -294,7 +294,7 @@ returns-in-Ok-clause-seen_some g c =
 pub returns-in-Err-clause-seen_some : goal.returns-in-Err-clause-seen_some
 returns-in-Err-clause-seen_some g c =
     let s = c.run_jobs-received.result.0 in
-    let line = g.T.RowReporter.line c.args.to.reporter.now in
+    let line = g.T.RowReporter.line c.args.output.reporter.now in
     let batch = c.args.batch.now in
     let places = batch.places.now in
     let most = g.J.StreamSpec.most in

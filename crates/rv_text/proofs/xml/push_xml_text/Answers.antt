@@ -6,7 +6,7 @@ use Rattle.rv_text.proofs.xml.push_xml_text.Goals as goal
 
 pub loop-rest-preserved : goal.loop-rest-preserved
 loop-rest-preserved c =
-    let within = c.args.within in
+    let within = c.args.context in
     let bytes = c.loop-rest.rest.now in
     cc (
       escaped-front within bytes (omega (arith, c.in_ok-rest.ensures.shorter)),
@@ -20,4 +20,4 @@ loop-rest-preserved c =
 pub returns : goal.returns
 returns c =
     let empty : length c.loop-rest.rest.now ≡ 0 = grind (arith, common_steps) in
-    cc (escaped-empty c.args.within c.loop-rest.rest.now empty, append-nil (string_bytes c.loop-rest.text))
+    cc (escaped-empty c.args.context c.loop-rest.rest.now empty, append-nil (string_bytes c.loop-rest.text))

@@ -8,7 +8,7 @@ invariant_of-self c = (
   c.self.invariant.0,
   (
     let fewer = c.retain.ensures.bound in let few = c.self.invariant.1.0 in omega (arith, fewer, few),
-    falling_some _ (λ (other : MachineAt). (other.place % c.args.number) == 0) _ (λ x b f k. search rules) _ _
+    falling_some _ (λ (other : MachineAt). (other.step % c.args.number) == 0) _ (λ x b f k. search rules) _ _
         c.retain.ensures.filtered c.self.invariant.1.1,
   ),
 )

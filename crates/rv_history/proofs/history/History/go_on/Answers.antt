@@ -15,7 +15,7 @@ next_stop-requires g c = record {
 
 pub invariant_of-self-2 : goal.invariant_of-self-2
 invariant_of-self-2 g c =
-    let few = within_budget c.self.inside.budget c.self.inside.track in
+    let few = within_budget c.self.inside.budget c.self.inside.checkpoints in
     let within = c.in_ok-arrived.ensures.stop.1.within in
     rw c.next_stop.ensures.same (c.in_ok-arrived.ensures.stop.0, omega (arith, few, within))
 

@@ -7,10 +7,10 @@ use Rattle.rv_history.proofs.history.History.watch_hit_by_next_step.Goals as goa
 
 pub returns : goal.returns
 returns c = rw (← c.self.view_is) (λ before.
-    let start = c.self.inside.track in
-    let place = c.self.inside.place in
+    let start = c.self.inside.checkpoints in
+    let step = c.self.inside.step in
     let few = within_budget c.self.inside.budget start in
-    let one_more : c.min-steps.result ≡ place + 1 = omega arith in
+    let one_more : c.min-steps.result ≡ step + 1 = omega arith in
     set_off_in c.first_triggered.result c.args.stops.now (state_of c.self.inside.machine) (state_of c.in_ok-ahead.ahead)
-    (state_after place start) (state_after (place + 1) start) c.self.invariant.0.same
+    (state_after step start) (state_after (step + 1) start) c.self.invariant.0.same
     (c.in_ok-ahead.ensures ∙ ap (λ (k : ℕ). state_after k start) one_more) c.first_triggered.ensures)

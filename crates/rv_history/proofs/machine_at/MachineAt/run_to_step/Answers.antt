@@ -5,11 +5,11 @@ use Rattle.rv_history.proofs.machine_at.MachineAt.run_to_step.Goals as goal
 
 pub overflow_add-self : goal.overflow_add-self
 overflow_add-self c =
-    let few = within_budget (c.args.place - c.args.self.now.place) (state_of c.args.self.now.machine) in
+    let few = within_budget (c.args.step - c.args.self.now.step) (state_of c.args.self.now.machine) in
     let steps = ap (λ r. r.steps) c.run-ran.ensures in
-    omega (arith, few, steps, c.requires, c.ranges.place)
+    omega (arith, few, steps, c.requires, c.ranges.step)
 
 pub returns-clause-ran : goal.returns-clause-ran
 returns-clause-ran c = λ start at.
-    run_from start (state_of c.args.self.now.machine) (state_of c.run-ran.new.self) c.args.self.now.place c.args.place
+    run_from start (state_of c.args.self.now.machine) (state_of c.run-ran.new.self) c.args.self.now.step c.args.step
     c.run-ran.result.steps c.run-ran.result.ending at c.requires c.run-ran.ensures

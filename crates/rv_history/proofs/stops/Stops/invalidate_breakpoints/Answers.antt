@@ -5,8 +5,8 @@ use Rattle.rv_history.proofs.stops.Stops.invalidate_breakpoints.Goals as goal
 pub loop-address-preserved : goal.loop-address-preserved
 loop-address-preserved c = record {
   state = c.invalidate.ensures.state ∙ c.loop-address.invariant.state;
-  asleep = λ pc found is.
+  invalidated = λ pc outcome is.
       asleep_more c.as_slice-address-items.result.now c.loop-address.address-index 0 pc c.loop-address.machine.kept
-      c.invalidate.new.self.kept c.loop-address-test.true c.invalidate.ensures.none_wakes c.invalidate.ensures.asleep
-      (c.loop-address.invariant.asleep pc) found is;
+      c.invalidate.new.self.kept c.loop-address-test.true c.invalidate.ensures.none_wakes c.invalidate.ensures.invalidated
+      (c.loop-address.invariant.invalidated pc) outcome is;
 }

@@ -8,5 +8,5 @@ use Rattle.rv_history.proofs.stops.Stops.invalidate_breakpoints.Given as goal
 abbrev pub invariant-loop-address : goal.invariant-loop-address
 invariant-loop-address l = record {
   state : state_of l.machine ≡ state_of l.fn.machine;
-  asleep : (pc : ℕ) → list_any (λ address. address == pc) (take l.address-index l.address-items) ≡ true → IsCached l.machine.kept pc → ⊥;
+  invalidated : (pc : ℕ) → list_any (λ address. address == pc) (take l.address-index l.address-items) ≡ true → IsCached l.machine.kept pc → ⊥;
 }

@@ -7,7 +7,7 @@ use Rattle.rv_stream.proofs.row_sender.RowSenderObserverReportedRow.see.Goals as
 
 pub returns-in-Some-clause-seen : goal.returns-in-Some-clause-seen
 returns-in-Some-clause-seen g c = λ results sent.
-    let made = c.args.made.now in
+    let made = c.args.output.now in
     let line = g.J.StreamSpec.line in
     let box = c.push_text.new.self in
     subst (λ (text : List ℕ). IsSent g.J.StreamSpec.before (g.W.Sink.accepted box.out) g.J.StreamSpec.failures (g.W.Sink.failure_count box.out)

@@ -13,12 +13,12 @@ use Rattle.rv_stream.proofs.rows_up_to_failure.RowsUpToFailureListenerReportedRo
 pub returns-then-eq-clause-received : goal.returns-then-eq-clause-received
 returns-then-eq-clause-received g c = λ results received.
     let s = c.args.self.now in
-    let row = c.args.made.row in
+    let row = c.args.output.row in
     let most = g.J.StreamSpec.most in
     let judging = g.J.StreamSpec.judging in (
       received.0,
       subst (λ (rows : List Row). AreRowsUpToFailure most judging c.failures_left_after_row-self.result c.keep_row-self.result c.keep_row-self.new.rows.items rows)
-          (sym (map-append (λ (t : ReportedRow). t.row) results (c.args.made ∷ [])))
+          (sym (map-append (λ (t : ReportedRow). t.row) results (c.args.output ∷ [])))
           (one_row_more most judging s.left c.failures_left_after_row-self.result s.refused c.keep_row-self.result s.rows.items c.keep_row-self.new.rows.items
           (rows_of_reported results) row received.1 (λ none. c.requires.goes (inl none)) (false_from_ne_true _ (λ yes. c.requires.goes (inr yes)))
           (c.failures_left_after_row-self.ensures
@@ -30,12 +30,12 @@ returns-then-eq-clause-received g c = λ results received.
 pub returns-clause-received : goal.returns-clause-received
 returns-clause-received g c = λ results received.
     let s = c.args.self.now in
-    let row = c.args.made.row in
+    let row = c.args.output.row in
     let most = g.J.StreamSpec.most in
     let judging = g.J.StreamSpec.judging in (
       received.0,
       subst (λ (rows : List Row). AreRowsUpToFailure most judging c.failures_left_after_row-self.result c.keep_row-self.result c.keep_row-self.new.rows.items rows)
-          (sym (map-append (λ (t : ReportedRow). t.row) results (c.args.made ∷ [])))
+          (sym (map-append (λ (t : ReportedRow). t.row) results (c.args.output ∷ [])))
           (one_row_more most judging s.left c.failures_left_after_row-self.result s.refused c.keep_row-self.result s.rows.items c.keep_row-self.new.rows.items
           (rows_of_reported results) row received.1 (λ none. c.requires.goes (inl none)) (false_from_ne_true _ (λ yes. c.requires.goes (inr yes)))
           (c.failures_left_after_row-self.ensures

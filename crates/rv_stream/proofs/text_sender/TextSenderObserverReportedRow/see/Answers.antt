@@ -10,7 +10,7 @@ use Rattle.rv_stream.proofs.text_sender.TextSenderObserverReportedRow.see.Goals 
 pub returns-in-Ok-clause-seen : goal.returns-in-Ok-clause-seen
 returns-in-Ok-clause-seen g c = λ results sent.
     let s = c.args.self.now.outbox in
-    let made = c.args.made.now in
+    let made = c.args.output.now in
     subst (λ (text : List ℕ). IsSent g.J.StreamSpec.before (g.W.Sink.accepted s.out) g.J.StreamSpec.failures
     (g.W.Sink.failure_count s.out) s.failed c.extend_from_slice.new.self.items text)
     (texts_more results made)
@@ -21,7 +21,7 @@ returns-in-Ok-clause-seen g c = λ results sent.
 pub returns-in-Err-clause-seen : goal.returns-in-Err-clause-seen
 returns-in-Err-clause-seen g c = λ results sent.
     let s = c.args.self.now.outbox in
-    let made = c.args.made.now in
+    let made = c.args.output.now in
     subst (λ (text : List ℕ). IsSent g.J.StreamSpec.before (g.W.Sink.accepted s.out) g.J.StreamSpec.failures
     (g.W.Sink.failure_count s.out) (Some OutOfMemory) s.unsent.items text)
     (texts_more results made)

@@ -22,6 +22,6 @@ pub enum MoveResult {
 /// Where a search ended, and its result.
 #[derive(Clone, Copy)]
 pub(crate) struct SearchEnd {
-    pub place: u32,
-    pub found: MoveResult,
+    pub step: u32,
+    pub outcome: MoveResult,
 }
