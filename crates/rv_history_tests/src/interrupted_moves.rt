@@ -55,7 +55,7 @@ fn make_move(
         Direction::Back => history.go_back(alloc, stops, alarm)?,
     };
     let told = found_text(alloc, found)?;
-    Ok(format!(in alloc; "{} {told}", history.place())?)
+    Ok(format!(in alloc; "{} {told}", history.current_step())?)
 }
 
 // Checks that an interrupted move, when continued, ends where it would have ended without the interrupt.

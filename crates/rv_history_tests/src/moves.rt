@@ -110,20 +110,20 @@ pub fn found_text(alloc: Global, found: Found) -> Result<String, AllocError> {
 // Makes a move or a seek. Returns as text, for a move, the step at which it ended and the reason; for a seek, whether the run reaches the
 // requested step, and the step afterwards.
 fn moved(alloc: Global, history: &mut History, stops: &Stops, asked: &str) -> Result<String, Fail> {
-    if let Some(place) = asked.strip_prefix("seek ") {
-        let granted = history.seek(alloc, place.parse()?)?;
+    if let Some(step) = asked.strip_prefix("seek ") {
+        let granted = history.seek(alloc, step.parse()?)?;
         let told = if granted { "yes" } else { "no" };
-        return Ok(format!(in alloc; "{told} {}", history.place())?);
+        return Ok(format!(in alloc; "{told} {}", history.current_step())?);
     }
     let found = match asked {
         "go_on" => history.go_on(alloc, stops, Bounds::All, &mut Alarm::never())?,
         "go_back" => history.go_back(alloc, stops, &mut Alarm::never())?,
-        "step" => history.step(alloc, stops)?,
+        "step" => history.step_forward(alloc, stops)?,
         "step_back" => history.step_back(alloc, stops)?,
         _ => return Err("a move".into()),
     };
     let told = found_text(alloc, found)?;
-    Ok(format!(in alloc; "{} {told}", history.place())?)
+    Ok(format!(in alloc; "{} {told}", history.current_step())?)
 }
 
 // Makes a move of a dialogue, and checks its result.
@@ -164,8 +164,8 @@ fn moves_stop(rt: HostRuntime) -> Result<(), Fail> {
 fn registers_are_of_the_place(rt: HostRuntime) -> Result<(), Fail> {
     let alloc = rt.alloc();
     let mut history = history_of(alloc, CODE, 100)?;
-    for (place, x6) in [(2, 0), (3, 3), (5, 2), (13, 0), (8, 1)] {
-        assert!(rt; history.seek(alloc, place)?);
+    for (step, x6) in [(2, 0), (3, 3), (5, 2), (13, 0), (8, 1)] {
+        assert!(rt; history.seek(alloc, step)?);
         assert_eq!(rt; history.machine().reg(6), x6, "at {step}");
     }
     Ok(())

@@ -49,8 +49,8 @@ now_passes_text path = codes "passes, but is listed as known to fail: remove it 
 abbrev pub judged_ending_text : JudgementView → Row → Option (List ℕ × ℕ) → Option (List ℕ) → List ℕ
 judged_ending_text passed row symbol reason = result_ending_text row.ending row.steps symbol reason
 judged_ending_text failed row symbol reason = result_ending_text row.ending row.steps symbol reason
-judged_ending_text (known reason) row symbol reason =
-    result_ending_text row.ending row.steps symbol reason ++ known_reason_text reason
+judged_ending_text (known known_reason) row symbol reason =
+    result_ending_text row.ending row.steps symbol reason ++ known_reason_text known_reason
 judged_ending_text (now_passes path) row symbol reason = now_passes_text path
 
 -- the line about a row: whether it passed, the job's name, and how the run ended

@@ -24,8 +24,8 @@ pub record IsLook (request : Request) : Type 0 where
 pub looked : (session : Session) (request : Request) (reply : Reply) → IsLook request → reply ≡ read_only_reply session request
     → IsReply session request reply session
 looked session (ask.WriteRegister register value) reply look is = absurd (look.no_write register value refl)
-looked session (ask.Set stoppoint) reply look is = absurd (look.no_set step refl)
-looked session (ask.Clear stoppoint) reply look is = absurd (look.no_clear step refl)
+looked session (ask.Set stoppoint) reply look is = absurd (look.no_set stoppoint refl)
+looked session (ask.Clear stoppoint) reply look is = absurd (look.no_clear stoppoint refl)
 looked session (ask.Move requested) reply look is = absurd (look.no_move requested refl)
 looked session (ask.Command text) reply look is = absurd (look.no_command text refl)
 looked session ask.Restart reply look is = absurd (look.no_restart refl)

@@ -182,7 +182,7 @@ answered_one : (session one other : Session) (request : Request) (reply again : 
 answered_one session one other (ask.WriteRegister register value) reply again first second =
     written_one session one other register value reply again first second
 answered_one session one other (ask.Set stoppoint) reply again first second =
-    trap_one session one other step reply again first second
+    trap_one session one other stoppoint reply again first second
 answered_one session one other request reply again first second = (first.0 ∙ sym second.0, first.1 ∙ sym second.1)
 
 taken_one : (session one other : Session) (body out more : List ℕ) → IsPacketResponse session body out one

@@ -45,14 +45,14 @@ shown_within front rest shown within = let long = length-append front rest in om
 
 stepped_within : (stops : Stops) (budget from step : ℕ) (start : State) (outcome : MoveResult)
     → IsNextStep stops budget start from step outcome → step ≤ last_step budget start
-stepped_within stops budget from step start outcome.Done step = let there = step.0 in let goes = step.1 in omega arith
-stepped_within stops budget from step start (outcome.End ending) step =
-    let there = step.0 in let end = step.1.0 in omega arith
-stepped_within stops budget from step start outcome.WatchTriggered step =
-    let there = step.0 in let goes = step.1.completes in omega arith
-stepped_within stops budget from step start outcome.Breakpoint step = absurd step
-stepped_within stops budget from step start outcome.RunStart step = absurd step
-stepped_within stops budget from step start outcome.Interrupted step = absurd step
+stepped_within stops budget from step start outcome.Done taken = let there = taken.0 in let goes = taken.1 in omega arith
+stepped_within stops budget from step start (outcome.End ending) taken =
+    let there = taken.0 in let end = taken.1.0 in omega arith
+stepped_within stops budget from step start outcome.WatchTriggered taken =
+    let there = taken.0 in let goes = taken.1.completes in omega arith
+stepped_within stops budget from step start outcome.Breakpoint taken = absurd taken
+stepped_within stops budget from step start outcome.RunStart taken = absurd taken
+stepped_within stops budget from step start outcome.Interrupted taken = absurd taken
 
 went_within : (requested : Move) (stops : Stops) (budget from step : ℕ) (start : State) (outcome : MoveResult)
     → is_forward requested ≡ true → IsMoveResult requested stops budget start from step outcome → step ≤ last_step budget start
