@@ -90,7 +90,7 @@ pub record IsAccepted (asked : Acceptance) (job : Job) (candidates : List Candid
   pub candidate : Candidate
   pub stands : slice_get candidates place ≡ Some candidate
   pub row : slice_get rows place ≡ Some (Some run.row)
-  pub kept : chosen_skip_reason asked candidate.standing job run.row ≡ None
+  pub kept : chosen_skip_reason asked candidate.verdict job run.row ≡ None
 
 first_judged : (asked : Acceptance) (job : Job) (candidate : Candidate) (candidates : List Candidate)
     (rows : List (Option Row)) (run : JobRun)
@@ -108,7 +108,7 @@ first_judged asked job candidate candidates (Some row ∷ rows) run is accepted 
       candidate = candidate;
       stands = refl;
       row = refl;
-      kept = none_of (chosen_skip_reason asked candidate.standing job row) (rw chosen_is at accepted);
+      kept = none_of (chosen_skip_reason asked candidate.verdict job row) (rw chosen_is at accepted);
     })
     go false chosen_is accepted judged = no (rw chosen_is at accepted)
 

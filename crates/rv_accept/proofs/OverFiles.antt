@@ -18,7 +18,7 @@ use Rattle.rv_accept.specs.Passing.{HasExpectedEnd, AreFilesUpdated, is_pass_or_
 use Rattle.rv_accept.specs.Runs.{has_replaceable_expectation, chosen_skip_reason}
 use Rattle.rv_accept.specs.declared.ends.Acceptance.{Acceptance}
 use Rattle.rv_accept.specs.declared.current_verdict.CurrentVerdict.{CurrentVerdict}
-use Rattle.rv_accept.specs.declared.current_verdict.CurrentVerdict.TheVariants as standing
+use Rattle.rv_accept.specs.declared.current_verdict.CurrentVerdict.TheVariants as current
 
 -- the path of a console's file stays
 pub console_path_stays : (console : Option ExpectedConsole) (bytes : List ℕ)
@@ -60,7 +60,7 @@ outcome_again earlier later job row came ran finds =
 
 passes_again : (acceptance : Acceptance) (stands : CurrentVerdict) (job : Job) (earlier : List PathResult) (later : PlanView)
     (row : Row) → outcome_of_row row ≡ outcome_in earlier (without_expectations job)
-    → chosen_skip_reason acceptance stands job row ≡ None → (stands ≡ standing.Passes → HasExpectedEnd job row)
+    → chosen_skip_reason acceptance stands job row ≡ None → (stands ≡ current.Passes → HasExpectedEnd job row)
     → job.same_as ≡ None → AreFilesUpdated earlier later.answers job row
     → is_pass_or_none (row_of later (accepted_job job row.ending row.console)).verdict ≡ true
 unfolding row_of
@@ -88,7 +88,7 @@ outcome_of_its_row plan job = refl
 
 pub passes_over_files : (acceptance : Acceptance) (stands : CurrentVerdict) (job : Job) (earlier later : PlanView) (row : Row)
     → row ≡ row_of earlier (without_expectations job) → chosen_skip_reason acceptance stands job row ≡ None
-    → (stands ≡ standing.Passes → HasExpectedEnd job row) → job.same_as ≡ None
+    → (stands ≡ current.Passes → HasExpectedEnd job row) → job.same_as ≡ None
     → AreFilesUpdated earlier.answers later.answers job row
     → is_pass_or_none (row_of later (accepted_job job row.ending row.console)).verdict ≡ true
 passes_over_files acceptance stands job earlier later row is kept well alone finds =

@@ -23,7 +23,7 @@ use Rattle.rv_accept.specs.declared.ends.Acceptance.{Acceptance}
 use Rattle.rv_accept.specs.declared.runs.SkipReason.{SkipReason}
 use Rattle.rv_accept.specs.declared.runs.SkipReason.TheVariants as why
 use Rattle.rv_accept.specs.declared.current_verdict.CurrentVerdict.{CurrentVerdict}
-use Rattle.rv_accept.specs.declared.current_verdict.CurrentVerdict.TheVariants as standing
+use Rattle.rv_accept.specs.declared.current_verdict.CurrentVerdict.TheVariants as current
 
 -- ---- nothing is expected
 
@@ -87,12 +87,12 @@ unasked_passes job end bytes outcome reference console other nothing alone =
 
 -- one that is not left met its end, or what its end becomes
 pub met_if_kept : (acceptance : Acceptance) (stands : CurrentVerdict) (job : Job) (row : Row) → has_replaceable_expectation job ≡ true
-    → chosen_skip_reason acceptance stands job row ≡ None → (stands ≡ standing.Passes → HasExpectedEnd job row)
+    → chosen_skip_reason acceptance stands job row ≡ None → (stands ≡ current.Passes → HasExpectedEnd job row)
     → Met job.expect_exit job.expect_end row.ending
-met_if_kept acceptance standing.Passes job row takes kept well = met_if_ended_well job row (well refl)
-met_if_kept acceptance standing.Fails job row takes kept well = met acceptance job.expect_exit job.expect_end row.ending
+met_if_kept acceptance current.Passes job row takes kept well = met_if_ended_well job row (well refl)
+met_if_kept acceptance current.Fails job row takes kept well = met acceptance job.expect_exit job.expect_end row.ending
     (end_of_why (is_accepted_end acceptance job row.ending) (text_skip_reason job row) (rw takes at kept))
-met_if_kept acceptance standing.Differs job row takes kept well = cc
+met_if_kept acceptance current.Differs job row takes kept well = cc
 
 -- and then it passes, or is not asked anything
 pub accepted_passes : (job : Job) (outcome : Outcome) (reference console : Option (List ℕ)) (other : Option Outcome)

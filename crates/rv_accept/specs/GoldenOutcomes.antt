@@ -4,7 +4,7 @@ use Rattle.std.specs.List.{find}
 use Rattle.std.specs.Str.{bytes_eq}
 use Rattle.rv_accept.specs.declared.golden_texts.GoldenText.{GoldenText}
 use Rattle.rv_accept.specs.declared.golden_outcomes.GoldenFileOutcome.{GoldenFileOutcome}
-use Rattle.rv_accept.specs.declared.golden_outcomes.GoldenFileOutcome.TheVariants as fate
+use Rattle.rv_accept.specs.declared.golden_outcomes.GoldenFileOutcome.TheVariants as outcome
 
 -- whether this golden text is for the file at the path
 abbrev pub is_for_file : List ℕ → GoldenText → Bool
@@ -25,24 +25,24 @@ has_other_text path text claim = is_for_file path claim && not (is_text text cla
 
 -- the outcome for a golden file to which `job` gives this text: the text, or that the job of the other golden text gives it a different one
 abbrev pub outcome_unless_another : ℕ → List ℕ → Option GoldenText → GoldenFileOutcome
-outcome_unless_another job text None = fate.Agreed text
-outcome_unless_another job text (Some other) = fate.Disagree job other.job
+outcome_unless_another job text None = outcome.Agreed text
+outcome_unless_another job text (Some other) = outcome.Disagree job other.job
 
 -- the outcome for the golden file at the path, to which its first job `job` gives this text: the text, or that two jobs differ, or that
 -- `job` was skipped
 abbrev pub outcome_of_given_text : List ℕ → List GoldenText → ℕ → Option (List ℕ) → GoldenFileOutcome
-outcome_of_given_text path golden_texts job None = fate.SkippedBy job
+outcome_of_given_text path golden_texts job None = outcome.SkippedBy job
 outcome_of_given_text path golden_texts job (Some text) =
     outcome_unless_another job text (find (has_other_text path text) golden_texts)
 
 -- the outcome for the golden file at the path, given its first golden text; `Unclaimed` if there is none
 abbrev pub outcome_of_first : List ℕ → List GoldenText → Option GoldenText → GoldenFileOutcome
-outcome_of_first path golden_texts None = fate.Unclaimed
+outcome_of_first path golden_texts None = outcome.Unclaimed
 outcome_of_first path golden_texts (Some first) = outcome_of_given_text path golden_texts first.job first.text
 
 -- the outcome for the golden file at the path, given the first golden text of a skipped job; if there is one, the file is left as it is
 abbrev pub outcome_unless_skipped : List ℕ → List GoldenText → Option GoldenText → GoldenFileOutcome
-outcome_unless_skipped path golden_texts (Some claim) = fate.SkippedBy claim.job
+outcome_unless_skipped path golden_texts (Some claim) = outcome.SkippedBy claim.job
 outcome_unless_skipped path golden_texts None = outcome_of_first path golden_texts (find (is_for_file path) golden_texts)
 
 -- the outcome for the golden file at the path: the text on which all jobs that name it agree, or why there is none

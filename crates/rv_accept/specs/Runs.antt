@@ -13,7 +13,7 @@ use Rattle.rv_accept.specs.declared.runs.SkipReason.{SkipReason}
 use Rattle.rv_accept.specs.declared.runs.SkipReason.TheVariants as why
 use Rattle.rv_accept.specs.declared.current_verdict.Candidate.{Candidate}
 use Rattle.rv_accept.specs.declared.current_verdict.CurrentVerdict.{CurrentVerdict}
-use Rattle.rv_accept.specs.declared.current_verdict.CurrentVerdict.TheVariants as standing
+use Rattle.rv_accept.specs.declared.current_verdict.CurrentVerdict.TheVariants as current
 use Rattle.rv_accept.specs.declared.values.ValueKey.TheVariants as key
 
 -- the reason to skip a job because of its end, or `None` if the end is accepted
@@ -40,13 +40,13 @@ differing_skip_reason asked job end = if has_replaceable_expectation job && not 
 
 -- the reason to skip a chosen job, or `None` if it currently passes, or fails and its run can be accepted
 abbrev pub chosen_skip_reason : Acceptance → CurrentVerdict → Job → Row → Option SkipReason
-chosen_skip_reason asked standing.Passes job row = None
-chosen_skip_reason asked standing.Fails job row = if has_replaceable_expectation job then skip_reason asked job row else Some why.End
-chosen_skip_reason asked standing.Differs job row = Some (differing_skip_reason asked job row.ending)
+chosen_skip_reason asked current.Passes job row = None
+chosen_skip_reason asked current.Fails job row = if has_replaceable_expectation job then skip_reason asked job row else Some why.End
+chosen_skip_reason asked current.Differs job row = Some (differing_skip_reason asked job row.ending)
 
 -- the reason to skip a job that is not chosen, or `None` if it currently passes or ended exactly as expected
 abbrev pub unchosen_skip_reason : CurrentVerdict → Job → RowEnd → Option SkipReason
-unchosen_skip_reason standing.Passes job end = None
+unchosen_skip_reason current.Passes job end = None
 unchosen_skip_reason _ job end = end_skip_reason acceptance.Expected job end
 
 -- the run of a job with this row: whether the job is chosen, and the reason if it is skipped
@@ -54,8 +54,8 @@ abbrev pub judged_run : Acceptance → Job → Candidate → Row → JobRun
 judged_run asked job candidate row = record {
   row = row;
   is_chosen = candidate.is_chosen;
-  skip_reason = if candidate.is_chosen then chosen_skip_reason asked candidate.standing job row
-      else unchosen_skip_reason candidate.standing job row.ending;
+  skip_reason = if candidate.is_chosen then chosen_skip_reason asked candidate.verdict job row
+      else unchosen_skip_reason candidate.verdict job row.ending;
 }
 
 -- the first row if the job is selected, or else `None`

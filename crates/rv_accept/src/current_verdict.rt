@@ -15,5 +15,5 @@ pub enum CurrentVerdict {
 #[derive(Clone, Copy, Debug, PartialEq, Eq)]
 pub struct Candidate {
     pub is_chosen: bool,
-    pub standing: CurrentVerdict,
+    pub verdict: CurrentVerdict,
 }

@@ -28,7 +28,7 @@ pub fn outcome_of_golden_file(
     path: &str,
     golden_texts: &[GoldenText],
 ) -> Result<GoldenFileOutcome, AllocError>
-    ensures { IfOk result (λ fate. fate ≡ outcome_of_golden_file path.now golden_texts.now) }
+    ensures { IfOk result (λ outcome. outcome ≡ outcome_of_golden_file path.now golden_texts.now) }
 {
     match first_skipped_text(path, golden_texts) {
         Some(claim) => Ok(GoldenFileOutcome::SkippedBy(claim.job)),
@@ -42,7 +42,7 @@ fn outcome_of_first(
     path: &str,
     golden_texts: &[GoldenText],
 ) -> Result<GoldenFileOutcome, AllocError>
-    ensures { IfOk result (λ fate. fate ≡ outcome_of_first path.now golden_texts.now
+    ensures { IfOk result (λ outcome. outcome ≡ outcome_of_first path.now golden_texts.now
         (find (is_for_file path.now) golden_texts.now)) }
 {
     match first_text_for_file(path, golden_texts) {
@@ -59,7 +59,7 @@ fn outcome_of_given_text(
     golden_texts: &[GoldenText],
     first: &GoldenText,
 ) -> Result<GoldenFileOutcome, AllocError>
-    ensures { IfOk result (λ fate. fate
+    ensures { IfOk result (λ outcome. outcome
         ≡ outcome_of_given_text path.now golden_texts.now first.now.job first.now.text) }
 {
     let Some(text) = &first.text else {

@@ -11,9 +11,9 @@ ghost use Rattle.rv_rows.specs.Rows.{row_of};
 ghost use Rattle.rv_rows.specs.Verdict.{lines_of_signature, meets_all_expectations};
 ghost use Rattle.rv_accept.specs.declared.ends.Acceptance.{Acceptance as AnAcceptance};
 ghost use Rattle.rv_accept.specs.declared.current_verdict.CurrentVerdict.{CurrentVerdict as AStanding};
-ghost use Rattle.rv_accept.specs.declared.current_verdict.CurrentVerdict.TheVariants as standing;
+ghost use Rattle.rv_accept.specs.declared.current_verdict.CurrentVerdict.TheVariants as current;
 ghost use Rattle.rv_accept.specs.declared.golden_texts.GoldenText.{GoldenText as AClaim};
-ghost use Rattle.rv_accept.specs.declared.golden_outcomes.GoldenFileOutcome.TheVariants as fate;
+ghost use Rattle.rv_accept.specs.declared.golden_outcomes.GoldenFileOutcome.TheVariants as outcome;
 ghost use Rattle.rv_accept.specs.Accepted.{accepted_job};
 ghost use Rattle.rv_accept.specs.Ends.{is_accepted_end};
 ghost use Rattle.rv_accept.specs.GoldenOutcomes.{outcome_of_golden_file, is_for_file};
@@ -32,7 +32,7 @@ pub fn accepted_jobs_meet_their_expectations()
 
 /// Proves that a golden file gets a text only if every job that names the file gives it this text; so none of these jobs was skipped.
 pub fn an_agreed_text_is_given_by_each_job()
-    ensures { (path text : List ℕ) (golden_texts : List AClaim) → outcome_of_golden_file path golden_texts ≡ fate.Agreed text
+    ensures { (path text : List ℕ) (golden_texts : List AClaim) → outcome_of_golden_file path golden_texts ≡ outcome.Agreed text
         → All (λ claim. IsTrue (is_for_file path claim) → claim.text ≡ Some text) golden_texts }
 {}
 
@@ -43,7 +43,7 @@ pub fn accepted_jobs_pass_with_their_files()
     ensures { (acceptance : AnAcceptance) (stands : AStanding) (job : Job) (earlier later : PlanView) (row : Row)
         → row ≡ row_of earlier (without_expectations job)
         → chosen_skip_reason acceptance stands job row ≡ None
-        → (stands ≡ standing.Passes → HasExpectedEnd job row)
+        → (stands ≡ current.Passes → HasExpectedEnd job row)
         → job.same_as ≡ None
         → AreFilesUpdated earlier.answers later.answers job row
         → IsTrue (is_pass_or_none (row_of later (accepted_job job row.ending row.console)).verdict) }

@@ -160,12 +160,12 @@ fn judged_run(acceptance: Acceptance, job: &Job, candidate: Candidate, row: Row)
 {
     let Candidate {
         is_chosen,
-        standing,
+        verdict,
     } = candidate;
     let skipped = if is_chosen {
-        chosen_skip_reason(acceptance, standing, job, &row)
+        chosen_skip_reason(acceptance, verdict, job, &row)
     } else {
-        unchosen_skip_reason(standing, job, row.ending)
+        unchosen_skip_reason(verdict, job, row.ending)
     };
     JobRun {
         row,
@@ -177,13 +177,13 @@ fn judged_run(acceptance: Acceptance, job: &Job, candidate: Candidate, row: Row)
 // Returns the reason to skip a chosen job, or `None` if it currently passes, or fails and its run can be accepted.
 fn chosen_skip_reason(
     acceptance: Acceptance,
-    standing: CurrentVerdict,
+    verdict: CurrentVerdict,
     job: &Job,
     row: &Row,
 ) -> Option<SkipReason>
-    ensures { result ≡ chosen_skip_reason acceptance standing job.now row.now }
+    ensures { result ≡ chosen_skip_reason acceptance verdict job.now row.now }
 {
-    match standing {
+    match verdict {
         CurrentVerdict::Passes => None,
         CurrentVerdict::Fails if has_replaceable_expectation(job) => skip_reason(
             acceptance, job, row,
@@ -205,10 +205,10 @@ fn differing_skip_reason(acceptance: Acceptance, job: &Job, ending: RowEnd) -> S
 }
 
 // Returns the reason to skip a job that is not chosen, or `None` if it currently passes or ended exactly as expected.
-fn unchosen_skip_reason(standing: CurrentVerdict, job: &Job, ending: RowEnd) -> Option<SkipReason>
-    ensures { result ≡ unchosen_skip_reason standing job.now ending }
+fn unchosen_skip_reason(verdict: CurrentVerdict, job: &Job, ending: RowEnd) -> Option<SkipReason>
+    ensures { result ≡ unchosen_skip_reason verdict job.now ending }
 {
-    match standing {
+    match verdict {
         CurrentVerdict::Passes => None,
         CurrentVerdict::Fails | CurrentVerdict::Differs => {
             end_skip_reason(Acceptance::Expected, job, ending)

@@ -9,7 +9,7 @@ use Rattle.rv_accept.specs.declared.golden_texts.GoldenText.{GoldenText}
 use Rattle.rv_accept.specs.declared.golden_texts.GoldenKind.{GoldenKind}
 use Rattle.rv_accept.specs.declared.golden_texts.GoldenKind.TheVariants as part
 use Rattle.rv_accept.specs.declared.golden_outcomes.GoldenFileOutcome.{GoldenFileOutcome}
-use Rattle.rv_accept.specs.declared.golden_outcomes.GoldenFileOutcome.TheVariants as fate
+use Rattle.rv_accept.specs.declared.golden_outcomes.GoldenFileOutcome.TheVariants as outcome
 use Rattle.rv_accept.specs.declared.targets.Target.{Target}
 use Rattle.rv_accept_text.specs.ChangedTexts.{byte_difference, text_change, word_change}
 use Rattle.rv_accept_text.specs.GoldenFiles.{is_skipped, new_text}
@@ -89,11 +89,11 @@ disagreement_text jobs golden_texts path = first_text_reason jobs golden_texts p
 
 -- the reason why a golden file with this outcome is skipped, with the line end
 abbrev pub file_skip_reason : List Job → List GoldenText → List ℕ → GoldenFileOutcome → List ℕ
-file_skip_reason jobs golden_texts path (fate.SkippedBy job) = codes "job \"" ++ printable_text (job_name jobs job)
+file_skip_reason jobs golden_texts path (outcome.SkippedBy job) = codes "job \"" ++ printable_text (job_name jobs job)
     ++ codes "\" also names this file and was skipped\n"
-file_skip_reason jobs golden_texts path (fate.Disagree job other) = disagreement_text jobs golden_texts path
-file_skip_reason jobs golden_texts path (fate.Agreed text) = codes "the list and the images are never overwritten\n"
-file_skip_reason jobs golden_texts path fate.Unclaimed = codes "the list and the images are never overwritten\n"
+file_skip_reason jobs golden_texts path (outcome.Disagree job other) = disagreement_text jobs golden_texts path
+file_skip_reason jobs golden_texts path (outcome.Agreed text) = codes "the list and the images are never overwritten\n"
+file_skip_reason jobs golden_texts path outcome.Unclaimed = codes "the list and the images are never overwritten\n"
 
 -- `skipped NAME: `, the beginning of the line about a skipped job or golden file
 abbrev pub skipped_prefix : List ℕ → List ℕ

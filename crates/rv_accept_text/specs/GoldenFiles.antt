@@ -4,7 +4,7 @@ use Rattle.std.specs.List.{list_any, starts_with}
 use Rattle.std.specs.Str.{bytes_eq}
 use Rattle.rv_rows.specs.declared_job.Job.{Job}
 use Rattle.rv_accept.specs.declared.golden_outcomes.GoldenFileOutcome.{GoldenFileOutcome}
-use Rattle.rv_accept.specs.declared.golden_outcomes.GoldenFileOutcome.TheVariants as fate
+use Rattle.rv_accept.specs.declared.golden_outcomes.GoldenFileOutcome.TheVariants as outcome
 use Rattle.rv_accept_text.specs.declared.golden_file.GoldenFile.{GoldenFile}
 use Rattle.rv_accept_text.specs.declared.golden_file.ListFile.{ListFile}
 
@@ -28,7 +28,7 @@ is_protected list file = bytes_eq file.resolved_path list.path.now
 
 -- the text on which all jobs that name a golden file agree, or `None` if there is none or the Bool says that the file is never overwritten
 abbrev pub agreed_text_of : Bool → GoldenFileOutcome → Option (List ℕ)
-agreed_text_of kept (fate.Agreed text) = if kept then None else Some text
+agreed_text_of kept (outcome.Agreed text) = if kept then None else Some text
 agreed_text_of kept _ = None
 
 -- the text on which all jobs that name the golden file agree, or `None` if there is none, or the file is the list or an image
@@ -43,7 +43,7 @@ text_if_changed text (Some old) = if bytes_eq text old then None else Some text
 -- the text to write to a golden file, on which all jobs agree, or `None` if the file already has it or the Bool says that it is never
 -- overwritten
 abbrev pub new_text_of : Bool → GoldenFileOutcome → Option (List ℕ) → Option (List ℕ)
-new_text_of kept (fate.Agreed text) old = if kept then None else text_if_changed text old
+new_text_of kept (outcome.Agreed text) old = if kept then None else text_if_changed text old
 new_text_of kept _ old = None
 
 -- the text to write to the golden file, or `None` if the file is skipped or already has the text
@@ -52,10 +52,10 @@ new_text list file = new_text_of (is_protected list file) file.target.outcome fi
 
 -- whether a golden file with this outcome is skipped; the Bool says that it is never overwritten
 abbrev pub is_skipped_with : Bool → GoldenFileOutcome → Bool
-is_skipped_with kept (fate.Agreed text) = kept
-is_skipped_with kept (fate.SkippedBy job) = true
-is_skipped_with kept (fate.Disagree job other) = true
-is_skipped_with kept fate.Unclaimed = false
+is_skipped_with kept (outcome.Agreed text) = kept
+is_skipped_with kept (outcome.SkippedBy job) = true
+is_skipped_with kept (outcome.Disagree job other) = true
+is_skipped_with kept outcome.Unclaimed = false
 
 -- whether the golden file is skipped: it is the list or an image, or the jobs that name it disagree or were skipped
 abbrev pub is_skipped : ListFile → GoldenFile → Bool

@@ -63,34 +63,34 @@ at_place from (suc k) (s ∷ ss) d e within =
     ∙ ap (λ (n : ℕ). subtree (from + suc k) (get_or ss k e) (drop n (s ∷ ss))) next
 
 -- the subtree of a spot behind a place, where those behind it stand the last first
-pub child_is : (spots : List CallNode) (place end : ℕ) (behind : List Subtree) (d : Subtree) (e : CallNode) → place < end → end < length spots
-    → reverse behind ≡ subtrees_from (place + 1) (drop (place + 1) spots)
-    → get_or behind (length spots - 1 - end) d ≡ subtree end (get_or spots end e) (drop (end + 1) spots)
-child_is spots place end behind d e far within is =
-    let rest = drop (place + 1) spots in
+pub child_is : (nodes : List CallNode) (place end : ℕ) (behind : List Subtree) (d : Subtree) (e : CallNode) → place < end → end < length nodes
+    → reverse behind ≡ subtrees_from (place + 1) (drop (place + 1) nodes)
+    → get_or behind (length nodes - 1 - end) d ≡ subtree end (get_or nodes end e) (drop (end + 1) nodes)
+child_is nodes place end behind d e far within is =
+    let rest = drop (place + 1) nodes in
     let k = end - (place + 1) in
-    let some = length-drop (place + 1) spots in
+    let some = length-drop (place + 1) nodes in
     let all = ap length is in
     let same = length-reverse behind in
     let as_many = subtrees_long (place + 1) rest in
     let inside : k < length behind = omega (arith, far, within, some, all, same, as_many) in
-    let turned : length spots - 1 - end ≡ length behind - 1 - k = omega (arith, far, within, some, all, same, as_many) in
+    let turned : length nodes - 1 - end ≡ length behind - 1 - k = omega (arith, far, within, some, all, same, as_many) in
     let there : (place + 1) + k ≡ end = omega (arith, far) in
     let next : (place + 1) + (k + 1) ≡ end + 1 = omega (arith, far) in
     ap (λ (n : ℕ). get_or behind n d) turned
     ∙ sym (get_or-reverse behind k d inside)
     ∙ ap (λ (ts : List Subtree). get_or ts k d) is
     ∙ at_place (place + 1) k rest d e (omega (arith, far, within, some))
-    ∙ (λ i. subtree (there i) (get_or-drop (place + 1) spots k e i) (drop-drop (k + 1) (place + 1) spots i))
-    ∙ (λ i. subtree end (get_or spots (there i) e) (drop (next i) spots))
+    ∙ (λ i. subtree (there i) (get_or-drop (place + 1) nodes k e i) (drop-drop (k + 1) (place + 1) nodes i))
+    ∙ (λ i. subtree end (get_or nodes (there i) e) (drop (next i) nodes))
 
-pub child_within : (spots : List CallNode) (place end : ℕ) (behind : List Subtree) → place < end → end < length spots
-    → reverse behind ≡ subtrees_from (place + 1) (drop (place + 1) spots) → length spots - 1 - end < length behind
-child_within spots place end behind far within is =
-    let some = length-drop (place + 1) spots in
+pub child_within : (nodes : List CallNode) (place end : ℕ) (behind : List Subtree) → place < end → end < length nodes
+    → reverse behind ≡ subtrees_from (place + 1) (drop (place + 1) nodes) → length nodes - 1 - end < length behind
+child_within nodes place end behind far within is =
+    let some = length-drop (place + 1) nodes in
     let all = ap length is in
     let same = length-reverse behind in
-    let as_many = subtrees_long (place + 1) (drop (place + 1) spots) in
+    let as_many = subtrees_long (place + 1) (drop (place + 1) nodes) in
     omega (arith, far, within, some, all, same, as_many)
 
 pub child_further : (end : ℕ) (s : CallNode) (ss : List CallNode) (child : Subtree) → child ≡ subtree end s ss → end < child.end
@@ -99,65 +99,65 @@ child_further end s ss child is = let ends = ap (λ (t : Subtree). t.end) is in 
 -- ---- from child to child
 
 -- all below the spot of a place that stands in front of another place is counted
-pub record Descended (spots : List CallNode) (place : ℕ) (s : CallNode) (end inclusive : ℕ) : Type 0 where
+pub record Descended (nodes : List CallNode) (place : ℕ) (s : CallNode) (end inclusive : ℕ) : Type 0 where
   pub behind : place < end
-  pub within : end ≤ length spots
-  pub ends : end + length (below s.depth (drop end spots)) ≡ place + 1 + length (below s.depth (drop (place + 1) spots))
-  pub steps : inclusive + all_steps (below s.depth (drop end spots)) ≡ s.steps + all_steps (below s.depth (drop (place + 1) spots))
+  pub within : end ≤ length nodes
+  pub ends : end + length (below s.depth (drop end nodes)) ≡ place + 1 + length (below s.depth (drop (place + 1) nodes))
+  pub steps : inclusive + all_steps (below s.depth (drop end nodes)) ≡ s.steps + all_steps (below s.depth (drop (place + 1) nodes))
 
 -- a child, and all behind it
-split : (depth end : ℕ) (spots : List CallNode) (e : CallNode) → end < length spots → depth < (get_or spots end e).depth
-    → below depth (drop end spots) ≡ get_or spots end e ∷ (below (get_or spots end e).depth (drop (end + 1) spots)
-    ++ below depth (drop (end + 1 + length (below (get_or spots end e).depth (drop (end + 1) spots))) spots))
-split depth end spots e within deep =
-    let t = get_or spots end e in
-    let rest = drop (end + 1) spots in
-    ap (below depth) (drop_more spots end e within)
+split : (depth end : ℕ) (nodes : List CallNode) (e : CallNode) → end < length nodes → depth < (get_or nodes end e).depth
+    → below depth (drop end nodes) ≡ get_or nodes end e ∷ (below (get_or nodes end e).depth (drop (end + 1) nodes)
+    ++ below depth (drop (end + 1 + length (below (get_or nodes end e).depth (drop (end + 1) nodes))) nodes))
+split depth end nodes e within deep =
+    let t = get_or nodes end e in
+    let rest = drop (end + 1) nodes in
+    ap (below depth) (drop_more nodes end e within)
     ∙ deeper depth t rest deep
     ∙ ap (λ (zs : List CallNode). t ∷ zs) (below_parts depth t.depth rest (omega (arith, deep)))
-    ∙ ap (λ (zs : List CallNode). t ∷ (below t.depth rest ++ below depth zs)) (drop-drop (length (below t.depth rest)) (end + 1) spots)
+    ∙ ap (λ (zs : List CallNode). t ∷ (below t.depth rest ++ below depth zs)) (drop-drop (length (below t.depth rest)) (end + 1) nodes)
 
-pub one_child : (spots : List CallNode) (place : ℕ) (s : CallNode) (end inclusive : ℕ) (e : CallNode) (child : Subtree)
-    → Descended spots place s end inclusive → end < length spots → s.depth < (get_or spots end e).depth
-    → child ≡ subtree end (get_or spots end e) (drop (end + 1) spots) → Descended spots place s child.end (inclusive + child.inclusive)
-one_child spots place s end inclusive e child h within deep is =
-    let t = get_or spots end e in
-    let rest = drop (end + 1) spots in
-    let left = below s.depth (drop (end + 1 + length (below t.depth rest)) spots) in
-    let all = split s.depth end spots e within deep in
+pub one_child : (nodes : List CallNode) (place : ℕ) (s : CallNode) (end inclusive : ℕ) (e : CallNode) (child : Subtree)
+    → Descended nodes place s end inclusive → end < length nodes → s.depth < (get_or nodes end e).depth
+    → child ≡ subtree end (get_or nodes end e) (drop (end + 1) nodes) → Descended nodes place s child.end (inclusive + child.inclusive)
+one_child nodes place s end inclusive e child h within deep is =
+    let t = get_or nodes end e in
+    let rest = drop (end + 1) nodes in
+    let left = below s.depth (drop (end + 1 + length (below t.depth rest)) nodes) in
+    let all = split s.depth end nodes e within deep in
     let counts = ap length all in
     let count = length-append (below t.depth rest) left in
     let sums = ap all_steps all in
     let sum = sum_parts steps_of (below t.depth rest) left in
     let few = below_few t.depth rest in
-    let some = length-drop (end + 1) spots in
+    let some = length-drop (end + 1) nodes in
     let far = h.behind in
     let ends = h.ends in
     let steps = h.steps in
-    let next : Descended spots place s (subtree end t rest).end (inclusive + (subtree end t rest).inclusive) = record {
+    let next : Descended nodes place s (subtree end t rest).end (inclusive + (subtree end t rest).inclusive) = record {
       behind = omega (arith, far);
       within = omega (arith, few, some, within);
       ends = omega (arith, ends, counts, count);
       steps = omega (arith, steps, sums, sum);
     } in
-    subst (λ (c : Subtree). Descended spots place s c.end (inclusive + c.inclusive)) (sym is) next
+    subst (λ (c : Subtree). Descended nodes place s c.end (inclusive + c.inclusive)) (sym is) next
 
 -- the steps of all below the spot are some of all steps
-pub child_fits : (spots : List CallNode) (place : ℕ) (s : CallNode) (end inclusive : ℕ) (e : CallNode) (child : Subtree)
-    → Descended spots place s end inclusive → end < length spots → s.depth < (get_or spots end e).depth
-    → child ≡ subtree end (get_or spots end e) (drop (end + 1) spots)
-    → inclusive + child.inclusive ≤ s.steps + all_steps (drop (place + 1) spots)
-child_fits spots place s end inclusive e child h within deep is =
-    let steps = (one_child spots place s end inclusive e child h within deep is).steps in
-    let few = below_fits s.depth (drop (place + 1) spots) in
+pub child_fits : (nodes : List CallNode) (place : ℕ) (s : CallNode) (end inclusive : ℕ) (e : CallNode) (child : Subtree)
+    → Descended nodes place s end inclusive → end < length nodes → s.depth < (get_or nodes end e).depth
+    → child ≡ subtree end (get_or nodes end e) (drop (end + 1) nodes)
+    → inclusive + child.inclusive ≤ s.steps + all_steps (drop (place + 1) nodes)
+child_fits nodes place s end inclusive e child h within deep is =
+    let steps = (one_child nodes place s end inclusive e child h within deep is).steps in
+    let few = below_fits s.depth (drop (place + 1) nodes) in
     omega (arith, steps, few)
 
 -- ---- steps that fit
 
-pub one_of_all : (spots : List CallNode) (place : ℕ) (e : CallNode) → place < length spots
-    → (get_or spots place e).steps + all_steps (drop (place + 1) spots) ≤ all_steps spots
-one_of_all spots place e within =
-    let parts = sum_parts steps_of (take place spots) (drop place spots) in
-    let whole = ap all_steps (take-append-drop place spots) in
-    let here = ap all_steps (drop_more spots place e within) in
+pub one_of_all : (nodes : List CallNode) (place : ℕ) (e : CallNode) → place < length nodes
+    → (get_or nodes place e).steps + all_steps (drop (place + 1) nodes) ≤ all_steps nodes
+one_of_all nodes place e within =
+    let parts = sum_parts steps_of (take place nodes) (drop place nodes) in
+    let whole = ap all_steps (take-append-drop place nodes) in
+    let here = ap all_steps (drop_more nodes place e within) in
     omega (arith, parts, whole, here)

@@ -35,8 +35,8 @@ none_of_all : (fs : List ℕ) → own_steps_of_all fs [] ≡ 0
 none_of_all [] = refl
 none_of_all (f ∷ fs) = let h = none_of_all fs in omega (arith, h)
 
-summed : (fs : List ℕ) (spots : List CallNode) → AllByRecursion (λ (s : CallNode). times s.function fs ≡ 1) spots
-    → own_steps_of_all fs spots ≡ all_steps spots
+summed : (fs : List ℕ) (nodes : List CallNode) → AllByRecursion (λ (s : CallNode). times s.function fs ≡ 1) nodes
+    → own_steps_of_all fs nodes ≡ all_steps nodes
 summed fs [] h = none_of_all fs
 summed fs (s ∷ ss) h =
     let rest = summed fs ss h.1 in
@@ -65,9 +65,9 @@ each_once fs all (s ∷ ss) h within = (
   each_once fs all ss h (λ f there. within f (or_second (s.function == f) (ends_some_path f ss) there)),
 )
 
-pub own_sums : (spots : List CallNode) (functions : List ℕ) → AreFunctionsOf spots functions
-    → own_steps_of_all functions spots ≡ all_steps spots
-own_sums spots functions h = summed functions spots (each_once functions spots spots h.once (λ f there. there))
+pub own_sums : (nodes : List CallNode) (functions : List ℕ) → AreFunctionsOf nodes functions
+    → own_steps_of_all functions nodes ≡ all_steps nodes
+own_sums nodes functions h = summed functions nodes (each_once functions nodes nodes h.once (λ f there. there))
 
 -- ---- one function more
 
@@ -160,11 +160,11 @@ with_node fs xs s false is h = record {
       omega (arith, more, so, new);
 }
 
-pub next_functions : (spots : List CallNode) (fs : List ℕ) (k : ℕ) (d : CallNode) → k < length spots → AreFunctionsOf (take k spots) fs
-    → AreFunctionsOf (take (k + 1) spots) (with_function (get_or spots k d).function fs)
-next_functions spots fs k d within h =
-    subst (λ (zs : List CallNode). AreFunctionsOf zs (with_function (get_or spots k d).function fs)) (sym (take_more spots k d within))
-    (with_node fs (take k spots) (get_or spots k d) (has_function (get_or spots k d).function fs) refl h)
+pub next_functions : (nodes : List CallNode) (fs : List ℕ) (k : ℕ) (d : CallNode) → k < length nodes → AreFunctionsOf (take k nodes) fs
+    → AreFunctionsOf (take (k + 1) nodes) (with_function (get_or nodes k d).function fs)
+next_functions nodes fs k d within h =
+    subst (λ (zs : List CallNode). AreFunctionsOf zs (with_function (get_or nodes k d).function fs)) (sym (take_more nodes k d within))
+    (with_node fs (take k nodes) (get_or nodes k d) (has_function (get_or nodes k d).function fs) refl h)
 
 pub no_functions : AreFunctionsOf [] []
 no_functions = record { once = λ f. refl }

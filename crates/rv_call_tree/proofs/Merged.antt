@@ -23,7 +23,7 @@ pub record SoFar (xs ms ys bs sums : List CallNode) : Type 0 where
   pub tree : IsTree sums
   pub some : HasCalls xs → HasCalls ys → HasCalls sums
   pub counted : (count : CallNode → ℕ) (path : List ℕ)
-      → ((s t : CallNode) → count (sum_of_nodes s t).spot ≡ count s + count t)
+      → ((s t : CallNode) → count (sum_of_nodes s t).node ≡ count s + count t)
       → sum_over_path count path [] sums ≡ sum_over_path count path [] xs + sum_over_path count path [] ys
   pub first : StandsAlike (last_path [] xs) (last_path [] sums) ms
   pub second : StandsAlike (last_path [] ys) (last_path [] sums) bs
@@ -156,11 +156,11 @@ sum_if false n m = omega arith
 
 -- both
 take_both : (xs ss ys ts sums : List CallNode) (s t : CallNode) → SoFar xs (s ∷ ss) ys (t ∷ ts) sums → t.depth ≡ s.depth
-    → t.function ≡ s.function → SoFar (xs ++ s ∷ []) ss (ys ++ t ∷ []) ts (sums ++ (sum_of_nodes s t).spot ∷ [])
+    → t.function ≡ s.function → SoFar (xs ++ s ∷ []) ss (ys ++ t ∷ []) ts (sums ++ (sum_of_nodes s t).node ∷ [])
 take_both xs ss ys ts sums s t h deep function =
-    let new = (sum_of_nodes s t).spot in
-    let of_a = last_path [] xs in
-    let of_b = last_path [] ys in
+    let new = (sum_of_nodes s t).node in
+    let count_in_a = last_path [] xs in
+    let count_in_b = last_path [] ys in
     let front = last_path [] sums in
     let ends_a = last_parts [] xs (s ∷ []) in
     let ends_b = last_parts [] ys (t ∷ []) in
@@ -179,25 +179,25 @@ take_both xs ss ys ts sums s t h deep function =
           let a = more_counted count path xs s in
           let b = more_counted count path ys t in
           let c = more_counted count path sums new in
-          let same_a = same_here count path of_a front s h.first.0 in
-          let same_b = same_here count path of_b front t h.second.0 in
+          let same_a = same_here count path count_in_a front s h.first.0 in
+          let same_b = same_here count path count_in_b front t h.second.0 in
           let moved = ap (λ (p : List ℕ). cond (bytes_eq p path) (count t) 0) alike in
           let both = ap (λ (n : ℕ). cond (bytes_eq (path_after front new) path) n 0) (adds s t) in
           let parts = sum_if (bytes_eq (path_after front new) path) (count s) (count t) in
           omega (arith, so_far, a, b, c, same_a, same_b, moved, both, parts);
       first = subst (λ (path : List ℕ). StandsAlike path (last_path [] (sums ++ new ∷ [])) ss) (sym ends_a)
-          (subst (λ (path : List ℕ). StandsAlike (path_after of_a s) path ss) (sym ends)
-          (own_rest of_a front s ss h.first.0 h.rest_of_a.1));
+          (subst (λ (path : List ℕ). StandsAlike (path_after count_in_a s) path ss) (sym ends)
+          (own_rest count_in_a front s ss h.first.0 h.rest_of_a.1));
       second = subst (λ (path : List ℕ). StandsAlike path (last_path [] (sums ++ new ∷ [])) ts) (sym ends_b)
-          (subst (λ (path : List ℕ). StandsAlike (path_after of_b t) path ts) (alike ∙ sym ends)
-          (own_rest of_b front t ts h.second.0 h.rest_of_b.1));
+          (subst (λ (path : List ℕ). StandsAlike (path_after count_in_b t) path ts) (alike ∙ sym ends)
+          (own_rest count_in_b front t ts h.second.0 h.rest_of_b.1));
     }
 
 -- ---- the next of both
 
 abbrev Goes : List CallNode → List CallNode → List CallNode → List CallNode → List CallNode → NextNode → Type 0
-Goes xs ms ys bs sums next = SoFar (xs ++ take next.of_a ms) (drop next.of_a ms) (ys ++ take next.of_b bs) (drop next.of_b bs)
-    (sums ++ next.spot ∷ [])
+Goes xs ms ys bs sums next = SoFar (xs ++ take next.count_in_a ms) (drop next.count_in_a ms) (ys ++ take next.count_in_b bs) (drop next.count_in_b bs)
+    (sums ++ next.node ∷ [])
 
 goes_first_alone : (xs ss ys bs sums : List CallNode) (s : CallNode) → SoFar (xs ++ s ∷ []) ss ys bs (sums ++ s ∷ [])
     → Goes xs (s ∷ ss) ys bs sums (node_of_first s)
@@ -261,23 +261,23 @@ none_added a b tree_a tree_b = record {
 
 pub more_added : (a b sums : List CallNode) (i j : ℕ) (next : NextNode) → Added a b i j sums
     → 0 < length (drop i a) + length (drop j b) → next ≡ next_of (drop i a) (drop j b)
-    → Added a b (i + next.of_a) (j + next.of_b) (sums ++ next.spot ∷ [])
+    → Added a b (i + next.count_in_a) (j + next.count_in_b) (sums ++ next.node ∷ [])
 more_added a b sums i j next h some is =
     let g = goes (take i a) (drop i a) (take j b) (drop j b) sums some h in
     let there : Goes (take i a) (drop i a) (take j b) (drop j b) sums next =
     subst (λ (n : NextNode). Goes (take i a) (drop i a) (take j b) (drop j b) sums n) (sym is) g in
-    subst (λ (zs : List CallNode). SoFar (take (i + next.of_a) a) (drop (i + next.of_a) a) zs (drop (j + next.of_b) b) (sums ++ next.spot ∷ []))
-    (sym (take-add j next.of_b b))
-    (subst (λ (zs : List CallNode). SoFar zs (drop (i + next.of_a) a) (take j b ++ take next.of_b (drop j b)) (drop (j + next.of_b) b) (sums ++ next.spot ∷ []))
-    (sym (take-add i next.of_a a))
-    (subst (λ (zs : List CallNode). SoFar (take i a ++ take next.of_a (drop i a)) (drop (i + next.of_a) a) (take j b ++ take next.of_b (drop j b)) zs (sums ++ next.spot ∷ []))
-    (drop-drop next.of_b j b)
-    (subst (λ (zs : List CallNode). SoFar (take i a ++ take next.of_a (drop i a)) zs (take j b ++ take next.of_b (drop j b)) (drop next.of_b (drop j b)) (sums ++ next.spot ∷ []))
-    (drop-drop next.of_a i a) there)))
+    subst (λ (zs : List CallNode). SoFar (take (i + next.count_in_a) a) (drop (i + next.count_in_a) a) zs (drop (j + next.count_in_b) b) (sums ++ next.node ∷ []))
+    (sym (take-add j next.count_in_b b))
+    (subst (λ (zs : List CallNode). SoFar zs (drop (i + next.count_in_a) a) (take j b ++ take next.count_in_b (drop j b)) (drop (j + next.count_in_b) b) (sums ++ next.node ∷ []))
+    (sym (take-add i next.count_in_a a))
+    (subst (λ (zs : List CallNode). SoFar (take i a ++ take next.count_in_a (drop i a)) (drop (i + next.count_in_a) a) (take j b ++ take next.count_in_b (drop j b)) zs (sums ++ next.node ∷ []))
+    (drop-drop next.count_in_b j b)
+    (subst (λ (zs : List CallNode). SoFar (take i a ++ take next.count_in_a (drop i a)) zs (take j b ++ take next.count_in_b (drop j b)) (drop next.count_in_b (drop j b)) (sums ++ next.node ∷ []))
+    (drop-drop next.count_in_a i a) there)))
 
 pub all_added : (a b sums : List CallNode) (i j : ℕ) → Added a b i j sums → length a ≤ i → length b ≤ j → IsSumOfCallTrees a b sums
 all_added a b sums i j h over_a over_b =
-    let whole = λ (count : CallNode → ℕ) (path : List ℕ) (adds : (s t : CallNode) → count (sum_of_nodes s t).spot ≡ count s + count t).
+    let whole = λ (count : CallNode → ℕ) (path : List ℕ) (adds : (s t : CallNode) → count (sum_of_nodes s t).node ≡ count s + count t).
     h.counted count path adds
     ∙ (λ k. sum_over_path count path [] (take_all i a over_a k) + sum_over_path count path [] (take_all j b over_b k)) in record {
       tree = h.tree;
@@ -326,9 +326,9 @@ too_great_there xs (s ∷ ss) ys [] sums (Count function) h great = absurd great
 too_great_there xs (s ∷ ss) ys (t ∷ ts) sums (Count function) h great =
     too_great_of xs ss ys ts sums s t h great.0 great.1 function great.2 great.3
 
-pub too_great : (a b sums : List CallNode) (i j : ℕ) (error : CallTreeSumError) → Added a b i j sums
+pub overflow : (a b sums : List CallNode) (i j : ℕ) (error : CallTreeSumError) → Added a b i j sums
     → IsOverflowOfFirstNodes error (drop i a) (drop j b) → IsOverflowOfTrees error a b
-too_great a b sums i j error h great =
+overflow a b sums i j error h great =
     subst (λ (zs : List CallNode). IsOverflowOfTrees error a zs) (take-append-drop j b)
     (subst (λ (zs : List CallNode). IsOverflowOfTrees error zs (take j b ++ drop j b)) (take-append-drop i a)
     (too_great_there (take i a) (drop i a) (take j b) (drop j b) sums error h great))
@@ -336,22 +336,22 @@ too_great a b sums i j error h great =
 -- ---- how many of each
 
 one_of_both : (b d : Bool) (s t : CallNode) → let next = cond b (node_of_first s) (cond d (node_of_second t) (sum_of_nodes s t)) in
-    (next.of_a ≤ 1) × (next.of_b ≤ 1) × (0 < next.of_a + next.of_b)
+    (next.count_in_a ≤ 1) × (next.count_in_b ≤ 1) × (0 < next.count_in_a + next.count_in_b)
 one_of_both true d s t = (omega arith, omega arith, omega arith)
 one_of_both false true s t = (omega arith, omega arith, omega arith)
 one_of_both false false s t = (omega arith, omega arith, omega arith)
 
 -- of each list at most what it has, and of one of them one
 pub record FewOf (ms bs : List CallNode) (next : NextNode) : Type 0 where
-  pub of_a : next.of_a ≤ length ms
-  pub of_b : next.of_b ≤ length bs
-  pub some : 0 < next.of_a + next.of_b
+  pub count_in_a : next.count_in_a ≤ length ms
+  pub count_in_b : next.count_in_b ≤ length bs
+  pub some : 0 < next.count_in_a + next.count_in_b
 
 pub few_of : (ms bs : List CallNode) → 0 < length ms + length bs → FewOf ms bs (next_of ms bs)
 few_of [] [] some = absurd (omega arith)
-few_of (s ∷ ss) [] some = record { of_a = omega arith; of_b = omega arith; some = omega arith }
-few_of [] (t ∷ ts) some = record { of_a = omega arith; of_b = omega arith; some = omega arith }
+few_of (s ∷ ss) [] some = record { count_in_a = omega arith; count_in_b = omega arith; some = omega arith }
+few_of [] (t ∷ ts) some = record { count_in_a = omega arith; count_in_b = omega arith; some = omega arith }
 few_of (s ∷ ss) (t ∷ ts) some =
     let h = one_of_both (comes_first s t) (comes_first t s) s t in
     let a = h.0 in
-    let b = h.1 in record { of_a = omega (arith, a); of_b = omega (arith, b); some = h.2 }
+    let b = h.1 in record { count_in_a = omega (arith, a); count_in_b = omega (arith, b); some = h.2 }

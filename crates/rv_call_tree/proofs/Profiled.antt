@@ -181,9 +181,9 @@ told_from f place front (s ∷ ss) stand (Some depth) end h ends =
           omega (arith, all)) ends
     ]
 
-pub inclusive_told : (f : ℕ) (spots : List CallNode) → IsTree spots
-    → inclusive_steps_after f [] spots ≡ inclusive_from 0 (subtrees_of_function f spots)
-inclusive_told f spots tree = let all = told_from f 0 [] spots tree None 0 refl (omega arith) in omega (arith, all)
+pub inclusive_told : (f : ℕ) (nodes : List CallNode) → IsTree nodes
+    → inclusive_steps_after f [] nodes ≡ inclusive_from 0 (subtrees_of_function f nodes)
+inclusive_told f nodes tree = let all = told_from f 0 [] nodes tree None 0 refl (omega arith) in omega (arith, all)
 
 -- ---- what is counted in the spots of a function themselves
 
@@ -235,13 +235,13 @@ if_at_most true n = omega arith
 if_at_most false n = omega arith
 
 -- of the spots of a function
-pub own_fits : (f : ℕ) (count : CallNode → ℕ) (spots : List CallNode)
-    → sum_over_nodes (λ (s : CallNode). steps_if (s.function == f) (count s)) spots ≤ sum_over_nodes count spots
+pub own_fits : (f : ℕ) (count : CallNode → ℕ) (nodes : List CallNode)
+    → sum_over_nodes (λ (s : CallNode). steps_if (s.function == f) (count s)) nodes ≤ sum_over_nodes count nodes
 own_fits f count [] = omega arith
 own_fits f count (s ∷ ss) =
     let here = if_at_most (s.function == f) (count s) in let rest = own_fits f count ss in omega (arith, here, rest)
 
-pub inclusive_fits : (f : ℕ) (front : List ℕ) (spots : List CallNode) → inclusive_steps_after f front spots ≤ all_steps spots
+pub inclusive_fits : (f : ℕ) (front : List ℕ) (nodes : List CallNode) → inclusive_steps_after f front nodes ≤ all_steps nodes
 inclusive_fits f front [] = omega arith
 inclusive_fits f front (s ∷ ss) =
     let here = if_at_most (has_function f (path_after front s)) s.steps in

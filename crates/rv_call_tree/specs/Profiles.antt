@@ -11,7 +11,7 @@ has_function function path = list_any (λ f. f == function) path
 
 -- the number of calls of a function: the sum of the calls of the nodes whose paths end in it
 abbrev pub calls_of_function : ℕ → List CallNode → ℕ
-calls_of_function function spots = sum_over_nodes (λ s. steps_if (s.function == function) s.calls) spots
+calls_of_function function nodes = sum_over_nodes (λ s. steps_if (s.function == function) s.calls) nodes
 
 -- the inclusive steps of a function: the sum of the steps of the nodes whose paths have it, each node counted once; `previous_path` is the path of
 -- the node before these nodes
@@ -21,10 +21,10 @@ inclusive_steps_after function previous_path (s ∷ ss) = steps_if (has_function
     + inclusive_steps_after function (path_after previous_path s) ss
 
 -- `steps` has the own steps, the inclusive steps and the calls of the function in the call tree
-pub record AreStepsOf (function : ℕ) (spots : List CallNode) (steps : FunctionSteps) : Type 0 where
-  pub own : steps.own ≡ own_steps_of function spots
-  pub inclusive : steps.inclusive ≡ inclusive_steps_after function [] spots
-  pub calls : steps.calls ≡ calls_of_function function spots
+pub record AreStepsOf (function : ℕ) (nodes : List CallNode) (steps : FunctionSteps) : Type 0 where
+  pub own : steps.own ≡ own_steps_of function nodes
+  pub inclusive : steps.inclusive ≡ inclusive_steps_after function [] nodes
+  pub calls : steps.calls ≡ calls_of_function function nodes
 
 -- ---- the functions of nodes
 
@@ -35,11 +35,11 @@ times function (f ∷ fs) = address_if (f == function) + times function fs
 
 -- whether the path of at least one node ends in the function
 abbrev pub ends_some_path : ℕ → List CallNode → Bool
-ends_some_path function spots = list_any (λ s. s.function == function) spots
+ends_some_path function nodes = list_any (λ s. s.function == function) nodes
 
 -- the list has exactly the functions in which the nodes' paths end, each once
-pub record AreFunctionsOf (spots : List CallNode) (functions : List ℕ) : Type 0 where
-  pub once : (function : ℕ) → times function functions ≡ address_if (ends_some_path function spots)
+pub record AreFunctionsOf (nodes : List CallNode) (functions : List ℕ) : Type 0 where
+  pub once : (function : ℕ) → times function functions ≡ address_if (ends_some_path function nodes)
 
 -- the list with the function appended, or unchanged if it already has the function
 abbrev pub with_function : ℕ → List ℕ → List ℕ
@@ -47,5 +47,5 @@ with_function function functions = if has_function function functions then funct
 
 -- the sum of the own steps of these functions
 abbrev pub own_steps_of_all : List ℕ → List CallNode → ℕ
-own_steps_of_all [] spots = 0
-own_steps_of_all (f ∷ fs) spots = own_steps_of f spots + own_steps_of_all fs spots
+own_steps_of_all [] nodes = 0
+own_steps_of_all (f ∷ fs) nodes = own_steps_of f nodes + own_steps_of_all fs nodes

@@ -34,8 +34,8 @@ with_root_function function subtrees = filter (λ s. s.function == function) sub
 
 -- the subtrees of a call tree whose root node ends in the function, in node order
 abbrev pub subtrees_of_function : ℕ → List CallNode → List Subtree
-subtrees_of_function function spots = with_root_function function (subtrees_from 0 spots)
+subtrees_of_function function nodes = with_root_function function (subtrees_from 0 nodes)
 
 -- for each function, the list has the subtrees of the call tree whose root node ends in it, in node order
 abbrev pub AreSubtreesByFunction : List CallNode → List Subtree → Type 0
-AreSubtreesByFunction spots subtrees = (function : ℕ) → with_root_function function subtrees ≡ subtrees_of_function function spots
+AreSubtreesByFunction nodes subtrees = (function : ℕ) → with_root_function function subtrees ≡ subtrees_of_function function nodes

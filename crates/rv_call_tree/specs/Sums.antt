@@ -35,23 +35,23 @@ comes_first s t = nat_lt t.depth s.depth || ((s.depth == t.depth) && nat_lt s.fu
 
 -- the node `s` as the first node of a sum, which only the first list has
 abbrev pub node_of_first : CallNode → NextNode
-node_of_first s = record { spot = s; of_a = 1; of_b = 0 }
+node_of_first s = record { node = s; count_in_a = 1; count_in_b = 0 }
 
 -- the node `t` as the first node of a sum, which only the second list has
 abbrev pub node_of_second : CallNode → NextNode
-node_of_second t = record { spot = t; of_a = 0; of_b = 1 }
+node_of_second t = record { node = t; count_in_a = 0; count_in_b = 1 }
 
 -- the sum of the counts of two nodes, as the first node of a sum, which both lists have
 abbrev pub sum_of_nodes : CallNode → CallNode → NextNode
 sum_of_nodes s t = record {
-  spot = record {
+  node = record {
     depth = s.depth;
     function = s.function;
     calls = s.calls + t.calls;
     steps = s.steps + t.steps;
   };
-  of_a = 1;
-  of_b = 1;
+  count_in_a = 1;
+  count_in_b = 1;
 }
 
 -- the first node of the sum of two lists that begin with the nodes `s` and `t`
@@ -63,7 +63,7 @@ abbrev pub next_of : List CallNode → List CallNode → NextNode
 next_of (s ∷ ss) [] = node_of_first s
 next_of (s ∷ ss) (t ∷ ts) = next_of_nodes s t
 next_of [] (t ∷ ts) = node_of_second t
-next_of [] [] = record { spot = record { depth = 0; function = 0; calls = 0; steps = 0 }; of_a = 0; of_b = 0 }
+next_of [] [] = record { node = record { depth = 0; function = 0; calls = 0; steps = 0 }; count_in_a = 0; count_in_b = 0 }
 
 -- the calls or the steps of two nodes add up to 2^64 or more
 abbrev pub CountsOverflow : CallNode → CallNode → Type 0

@@ -18,7 +18,7 @@ last_path previous_path (s ∷ ss) = last_path (path_after previous_path s) ss
 
 -- the path of the last of the first `count` nodes, or an empty path if `count` is 0
 abbrev pub path_after_first : ℕ → List CallNode → List ℕ
-path_after_first count spots = last_path [] (take count spots)
+path_after_first count nodes = last_path [] (take count nodes)
 
 -- ---- the counts
 
@@ -42,11 +42,11 @@ steps_of s = s.steps
 
 -- how often a run entered this path
 abbrev pub calls_at : List ℕ → List CallNode → ℕ
-calls_at path spots = sum_over_path calls_of_node path [] spots
+calls_at path nodes = sum_over_path calls_of_node path [] nodes
 
 -- how many instructions a run executed in this path
 abbrev pub steps_at : List ℕ → List CallNode → ℕ
-steps_at path spots = sum_over_path steps_of path [] spots
+steps_at path nodes = sum_over_path steps_of path [] nodes
 
 -- the sum of `count` over all nodes
 abbrev pub sum_over_nodes : (CallNode → ℕ) → List CallNode → ℕ
@@ -55,11 +55,11 @@ sum_over_nodes count (s ∷ ss) = count s + sum_over_nodes count ss
 
 -- the sum of the calls of all nodes
 abbrev pub all_calls : List CallNode → ℕ
-all_calls spots = sum_over_nodes calls_of_node spots
+all_calls nodes = sum_over_nodes calls_of_node nodes
 
 -- the sum of the instructions executed in all nodes
 abbrev pub all_steps : List CallNode → ℕ
-all_steps spots = sum_over_nodes steps_of spots
+all_steps nodes = sum_over_nodes steps_of nodes
 
 -- the steps if the condition is true, else 0
 abbrev pub steps_if : Bool → ℕ → ℕ
@@ -67,7 +67,7 @@ steps_if test steps = if test then steps else 0
 
 -- the own steps of a function: the sum of the steps of the nodes whose paths end in it
 abbrev pub own_steps_of : ℕ → List CallNode → ℕ
-own_steps_of function spots = sum_over_nodes (λ s. steps_if (s.function == function) s.steps) spots
+own_steps_of function nodes = sum_over_nodes (λ s. steps_if (s.function == function) s.steps) nodes
 
 -- whether the path ends in the function
 abbrev pub ends_with : ℕ → List ℕ → Bool
@@ -91,7 +91,7 @@ FollowInPreorder previous_path (s ∷ ss) = FollowsInPreorder previous_path s ×
 -- the nodes are a call tree in preorder: each path occurs once, siblings are sorted by function address, and each node comes after its
 -- parent
 abbrev pub IsTree : List CallNode → Type 0
-IsTree spots = FollowInPreorder [] spots
+IsTree nodes = FollowInPreorder [] nodes
 
 -- any two proofs of `FollowsInPreorder` are equal
 FollowsInPreorder-prop : (previous_path : List ℕ) (s : CallNode) → IsProp (FollowsInPreorder previous_path s)
@@ -101,7 +101,7 @@ FollowsInPreorder-prop previous_path s h k = λ i. record {
 }
 
 -- any two proofs of `FollowInPreorder` are equal
-pub FollowInPreorder-prop : (previous_path : List ℕ) (spots : List CallNode) → IsProp (FollowInPreorder previous_path spots)
+pub FollowInPreorder-prop : (previous_path : List ℕ) (nodes : List CallNode) → IsProp (FollowInPreorder previous_path nodes)
 FollowInPreorder-prop previous_path [] = Unit-prop
 FollowInPreorder-prop previous_path (s ∷ ss) = ×_prop (FollowsInPreorder-prop previous_path s) (FollowInPreorder-prop (path_after previous_path s) ss)
 

@@ -19,12 +19,12 @@ pub struct FunctionSteps {
 }
 
 /// Returns the functions in which the nodes' paths end, each once, in order of first occurrence.
-pub fn functions_of(alloc: Global, spots: &[CallNode]) -> Result<Vec<u32>, AllocError>
-    ensures { IfOk result (λ functions. AreFunctionsOf spots.now functions.items) }
+pub fn functions_of(alloc: Global, nodes: &[CallNode]) -> Result<Vec<u32>, AllocError>
+    ensures { IfOk result (λ functions. AreFunctionsOf nodes.now functions.items) }
 {
     let mut functions = Vec::new(alloc);
-    for spot in spots {
-        add_function(&mut functions, spot.function)?;
+    for node in nodes {
+        add_function(&mut functions, node.function)?;
     }
     Ok(functions)
 }

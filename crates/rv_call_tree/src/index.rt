@@ -14,33 +14,33 @@ use std::alloc::{AllocError, Global};
 /// The nodes of a call tree with an index by function, so that the counts of a function are found without a pass over all nodes.
 #[derive(Drop)]
 pub struct CallTreeIndex<'s> {
-    pub spots: &'s [CallNode],
+    pub nodes: &'s [CallNode],
     // The subtrees of each function, in node order.
     subtrees: Vec<Subtree>,
-    ghost tree: { IsTree spots.now } by { FollowInPreorder-prop [] spots.now },
-    ghost few_steps: { all_steps spots.now < 2 ^ 64 },
-    ghost few_arrivals: { all_calls spots.now < 2 ^ 64 },
+    ghost tree: { IsTree nodes.now } by { FollowInPreorder-prop [] nodes.now },
+    ghost steps_fit: { all_steps nodes.now < 2 ^ 64 },
+    ghost calls_fit: { all_calls nodes.now < 2 ^ 64 },
     ghost rising: { IsNonDecreasingBy (λ s. s.function) subtrees.items },
-    ghost each: { AreSubtreesByFunction spots.now subtrees.items },
+    ghost each: { AreSubtreesByFunction nodes.now subtrees.items },
 }
 
 impl<'s> CallTreeIndex<'s> {
     /// Returns an index of a call tree's nodes by function. Takes the time of a sort of the nodes, and 48 bytes of memory for each.
-    pub fn new(alloc: Global, spots: &'s [CallNode]) -> Result<CallTreeIndex<'s>, AllocError>
-        requires tree { IsTree spots.now }
-        requires steps { all_steps spots.now < 2 ^ 64 }
-        requires calls { all_calls spots.now < 2 ^ 64 }
-        ensures { IfOk result (λ index. index.spots.now ≡ spots.now) }
+    pub fn new(alloc: Global, nodes: &'s [CallNode]) -> Result<CallTreeIndex<'s>, AllocError>
+        requires tree { IsTree nodes.now }
+        requires steps { all_steps nodes.now < 2 ^ 64 }
+        requires calls { all_calls nodes.now < 2 ^ 64 }
+        ensures { IfOk result (λ index. index.nodes.now ≡ nodes.now) }
     {
-        let mut subtrees = subtrees_of(alloc, spots)?;
+        let mut subtrees = subtrees_of(alloc, nodes)?;
         subtrees.sort_by_key(|subtree| subtree.function)?;
-        Ok(CallTreeIndex { spots, subtrees })
+        Ok(CallTreeIndex { nodes, subtrees })
     }
 
     /// Returns the own steps, the inclusive steps and the calls of a function. Takes time logarithmic in the number of all nodes and linear
     /// in the number of nodes that end in the function.
     pub fn steps_of(&self, function: u32) -> FunctionSteps
-        ensures { AreStepsOf function self.now.spots.now result }
+        ensures { AreStepsOf function self.now.nodes.now result }
     {
         let mut found = FunctionSteps {
             own: 0,
@@ -62,7 +62,7 @@ impl<'s> CallTreeIndex<'s> {
 
     // Returns the subtrees whose root node ends in the function, in node order.
     fn subtrees_of_function(&self, function: u32) -> &[Subtree]
-        ensures { result.now ≡ subtrees_of_function function self.now.spots.now }
+        ensures { result.now ≡ subtrees_of_function function self.now.nodes.now }
     {
         let subtrees = self.subtrees.as_slice();
         let start = subtrees.partition_point(|subtree| subtree.function < function);

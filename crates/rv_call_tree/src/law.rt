@@ -14,6 +14,6 @@ pub fn trees_with_equal_counts_are_equal()
 
 /// Proves that the own steps of the functions of a call tree add up to the steps of all nodes.
 pub fn own_steps_sum_to_all()
-    ensures { (spots : List CallNode) (functions : List ℕ) → AreFunctionsOf spots functions
-        → own_steps_of_all functions spots ≡ all_steps spots }
+    ensures { (nodes : List CallNode) (functions : List ℕ) → AreFunctionsOf nodes functions
+        → own_steps_of_all functions nodes ≡ all_steps nodes }
 {}

@@ -25,13 +25,13 @@ pub(crate) struct Subtree {
 }
 
 /// Returns the subtree of each node, in node order. Takes time linear in the number of nodes.
-pub(crate) fn subtrees_of(alloc: Global, spots: &[CallNode]) -> Result<Vec<Subtree>, AllocError>
-    requires { all_steps spots.now < 2 ^ 64 }
-    ensures { IfOk result (λ subtrees. subtrees.items ≡ subtrees_from 0 spots.now) }
+pub(crate) fn subtrees_of(alloc: Global, nodes: &[CallNode]) -> Result<Vec<Subtree>, AllocError>
+    requires { all_steps nodes.now < 2 ^ 64 }
+    ensures { IfOk result (λ subtrees. subtrees.items ≡ subtrees_from 0 nodes.now) }
 {
     let mut subtrees = Vec::new(alloc);
-    for count in 0..spots.len() {
-        let subtree = subtree_at(spots, spots.len() - 1 - count, subtrees.as_slice());
+    for count in 0..nodes.len() {
+        let subtree = subtree_at(nodes, nodes.len() - 1 - count, subtrees.as_slice());
         subtrees.push(subtree)?;
     }
     subtrees.reverse();
@@ -40,26 +40,26 @@ pub(crate) fn subtrees_of(alloc: Global, spots: &[CallNode]) -> Result<Vec<Subtr
 
 // Returns the subtree of the node at an index. `later` has the subtrees of the nodes after it, last first. The search goes from child to
 // child, so that each subtree is read for one node only.
-fn subtree_at(spots: &[CallNode], place: usize, later: &[Subtree]) -> Subtree
-    requires within { place < length spots.now }
-    requires steps { all_steps spots.now < 2 ^ 64 }
-    requires behind { reverse later.now ≡ subtrees_from (place + 1) (drop (place + 1) spots.now) }
-    ensures { result ∷ subtrees_from (place + 1) (drop (place + 1) spots.now) ≡ subtrees_from place (drop place spots.now) }
+fn subtree_at(nodes: &[CallNode], place: usize, later: &[Subtree]) -> Subtree
+    requires within { place < length nodes.now }
+    requires steps { all_steps nodes.now < 2 ^ 64 }
+    requires behind { reverse later.now ≡ subtrees_from (place + 1) (drop (place + 1) nodes.now) }
+    ensures { result ∷ subtrees_from (place + 1) (drop (place + 1) nodes.now) ≡ subtrees_from place (drop place nodes.now) }
 {
-    let spot = spots[place];
+    let node = nodes[place];
     let mut end = place + 1;
-    let mut inclusive = spot.steps;
-    while end < spots.len() && spot.depth < spots[end].depth {
-        let child = later[spots.len() - 1 - end];
+    let mut inclusive = node.steps;
+    while end < nodes.len() && node.depth < nodes[end].depth {
+        let child = later[nodes.len() - 1 - end];
         inclusive += child.inclusive;
         end = child.end;
     }
     Subtree {
-        function: spot.function,
+        function: node.function,
         place,
         end,
-        own: spot.steps,
+        own: node.steps,
         inclusive,
-        calls: spot.calls,
+        calls: node.calls,
     }
 }

@@ -45,9 +45,9 @@ pub fn sum_of_call_trees(
     let mut from_b = 0;
     while from_a < a.len() || from_b < b.len() {
         let next = next_node(&a[from_a..], &b[from_b..])?;
-        push_node(&mut sums, next.spot)?;
-        from_a += next.of_a;
-        from_b += next.of_b;
+        push_node(&mut sums, next.node)?;
+        from_a += next.count_in_a;
+        from_b += next.count_in_b;
     }
     Ok(CallNodes::new(sums))
 }
@@ -55,16 +55,16 @@ pub fn sum_of_call_trees(
 /// The first node of a sum, and how many nodes of each tree it adds up.
 #[derive(Clone, Copy)]
 pub(crate) struct NextNode {
-    pub(crate) spot: CallNode,
-    pub(crate) of_a: usize,
-    pub(crate) of_b: usize,
+    pub(crate) node: CallNode,
+    pub(crate) count_in_a: usize,
+    pub(crate) count_in_b: usize,
 }
 
 // Appends a node.
-fn push_node(spots: &mut Vec<CallNode>, spot: CallNode) -> Result<(), AllocError>
-    ensures { OnOk result (spots.new.items ≡ spots.old.items ++ spot ∷ []) }
+fn push_node(nodes: &mut Vec<CallNode>, node: CallNode) -> Result<(), AllocError>
+    ensures { OnOk result (nodes.new.items ≡ nodes.old.items ++ node ∷ []) }
 {
-    spots.push(spot)?;
+    nodes.push(node)?;
     Ok(())
 }
 
@@ -73,7 +73,7 @@ fn push_node(spots: &mut Vec<CallNode>, spot: CallNode) -> Result<(), AllocError
 fn next_node(a: &[CallNode], b: &[CallNode]) -> Result<NextNode, CallTreeSumError>
     requires { 0 < length a.now + length b.now }
     ensures value { IfOk result (λ next. next ≡ next_of a.now b.now) }
-    ensures fits { IfOk result (λ next. FitsFields next.spot) }
+    ensures fits { IfOk result (λ next. FitsFields next.node) }
     ensures refused { IfErr result (λ error. IsOverflowOfFirstNodes error a.now b.now) }
 {
     if b.is_empty() {
@@ -92,57 +92,57 @@ fn next_node(a: &[CallNode], b: &[CallNode]) -> Result<NextNode, CallTreeSumErro
     sum_of_nodes(first, second)
 }
 
-// Whether `spot` comes before `other` in a sum: it is deeper, or equally deep and its function address is lower.
-fn comes_first(spot: CallNode, other: CallNode) -> bool
-    ensures { result ≡ comes_first spot other }
+// Whether `node` comes before `other` in a sum: it is deeper, or equally deep and its function address is lower.
+fn comes_first(node: CallNode, other: CallNode) -> bool
+    ensures { result ≡ comes_first node other }
 {
-    other.depth < spot.depth || (spot.depth == other.depth && spot.function < other.function)
+    other.depth < node.depth || (node.depth == other.depth && node.function < other.function)
 }
 
 // Returns a node as the first node of a sum, which only the first list has.
-fn node_of_first(spot: CallNode) -> NextNode
-    ensures value { result ≡ node_of_first spot }
-    ensures fits { FitsFields result.spot }
+fn node_of_first(node: CallNode) -> NextNode
+    ensures value { result ≡ node_of_first node }
+    ensures fits { FitsFields result.node }
 {
     NextNode {
-        spot,
-        of_a: 1,
-        of_b: 0,
+        node,
+        count_in_a: 1,
+        count_in_b: 0,
     }
 }
 
 // Returns a node as the first node of a sum, which only the second list has.
-fn node_of_second(spot: CallNode) -> NextNode
-    ensures value { result ≡ node_of_second spot }
-    ensures fits { FitsFields result.spot }
+fn node_of_second(node: CallNode) -> NextNode
+    ensures value { result ≡ node_of_second node }
+    ensures fits { FitsFields result.node }
 {
     NextNode {
-        spot,
-        of_a: 0,
-        of_b: 1,
+        node,
+        count_in_a: 0,
+        count_in_b: 1,
     }
 }
 
 // Returns the sum of two nodes with equal depths and functions as the first node of a sum, or an error if a count would not fit in 64 bits.
-fn sum_of_nodes(spot: CallNode, other: CallNode) -> Result<NextNode, CallTreeSumError>
-    ensures value { IfOk result (λ next. next ≡ sum_of_nodes spot other) }
-    ensures fits { IfOk result (λ next. FitsFields next.spot) }
-    ensures refused { IfErr result (λ error. IsOverflowOfNodes error spot other) }
+fn sum_of_nodes(node: CallNode, other: CallNode) -> Result<NextNode, CallTreeSumError>
+    ensures value { IfOk result (λ next. next ≡ sum_of_nodes node other) }
+    ensures fits { IfOk result (λ next. FitsFields next.node) }
+    ensures refused { IfErr result (λ error. IsOverflowOfNodes error node other) }
 {
     match (
-        spot.calls.checked_add(other.calls),
-        spot.steps.checked_add(other.steps),
+        node.calls.checked_add(other.calls),
+        node.steps.checked_add(other.steps),
     ) {
         (Some(calls), Some(steps)) => Ok(NextNode {
-            spot: CallNode {
-                depth: spot.depth,
-                function: spot.function,
+            node: CallNode {
+                depth: node.depth,
+                function: node.function,
                 calls,
                 steps,
             },
-            of_a: 1,
-            of_b: 1,
+            count_in_a: 1,
+            count_in_b: 1,
         }),
-        _ => Err(CallTreeSumError::Count(spot.function)),
+        _ => Err(CallTreeSumError::Count(node.function)),
     }
 }

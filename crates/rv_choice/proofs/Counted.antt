@@ -12,27 +12,27 @@ use Rattle.rv_command.specs.declared_run.RunArgs.{RunArgs}
 use Rattle.rv_expect.specs.declared.rule.Rule.{Rule}
 use Rattle.rv_expect.specs.declared_job.Job.{Job}
 
-beside_count : (known : Option FileContents) (failed : Option (Bor (List ℕ))) (pattern : Option Re) (words : RunArgs)
+beside_count : (contents : Option FileContents) (failed : Option (Bor (List ℕ))) (pattern : Option Re) (args : RunArgs)
     (rule : Rule) (jobs : List Job) (selection : List Bool) (notes : List ℕ)
-    → AreChosenWithReport known failed pattern words rule jobs (Some selection) notes → length selection ≡ length jobs
+    → AreChosenWithReport contents failed pattern args rule jobs (Some selection) notes → length selection ≡ length jobs
 unfolding selection_by_criteria
-beside_count known None pattern words rule jobs selection notes are =
+beside_count contents None pattern args rule jobs selection notes are =
     ap (λ o. length (unwrap_or o [])) are.0 ∙ length-map jobs _
-beside_count known (Some path) pattern words rule jobs selection notes are =
+beside_count contents (Some path) pattern args rule jobs selection notes are =
     ap length are.chosen.marked ∙ length-map jobs _
 
-wanted_count : (known : Option FileContents) (words : RunArgs) (rule : Rule) (jobs : List Job) (selection : List Bool)
-    (notes : List ℕ) → AreRequested known words rule jobs (Some selection) notes → length selection ≡ length jobs
-wanted_count known words rule jobs selection notes are =
-    beside_count known words.failed _ words rule jobs selection notes are.by
+wanted_count : (contents : Option FileContents) (args : RunArgs) (rule : Rule) (jobs : List Job) (selection : List Bool)
+    (notes : List ℕ) → AreRequested contents args rule jobs (Some selection) notes → length selection ≡ length jobs
+wanted_count contents args rule jobs selection notes are =
+    beside_count contents args.failed _ args rule jobs selection notes are.by
 
 -- the jobs that words want have a mark each
-pub wanted_counts : (known : Option FileContents) (words : RunArgs) (rule : Rule) (jobs : List Job)
+pub wanted_counts : (contents : Option FileContents) (args : RunArgs) (rule : Rule) (jobs : List Job)
     (selection : Option (Vec Bool Global)) (notes : List ℕ)
-    → AreRequested known words rule jobs (option_map (λ selection. selection.items) selection) notes
+    → AreRequested contents args rule jobs (option_map (λ selection. selection.items) selection) notes
     → IfSome selection (λ selection. length selection.items ≡ length jobs)
-wanted_counts known words rule jobs None notes are = tt
-wanted_counts known words rule jobs (Some selection) notes are = wanted_count known words rule jobs selection.items notes are
+wanted_counts contents args rule jobs None notes are = tt
+wanted_counts contents args rule jobs (Some selection) notes are = wanted_count contents args rule jobs selection.items notes are
 
 left_count : (pattern : Re) (jobs : List Job) (selection : List Bool) → length selection ≡ length jobs
     → length (remaining_selection pattern jobs selection) ≡ length jobs
@@ -45,15 +45,15 @@ left_count pattern (job ∷ jobs) [] same = absurd (omega (arith, same))
 left_some : (excluded : Option Re) (jobs : List Job) (wanted : Option (List Bool)) (selection : List Bool)
     → ((m : List Bool) → wanted ≡ Some m → length m ≡ length jobs) → IsRemainingSelection excluded jobs wanted (Some selection)
     → length selection ≡ length jobs
-left_some None jobs wanted selection count left = count selection (sym left)
-left_some (Some pattern) jobs (Some wanted) selection count left =
-    ap (λ o. length (unwrap_or o [])) left.0 ∙ left_count pattern jobs wanted (count wanted refl)
-left_some (Some pattern) jobs None selection count left = count selection (sym left)
+left_some None jobs wanted selection count remaining = count selection (sym remaining)
+left_some (Some pattern) jobs (Some wanted) selection count remaining =
+    ap (λ o. length (unwrap_or o [])) remaining.0 ∙ left_count pattern jobs wanted (count wanted refl)
+left_some (Some pattern) jobs None selection count remaining = count selection (sym remaining)
 
 -- there is a mark for each job
-pub choice_count : (known : Option FileContents) (words : RunArgs) (rule : Rule) (jobs : List Job) (selection : List Bool)
-    (notes : List ℕ) → IsChoice known words rule jobs (Some selection) notes → length selection ≡ length jobs
-choice_count known words rule jobs selection notes is =
-    let Counts : Option (List Bool) → Type 0 = λ wanted. AreRequested known words rule jobs wanted notes in
+pub choice_count : (contents : Option FileContents) (args : RunArgs) (rule : Rule) (jobs : List Job) (selection : List Bool)
+    (notes : List ℕ) → IsChoice contents args rule jobs (Some selection) notes → length selection ≡ length jobs
+choice_count contents args rule jobs selection notes is =
+    let Counts : Option (List Bool) → Type 0 = λ wanted. AreRequested contents args rule jobs wanted notes in
     left_some _ jobs is.requested selection
-    (λ m same. wanted_count known words rule jobs m notes (subst Counts same is.are)) is.left
+    (λ m same. wanted_count contents args rule jobs m notes (subst Counts same is.are)) is.remaining

@@ -35,7 +35,7 @@ left_append pattern [] [] job mark same = refl
 left_append pattern [] (other ∷ selection) job mark same = absurd (omega (arith, same))
 left_append pattern (first ∷ jobs) [] job mark same = absurd (omega (arith, same))
 left_append pattern (first ∷ jobs) (other ∷ selection) job mark same =
-    ap (λ left. stays_selected other (is_some (find_str pattern first.name 0)) ∷ left)
+    ap (λ remaining. stays_selected other (is_some (find_str pattern first.name 0)) ∷ remaining)
     (left_append pattern jobs selection job mark (omega (arith, same)))
 
 -- what a pattern leaves of the marks before a place, and of the one there

@@ -10,7 +10,7 @@ use Rattle.rv_command.proofs.Public.{told_stop}
 use Rattle.rv_command.specs.Stops.{IsRequestedUnreadStop, stop_with_message}
 use Rattle.rv_command.specs.declared.stop.Lines.TheVariants as lines
 use Rattle.rv_command.specs.declared.stop.Stop.{Stop}
-use Rattle.rv_command.specs.declared.stop.Stop.TheVariants as why
+use Rattle.rv_command.specs.declared.stop.Stop.TheVariants as stops
 use Rattle.rv_expect.specs.declared.rule.Rule.{Rule}
 use Rattle.rv_expect.specs.declared_job.Job.{Job}
 use Rattle.regex.specs.Strings.{regex_source}
@@ -26,38 +26,38 @@ some_value : {A : Type 0} (o : Option A) (P : A → Type 0) → IsSomeAnd o P �
 some_value (Some x) P holds = (x, (refl, holds))
 some_value None P holds = absurd holds
 
-pub stop_of_unknown : (known : Option FileContents) (words : RunArgs) (rule : Rule) (jobs : List Job) (stop : Stop)
-    → IsSomeAnd (unknown_name jobs words.only.items) (λ name. IsUnknownNameStop words.list.now jobs name stop)
-    → IsChoiceStop known words rule jobs stop
-stop_of_unknown known words rule jobs stop said =
-    let Says : List ℕ → Type 0 = λ name. IsUnknownNameStop words.list.now jobs name stop in
-    let some = some_value (unknown_name jobs words.only.items) Says said in
+pub stop_of_unknown : (contents : Option FileContents) (args : RunArgs) (rule : Rule) (jobs : List Job) (stop : Stop)
+    → IsSomeAnd (unknown_name jobs args.only.items) (λ name. IsUnknownNameStop args.list.now jobs name stop)
+    → IsChoiceStop contents args rule jobs stop
+stop_of_unknown contents args rule jobs stop said =
+    let Says : List ℕ → Type 0 = λ name. IsUnknownNameStop args.list.now jobs name stop in
+    let some = some_value (unknown_name jobs args.only.items) Says said in
     unknown some.0 some.1.0 some.1.1
 
-pub stop_of_pattern : (known : Option FileContents) (words : RunArgs) (rule : Rule) (jobs : List Job) (stop : Stop)
-    → IsSomeAnd (borrowed_text words.pattern) (λ text. IsPatternStop words.list.now text jobs stop)
-    → IsChoiceStop known words rule jobs stop
-stop_of_pattern known words rule jobs stop said =
-    let Says : List ℕ → Type 0 = λ text. IsPatternStop words.list.now text jobs stop in
-    let some = some_value (borrowed_text words.pattern) Says said in
+pub stop_of_pattern : (contents : Option FileContents) (args : RunArgs) (rule : Rule) (jobs : List Job) (stop : Stop)
+    → IsSomeAnd (borrowed_text args.pattern) (λ text. IsPatternStop args.list.now text jobs stop)
+    → IsChoiceStop contents args rule jobs stop
+stop_of_pattern contents args rule jobs stop said =
+    let Says : List ℕ → Type 0 = λ text. IsPatternStop args.list.now text jobs stop in
+    let some = some_value (borrowed_text args.pattern) Says said in
     pattern some.0 some.1.0 some.1.1
 
 -- of the pattern by which jobs are left out: memory was wanting, or it is none
-pub stop_of_no_exclusion : (known : Option FileContents) (words : RunArgs) (rule : Rule) (jobs : List Job) (stop : Stop)
-    → IsSomeAnd (borrowed_text words.exclude)
-    (λ text. (stop ≡ why.OutOfMemory) ⊎ IsInvalidPatternStop (codes "--exclude <REGEX>") text stop)
-    → IsChoiceStop known words rule jobs stop
-stop_of_no_exclusion known words rule jobs stop said =
+pub stop_of_no_exclusion : (contents : Option FileContents) (args : RunArgs) (rule : Rule) (jobs : List Job) (stop : Stop)
+    → IsSomeAnd (borrowed_text args.exclude)
+    (λ text. (stop ≡ stops.OutOfMemory) ⊎ IsInvalidPatternStop (codes "--exclude <REGEX>") text stop)
+    → IsChoiceStop contents args rule jobs stop
+stop_of_no_exclusion contents args rule jobs stop said =
     let Says : List ℕ → Type 0 =
-    λ text. (stop ≡ why.OutOfMemory) ⊎ IsInvalidPatternStop (codes "--exclude <REGEX>") text stop in
-    let some = some_value (borrowed_text words.exclude) Says said in
+    λ text. (stop ≡ stops.OutOfMemory) ⊎ IsInvalidPatternStop (codes "--exclude <REGEX>") text stop in
+    let some = some_value (borrowed_text args.exclude) Says said in
     ⊎_elim memory (λ refused. exclusion some.0 some.1.0 (inl refused)) some.1.1
 
-emptied_by : (known : Option FileContents) (words : RunArgs) (rule : Rule) (jobs : List Job) (notes : List ℕ) (stop : Stop)
-    (selection : Vec Bool Global) (regex : Regex) → AreRequested known words rule jobs (Some selection.items) notes
-    → Some (regex_source regex) ≡ borrowed_text words.exclude → HasDefaultOptions regex
-    → IsEmptiedStop words.list.now jobs selection.items regex stop → IsChoiceStop known words rule jobs stop
-emptied_by known words rule jobs notes stop selection regex are source read is =
+emptied_by : (contents : Option FileContents) (args : RunArgs) (rule : Rule) (jobs : List Job) (notes : List ℕ) (stop : Stop)
+    (selection : Vec Bool Global) (regex : Regex) → AreRequested contents args rule jobs (Some selection.items) notes
+    → Some (regex_source regex) ≡ borrowed_text args.exclude → HasDefaultOptions regex
+    → IsEmptiedStop args.list.now jobs selection.items regex stop → IsChoiceStop contents args rule jobs stop
+emptied_by contents args rule jobs notes stop selection regex are source read is =
     exclusion (regex_source regex) (sym source) (inr (
       record {
         requested = selection.items;
@@ -72,28 +72,28 @@ emptied_by known words rule jobs notes stop selection regex are source read is =
     ))
 
 -- memory was wanting, or the pattern leaves no job
-pub stop_of_emptied : (known : Option FileContents) (words : RunArgs) (rule : Rule) (jobs : List Job) (notes : List ℕ)
+pub stop_of_emptied : (contents : Option FileContents) (args : RunArgs) (rule : Rule) (jobs : List Job) (notes : List ℕ)
     (stop : Stop) (selection : Option (Vec Bool Global)) (excluded : Option Regex) (by : Option (Bor Regex))
-    → AreRequested known words rule jobs (option_map (λ selection. selection.items) selection) notes
-    → option_map regex_source excluded ≡ borrowed_text words.exclude → IfSome excluded HasDefaultOptions
+    → AreRequested contents args rule jobs (option_map (λ selection. selection.items) selection) notes
+    → option_map regex_source excluded ≡ borrowed_text args.exclude → IfSome excluded HasDefaultOptions
     → option_map (λ regex. regex.now) by ≡ excluded
-    → (stop ≡ why.OutOfMemory) ⊎ IsSomeAnd by (λ regex. IsSomeAnd selection
-    (λ selection. IsEmptiedStop words.list.now jobs selection.items regex.now stop))
-    → IsChoiceStop known words rule jobs stop
-stop_of_emptied known words rule jobs notes stop selection excluded by are source read same (inl is) = memory is
-stop_of_emptied known words rule jobs notes stop (Some selection) excluded (Some regex) are source read same (inr is) =
+    → (stop ≡ stops.OutOfMemory) ⊎ IsSomeAnd by (λ regex. IsSomeAnd selection
+    (λ selection. IsEmptiedStop args.list.now jobs selection.items regex.now stop))
+    → IsChoiceStop contents args rule jobs stop
+stop_of_emptied contents args rule jobs notes stop selection excluded by are source read same (inl is) = memory is
+stop_of_emptied contents args rule jobs notes stop (Some selection) excluded (Some regex) are source read same (inr is) =
     let from = rw (← same) at source in
-    emptied_by known words rule jobs notes stop selection regex.now are from (rw (← same) at read) is
-stop_of_emptied known words rule jobs notes stop None excluded (Some regex) are source read same (inr is) = absurd is
-stop_of_emptied known words rule jobs notes stop selection excluded None are source read same (inr is) = absurd is
+    emptied_by contents args rule jobs notes stop selection regex.now are from (rw (← same) at read) is
+stop_of_emptied contents args rule jobs notes stop None excluded (Some regex) are source read same (inr is) = absurd is
+stop_of_emptied contents args rule jobs notes stop selection excluded None are source read same (inr is) = absurd is
 
-stop_of_report : (known : Option FileContents) (words : RunArgs) (rule : Rule) (jobs : List Job) (stop : Stop)
-    → (stop ≡ why.OutOfMemory) ⊎ IsSomeAnd (borrowed_text words.failed) (λ path. IsRequestedUnreadStop known words.partial path stop)
-    → IsChoiceStop known words rule jobs stop
-stop_of_report known words rule jobs stop (inl is) = memory is
-stop_of_report known words rule jobs stop (inr said) =
-    let Says : List ℕ → Type 0 = λ path. IsRequestedUnreadStop known words.partial path stop in
-    let some = some_value (borrowed_text words.failed) Says said in
+stop_of_report : (contents : Option FileContents) (args : RunArgs) (rule : Rule) (jobs : List Job) (stop : Stop)
+    → (stop ≡ stops.OutOfMemory) ⊎ IsSomeAnd (borrowed_text args.failed) (λ path. IsRequestedUnreadStop contents args.partial path stop)
+    → IsChoiceStop contents args rule jobs stop
+stop_of_report contents args rule jobs stop (inl is) = memory is
+stop_of_report contents args rule jobs stop (inr said) =
+    let Says : List ℕ → Type 0 = λ path. IsRequestedUnreadStop contents args.partial path stop in
+    let some = some_value (borrowed_text args.failed) Says said in
     report some.0 some.1.0 some.1.1
 
 -- what is said of a text is said of words that have it
@@ -111,9 +111,9 @@ unknown_stop list jobs name (Ok message) stop is said =
     inr (message.items, said, told_stop lines.Refusal (Ok message) message.items stop is refl)
 unknown_stop list jobs name (Err error) stop is said = inl is
 
-pub stop_of_choice : (known : Option FileContents) (words : RunArgs) (rule : Rule) (jobs : List Job) (result : Result Choice Stop)
-    → IfErr result (λ stop. (stop ≡ why.OutOfMemory)
-    ⊎ IsSomeAnd (borrowed_text words.failed) (λ path. IsRequestedUnreadStop known words.partial path stop))
-    → IfErr result (IsChoiceStop known words rule jobs)
-stop_of_choice known words rule jobs (Ok choice) said = said
-stop_of_choice known words rule jobs (Err stop) said = stop_of_report known words rule jobs stop said
+pub stop_of_choice : (contents : Option FileContents) (args : RunArgs) (rule : Rule) (jobs : List Job) (result : Result Choice Stop)
+    → IfErr result (λ stop. (stop ≡ stops.OutOfMemory)
+    ⊎ IsSomeAnd (borrowed_text args.failed) (λ path. IsRequestedUnreadStop contents args.partial path stop))
+    → IfErr result (IsChoiceStop contents args rule jobs)
+stop_of_choice contents args rule jobs (Ok choice) said = said
+stop_of_choice contents args rule jobs (Err stop) said = stop_of_report contents args rule jobs stop said

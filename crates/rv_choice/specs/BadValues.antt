@@ -4,7 +4,7 @@ use Rattle.std.specs.declared.alloc.AllocError.{AllocError}
 use Rattle.std.specs.declared.alloc.Global.{Global}
 use Rattle.rv_command.specs.Stops.{IsUsageStop}
 use Rattle.rv_command.specs.declared.stop.Stop.{Stop}
-use Rattle.rv_command.specs.declared.stop.Stop.TheVariants as why
+use Rattle.rv_command.specs.declared.stop.Stop.TheVariants as stops
 
 -- the message that the value of an option is invalid, and why
 abbrev pub bad_value_text : List ℕ → List ℕ → List ℕ → List ℕ
@@ -21,4 +21,4 @@ IsBadPatternStop option text stop = (reason : List ℕ) × IsUsageStop (bad_valu
 
 -- the stop reports the message `what` with the command's usage, or is out of memory if the message could not be made
 abbrev pub IsBadValueStop : Result (String Global) AllocError → Stop → Type 0
-IsBadValueStop what stop = MatchResult what (λ text. IsUsageStop (string_bytes text) stop) (λ _. stop ≡ why.OutOfMemory)
+IsBadValueStop what stop = MatchResult what (λ text. IsUsageStop (string_bytes text) stop) (λ _. stop ≡ stops.OutOfMemory)

@@ -98,9 +98,9 @@ remaining_selection pattern (job ∷ jobs) (mark ∷ selection) =
 abbrev pub is_any_selected : List Bool → Bool
 is_any_selected selection = list_any (λ mark. mark) selection
 
--- whether some job is selected in `selection`, but none in `left`
+-- whether some job is selected in `selection`, but none in `remaining`
 abbrev pub is_emptied : List Bool → List Bool → Bool
-is_emptied selection left = is_any_selected selection && not (is_any_selected left)
+is_emptied selection remaining = is_any_selected selection && not (is_any_selected remaining)
 
 -- whether at least one job has this name
 abbrev pub has_job_named : List Job → List ℕ → Bool

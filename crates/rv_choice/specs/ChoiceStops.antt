@@ -12,7 +12,7 @@ use Rattle.rv_command.specs.declared_run.RunArgs.{RunArgs}
 use Rattle.rv_choice.specs.BadValues.{IsBadPatternStop}
 use Rattle.rv_command.specs.Stops.{IsRequestedUnreadStop, IsStop}
 use Rattle.rv_command.specs.declared.stop.Stop.{Stop}
-use Rattle.rv_command.specs.declared.stop.Stop.TheVariants as why
+use Rattle.rv_command.specs.declared.stop.Stop.TheVariants as stops
 use Rattle.rv_expect.specs.declared.rule.Rule.{Rule}
 use Rattle.rv_expect.specs.declared_job.Job.{Job}
 use Rattle.rv_command.specs.Printable.{printable_text, printable_value}
@@ -40,17 +40,17 @@ unmatched_pattern list text = codes "rvtest: " ++ printable_text list ++ codes "
 
 -- why a command stopped: memory ran out, or the text of `--match` is not a regular expression, or it matches the name of no job
 abbrev pub IsPatternStop : List ℕ → List ℕ → List Job → Stop → Type 0
-IsPatternStop list text jobs stop = (stop ≡ why.OutOfMemory)
+IsPatternStop list text jobs stop = (stop ≡ stops.OutOfMemory)
     ⊎ (IsInvalidPatternStop (codes "--match <REGEX>") text stop
     ⊎ (IsUnmatchedPattern text jobs × IsStop 2 (unmatched_pattern list text) stop))
 
 -- the pattern with this text excludes all requested jobs
-pub record ExcludesAll (known : Option FileContents) (words : RunArgs) (rule : Rule) (jobs : List Job) (text : List ℕ)
+pub record ExcludesAll (contents : Option FileContents) (args : RunArgs) (rule : Rule) (jobs : List Job) (text : List ℕ)
     : Type 0 where
   -- the selection before any jobs are excluded
   pub requested : List Bool
   pub notes : List ℕ
-  pub are : AreRequested known words rule jobs (Some requested) notes
+  pub are : AreRequested contents args rule jobs (Some requested) notes
   pub pattern : Regex
   pub source : regex_source pattern ≡ text
   pub read : HasDefaultOptions pattern
@@ -68,23 +68,23 @@ IsEmptiedStop list jobs selection pattern stop = (is_emptied selection (remainin
 
 -- why a command stopped: the text of `--exclude` is not a regular expression, or it excludes all requested jobs
 abbrev pub IsExclusionStop : Option FileContents → RunArgs → Rule → List Job → List ℕ → Stop → Type 0
-IsExclusionStop known words rule jobs text stop = IsInvalidPatternStop (codes "--exclude <REGEX>") text stop
-    ⊎ (ExcludesAll known words rule jobs text × IsStop 2 (emptied_choice_message words.list.now text) stop)
+IsExclusionStop contents args rule jobs text stop = IsInvalidPatternStop (codes "--exclude <REGEX>") text stop
+    ⊎ (ExcludesAll contents args rule jobs text × IsStop 2 (emptied_choice_message args.list.now text) stop)
 
 -- why choosing the jobs of a list stopped: memory ran out, a name or pattern chooses or leaves no job, or a report could not be read
-pub data IsChoiceStop (known : Option FileContents) (words : RunArgs) (rule : Rule) (jobs : List Job) (stop : Stop)
+pub data IsChoiceStop (contents : Option FileContents) (args : RunArgs) (rule : Rule) (jobs : List Job) (stop : Stop)
     : Type 0 where
   -- memory ran out
-  memory : stop ≡ why.OutOfMemory → IsChoiceStop known words rule jobs stop
+  memory : stop ≡ stops.OutOfMemory → IsChoiceStop contents args rule jobs stop
   -- no job has a name of `--only`
-  unknown : (name : List ℕ) → unknown_name jobs words.only.items ≡ Some name
-      → IsUnknownNameStop words.list.now jobs name stop → IsChoiceStop known words rule jobs stop
+  unknown : (name : List ℕ) → unknown_name jobs args.only.items ≡ Some name
+      → IsUnknownNameStop args.list.now jobs name stop → IsChoiceStop contents args rule jobs stop
   -- `--match` is not a regular expression, or it matches no job name
-  pattern : (text : List ℕ) → borrowed_text words.pattern ≡ Some text
-      → IsPatternStop words.list.now text jobs stop → IsChoiceStop known words rule jobs stop
+  pattern : (text : List ℕ) → borrowed_text args.pattern ≡ Some text
+      → IsPatternStop args.list.now text jobs stop → IsChoiceStop contents args rule jobs stop
   -- the report of `--failed` could not be read
-  report : (path : List ℕ) → borrowed_text words.failed ≡ Some path
-      → IsRequestedUnreadStop known words.partial path stop → IsChoiceStop known words rule jobs stop
+  report : (path : List ℕ) → borrowed_text args.failed ≡ Some path
+      → IsRequestedUnreadStop contents args.partial path stop → IsChoiceStop contents args rule jobs stop
   -- `--exclude` is not a regular expression, or it leaves no job
-  exclusion : (text : List ℕ) → borrowed_text words.exclude ≡ Some text
-      → IsExclusionStop known words rule jobs text stop → IsChoiceStop known words rule jobs stop
+  exclusion : (text : List ℕ) → borrowed_text args.exclude ≡ Some text
+      → IsExclusionStop contents args rule jobs text stop → IsChoiceStop contents args rule jobs stop

@@ -19,63 +19,63 @@ use Rattle.rv_choice.specs.UnknownName.{unknown_name}
 
 -- `selection` is the selection by `--only`, by the pattern, and by the names `failed` from the report at `path`, in which `missing` jobs
 -- have no row; it may be absent only if nothing but failed jobs is requested, and none failed
-pub record AreChosenFrom (path : List ℕ) (failed : ChosenNames) (missing : ℕ) (pattern : Option Re) (words : RunArgs)
+pub record AreChosenFrom (path : List ℕ) (failed : ChosenNames) (missing : ℕ) (pattern : Option Re) (args : RunArgs)
     (jobs : List Job) (selection : Option (List Bool)) (notes : List ℕ) : Type 0 where
   pub told : notes ≡ failed_job_notes path jobs failed missing
   pub marked : IfSome selection (λ selection. selection
-      ≡ selection_by_criteria (requested_names words.only.items) pattern (Some failed) jobs)
-  pub none : (selection ≡ None) ↔ ((failed ≡ []) × (words.only.items ≡ []) × (pattern ≡ None))
+      ≡ selection_by_criteria (requested_names args.only.items) pattern (Some failed) jobs)
+  pub none : (selection ≡ None) ↔ ((failed ≡ []) × (args.only.items ≡ []) × (pattern ≡ None))
 
 -- `selection` is the selection by `--only`, by the pattern, and by the failed rows of the report at `path`; if the report is truncated, the
 -- notes begin with the number of its rows
-pub record AreChosenFromReport (known : Option FileContents) (path : List ℕ) (pattern : Option Re) (words : RunArgs)
+pub record AreChosenFromReport (contents : Option FileContents) (path : List ℕ) (pattern : Option Re) (args : RunArgs)
     (rule : Rule) (jobs : List Job) (selection : Option (List Bool)) (notes : List ℕ) : Type 0 where
   pub found : PartialReport
-  pub read : IsReportReadAt known words.partial path found
+  pub read : IsReportReadAt contents args.partial path found
   pub failed : List ℕ
   pub noted : notes ≡ truncation_note path found ++ failed
   pub chosen : AreChosenFrom path (failed_job_names rule found.report.rows)
-      (count_jobs_without_row jobs found.report.rows) pattern words jobs selection failed
+      (count_jobs_without_row jobs found.report.rows) pattern args jobs selection failed
 
 -- `selection` is the selection by `--only`, by the pattern and, if a report is given, by its failed rows; without a report there are no
 -- notes
 abbrev pub AreChosenWithReport : Option FileContents → Option (Bor (List ℕ)) → Option Re → RunArgs → Rule → List Job
     → Option (List Bool) → List ℕ → Type 0
-AreChosenWithReport known None pattern words rule jobs selection notes =
-    (selection ≡ Some (selection_by_criteria (requested_names words.only.items) pattern None jobs)) × (notes ≡ [])
-AreChosenWithReport known (Some path) pattern words rule jobs selection notes =
-    AreChosenFromReport known path.now pattern words rule jobs selection notes
+AreChosenWithReport contents None pattern args rule jobs selection notes =
+    (selection ≡ Some (selection_by_criteria (requested_names args.only.items) pattern None jobs)) × (notes ≡ [])
+AreChosenWithReport contents (Some path) pattern args rule jobs selection notes =
+    AreChosenFromReport contents path.now pattern args rule jobs selection notes
 
 -- `selection` is the selection by `--only`, by the pattern, and by the report of `--failed`
 abbrev pub AreChosenBy : Option FileContents → Option Re → RunArgs → Rule → List Job
     → Option (List Bool) → List ℕ → Type 0
-AreChosenBy known pattern words rule jobs selection notes =
-    AreChosenWithReport known words.failed pattern words rule jobs selection notes
+AreChosenBy contents pattern args rule jobs selection notes =
+    AreChosenWithReport contents args.failed pattern args rule jobs selection notes
 
 -- `selection` is the selection before any jobs are excluded, and `notes` are the notes about it: each name of `--only` is the name of a
 -- job, and the pattern of `--match` matches the name of at least one job
-pub record AreRequested (known : Option FileContents) (words : RunArgs) (rule : Rule) (jobs : List Job)
+pub record AreRequested (contents : Option FileContents) (args : RunArgs) (rule : Rule) (jobs : List Job)
     (selection : Option (List Bool)) (notes : List ℕ) : Type 0 where
-  pub named : unknown_name jobs words.only.items ≡ None
+  pub named : unknown_name jobs args.only.items ≡ None
   pub pattern : Option Regex
-  pub source : option_map regex_source pattern ≡ borrowed_text words.pattern
+  pub source : option_map regex_source pattern ≡ borrowed_text args.pattern
   pub read : IfSome pattern HasDefaultOptions
   pub found : IfSome pattern (λ regex. is_found_in_names (regex_pattern regex) jobs ≡ true)
-  pub by : AreChosenBy known (option_map regex_pattern pattern) words rule jobs selection notes
+  pub by : AreChosenBy contents (option_map regex_pattern pattern) args rule jobs selection notes
 
--- `left` is the selection without the excluded jobs; it is not empty unless the selection was empty before
+-- `remaining` is the selection without the excluded jobs; it is not empty unless the selection was empty before
 abbrev pub IsRemainingSelection : Option Re → List Job → Option (List Bool) → Option (List Bool) → Type 0
-IsRemainingSelection (Some pattern) jobs (Some wanted) left =
-    (left ≡ Some (remaining_selection pattern jobs wanted)) × (is_emptied wanted (remaining_selection pattern jobs wanted) ≡ false)
-IsRemainingSelection _ jobs wanted left = left ≡ wanted
+IsRemainingSelection (Some pattern) jobs (Some wanted) remaining =
+    (remaining ≡ Some (remaining_selection pattern jobs wanted)) × (is_emptied wanted (remaining_selection pattern jobs wanted) ≡ false)
+IsRemainingSelection _ jobs wanted remaining = remaining ≡ wanted
 
 -- `selection` selects the jobs that the arguments choose, without the excluded ones; `notes` are the notes about the choice
-pub record IsChoice (known : Option FileContents) (words : RunArgs) (rule : Rule) (jobs : List Job)
+pub record IsChoice (contents : Option FileContents) (args : RunArgs) (rule : Rule) (jobs : List Job)
     (selection : Option (List Bool)) (notes : List ℕ) : Type 0 where
   -- the selection before any jobs are excluded
   pub requested : Option (List Bool)
-  pub are : AreRequested known words rule jobs requested notes
+  pub are : AreRequested contents args rule jobs requested notes
   pub excluded : Option Regex
-  pub source : option_map regex_source excluded ≡ borrowed_text words.exclude
+  pub source : option_map regex_source excluded ≡ borrowed_text args.exclude
   pub read : IfSome excluded HasDefaultOptions
-  pub left : IsRemainingSelection (option_map regex_pattern excluded) jobs requested selection
+  pub remaining : IsRemainingSelection (option_map regex_pattern excluded) jobs requested selection

@@ -11,7 +11,7 @@ use Rattle.rv_command.specs.Names.{is_name}
 use Rattle.rv_choice.specs.BadValues.{bad_value_text}
 use Rattle.rv_command.specs.Stops.{IsUsageStop}
 use Rattle.rv_command.specs.declared.stop.Stop.{Stop}
-use Rattle.rv_command.specs.declared.stop.Stop.TheVariants as why
+use Rattle.rv_command.specs.declared.stop.Stop.TheVariants as stops
 use Rattle.rv_expect.specs.declared_saved.Shard.{Shard}
 
 -- the text before the first slash
@@ -66,4 +66,4 @@ IsInvalidShardStop text stamp stop = ((IsShardText text → ⊥) × IsUsageStop 
 
 -- why a command stopped: memory ran out, or a shard is requested, and the text of `--shard` or `--stamp` is invalid
 abbrev pub IsShardStop : Option (Bor (List ℕ)) → Option (Bor (List ℕ)) → Stop → Type 0
-IsShardStop shard stamp stop = (stop ≡ why.OutOfMemory) ⊎ IsSomeAnd shard (λ text. IsInvalidShardStop text.now stamp stop)
+IsShardStop shard stamp stop = (stop ≡ stops.OutOfMemory) ⊎ IsSomeAnd shard (λ text. IsInvalidShardStop text.now stamp stop)

@@ -6,7 +6,7 @@ use Rattle.std.specs.Fmt.{decimal}
 use Rattle.std.specs.List.{find}
 use Rattle.rv_command.specs.Stops.{IsStop}
 use Rattle.rv_command.specs.declared.stop.Stop.{Stop}
-use Rattle.rv_command.specs.declared.stop.Stop.TheVariants as why
+use Rattle.rv_command.specs.declared.stop.Stop.TheVariants as stops
 use Rattle.rv_command.specs.NearestJob.{IsNearJob, IsJobNameSuggestion, job_name}
 use Rattle.rv_expect.specs.declared_job.Job.{Job}
 use Rattle.rv_command.specs.Printable.{printable_text, printable_value}
@@ -56,5 +56,5 @@ IsUnknownNameMessage list jobs name message =
 
 -- memory ran out, or the stop reports that no job of the list has this name
 abbrev pub IsUnknownNameStop : List ℕ → List Job → List ℕ → Stop → Type 0
-IsUnknownNameStop list jobs name stop = (stop ≡ why.OutOfMemory)
+IsUnknownNameStop list jobs name stop = (stop ≡ stops.OutOfMemory)
     ⊎ ((message : List ℕ) × IsUnknownNameMessage list jobs name message × IsStop 2 message stop)

@@ -145,8 +145,8 @@ impl<'x, D: Inputs> Chooser<'x, D> {
         jobs: &[Job],
     ) -> Result<Option<Vec<bool>>, Stop>
         requires counted { IfSome selection (λ selection. length selection.items ≡ length jobs.now) }
-        ensures left { IfOk result (λ left. IsRemainingSelection (pattern_of excluded.entry) jobs.now
-            (option_map (λ selection. selection.items) selection) (option_map (λ selection. selection.items) left)) }
+        ensures remaining { IfOk result (λ remaining. IsRemainingSelection (pattern_of excluded.entry) jobs.now
+            (option_map (λ selection. selection.items) selection) (option_map (λ selection. selection.items) remaining)) }
         ensures stop { IfErr result (λ stop. (stop ≡ Stop.OutOfMemory)
             ⊎ IsSomeAnd excluded.entry (λ regex. IsSomeAnd selection
             (λ selection. IsEmptiedStop self.now.args.now.list.now jobs.now selection.items regex.now stop))) }
@@ -157,8 +157,8 @@ impl<'x, D: Inputs> Chooser<'x, D> {
         let Some(selection) = selection else {
             return Ok(None);
         };
-        let left = self.remaining_selection(selection.as_slice(), excluded, jobs)?;
-        Ok(Some(left))
+        let remaining = self.remaining_selection(selection.as_slice(), excluded, jobs)?;
+        Ok(Some(remaining))
     }
 
     // Returns the selection without the jobs whose names the pattern matches. It is an error if this leaves no jobs.
@@ -169,16 +169,16 @@ impl<'x, D: Inputs> Chooser<'x, D> {
         jobs: &[Job],
     ) -> Result<Vec<bool>, Stop>
         requires counted { length selection.now ≡ length jobs.now }
-        ensures left { IfOk result (λ left. left.items ≡ remaining_selection (regex_pattern excluded.now) jobs.now selection.now) }
-        ensures some { IfOk result (λ left. is_emptied selection.now left.items ≡ false) }
+        ensures remaining { IfOk result (λ remaining. remaining.items ≡ remaining_selection (regex_pattern excluded.now) jobs.now selection.now) }
+        ensures some { IfOk result (λ remaining. is_emptied selection.now remaining.items ≡ false) }
         ensures stop { IfErr result (λ stop. (stop ≡ Stop.OutOfMemory)
             ⊎ IsEmptiedStop self.now.args.now.list.now jobs.now selection.now excluded.now stop) }
     {
-        let left = remaining_selection(self.alloc, jobs, selection, excluded)?;
-        if is_any_selected(selection) && !is_any_selected(left.as_slice()) {
+        let remaining = remaining_selection(self.alloc, jobs, selection, excluded)?;
+        if is_any_selected(selection) && !is_any_selected(remaining.as_slice()) {
             return Err(emptied_choice_stop(self.alloc, self.args.list, excluded.as_str()));
         }
-        Ok(left)
+        Ok(remaining)
     }
 
     // Returns the jobs that the pattern, `--only` and the report of `--failed` choose.

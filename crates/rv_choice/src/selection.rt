@@ -46,15 +46,15 @@ pub(crate) fn remaining_selection(
     excluded: &Regex,
 ) -> Result<Vec<bool>, AllocError>
     requires { length selection.now ≡ length jobs.now }
-    ensures { IfOk result (λ left. left.items ≡ remaining_selection (regex_pattern excluded.now) jobs.now selection.now) }
+    ensures { IfOk result (λ remaining. remaining.items ≡ remaining_selection (regex_pattern excluded.now) jobs.now selection.now) }
 {
     let mut matcher = excluded.matcher(alloc)?;
-    let mut left = Vec::new(alloc);
+    let mut remaining = Vec::new(alloc);
     for index in 0..jobs.len() {
         let is_found = matcher.is_match(jobs[index].name.as_str());
-        left.push(stays_selected(selection[index], is_found))?;
+        remaining.push(stays_selected(selection[index], is_found))?;
     }
-    Ok(left)
+    Ok(remaining)
 }
 
 // Whether a job stays selected: it is selected, and the pattern is not found in its name.

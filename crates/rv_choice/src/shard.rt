@@ -37,11 +37,11 @@ pub fn requested_shard(
         IfSome args.now.stamp (λ stamp. is_name stamp.now ≡ true))) }
     ensures refused { IfErr result (IsShardStop args.now.shard args.now.stamp) }
 {
-    let Some(words) = args.shard else {
+    let Some(shard_text) = args.shard else {
         return Ok(None);
     };
-    let Some((number, shards)) = shard_numbers(words) else {
-        return Err(bad_shard_stop(alloc, command, words));
+    let Some((number, shards)) = shard_numbers(shard_text) else {
+        return Err(bad_shard_stop(alloc, command, shard_text));
     };
     let stamp = match args.stamp {
         Some(stamp) if is_name(stamp.as_bytes()) => String::from_str(alloc, stamp)?,
@@ -57,13 +57,13 @@ pub fn requested_shard(
 }
 
 // Parses `K/N`, where 1 <= K <= N <= 4096. Returns K and N, or `None` for any other text.
-fn shard_numbers(words: &str) -> Option<(u32, u32)>
-    ensures numbers { IfSome result (λ n. (n.0 ≡ number_before_slash words.now)
-        × (n.1 ≡ number_after_slash words.now)) }
+fn shard_numbers(text: &str) -> Option<(u32, u32)>
+    ensures numbers { IfSome result (λ n. (n.0 ≡ number_before_slash text.now)
+        × (n.1 ≡ number_after_slash text.now)) }
     ensures within { IfSome result (λ n. (0 < n.0) × (n.0 ≤ n.1) × (n.1 ≤ max_jobs)) }
-    ensures refused { IfNone result (IsShardText words.now → ⊥) }
+    ensures refused { IfNone result (IsShardText text.now → ⊥) }
 {
-    let (number, shards) = words.split_once('/')?;
+    let (number, shards) = text.split_once('/')?;
     let number = parse_digits(number)?;
     let shards = parse_digits(shards)?;
     if 1 <= number && number <= shards && shards as usize <= MAX_JOBS {
@@ -74,12 +74,12 @@ fn shard_numbers(words: &str) -> Option<(u32, u32)>
 }
 
 // Parses a number that consists only of digits. Returns `None` for any other text, or if the number does not fit in 32 bits.
-fn parse_digits(words: &str) -> Option<u32>
-    ensures { MatchOption result (IsNumeral 10 words.now → 2 ^ 32 ≤ digits_value 10 words.now)
-        (λ number. IsNumeral 10 words.now × (number ≡ digits_value 10 words.now)) }
+fn parse_digits(text: &str) -> Option<u32>
+    ensures { MatchOption result (IsNumeral 10 text.now → 2 ^ 32 ≤ digits_value 10 text.now)
+        (λ number. IsNumeral 10 text.now × (number ≡ digits_value 10 text.now)) }
 {
-    if has_only_digits(words.as_bytes()) {
-        words.parse::<u32>().ok()
+    if has_only_digits(text.as_bytes()) {
+        text.parse::<u32>().ok()
     } else {
         None
     }
@@ -102,11 +102,11 @@ fn list_digest(alloc: Global, text: &[u8]) -> Result<String, AllocError>
 }
 
 // Returns the error that the text of `--shard` is not `K/N`, with the usage of the command.
-fn bad_shard_stop(alloc: Global, command: ChoosingCommand, words: &str) -> Stop
-    ensures { IsUsageStop (bad_shard_text words.now) result }
+fn bad_shard_stop(alloc: Global, command: ChoosingCommand, text: &str) -> Stop
+    ensures { IsUsageStop (bad_shard_text text.now) result }
 {
     let reason = "expected K/N with 1 <= K <= N <= 4096";
-    let what = bad_value_text(alloc, "--shard <K/N>", words, reason);
+    let what = bad_value_text(alloc, "--shard <K/N>", text, reason);
     bad_value_stop(alloc, command, what)
 }
 

@@ -138,9 +138,9 @@ fn push_more_names(message: &mut Vec<u8>, count: usize) -> Result<(), AllocError
     if count <= MAX_SHOWN {
         return Ok(());
     }
-    let left = (count - MAX_SHOWN) as u64;
+    let remaining = (count - MAX_SHOWN) as u64;
     push_spans(
         message,
-        &[Span::Text(" and "), Span::Number(left), Span::Text(" more")],
+        &[Span::Text(" and "), Span::Number(remaining), Span::Text(" more")],
     )
 }

@@ -43,17 +43,17 @@ pub below_length : (pieces : ℕ) (s : St) (r : Runs pieces s) (i : ℕ) (v : Vi
     → (e : Entry) → IsIn e v.draws → e.number < length r.history
 below_length pieces s r i v at e here =
     let t = in_history pieces s r i v at e here in
-    let n = r.numbered t.0 e t.1 in let l = at_lt r.history t.0 e t.1 in omega arith
+    let n = r.is_history t.0 e t.1 in let l = at_lt r.history t.0 e t.1 in omega arith
 
 pub once_each : (pieces : ℕ) (s : St) (r : Runs pieces s) (p : ℕ) → p < 64
     → total (λ v. times p v.places) s.views ≤ 1
-once_each pieces s r p h = omega (arith, r.seated p h, r.single p h)
+once_each pieces s r p h = omega (arith, r.indices_held p h, r.single p h)
 
 -- word 0 is at most pieces + 64
 pub bounded : (pieces : ℕ) (s : St) (r : Runs pieces s) → length r.history ≤ pieces + 64
 bounded pieces s r = omega (
   arith,
-  history_past pieces r.history r.numbered,
+  history_past pieces r.history r.is_history,
   views_weigh (one_past pieces) s.views r.history r.held,
   total_le (λ (v : View). past_last_count pieces v.draws) (λ (v : View). length v.places) s.views
       (λ k v at. (r.each k v at).few),
@@ -86,11 +86,11 @@ pub opens : (pieces : ℕ) (ws : List ℕ) → length ws ≡ 65 → get_or ws 0 
     → ((p : ℕ) → 1 < p → p < 65 → get_or ws p 0 ≡ 0) → Runs pieces (opening ws [] (first_view pieces))
 opens pieces ws wide zeroth first others = record {
   history = [];
-  numbered = λ j e at. absurd (some-ne-none e (sym at));
+  is_history = λ j e at. absurd (some-ne-none e (sym at));
   wide = wide;
   drawn = zeroth;
   held = λ e. refl;
-  seated = λ p h. dite (ℕ_discrete 0 p)
+  indices_held = λ p h. dite (ℕ_discrete 0 p)
       (λ e. subst (λ (q : ℕ). one_at q 0 + 0 + 0 ≡ get_or ws (q + 1) 0) e (sym first))
       (λ ne. let z = one_at-other p 0 ne in let o = others (p + 1) (omega arith) (omega arith) in omega arith);
   single =
@@ -126,7 +126,7 @@ draws pieces slots id m most going sits s r _ at small =
       tt,
       record {
         history = h';
-        numbered = history-snoc r.history e r.numbered r.drawn;
+        is_history = history-snoc r.history e r.is_history r.drawn;
         wide = length-set s.words 0 ((n + 1) % 2 ^ 64) ∙ r.wide;
         drawn = omega (
           arith,
@@ -142,10 +142,10 @@ draws pieces slots id m most going sits s r _ at small =
           total-append (one_for x) r.history (e ∷ []),
           r.held x,
         );
-        seated = λ p h. omega (
+        indices_held = λ p h. omega (
           arith,
           total-set (λ (u : View). times p u.places) s.views id v w at,
-          r.seated p h,
+          r.indices_held p h,
           get_or-set_other s.words 0 (p + 1) ((n + 1) % 2 ^ 64) 0 (λ z. omega arith),
         );
         single = λ p h. omega (
@@ -192,7 +192,7 @@ looks pieces slots id m s r _ at small = (
   record {
     same = refl;
     history = r.history;
-    numbered = r.numbered;
+    is_history = r.is_history;
     draws = in_history pieces s r id m.0 at;
     noted = (r.each id m.0 at).noted;
     once = λ p. dite (dec_lt p 64)
@@ -230,23 +230,23 @@ sits pieces slots id m p k low is s r _ at small =
       tt,
       record {
         history = r.history;
-        numbered = r.numbered;
+        is_history = r.is_history;
         wide = length-set s.words k 1 ∙ r.wide;
         drawn = get_or-set_other s.words k 0 1 0 (λ z. omega arith) ∙ r.drawn;
         held = λ x. omega (arith, total-set (λ (u : View). entry_count x u.draws) s.views id v w at, r.held x);
-        seated = λ q h. dite (ℕ_discrete (k - 1) q)
+        indices_held = λ q h. dite (ℕ_discrete (k - 1) q)
             (λ e. let here : get_or (set s.words k 1) (q + 1) 0 ≡ 1 =
             ap (λ (i : ℕ). get_or (set s.words k 1) i 0) (omega arith)
             ∙ get_or-set_same s.words k 1 0 (omega (arith, r.wide)) in
             let before : get_or s.words (q + 1) 0 ≡ 0 = ap (λ (i : ℕ). get_or s.words i 0) (omega arith)
             ∙ free in
             let one : one_at q (k - 1) ≡ 1 = ap (λ (z : ℕ). one_at q z) e ∙ one_at-same q in
-            omega (arith, total-set (λ (u : View). times q u.places) s.views id v w at, r.seated q h))
+            omega (arith, total-set (λ (u : View). times q u.places) s.views id v w at, r.indices_held q h))
             (λ ne. let zero-more = one_at-other q (k - 1) ne in
             omega (
               arith,
               total-set (λ (u : View). times q u.places) s.views id v w at,
-              r.seated q h,
+              r.indices_held q h,
               get_or-set_other s.words k (q + 1) 1 0 (λ z. ne (omega arith)),
             ));
         single = λ q h. dite (ℕ_discrete (q + 1) k)
@@ -292,7 +292,7 @@ splits pieces id v w no_place no_draw notes s r at =
     let same : set s.views id v ≡ s.views = set_again s.views id v at in
     subst (λ (vs : List View). Runs pieces (state s.words s.homes (vs ++ w ∷ []))) (sym same) (record {
       history = r.history;
-      numbered = r.numbered;
+      is_history = r.is_history;
       wide = r.wide;
       drawn = r.drawn;
       held = λ x. omega (
@@ -301,11 +301,11 @@ splits pieces id v w no_place no_draw notes s r at =
         ap (entry_count x) no_draw,
         r.held x,
       );
-      seated = λ p h. omega (
+      indices_held = λ p h. omega (
         arith,
         total-append (λ (u : View). times p u.places) s.views (w ∷ []),
         ap (times p) no_place,
-        r.seated p h,
+        r.indices_held p h,
       );
       single = r.single;
       each = each_snoc pieces r.history s.views w r.each (record {
@@ -340,13 +340,13 @@ joins pieces id v other w s r at apart there =
     omega (arith, total-set g s.views id v b at, total-set g vs other w empty_view there, e, z) in
     record {
       history = r.history;
-      numbered = r.numbered;
+      is_history = r.is_history;
       wide = r.wide;
       drawn = r.drawn;
       held = λ x. moved (λ (u : View). entry_count x u.draws) (total-append (one_for x) v.draws w.draws) refl
           ∙ r.held x;
-      seated = λ p h. moved (λ (u : View). times p u.places) (total-append (one_at p) v.places w.places) refl
-          ∙ r.seated p h;
+      indices_held = λ p h. moved (λ (u : View). times p u.places) (total-append (one_at p) v.places w.places) refl
+          ∙ r.indices_held p h;
       single = r.single;
       each = each_set pieces r.history vs other empty_view
           (each_set pieces r.history s.views id b r.each (record {
@@ -393,7 +393,7 @@ whole pieces s r id v at all x =
       arith,
       times_in p u.places i,
       term_le (λ (y : View). times p y.places) s.views k u there,
-      r.seated p low,
+      r.indices_held p low,
       r.single p low,
     ) in
     omega (
@@ -401,7 +401,7 @@ whole pieces s r id v at all x =
       times_in p u.places i,
       times_in p v.places (all p low word),
       terms_le (λ (y : View). times p y.places) s.views id k v u ne at there,
-      r.seated p low,
+      r.indices_held p low,
       r.single p low,
     ) in
     ap (entry_count x) (no_draws u.draws (λ e i. none_here e.place (fu.own e i))) in

@@ -250,7 +250,7 @@ ends_whole pieces ws xs id m bits ended pass final all =
     let r = final.1.0 in
     let words = final.2 in (
       r.history,
-      r.numbered,
+      r.is_history,
       whole pieces s r id m.0 final.1.1
           (λ p low one. pass.clear p
           (all p low (subst (λ (l : List ℕ). get_elem? l (p + 1) ≡ some 1) words (read_one s.words (p + 1) one)))),

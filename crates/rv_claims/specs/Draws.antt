@@ -106,14 +106,14 @@ pub record Fits (pieces : ℕ) (history : List Entry) (v : View) : Type 0 where
 -- and each pass index is held by at most one seat, whose word is 1
 pub record Runs (pieces : ℕ) (s : State (Unit {0}) View) : Type 0 where
   pub history : List Entry
-  pub numbered : IsHistory history
+  pub is_history : IsHistory history
   pub wide : length s.words ≡ 65
   -- word 0 is the length of the history
   pub drawn : slice_index s.words 0 ≡ length history
   -- an entry occurs in all views together as often as in the history: a drawn entry is held once, by one view, any other by none
   pub held : (e : Entry) → total (λ v. entry_count e v.draws) s.views ≡ entry_count e history
   -- the word of an index is 1 if one view holds the index, once, and 0 if none does
-  pub seated : (p : ℕ) → p < 64
+  pub indices_held : (p : ℕ) → p < 64
       → total (λ v. times p v.places) s.views ≡ slice_index s.words (p + 1)
   pub single : (p : ℕ) → p < 64 → slice_index s.words (p + 1) ≤ 1
   pub each : (i : ℕ) (v : View) → get_elem? s.views i ≡ some v → Fits pieces history v
@@ -162,7 +162,7 @@ pub record IsSeatRequest (st : Step (Unit {0})) (me : SeatState) (n : ℕ) (afte
 pub record IsLook (st : Step (Unit {0})) (me : SeatState) (n : ℕ) (after : SeatState) : Type 0 where
   pub same : after ≡ me
   pub history : List Entry
-  pub numbered : IsHistory history
+  pub is_history : IsHistory history
   pub draws : Within (view_of me).draws history
   pub noted : Within (view_of me).noted history
   pub once : (p : ℕ) → times p (view_of me).places ≤ 1

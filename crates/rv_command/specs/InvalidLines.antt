@@ -17,12 +17,12 @@ use Rattle.rv_command.specs.declared.invalid_line.ResultKind.TheVariants as expe
 
 -- the text before this offset, or the whole text if there is no offset
 abbrev pub text_up_to : Option ℕ → List ℕ → List ℕ
-text_up_to (Some place) text = take place text
+text_up_to (Some offset) text = take offset text
 text_up_to None text = text
 
 -- the text after the byte at this offset, or nothing if there is no offset
 abbrev pub text_after : Option ℕ → List ℕ → List ℕ
-text_after (Some place) text = drop (place + 1) text
+text_after (Some offset) text = drop (offset + 1) text
 text_after None text = []
 
 -- the first line of a text, without its line feed
@@ -67,7 +67,7 @@ is_job_list text = are_job_list_errors (list_faults text)
 
 -- whether the line begins with this text
 abbrev line_starts_with : List ℕ → List ℕ → Bool
-line_starts_with line words = starts_with nat_eq line words
+line_starts_with line prefix = starts_with nat_eq line prefix
 
 -- what is expected in a report after this line, or at the beginning of the report if the line is empty
 unfoldable pub expected_after : List ℕ → List ℕ

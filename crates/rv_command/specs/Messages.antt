@@ -7,7 +7,7 @@ use Rattle.rv_files.specs.Sinks.{AppendsPrefix}
 use Rattle.rv_rows.specs.declared_partial.PartialReport.{PartialReport}
 use Rattle.rv_list_errors.specs.Printable.{printable_text}
 use Rattle.rv_command.specs.declared.stop.Stop.{Stop}
-use Rattle.rv_command.specs.declared.stop.Stop.TheVariants as stop
+use Rattle.rv_command.specs.declared.stop.Stop.TheVariants as stops
 
 -- either the whole message was written and no write failed, or one write failed after a prefix of the message was written
 abbrev pub IsMessageWritten : Option (List ℕ) → Option (List ℕ) → ℕ → ℕ → List ℕ → Type 0
@@ -30,19 +30,19 @@ complete_rows_text rows = if rows == 1 then codes " complete row\n" else codes "
 
 -- the note about a truncated report: how many complete rows it has; empty for a complete report
 abbrev pub truncation_note : List ℕ → PartialReport → List ℕ
-truncation_note path read = if read.is_cut_off
+truncation_note path read = if read.is_truncated
     then path_number_message path (codes ": note: the report is truncated; using its ") (length read.report.rows)
     (complete_rows_text (length read.report.rows))
     else []
 
 -- the message that reports this stop
 abbrev pub stop_message : Stop → List ℕ
-stop_message (stop.Message lines text) = text.items
-stop_message stop.OutOfMemory = codes "rvtest: out of memory\n"
-stop_message stop.NoWorker = codes "rvtest: no thread could be started\n"
-stop_message stop.WriteFailed = codes "rvtest: standard output: write failed\n"
+stop_message (stops.Message lines text) = text.items
+stop_message stops.OutOfMemory = codes "rvtest: out of memory\n"
+stop_message stops.NoWorker = codes "rvtest: no thread could be started\n"
+stop_message stops.WriteFailed = codes "rvtest: standard output: write failed\n"
 
 -- the message that reports this stop; empty for a failed write, if the Bool says that the reader of the results closed them
 abbrev pub end_message : Bool → Stop → List ℕ
-end_message true stop.WriteFailed = []
+end_message true stops.WriteFailed = []
 end_message _ why = stop_message why

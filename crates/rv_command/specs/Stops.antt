@@ -21,7 +21,7 @@ use Rattle.rv_rows.specs.declared_saved.SavedReport.{SavedReport}
 use Rattle.rv_command.specs.declared.stop.Lines.{Lines}
 use Rattle.rv_command.specs.declared.stop.Lines.TheVariants as lines
 use Rattle.rv_command.specs.declared.stop.Stop.{Stop}
-use Rattle.rv_command.specs.declared.stop.Stop.TheVariants as why
+use Rattle.rv_command.specs.declared.stop.Stop.TheVariants as stops
 use Rattle.rv_command.specs.Messages.{path_message, stop_message}
 use Rattle.rv_command.specs.InvalidLines.{invalid_line_message}
 use Rattle.rv_command.specs.declared.invalid_line.ResultKind.TheVariants as expected
@@ -34,10 +34,10 @@ message_status lines.Failure = 3
 
 -- the exit status for a stop: 2 if the request is rejected, 3 if the system failed
 abbrev pub stop_status : Stop → ℕ
-stop_status (why.Message lines text) = message_status lines
-stop_status why.OutOfMemory = 3
-stop_status why.NoWorker = 3
-stop_status why.WriteFailed = 3
+stop_status (stops.Message lines text) = message_status lines
+stop_status stops.OutOfMemory = 3
+stop_status stops.NoWorker = 3
+stop_status stops.WriteFailed = 3
 
 -- the exit status of a program that the signal SIGPIPE, number 13, ended
 abbrev pub broken_pipe_status : ℕ
@@ -45,22 +45,22 @@ broken_pipe_status = 128 + 13
 
 -- the exit status for a stop; for a failed write it is `broken_pipe_status`, if the Bool says that the reader of the results closed them
 abbrev pub end_status : Bool → Stop → ℕ
-end_status true why.WriteFailed = broken_pipe_status
+end_status true stops.WriteFailed = broken_pipe_status
 end_status _ why = stop_status why
 
 -- the stop with these lines of this kind, or out of memory if the lines could not be made
 abbrev pub stop_with_message : Lines → Result (Vec ℕ Global) AllocError → Stop
-stop_with_message kind (Ok text) = why.Message kind text
-stop_with_message kind (Err error) = why.OutOfMemory
+stop_with_message kind (Ok text) = stops.Message kind text
+stop_with_message kind (Err error) = stops.OutOfMemory
 
 -- the stop is out of memory, or it has this exit status and this message
 abbrev pub IsStop : ℕ → List ℕ → Stop → Type 0
 IsStop status text stop =
-    (stop ≡ why.OutOfMemory) ⊎ ((stop_status stop ≡ status) × (stop_message stop ≡ text))
+    (stop ≡ stops.OutOfMemory) ⊎ ((stop_status stop ≡ status) × (stop_message stop ≡ text))
 
 -- the stop is out of memory, or it rejects the request with any message
 abbrev pub IsRejection : Stop → Type 0
-IsRejection stop = (stop ≡ why.OutOfMemory) ⊎ (stop_status stop ≡ 2)
+IsRejection stop = (stop ≡ stops.OutOfMemory) ⊎ (stop_status stop ≡ 2)
 
 -- the stop rejects the request with this message
 abbrev pub IsRejectedWith : List ℕ → Stop → Type 0
@@ -68,22 +68,22 @@ IsRejectedWith text stop = (stop_status stop ≡ 2) × (stop_message stop ≡ te
 
 -- the stop rejects the arguments with the text of their error, or both are out of memory
 abbrev pub IsArgsRejection : ArgsError → Stop → Type 0
-IsArgsRejection error.OutOfMemory stop = stop ≡ why.OutOfMemory
+IsArgsRejection error.OutOfMemory stop = stop ≡ stops.OutOfMemory
 IsArgsRejection (error.Message fault text) stop = IsRejectedWith (string_bytes text) stop
 
 -- the stop is out of memory, or it rejects the arguments with the message `what` and the usage of a command
 abbrev pub IsUsageStop : List ℕ → Stop → Type 0
-IsUsageStop what stop = (stop ≡ why.OutOfMemory) ⊎ ((stop_status stop ≡ 2) × IsUsageText what (stop_message stop))
+IsUsageStop what stop = (stop ≡ stops.OutOfMemory) ⊎ ((stop_status stop ≡ 2) × IsUsageText what (stop_message stop))
 
 -- ---- files
 
 -- if the contents of files are known, there is no file at the path
 abbrev pub IsMissingAt : Option FileContents → List ℕ → Type 0
-IsMissingAt known path = IfSome known (λ files. files path ≡ None)
+IsMissingAt contents path = IfSome contents (λ files. files path ≡ None)
 
 -- if the contents of files are known, the file at the path has more than `most` bytes
 abbrev pub IsTooLongAt : Option FileContents → List ℕ → ℕ → Type 0
-IsTooLongAt known path most = IfSome known (λ files. IsSomeAnd (files path) (λ bytes. most < length bytes))
+IsTooLongAt contents path most = IfSome contents (λ files. IsSomeAnd (files path) (λ bytes. most < length bytes))
 
 -- memory ran out, or the stop reports the system's reason why the file at the path could not be read or written
 abbrev pub IsSystemStop : List ℕ → ErrorKind → Stop → Type 0
@@ -91,8 +91,8 @@ IsSystemStop path reason stop = IsStop 3 (path_message path (io_error_text reaso
 
 -- why a command stopped: memory ran out, or the file at the path could not be read; in that case the known contents have no file there
 abbrev pub IsUnreadStop : Option FileContents → List ℕ → Stop → Type 0
-IsUnreadStop known path stop = (stop ≡ why.OutOfMemory)
-    ⊎ (IsMissingAt known path × ((reason : ErrorKind) × IsSystemStop path reason stop))
+IsUnreadStop contents path stop = (stop ≡ stops.OutOfMemory)
+    ⊎ (IsMissingAt contents path × ((reason : ErrorKind) × IsSystemStop path reason stop))
 
 -- the maximum number of bytes in a report or a table of counts
 abbrev pub max_result_bytes : ℕ
@@ -100,13 +100,13 @@ max_result_bytes = 1073741824
 
 -- why a command stopped: memory ran out, or the file at the path could not be read or is longer than a report or a table of counts may be
 abbrev pub IsResultUnreadStop : Option FileContents → List ℕ → Stop → Type 0
-IsResultUnreadStop known path stop = IsUnreadStop known path stop
-    ⊎ (IsTooLongAt known path max_result_bytes
+IsResultUnreadStop contents path stop = IsUnreadStop contents path stop
+    ⊎ (IsTooLongAt contents path max_result_bytes
     × IsStop 3 (path_message path (codes "the file is larger than 1073741824 bytes")) stop)
 
 -- the stop for an error in opening or writing the file at the path
 abbrev pub IsFileErrorStop : List ℕ → FileError → Stop → Type 0
-IsFileErrorStop path file.OutOfMemory stop = stop ≡ why.OutOfMemory
+IsFileErrorStop path file.OutOfMemory stop = stop ≡ stops.OutOfMemory
 IsFileErrorStop path file.SameFile stop =
     IsStop 2 (path_message path (codes "another output of this command is the same file")) stop
 IsFileErrorStop path (file.Failed reason) stop = IsSystemStop path reason stop
@@ -115,13 +115,13 @@ IsFileErrorStop path (file.Failed reason) stop = IsSystemStop path reason stop
 
 -- why a command stopped: memory ran out, or the file at the path could not be read or is longer than a list may be
 abbrev pub IsListUnreadStop : Option FileContents → List ℕ → Stop → Type 0
-IsListUnreadStop known path stop = IsUnreadStop known path stop
-    ⊎ (IsTooLongAt known path max_file_size
+IsListUnreadStop contents path stop = IsUnreadStop contents path stop
+    ⊎ (IsTooLongAt contents path max_file_size
     × IsStop 3 (path_message path (codes "the file is larger than 16777216 bytes")) stop)
 
 -- memory ran out, or the text at the path is an invalid list, and the stop reports its first error
 abbrev pub IsListFaultStop : List ℕ → List ℕ → Stop → Type 0
-IsListFaultStop path text stop = (stop ≡ why.OutOfMemory)
+IsListFaultStop path text stop = (stop ≡ stops.OutOfMemory)
     ⊎ ((fault : JobError) × (job_list_of text ≡ Err fault)
     × ((told : List ℕ) × AppendsFaultLines (fault_head path text) (fault ∷ []) [] told × IsStop 2 told stop))
 
@@ -144,24 +144,24 @@ IsReportFaultReported path bytes stop =
 
 -- memory ran out, or the stop reports the first error of the bytes, which were read as a report from the path
 pub record IsReportFaultStop (path bytes : List ℕ) (stop : Stop) : Type 0 where
-  pub told : (stop ≡ why.OutOfMemory) ⊎ IsReportFaultReported path bytes stop
+  pub told : (stop ≡ stops.OutOfMemory) ⊎ IsReportFaultReported path bytes stop
   -- a prefix of a report is reported as truncated
   pub cut : IsReportPrefix bytes → IsTruncatedStop path stop
   -- a complete report has no error
-  pub whole : (report : SavedReport) → IsReportText bytes report → stop ≡ why.OutOfMemory
+  pub whole : (report : SavedReport) → IsReportText bytes report → stop ≡ stops.OutOfMemory
 
 -- why a command stopped: the report at the path could not be read, or it has an error
 abbrev pub IsReportReadStop : Option FileContents → List ℕ → Stop → Type 0
-IsReportReadStop known path stop = IsResultUnreadStop known path stop
-    ⊎ ((bytes : List ℕ) × IsTextAt known path bytes × IsReportFaultStop path bytes stop)
+IsReportReadStop contents path stop = IsResultUnreadStop contents path stop
+    ⊎ ((bytes : List ℕ) × IsTextAt contents path bytes × IsReportFaultStop path bytes stop)
 
 -- ---- reports that may be truncated
 
 -- memory ran out, or the stop reports the first invalid line of the bytes; a prefix of a report has no invalid line
 pub record IsPartialFaultStop (path bytes : List ℕ) (stop : Stop) : Type 0 where
-  pub told : (stop ≡ why.OutOfMemory)
+  pub told : (stop ≡ stops.OutOfMemory)
       ⊎ ((line : ℕ) × IsFirstInvalidLine line bytes × IsLineStop path bytes line stop)
-  pub beginning : IsReportPrefix bytes → stop ≡ why.OutOfMemory
+  pub beginning : IsReportPrefix bytes → stop ≡ stops.OutOfMemory
 
 -- why a command stopped: the bytes are not a report, nor a truncated report if the Bool allows that
 abbrev pub IsRequestedFaultStop : Bool → List ℕ → List ℕ → Stop → Type 0
@@ -170,5 +170,5 @@ IsRequestedFaultStop true path bytes stop = IsPartialFaultStop path bytes stop
 
 -- why a command stopped: the report at the path could not be read, or it has an error; `partial` says whether it may be truncated
 abbrev pub IsRequestedUnreadStop : Option FileContents → Bool → List ℕ → Stop → Type 0
-IsRequestedUnreadStop known partial path stop = IsResultUnreadStop known path stop
-    ⊎ ((bytes : List ℕ) × IsTextAt known path bytes × IsRequestedFaultStop partial path bytes stop)
+IsRequestedUnreadStop contents partial path stop = IsResultUnreadStop contents path stop
+    ⊎ ((bytes : List ℕ) × IsTextAt contents path bytes × IsRequestedFaultStop partial path bytes stop)

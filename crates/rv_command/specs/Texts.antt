@@ -9,7 +9,7 @@ use Rattle.rv_rows.specs.declared_saved.SavedReport.{SavedReport}
 
 -- if the contents of files are known, the text is the contents of the file at the path
 abbrev pub IsTextAt : Option FileContents → List ℕ → List ℕ → Type 0
-IsTextAt known path text = IfSome known (λ files. files path ≡ Some text)
+IsTextAt contents path text = IfSome contents (λ files. files path ≡ Some text)
 
 -- the bytes of a text, or `None` if there is no text
 abbrev pub optional_text : Option (Bor (List ℕ)) → Option (List ℕ)
@@ -21,19 +21,19 @@ pub record IsReportText (bytes : List ℕ) (report : SavedReport) : Type 0 where
   pub text : saved_text report ≡ bytes
 
 -- if the contents of files are known, the file at the path has the text of this report
-pub record IsReportAt (known : Option FileContents) (path : List ℕ) (report : SavedReport) : Type 0 where
+pub record IsReportAt (contents : Option FileContents) (path : List ℕ) (report : SavedReport) : Type 0 where
   pub bytes : List ℕ
-  pub read : IsTextAt known path bytes
+  pub read : IsTextAt contents path bytes
   pub of : IsReportText bytes report
 
 -- the bytes are parsed as this report, which may be truncated only if `partial` is true
 pub record IsReportRead (partial : Bool) (bytes : List ℕ) (read : PartialReport) : Type 0 where
-  pub is : IsReadAs bytes read.is_cut_off read.report
-  pub taken : read.is_cut_off ≡ true → partial ≡ true
+  pub is : IsReadAs bytes read.is_truncated read.report
+  pub taken : read.is_truncated ≡ true → partial ≡ true
 
 -- if the contents of files are known, the file at the path is parsed as this report, which may be truncated only if `partial` is true
-pub record IsReportReadAt (known : Option FileContents) (partial : Bool) (path : List ℕ) (read : PartialReport)
+pub record IsReportReadAt (contents : Option FileContents) (partial : Bool) (path : List ℕ) (read : PartialReport)
     : Type 0 where
   pub bytes : List ℕ
-  pub found : IsTextAt known path bytes
+  pub found : IsTextAt contents path bytes
   pub of : IsReportRead partial bytes read

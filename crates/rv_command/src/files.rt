@@ -10,21 +10,21 @@ use rv_files::{FileError, InputError, Inputs, io_error_text, read_whole_up_to};
 use std::alloc::Global;
 use std::io::ErrorKind;
 
-/// Reads the file at the path. Returns `None` if it has more than `most` bytes.
+/// Reads the file at the path. Returns `None` if it has more than `max_bytes` bytes.
 pub(crate) fn read_file_up_to<D: Inputs>(
     inputs: &D,
     alloc: Global,
     path: &str,
-    most: usize,
+    max_bytes: usize,
 ) -> Result<Option<Vec<u8>>, Stop>
-    requires { most + 1 < 2 ^ 64 }
+    requires { max_bytes + 1 < 2 ^ 64 }
     ensures whole { IfOk result
         (λ found. IfSome found (λ bytes. IsTextAt (D.contents inputs.now) path.now bytes.items)) }
-    ensures within { IfOk result (λ found. IfSome found (λ bytes. length bytes.items ≤ most)) }
-    ensures long { IfOk result (λ found. IfNone found (IsTooLongAt (D.contents inputs.now) path.now most)) }
+    ensures within { IfOk result (λ found. IfSome found (λ bytes. length bytes.items ≤ max_bytes)) }
+    ensures long { IfOk result (λ found. IfNone found (IsTooLongAt (D.contents inputs.now) path.now max_bytes)) }
     ensures unread { IfErr result (IsUnreadStop (D.contents inputs.now) path.now) }
 {
-    match read_whole_up_to(inputs, alloc, path, most) {
+    match read_whole_up_to(inputs, alloc, path, max_bytes) {
         Ok(found) => Ok(found),
         Err(InputError::OutOfMemory) => Err(Stop::OutOfMemory),
         Err(InputError::Failed(reason)) => Err(io_error_stop(alloc, path, reason)),

@@ -53,13 +53,13 @@ pub fn parse_requested_report(
     let report = parse_report(alloc, requested.path, text)?;
     Ok(PartialReport {
         report,
-        is_cut_off: false,
+        is_truncated: false,
     })
 }
 
 // Parses the text of a report that may be truncated: then its complete rows are returned.
 fn parse_partial_report(alloc: Global, path: &str, text: &[u8]) -> Result<PartialReport, Stop>
-    ensures read { IfOk result (λ read. IsReadAs text.now read.is_cut_off read.report) }
+    ensures read { IfOk result (λ read. IsReadAs text.now read.is_truncated read.report) }
     ensures few { IfOk result (λ read. length read.report.rows ≤ max_jobs) }
     ensures fault { IfErr result (IsPartialFaultStop path.now text.now) }
 {
@@ -79,7 +79,7 @@ pub fn truncation_note(
 ) -> Result<Vec<u8>, AllocError>
     ensures { IfOk result (λ note. note.items ≡ truncation_note path.now read.now) }
 {
-    if !read.is_cut_off {
+    if !read.is_truncated {
         return Ok(Vec::new(alloc));
     }
     let rows = read.report.rows.as_slice().len();

@@ -95,47 +95,47 @@ both_ahead c d sum cs ds others counted also one at executed taken fits h = reco
 -- ---- the first of a sum in each case of `next_count`
 
 pub of_first_alone : (a b : List AddressCounts) (d : AddressCounts) → AllByRecursion IsValidCount a → 0 < length a
-    → length b ≡ 0 → IsNextCount a b (record { sum = get_or a 0 d; of_a = 1; of_b = 0 })
+    → length b ≡ 0 → IsNextCount a b (record { sum = get_or a 0 d; count_in_a = 1; count_in_b = 0 })
 of_first_alone [] b d each some none = absurd (omega arith)
 of_first_alone (x ∷ xs) (y ∷ ys) d each some none = absurd (omega arith)
 of_first_alone (x ∷ xs) [] d each some none = record {
-  of_a = omega arith;
-  of_b = omega arith;
+  count_in_a = omega arith;
+  count_in_b = omega arith;
   some = omega arith;
   ahead = λ others h. first_ahead x xs [] others each.0 (λ n p. none_rises (x.address + 1)) h;
 }
 
 pub of_second_alone : (a b : List AddressCounts) (d : AddressCounts) → AllByRecursion IsValidCount b → 0 < length b
-    → length a ≡ 0 → IsNextCount a b (record { sum = get_or b 0 d; of_a = 0; of_b = 1 })
+    → length a ≡ 0 → IsNextCount a b (record { sum = get_or b 0 d; count_in_a = 0; count_in_b = 1 })
 of_second_alone a [] d each some none = absurd (omega arith)
 of_second_alone (x ∷ xs) (y ∷ ys) d each some none = absurd (omega arith)
 of_second_alone [] (y ∷ ys) d each some none = record {
-  of_a = omega arith;
-  of_b = omega arith;
+  count_in_a = omega arith;
+  count_in_b = omega arith;
   some = omega arith;
   ahead = λ others h. second_ahead y [] ys others each.0 (λ n p. none_rises (y.address + 1)) h;
 }
 
 pub node_of_first : (a b : List AddressCounts) (d : AddressCounts) → AllByRecursion IsValidCount a → 0 < length a
     → 0 < length b → (get_or a 0 d).address < (get_or b 0 d).address
-    → IsNextCount a b (record { sum = get_or a 0 d; of_a = 1; of_b = 0 })
+    → IsNextCount a b (record { sum = get_or a 0 d; count_in_a = 1; count_in_b = 0 })
 node_of_first [] b d each some other less = absurd (omega arith)
 node_of_first (x ∷ xs) [] d each some other less = absurd (omega arith)
 node_of_first (x ∷ xs) (y ∷ ys) d each some other less = record {
-  of_a = omega arith;
-  of_b = omega arith;
+  count_in_a = omega arith;
+  count_in_b = omega arith;
   some = omega arith;
   ahead = λ others h. first_ahead x xs (y ∷ ys) others each.0 (λ n p. raised n (x.address + 1) y ys p (omega arith)) h;
 }
 
 pub node_of_second : (a b : List AddressCounts) (d : AddressCounts) → AllByRecursion IsValidCount b → 0 < length a
     → 0 < length b → (get_or b 0 d).address < (get_or a 0 d).address
-    → IsNextCount a b (record { sum = get_or b 0 d; of_a = 0; of_b = 1 })
+    → IsNextCount a b (record { sum = get_or b 0 d; count_in_a = 0; count_in_b = 1 })
 node_of_second [] b d each some other less = absurd (omega arith)
 node_of_second (x ∷ xs) [] d each some other less = absurd (omega arith)
 node_of_second (x ∷ xs) (y ∷ ys) d each some other less = record {
-  of_a = omega arith;
-  of_b = omega arith;
+  count_in_a = omega arith;
+  count_in_b = omega arith;
   some = omega arith;
   ahead = λ others h. second_ahead y (x ∷ xs) ys others each.0 (λ n p. raised n (y.address + 1) x xs p (omega arith)) h;
 }
@@ -144,12 +144,12 @@ pub of_both : (a b : List AddressCounts) (d sum : AddressCounts) → AllByRecurs
     → 0 < length a → 0 < length b → (get_or a 0 d).address ≡ (get_or b 0 d).address
     → sum.address ≡ (get_or a 0 d).address → sum.executed ≡ (get_or a 0 d).executed + (get_or b 0 d).executed
     → sum.taken ≡ (get_or a 0 d).taken + (get_or b 0 d).taken → sum.executed < 2 ^ 64
-    → IsNextCount a b (record { sum = sum; of_a = 1; of_b = 1 })
+    → IsNextCount a b (record { sum = sum; count_in_a = 1; count_in_b = 1 })
 of_both [] b d sum each also some other same address executed taken fits = absurd (omega arith)
 of_both (x ∷ xs) [] d sum each also some other same address executed taken fits = absurd (omega arith)
 of_both (x ∷ xs) (y ∷ ys) d sum each also some other same address executed taken fits = record {
-  of_a = omega arith;
-  of_b = omega arith;
+  count_in_a = omega arith;
+  count_in_b = omega arith;
   some = omega arith;
   ahead = λ others h. both_ahead x y sum xs ys others each.0 also.0 same address executed taken fits h;
 }

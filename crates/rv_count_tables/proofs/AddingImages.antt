@@ -17,7 +17,7 @@ use Rattle.rv_count_tables.specs.Table.{is_before, is_greater_than_last, digests
 use Rattle.rv_count_tables.specs.Sum.{sum_error_of, NamesAgree, HasName, HasNameIn, IsSumOfTables, IsSumOfCounts, IsSumOfNames, CountsHaveNoSum, NamesHaveNoSum}
 use Rattle.rv_count_tables.specs.SumSteps.{ImagesAddUp, IsNextImage, ImagesHaveNoSum, ImageHasNoSum}
 use Rattle.rv_call_tree.specs.declared.sum.CallTreeSumError.{CallTreeSumError}
-use Rattle.rv_call_tree.specs.declared.sum.CallTreeSumError.TheVariants as spots
+use Rattle.rv_call_tree.specs.declared.sum.CallTreeSumError.TheVariants as nodes
 use Rattle.rv_call_tree.specs.declared.call_node.CallNode.{CallNode as ACallNode}
 use Rattle.rv_call_tree.specs.Sums.{FitsFields, IsSumOfCallTrees, IsOverflowOfTrees}
 use Rattle.rv_call_tree.specs.Trees.{calls_at, steps_at, HasCalls}
@@ -200,9 +200,9 @@ least_is P p q h k = cond_both (is_before q p) q p P (λ _. k) (λ _. h)
 both_images_ahead : (x y sum : ImageCounts) (xs ys others : List ImageCounts) → IsValidImage x → IsValidImage y
     → x.digest ≡ y.digest → sum.digest ≡ x.digest → sum.path ≡ min_text x.path y.path
     → IsSumOfCounts x.addresses y.addresses sum.addresses → IsSumOfNames x.functions y.functions sum.functions
-    → AreNamesOf sum.spots sum.functions → AreValidNodes sum.spots → IsSumOfCallTrees x.spots y.spots sum.spots
+    → AreNamesOf sum.nodes sum.functions → AreValidNodes sum.nodes → IsSumOfCallTrees x.nodes y.nodes sum.nodes
     → ImagesAddUp xs ys others → ImagesAddUp (x ∷ xs) (y ∷ ys) (sum ∷ others)
-both_images_ahead x y sum xs ys others image also one at path counts names of tree spots h = record {
+both_images_ahead x y sum xs ys others image also one at path counts names of tree nodes h = record {
   each = (
     (record {
       digest = ap length at ∙ image.digest;
@@ -211,8 +211,8 @@ both_images_ahead x y sum xs ys others image also one at path counts names of tr
       text = subst (λ (s : List ℕ). IsUtf8 s) (sym path) (least_is IsUtf8 x.path y.path image.text also.text);
       counts = counts.counts;
       names = names.names;
-      spots = tree;
-      of_spots = of;
+      nodes = tree;
+      names_of_nodes = of;
     }),
     h.each,
   );
@@ -235,70 +235,70 @@ both_images_ahead x y sum xs ys others image also one at path counts names of tr
       ∙ name_parts (bytes_eq x.digest d) (bytes_eq y.digest d) (name_at f sum.functions) (name_at f x.functions)
       (name_at f y.functions) _ (truncated_name d f xs) (truncated_name d f ys)
       (ap (λ (s : List ℕ). bytes_eq s d) one) (names.each f) (h.names d f);
-  calls = λ d p. ap (λ (s : List ℕ). cond (bytes_eq s d) (calls_at p sum.spots) 0 + calls_in_image d p others) at
-      ∙ parts (bytes_eq x.digest d) (bytes_eq y.digest d) (calls_at p x.spots) (calls_at p y.spots)
-      (calls_at p sum.spots) _ _ _ (ap (λ (s : List ℕ). bytes_eq s d) one) (spots.calls p) (h.calls d p);
-  steps = λ d p. ap (λ (s : List ℕ). cond (bytes_eq s d) (steps_at p sum.spots) 0 + steps_in d p others) at
-      ∙ parts (bytes_eq x.digest d) (bytes_eq y.digest d) (steps_at p x.spots) (steps_at p y.spots)
-      (steps_at p sum.spots) _ _ _ (ap (λ (s : List ℕ). bytes_eq s d) one) (spots.steps p) (h.steps d p);
+  calls = λ d p. ap (λ (s : List ℕ). cond (bytes_eq s d) (calls_at p sum.nodes) 0 + calls_in_image d p others) at
+      ∙ parts (bytes_eq x.digest d) (bytes_eq y.digest d) (calls_at p x.nodes) (calls_at p y.nodes)
+      (calls_at p sum.nodes) _ _ _ (ap (λ (s : List ℕ). bytes_eq s d) one) (nodes.calls p) (h.calls d p);
+  steps = λ d p. ap (λ (s : List ℕ). cond (bytes_eq s d) (steps_at p sum.nodes) 0 + steps_in d p others) at
+      ∙ parts (bytes_eq x.digest d) (bytes_eq y.digest d) (steps_at p x.nodes) (steps_at p y.nodes)
+      (steps_at p sum.nodes) _ _ _ (ap (λ (s : List ℕ). bytes_eq s d) one) (nodes.steps p) (h.steps d p);
 }
 
 -- ---- the first of a sum in each case of `next_image`
 
 pub image_of_first_alone : (a b : List ImageCounts) (x : ImageCounts) → AllByRecursion IsValidImage a → 0 < length a
-    → length b ≡ 0 → x ≡ get_or a 0 x → (next : NextImage) → next ≡ record { image = x; of_a = 1; of_b = 0 }
+    → length b ≡ 0 → x ≡ get_or a 0 x → (next : NextImage) → next ≡ record { image = x; count_in_a = 1; count_in_b = 0 }
     → IsNextImage a b next
 image_of_first_alone [] b x each some none is next e = absurd (omega arith)
 image_of_first_alone (x ∷ xs) (y ∷ ys) z each some none is next e = absurd (omega arith)
 image_of_first_alone (x ∷ xs) [] z each some none is next e =
-    let e' : next ≡ record { image = x; of_a = 1; of_b = 0 } = e ∙ (λ i. record { image = is i; of_a = 1; of_b = 0 }) in
+    let e' : next ≡ record { image = x; count_in_a = 1; count_in_b = 0 } = e ∙ (λ i. record { image = is i; count_in_a = 1; count_in_b = 0 }) in
     subst (λ (n : NextImage). IsNextImage (x ∷ xs) [] n) (sym e') (record {
-      of_a = omega arith;
-      of_b = omega arith;
+      count_in_a = omega arith;
+      count_in_b = omega arith;
       some = omega arith;
       ahead = λ others h. first_image_ahead x xs [] others each.0 (λ n p. no_images_rise (Some x.digest)) h;
     })
 
 pub image_of_second_alone : (a b : List ImageCounts) (y : ImageCounts) → AllByRecursion IsValidImage b → 0 < length b
-    → length a ≡ 0 → y ≡ get_or b 0 y → (next : NextImage) → next ≡ record { image = y; of_a = 0; of_b = 1 }
+    → length a ≡ 0 → y ≡ get_or b 0 y → (next : NextImage) → next ≡ record { image = y; count_in_a = 0; count_in_b = 1 }
     → IsNextImage a b next
 image_of_second_alone a [] y each some none is next e = absurd (omega arith)
 image_of_second_alone (x ∷ xs) (y ∷ ys) z each some none is next e = absurd (omega arith)
 image_of_second_alone [] (y ∷ ys) z each some none is next e =
-    let e' : next ≡ record { image = y; of_a = 0; of_b = 1 } = e ∙ (λ i. record { image = is i; of_a = 0; of_b = 1 }) in
+    let e' : next ≡ record { image = y; count_in_a = 0; count_in_b = 1 } = e ∙ (λ i. record { image = is i; count_in_a = 0; count_in_b = 1 }) in
     subst (λ (n : NextImage). IsNextImage [] (y ∷ ys) n) (sym e') (record {
-      of_a = omega arith;
-      of_b = omega arith;
+      count_in_a = omega arith;
+      count_in_b = omega arith;
       some = omega arith;
       ahead = λ others h. second_image_ahead y [] ys others each.0 (λ n p. no_images_rise (Some y.digest)) h;
     })
 
 pub image_of_first : (a b : List ImageCounts) (x y : ImageCounts) → AllByRecursion IsValidImage a → 0 < length a
     → 0 < length b → x ≡ get_or a 0 x → y ≡ get_or b 0 y → is_before x.digest y.digest ≡ true
-    → (next : NextImage) → next ≡ record { image = x; of_a = 1; of_b = 0 } → IsNextImage a b next
+    → (next : NextImage) → next ≡ record { image = x; count_in_a = 1; count_in_b = 0 } → IsNextImage a b next
 image_of_first [] b x y each some other is at less next e = absurd (omega arith)
 image_of_first (x ∷ xs) [] z w each some other is at less next e = absurd (omega arith)
 image_of_first (x ∷ xs) (y ∷ ys) z w each some other is at less next e =
-    let e' : next ≡ record { image = x; of_a = 1; of_b = 0 } = e ∙ (λ i. record { image = is i; of_a = 1; of_b = 0 }) in
+    let e' : next ≡ record { image = x; count_in_a = 1; count_in_b = 0 } = e ∙ (λ i. record { image = is i; count_in_a = 1; count_in_b = 0 }) in
     let before : is_before x.digest y.digest ≡ true = (λ i. is_before ((sym is) i).digest ((sym at) i).digest) ∙ less in
     subst (λ (n : NextImage). IsNextImage (x ∷ xs) (y ∷ ys) n) (sym e') (record {
-      of_a = omega arith;
-      of_b = omega arith;
+      count_in_a = omega arith;
+      count_in_b = omega arith;
       some = omega arith;
       ahead = λ others h. first_image_ahead x xs (y ∷ ys) others each.0 (λ n p. images_raised n x.digest y ys p before) h;
     })
 
 pub image_of_second : (a b : List ImageCounts) (x y : ImageCounts) → AllByRecursion IsValidImage b → 0 < length a
     → 0 < length b → x ≡ get_or a 0 x → y ≡ get_or b 0 y → is_before y.digest x.digest ≡ true
-    → (next : NextImage) → next ≡ record { image = y; of_a = 0; of_b = 1 } → IsNextImage a b next
+    → (next : NextImage) → next ≡ record { image = y; count_in_a = 0; count_in_b = 1 } → IsNextImage a b next
 image_of_second [] b x y each some other is at less next e = absurd (omega arith)
 image_of_second (x ∷ xs) [] z w each some other is at less next e = absurd (omega arith)
 image_of_second (x ∷ xs) (y ∷ ys) z w each some other is at less next e =
-    let e' : next ≡ record { image = y; of_a = 0; of_b = 1 } = e ∙ (λ i. record { image = at i; of_a = 0; of_b = 1 }) in
+    let e' : next ≡ record { image = y; count_in_a = 0; count_in_b = 1 } = e ∙ (λ i. record { image = at i; count_in_a = 0; count_in_b = 1 }) in
     let before : is_before y.digest x.digest ≡ true = (λ i. is_before ((sym at) i).digest ((sym is) i).digest) ∙ less in
     subst (λ (n : NextImage). IsNextImage (x ∷ xs) (y ∷ ys) n) (sym e') (record {
-      of_a = omega arith;
-      of_b = omega arith;
+      count_in_a = omega arith;
+      count_in_b = omega arith;
       some = omega arith;
       ahead = λ others h. second_image_ahead y (x ∷ xs) ys others each.0 (λ n p. images_raised n y.digest x xs p before) h;
     })
@@ -307,13 +307,13 @@ pub image_of_both : (a b : List ImageCounts) (x y sum : ImageCounts) → AllByRe
     → 0 < length a → 0 < length b → x ≡ get_or a 0 x → y ≡ get_or b 0 y → is_before x.digest y.digest ≡ false
     → is_before y.digest x.digest ≡ false → sum.digest ≡ x.digest → sum.path ≡ min_text x.path y.path
     → IsSumOfCounts x.addresses y.addresses sum.addresses → IsSumOfNames x.functions y.functions sum.functions
-    → AreNamesOf sum.spots sum.functions → AreValidNodes sum.spots → IsSumOfCallTrees x.spots y.spots sum.spots
-    → IsNextImage a b (record { image = sum; of_a = 1; of_b = 1 })
-image_of_both [] b x y sum each also some other is at first second digest path counts names of tree spots = absurd (omega arith)
-image_of_both (x ∷ xs) [] z w sum each also some other is at first second digest path counts names of tree spots = absurd (omega arith)
-image_of_both (x ∷ xs) (y ∷ ys) z w sum each also some other is at first second digest path counts names of tree spots = record {
-  of_a = omega arith;
-  of_b = omega arith;
+    → AreNamesOf sum.nodes sum.functions → AreValidNodes sum.nodes → IsSumOfCallTrees x.nodes y.nodes sum.nodes
+    → IsNextImage a b (record { image = sum; count_in_a = 1; count_in_b = 1 })
+image_of_both [] b x y sum each also some other is at first second digest path counts names of tree nodes = absurd (omega arith)
+image_of_both (x ∷ xs) [] z w sum each also some other is at first second digest path counts names of tree nodes = absurd (omega arith)
+image_of_both (x ∷ xs) (y ∷ ys) z w sum each also some other is at first second digest path counts names of tree nodes = record {
+  count_in_a = omega arith;
+  count_in_b = omega arith;
   some = omega arith;
   ahead = λ others h. both_images_ahead x y sum xs ys others each.0 also.0
       (ap (λ (i : ImageCounts). i.digest) (sym is) ∙ same_place z.digest w.digest first second
@@ -324,8 +324,8 @@ image_of_both (x ∷ xs) (y ∷ ys) z w sum each also some other is at first sec
       (subst (λ (i : ImageCounts). IsSumOfCounts i.addresses w.addresses sum.addresses) is counts))
       (subst (λ (i : ImageCounts). IsSumOfNames x.functions i.functions sum.functions) at
       (subst (λ (i : ImageCounts). IsSumOfNames i.functions w.functions sum.functions) is names)) of tree
-      (subst (λ (i : ImageCounts). IsSumOfCallTrees x.spots i.spots sum.spots) at
-      (subst (λ (i : ImageCounts). IsSumOfCallTrees i.spots w.spots sum.spots) is spots)) h;
+      (subst (λ (i : ImageCounts). IsSumOfCallTrees x.nodes i.nodes sum.nodes) at
+      (subst (λ (i : ImageCounts). IsSumOfCallTrees i.nodes w.nodes sum.nodes) is nodes)) h;
 }
 
 -- ---- what is refused
@@ -375,8 +375,8 @@ no_sum_of_first (x ∷ xs) (y ∷ ys) z w (Spot f) some other is at first second
       h.0,
       h.1,
       elim h.2 [
-        | inl k ↦ inl (great_here (λ i. calls_at h.0 i.spots) x y z w (calls_in_image x.digest h.0 xs) (calls_in_image x.digest h.0 ys) is at one k)
-        | inr k ↦ inr (great_here (λ i. steps_at h.0 i.spots) x y z w (steps_in x.digest h.0 xs) (steps_in x.digest h.0 ys) is at one k)
+        | inl k ↦ inl (great_here (λ i. calls_at h.0 i.nodes) x y z w (calls_in_image x.digest h.0 xs) (calls_in_image x.digest h.0 ys) is at one k)
+        | inr k ↦ inr (great_here (λ i. steps_at h.0 i.nodes) x y z w (steps_in x.digest h.0 xs) (steps_in x.digest h.0 ys) is at one k)
       ],
     )
 
@@ -401,10 +401,10 @@ no_sum_of_named error a b ns ms p q h = no_sum_of_names error a b
     (subst (λ (xs : List FunctionName). NamesHaveNoSum error a.functions xs) q
     (subst (λ (xs : List FunctionName). NamesHaveNoSum error xs ms) p h))
 
-pub no_sum_of_spots : (why : CallTreeSumError) (a b : ImageCounts) → IsOverflowOfTrees why a.spots b.spots
+pub no_sum_of_spots : (why : CallTreeSumError) (a b : ImageCounts) → IsOverflowOfTrees why a.nodes b.nodes
     → ImageHasNoSum (sum_error_of why) a b
-no_sum_of_spots spots.OutOfMemory a b h = tt
-no_sum_of_spots (spots.Count f) a b h = h
+no_sum_of_spots nodes.OutOfMemory a b h = tt
+no_sum_of_spots (nodes.Count f) a b h = h
 
 -- ---- spots of a sum
 

@@ -141,45 +141,45 @@ both_ahead x y xs ys others named one name h = record {
 -- ---- the first of a sum in each case of `next_name`
 
 pub name_of_first_alone : (a b : List FunctionName) (x : FunctionName) → AllByRecursion IsValidName a → 0 < length a
-    → length b ≡ 0 → x ≡ get_or a 0 x → (next : NextName) → next ≡ record { name = x; of_a = 1; of_b = 0 }
+    → length b ≡ 0 → x ≡ get_or a 0 x → (next : NextName) → next ≡ record { name = x; count_in_a = 1; count_in_b = 0 }
     → IsNextName a b next
 name_of_first_alone [] b x each some none is next e = absurd (omega arith)
 name_of_first_alone (x ∷ xs) (y ∷ ys) z each some none is next e = absurd (omega arith)
 name_of_first_alone (x ∷ xs) [] z each some none is next e =
-    let e' : next ≡ record { name = x; of_a = 1; of_b = 0 } = e ∙ (λ i. record { name = is i; of_a = 1; of_b = 0 }) in
+    let e' : next ≡ record { name = x; count_in_a = 1; count_in_b = 0 } = e ∙ (λ i. record { name = is i; count_in_a = 1; count_in_b = 0 }) in
     subst (λ (n : NextName). IsNextName (x ∷ xs) [] n) (sym e') (record {
-      of_a = omega arith;
-      of_b = omega arith;
+      count_in_a = omega arith;
+      count_in_b = omega arith;
       some = omega arith;
       ahead = λ others h. first_ahead x xs [] others each.0 (λ n p. none_rises (x.function + 1)) h;
     })
 
 pub name_of_second_alone : (a b : List FunctionName) (y : FunctionName) → AllByRecursion IsValidName b → 0 < length b
-    → length a ≡ 0 → y ≡ get_or b 0 y → (next : NextName) → next ≡ record { name = y; of_a = 0; of_b = 1 }
+    → length a ≡ 0 → y ≡ get_or b 0 y → (next : NextName) → next ≡ record { name = y; count_in_a = 0; count_in_b = 1 }
     → IsNextName a b next
 name_of_second_alone a [] y each some none is next e = absurd (omega arith)
 name_of_second_alone (x ∷ xs) (y ∷ ys) z each some none is next e = absurd (omega arith)
 name_of_second_alone [] (y ∷ ys) z each some none is next e =
-    let e' : next ≡ record { name = y; of_a = 0; of_b = 1 } = e ∙ (λ i. record { name = is i; of_a = 0; of_b = 1 }) in
+    let e' : next ≡ record { name = y; count_in_a = 0; count_in_b = 1 } = e ∙ (λ i. record { name = is i; count_in_a = 0; count_in_b = 1 }) in
     subst (λ (n : NextName). IsNextName [] (y ∷ ys) n) (sym e') (record {
-      of_a = omega arith;
-      of_b = omega arith;
+      count_in_a = omega arith;
+      count_in_b = omega arith;
       some = omega arith;
       ahead = λ others h. second_ahead y [] ys others each.0 (λ n p. none_rises (y.function + 1)) h;
     })
 
 pub name_of_first : (a b : List FunctionName) (x y : FunctionName) → AllByRecursion IsValidName a → 0 < length a
     → 0 < length b → x ≡ get_or a 0 x → y ≡ get_or b 0 y → x.function < y.function
-    → (next : NextName) → next ≡ record { name = x; of_a = 1; of_b = 0 } → IsNextName a b next
+    → (next : NextName) → next ≡ record { name = x; count_in_a = 1; count_in_b = 0 } → IsNextName a b next
 name_of_first [] b x y each some other is at less next e = absurd (omega arith)
 name_of_first (x ∷ xs) [] z w each some other is at less next e = absurd (omega arith)
 name_of_first (x ∷ xs) (y ∷ ys) z w each some other is at less next e =
-    let e' : next ≡ record { name = x; of_a = 1; of_b = 0 } = e ∙ (λ i. record { name = is i; of_a = 1; of_b = 0 }) in
+    let e' : next ≡ record { name = x; count_in_a = 1; count_in_b = 0 } = e ∙ (λ i. record { name = is i; count_in_a = 1; count_in_b = 0 }) in
     let f = ap (λ (n : FunctionName). n.function) is in
     let g = ap (λ (n : FunctionName). n.function) at in
     subst (λ (n : NextName). IsNextName (x ∷ xs) (y ∷ ys) n) (sym e') (record {
-      of_a = omega arith;
-      of_b = omega arith;
+      count_in_a = omega arith;
+      count_in_b = omega arith;
       some = omega arith;
       ahead = λ others h. first_ahead x xs (y ∷ ys) others each.0
           (λ n p. raised n (x.function + 1) y ys p (omega (arith, f, g, less))) h;
@@ -187,16 +187,16 @@ name_of_first (x ∷ xs) (y ∷ ys) z w each some other is at less next e =
 
 pub name_of_second : (a b : List FunctionName) (x y : FunctionName) → AllByRecursion IsValidName b → 0 < length a
     → 0 < length b → x ≡ get_or a 0 x → y ≡ get_or b 0 y → y.function < x.function
-    → (next : NextName) → next ≡ record { name = y; of_a = 0; of_b = 1 } → IsNextName a b next
+    → (next : NextName) → next ≡ record { name = y; count_in_a = 0; count_in_b = 1 } → IsNextName a b next
 name_of_second [] b x y each some other is at less next e = absurd (omega arith)
 name_of_second (x ∷ xs) [] z w each some other is at less next e = absurd (omega arith)
 name_of_second (x ∷ xs) (y ∷ ys) z w each some other is at less next e =
-    let e' : next ≡ record { name = y; of_a = 0; of_b = 1 } = e ∙ (λ i. record { name = at i; of_a = 0; of_b = 1 }) in
+    let e' : next ≡ record { name = y; count_in_a = 0; count_in_b = 1 } = e ∙ (λ i. record { name = at i; count_in_a = 0; count_in_b = 1 }) in
     let f = ap (λ (n : FunctionName). n.function) is in
     let g = ap (λ (n : FunctionName). n.function) at in
     subst (λ (n : NextName). IsNextName (x ∷ xs) (y ∷ ys) n) (sym e') (record {
-      of_a = omega arith;
-      of_b = omega arith;
+      count_in_a = omega arith;
+      count_in_b = omega arith;
       some = omega arith;
       ahead = λ others h. second_ahead y (x ∷ xs) ys others each.0
           (λ n p. raised n (y.function + 1) x xs p (omega (arith, f, g, less))) h;
@@ -204,14 +204,14 @@ name_of_second (x ∷ xs) (y ∷ ys) z w each some other is at less next e =
 
 pub name_of_both : (a b : List FunctionName) (x y : FunctionName) → AllByRecursion IsValidName a
     → 0 < length a → 0 < length b → x ≡ get_or a 0 x → y ≡ get_or b 0 y → x.function ≡ y.function → x.name ≡ y.name
-    → (next : NextName) → next ≡ record { name = x; of_a = 1; of_b = 1 } → IsNextName a b next
+    → (next : NextName) → next ≡ record { name = x; count_in_a = 1; count_in_b = 1 } → IsNextName a b next
 name_of_both [] b x y each some other is at function name next e = absurd (omega arith)
 name_of_both (x ∷ xs) [] z w each some other is at function name next e = absurd (omega arith)
 name_of_both (x ∷ xs) (y ∷ ys) z w each some other is at function name next e =
-    let e' : next ≡ record { name = x; of_a = 1; of_b = 1 } = e ∙ (λ i. record { name = is i; of_a = 1; of_b = 1 }) in
+    let e' : next ≡ record { name = x; count_in_a = 1; count_in_b = 1 } = e ∙ (λ i. record { name = is i; count_in_a = 1; count_in_b = 1 }) in
     subst (λ (n : NextName). IsNextName (x ∷ xs) (y ∷ ys) n) (sym e') (record {
-      of_a = omega arith;
-      of_b = omega arith;
+      count_in_a = omega arith;
+      count_in_b = omega arith;
       some = omega arith;
       ahead = λ others h. both_ahead x y xs ys others each.0
           (ap (λ (n : FunctionName). n.function) (sym is) ∙ function ∙ ap (λ (n : FunctionName). n.function) at)

@@ -34,8 +34,8 @@ entries_text (c ∷ cs) ns ss = ap (λ (t : List ℕ). address_line c ++ t) (ent
 pub image_entries : (i : ImageCounts) → image_text i ≡ image_line i ++ flat_map entry_line (entries_of i)
 unfolding image_text
 image_entries i =
-    append_assoc (image_line i) (flat_map address_line i.addresses) (flat_map (line_of_node i.functions) i.spots)
-    ∙ ap (λ (t : List ℕ). image_line i ++ t) (sym (entries_text i.addresses i.functions i.spots))
+    append_assoc (image_line i) (flat_map address_line i.addresses) (flat_map (line_of_node i.functions) i.nodes)
+    ∙ ap (λ (t : List ℕ). image_line i ++ t) (sym (entries_text i.addresses i.functions i.nodes))
 
 -- ---- each kind by itself
 
@@ -51,7 +51,7 @@ named_in (Node s ∷ es) = s ∷ named_in es
 
 abbrev spots_in : List NamedCallNode → List CallNode
 spots_in [] = []
-spots_in (n ∷ ns) = n.spot ∷ spots_in ns
+spots_in (n ∷ ns) = n.node ∷ spots_in ns
 
 addresses_of_spots : (ns : List FunctionName) (ss : List CallNode) → addresses_in (map (entry_of_node ns) ss) ≡ []
 addresses_of_spots ns [] = refl
@@ -76,19 +76,19 @@ spots_are ns (s ∷ ss) = ap (λ (t : List CallNode). s ∷ t) (spots_are ns ss)
 pub record AreSame (i j : ImageCounts) : Type 0 where
   pub addresses : i.addresses ≡ j.addresses
   pub functions : i.functions ≡ j.functions
-  pub spots : i.spots ≡ j.spots
+  pub nodes : i.nodes ≡ j.nodes
 
 pub same_parts : (i j : ImageCounts) → IsValidImage i → IsValidImage j → entries_of i ≡ entries_of j → AreSame i j
 same_parts i j h k e =
-    let lines : map (named i.functions) i.spots ≡ map (named j.functions) j.spots =
-    sym (named_are i.addresses i.functions i.spots) ∙ ap named_in e ∙ named_are j.addresses j.functions j.spots in
-    let spots : i.spots ≡ j.spots = sym (spots_are i.functions i.spots) ∙ ap spots_in lines ∙ spots_are j.functions j.spots in
-    let again : map (named i.functions) i.spots ≡ map (named j.functions) i.spots =
-    lines ∙ ap (λ (ss : List CallNode). map (named j.functions) ss) (sym spots) in record {
-      addresses = sym (addresses_are i.addresses i.functions i.spots) ∙ ap addresses_in e ∙ addresses_are j.addresses j.functions j.spots;
-      functions = one_list_of_first_names i.functions j.functions i.spots h.names k.names h.of_spots
-          (subst (λ (ss : List CallNode). AreNamesOf ss j.functions) (sym spots) k.of_spots) again;
-      spots = spots;
+    let lines : map (named i.functions) i.nodes ≡ map (named j.functions) j.nodes =
+    sym (named_are i.addresses i.functions i.nodes) ∙ ap named_in e ∙ named_are j.addresses j.functions j.nodes in
+    let nodes : i.nodes ≡ j.nodes = sym (spots_are i.functions i.nodes) ∙ ap spots_in lines ∙ spots_are j.functions j.nodes in
+    let again : map (named i.functions) i.nodes ≡ map (named j.functions) i.nodes =
+    lines ∙ ap (λ (ss : List CallNode). map (named j.functions) ss) (sym nodes) in record {
+      addresses = sym (addresses_are i.addresses i.functions i.nodes) ∙ ap addresses_in e ∙ addresses_are j.addresses j.functions j.nodes;
+      functions = one_list_of_first_names i.functions j.functions i.nodes h.names k.names h.names_of_nodes
+          (subst (λ (ss : List CallNode). AreNamesOf ss j.functions) (sym nodes) k.names_of_nodes) again;
+      nodes = nodes;
     }
 
 -- ---- they may stand there
@@ -114,7 +114,7 @@ stand_addresses lowest (c ∷ cs) ns ss h m =
     (p.0, stand_addresses (c.address + 1) cs ns ss p.1 m)
 
 pub entries_stand : (i : ImageCounts) → IsValidImage i → StandIn after_image_line (entries_of i)
-entries_stand i h = stand_addresses 0 i.addresses i.functions i.spots h.counts.rising h.spots.tree
+entries_stand i h = stand_addresses 0 i.addresses i.functions i.nodes h.counts.rising h.nodes.tree
 
 fit_spots : (ns : List FunctionName) (ss : List CallNode) → AllByRecursion IsValidName ns → AllByRecursion IsValidNode ss
     → ((f : ℕ) → ends_some_path f ss ≡ true → has_name (name_of f ns) ≡ true)
@@ -131,8 +131,8 @@ fit_all [] ns ss h k = k
 fit_all (c ∷ cs) ns ss h k = (h.0, fit_all cs ns ss h.1 k)
 
 pub entries_fit : (i : ImageCounts) → IsValidImage i → AllByRecursion IsValidEntry (entries_of i)
-entries_fit i h = fit_all i.addresses i.functions i.spots h.counts.each
-    (fit_spots i.functions i.spots h.names.each h.spots.each (λ f some. h.of_spots f ∙ some))
+entries_fit i h = fit_all i.addresses i.functions i.nodes h.counts.each
+    (fit_spots i.functions i.nodes h.names.each h.nodes.each (λ f some. h.names_of_nodes f ∙ some))
 
 -- ---- the place behind them
 
@@ -194,4 +194,4 @@ empty_entry cs ns ss first second no_address no_spot known one =
     }) second
     by_kind (Address c) h may e = no_address_here cs first second no_address ss one c h may e
     by_kind (Node n) h may e = no_spot n h may.0
-        (subst (λ (names : List FunctionName). AgreesWithName n.name (name_of n.spot.function names)) (sym known) may.1) e
+        (subst (λ (names : List FunctionName). AgreesWithName n.name (name_of n.node.function names)) (sym known) may.1) e

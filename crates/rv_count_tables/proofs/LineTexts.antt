@@ -180,7 +180,7 @@ same_runs n m r q hn hm hr hq e =
 -- ---- the line of a spot
 
 abbrev pub spot_words : NamedCallNode → List ℕ
-spot_words n = fields_of_node n.spot ++ codes " " ++ n.name
+spot_words n = fields_of_node n.node ++ codes " " ++ n.name
 
 pub spot_is_line : (n : NamedCallNode) → node_line n ≡ line (spot_words n)
 unfolding node_line
@@ -203,70 +203,70 @@ lacks-words s h =
     (lacks-decimal 10 s.calls (omega arith) h.calls)) refl)
     (lacks-decimal 10 s.steps (omega arith) h.steps)
 
-pub lacks-spot : (n : NamedCallNode) → IsValidNamedNode n → lacks 10 (spot_words n) ≡ true
-lacks-spot n h = lacks-append 10 (fields_of_node n.spot ++ codes " ") n.name
-    (lacks-append 10 (fields_of_node n.spot) (codes " ") (lacks-words n.spot h.spot) refl) h.name
+pub lacks-node : (n : NamedCallNode) → IsValidNamedNode n → lacks 10 (spot_words n) ≡ true
+lacks-node n h = lacks-append 10 (fields_of_node n.node ++ codes " ") n.name
+    (lacks-append 10 (fields_of_node n.node) (codes " ") (lacks-words n.node h.node) refl) h.name
 
 -- what stands behind the arrivals, behind the function, and behind the depth
 abbrev pub steps_and_name : NamedCallNode → List ℕ
-steps_and_name n = decimal n.spot.steps ++ 32 ∷ (n.name ++ 10 ∷ [])
+steps_and_name n = decimal n.node.steps ++ 32 ∷ (n.name ++ 10 ∷ [])
 
 abbrev pub numbers_of_spot : NamedCallNode → List ℕ
-numbers_of_spot n = decimal n.spot.calls ++ 32 ∷ steps_and_name n
+numbers_of_spot n = decimal n.node.calls ++ 32 ∷ steps_and_name n
 
 abbrev pub function_of_spot : NamedCallNode → List ℕ
-function_of_spot n = word_digits n.spot.function ++ 32 ∷ numbers_of_spot n
+function_of_spot n = word_digits n.node.function ++ 32 ∷ numbers_of_spot n
 
 regroup_more : (x y z u v w : List ℕ) → line (((((((((x ++ y) ++ codes " ") ++ z) ++ codes " ") ++ u) ++ codes " ") ++ v) ++ codes " ") ++ w)
     ≡ x ++ (y ++ 32 ∷ (z ++ 32 ∷ (u ++ 32 ∷ (v ++ 32 ∷ (w ++ 10 ∷ [])))))
 regroup_more x y z u v w = simp append_assoc
 
-spot_parts : (n : NamedCallNode) → drop 5 (node_line n) ≡ decimal n.spot.depth ++ 32 ∷ function_of_spot n
+spot_parts : (n : NamedCallNode) → drop 5 (node_line n) ≡ decimal n.node.depth ++ 32 ∷ function_of_spot n
 unfolding fields_of_node
 spot_parts n = ap (drop 5) (spot_is_line n
-    ∙ regroup_more (codes "spot ") (decimal n.spot.depth) (word_digits n.spot.function) (decimal n.spot.calls) (decimal n.spot.steps) n.name)
+    ∙ regroup_more (codes "spot ") (decimal n.node.depth) (word_digits n.node.function) (decimal n.node.calls) (decimal n.node.steps) n.name)
 
-pub depth_digits : (n : NamedCallNode) → IsValidNode n.spot → text_before_byte 32 (drop 5 (node_line n)) ≡ decimal n.spot.depth
+pub depth_digits : (n : NamedCallNode) → IsValidNode n.node → text_before_byte 32 (drop 5 (node_line n)) ≡ decimal n.node.depth
 depth_digits n h = ap (text_before_byte 32) (spot_parts n)
-    ∙ before_at 32 (decimal n.spot.depth) (function_of_spot n) (lacks-decimal 32 n.spot.depth (omega arith) h.depth)
+    ∙ before_at 32 (decimal n.node.depth) (function_of_spot n) (lacks-decimal 32 n.node.depth (omega arith) h.depth)
 
-behind_depth : (n : NamedCallNode) → IsValidNode n.spot → text_after_byte 32 (drop 5 (node_line n)) ≡ function_of_spot n
+behind_depth : (n : NamedCallNode) → IsValidNode n.node → text_after_byte 32 (drop 5 (node_line n)) ≡ function_of_spot n
 behind_depth n h = ap (text_after_byte 32) (spot_parts n)
-    ∙ after_at 32 (decimal n.spot.depth) (function_of_spot n) (lacks-decimal 32 n.spot.depth (omega arith) h.depth)
+    ∙ after_at 32 (decimal n.node.depth) (function_of_spot n) (lacks-decimal 32 n.node.depth (omega arith) h.depth)
 
-pub spot_function_digits : (n : NamedCallNode) → IsValidNode n.spot
-    → take 8 (text_after_byte 32 (drop 5 (node_line n))) ≡ word_digits n.spot.function
+pub spot_function_digits : (n : NamedCallNode) → IsValidNode n.node
+    → take 8 (text_after_byte 32 (drop 5 (node_line n))) ≡ word_digits n.node.function
 spot_function_digits n h = ap (take 8) (behind_depth n h)
-    ∙ take_at (word_digits n.spot.function) (32 ∷ numbers_of_spot n) 8 (eight_digits n.spot.function)
+    ∙ take_at (word_digits n.node.function) (32 ∷ numbers_of_spot n) 8 (eight_digits n.node.function)
 
-spot_numbers : (n : NamedCallNode) → IsValidNode n.spot → drop 9 (text_after_byte 32 (drop 5 (node_line n))) ≡ numbers_of_spot n
+spot_numbers : (n : NamedCallNode) → IsValidNode n.node → drop 9 (text_after_byte 32 (drop 5 (node_line n))) ≡ numbers_of_spot n
 spot_numbers n h =
-    let m = length-append (word_digits n.spot.function) (codes " ") in
-    let e = eight_digits n.spot.function in
-    ap (drop 9) (behind_depth n h ∙ sym (append_assoc (word_digits n.spot.function) (codes " ") (numbers_of_spot n)))
-    ∙ drop_at (word_digits n.spot.function ++ codes " ") (numbers_of_spot n) 9 (omega (arith, m, e))
+    let m = length-append (word_digits n.node.function) (codes " ") in
+    let e = eight_digits n.node.function in
+    ap (drop 9) (behind_depth n h ∙ sym (append_assoc (word_digits n.node.function) (codes " ") (numbers_of_spot n)))
+    ∙ drop_at (word_digits n.node.function ++ codes " ") (numbers_of_spot n) 9 (omega (arith, m, e))
 
-pub arrivals_digits : (n : NamedCallNode) → IsValidNode n.spot
-    → text_before_byte 32 (drop 9 (text_after_byte 32 (drop 5 (node_line n)))) ≡ decimal n.spot.calls
+pub arrivals_digits : (n : NamedCallNode) → IsValidNode n.node
+    → text_before_byte 32 (drop 9 (text_after_byte 32 (drop 5 (node_line n)))) ≡ decimal n.node.calls
 arrivals_digits n h = ap (text_before_byte 32) (spot_numbers n h)
-    ∙ before_at 32 (decimal n.spot.calls) (steps_and_name n) (lacks-decimal 32 n.spot.calls (omega arith) h.calls)
+    ∙ before_at 32 (decimal n.node.calls) (steps_and_name n) (lacks-decimal 32 n.node.calls (omega arith) h.calls)
 
-behind_arrivals : (n : NamedCallNode) → IsValidNode n.spot
+behind_arrivals : (n : NamedCallNode) → IsValidNode n.node
     → text_after_byte 32 (drop 9 (text_after_byte 32 (drop 5 (node_line n)))) ≡ steps_and_name n
 behind_arrivals n h = ap (text_after_byte 32) (spot_numbers n h)
-    ∙ after_at 32 (decimal n.spot.calls) (steps_and_name n) (lacks-decimal 32 n.spot.calls (omega arith) h.calls)
+    ∙ after_at 32 (decimal n.node.calls) (steps_and_name n) (lacks-decimal 32 n.node.calls (omega arith) h.calls)
 
-pub steps_digits : (n : NamedCallNode) → IsValidNode n.spot
-    → text_before_byte 32 (text_after_byte 32 (drop 9 (text_after_byte 32 (drop 5 (node_line n))))) ≡ decimal n.spot.steps
+pub steps_digits : (n : NamedCallNode) → IsValidNode n.node
+    → text_before_byte 32 (text_after_byte 32 (drop 9 (text_after_byte 32 (drop 5 (node_line n))))) ≡ decimal n.node.steps
 steps_digits n h = ap (text_before_byte 32) (behind_arrivals n h)
-    ∙ before_at 32 (decimal n.spot.steps) (n.name ++ 10 ∷ []) (lacks-decimal 32 n.spot.steps (omega arith) h.steps)
+    ∙ before_at 32 (decimal n.node.steps) (n.name ++ 10 ∷ []) (lacks-decimal 32 n.node.steps (omega arith) h.steps)
 
 pub name_text : (n : NamedCallNode) → IsValidNamedNode n
     → text_before_byte 10 (text_after_byte 32 (text_after_byte 32 (drop 9 (text_after_byte 32 (drop 5 (node_line n)))))) ≡ n.name
 name_text n h =
-    ap (λ (t : List ℕ). text_before_byte 10 (text_after_byte 32 t)) (behind_arrivals n h.spot)
-    ∙ ap (text_before_byte 10) (after_at 32 (decimal n.spot.steps) (n.name ++ 10 ∷ [])
-    (lacks-decimal 32 n.spot.steps (omega arith) h.spot.steps))
+    ap (λ (t : List ℕ). text_before_byte 10 (text_after_byte 32 t)) (behind_arrivals n h.node)
+    ∙ ap (text_before_byte 10) (after_at 32 (decimal n.node.steps) (n.name ++ 10 ∷ [])
+    (lacks-decimal 32 n.node.steps (omega arith) h.node.steps))
     ∙ before_at 10 n.name [] h.name
 
 pub same_spot_of : (s t : CallNode) → s.depth ≡ t.depth → s.function ≡ t.function → s.calls ≡ t.calls
@@ -280,7 +280,7 @@ spot_in text =
     let function = text_after_byte 32 words in
     let numbers = drop 9 function in
     let behind = text_after_byte 32 numbers in record {
-      spot = record {
+      node = record {
         depth = decimal_number_from 0 (text_before_byte 32 words);
         function = hex_number 0 (take 8 function);
         calls = decimal_number_from 0 (text_before_byte 32 numbers);
@@ -292,14 +292,14 @@ spot_in text =
 spot_in_line : (n : NamedCallNode) → IsValidNamedNode n → spot_in (node_line n) ≡ n
 unfolding spot_in
 spot_in_line n h =
-    let k = h.spot in
-    let one = same_spot_of (spot_in (node_line n)).spot n.spot
-    (ap (decimal_number_from 0) (depth_digits n k) ∙ number_of-decimal n.spot.depth k.depth)
-    (ap (hex_number 0) (spot_function_digits n k) ∙ word_of-digits n.spot.function k.function)
-    (ap (decimal_number_from 0) (arrivals_digits n k) ∙ number_of-decimal n.spot.calls k.calls)
-    (ap (decimal_number_from 0) (steps_digits n k) ∙ number_of-decimal n.spot.steps k.steps) in
+    let k = h.node in
+    let one = same_spot_of (spot_in (node_line n)).node n.node
+    (ap (decimal_number_from 0) (depth_digits n k) ∙ number_of-decimal n.node.depth k.depth)
+    (ap (hex_number 0) (spot_function_digits n k) ∙ word_of-digits n.node.function k.function)
+    (ap (decimal_number_from 0) (arrivals_digits n k) ∙ number_of-decimal n.node.calls k.calls)
+    (ap (decimal_number_from 0) (steps_digits n k) ∙ number_of-decimal n.node.steps k.steps) in
     let text = name_text n h in
-    λ i. record { spot = one i; name = text i }
+    λ i. record { node = one i; name = text i }
 
 pub same_spot : (m n : NamedCallNode) → IsValidNamedNode m → IsValidNamedNode n → node_line m ≡ node_line n → m ≡ n
 same_spot m n h k e = sym (spot_in_line m h) ∙ ap spot_in e ∙ spot_in_line n k
@@ -380,7 +380,7 @@ entry_is_line (Node n) = spot_is_line n
 
 pub lacks-entry : (e : Entry) → IsValidEntry e → lacks 10 (entry_words e) ≡ true
 lacks-entry (Address c) h = lacks-address c h
-lacks-entry (Node n) h = lacks-spot n h
+lacks-entry (Node n) h = lacks-node n h
 
 -- entries of one line are one
 pub same_entry_line : (d e : Entry) → IsValidEntry d → IsValidEntry e → entry_line d ≡ entry_line e → d ≡ e

@@ -69,7 +69,7 @@ pub named_fits : (ns : List FunctionName) (s : CallNode) → AllByRecursion IsVa
     → has_name (name_of s.function ns) ≡ true → IsValidNamedNode (named ns s)
 named_fits ns s h k some =
     let p = named_is_name ns s.function h some in
-    record { spot = k; name = p.0; text = p.1 }
+    record { node = k; name = p.0; text = p.1 }
 
 -- ---- the functions of spots
 
@@ -282,7 +282,7 @@ same_named ns ms [] h = refl
 same_named ns ms (s ∷ ss) h =
     let e = h s.function (first_is_last s ss) in
     let others = same_named ns ms ss (λ f some. h f (further f s ss some)) in
-    λ i. record { spot = s; name = name_or_empty (e i) } ∷ others i
+    λ i. record { node = s; name = name_or_empty (e i) } ∷ others i
 
 more_named : (ns : List FunctionName) (ss : List CallNode) (s : CallNode) → map (named ns) (ss ++ s ∷ []) ≡ map (named ns) ss ++ named ns s ∷ []
 more_named ns [] s = refl
@@ -296,32 +296,32 @@ more_names ns (y ∷ ys) x = more_names (with_name (function_name y) ns) ys x
 -- the names of some spots, which are those that these bring
 pub record AreNamesSoFar (ss : List CallNode) (ns : List FunctionName) : Type 0 where
   pub names : AreValidNames ns
-  pub of_spots : AreNamesOf ss ns
+  pub names_of_nodes : AreNamesOf ss ns
   pub known : ns ≡ with_names [] (map (named ns) ss)
 
 pub no_names_so_far : AreNamesSoFar [] []
 no_names_so_far = record {
   names = record { each = tt; rising = none_rises 0 };
-  of_spots = λ f. refl;
+  names_of_nodes = λ f. refl;
   known = refl;
 }
 
 module _ (ss : List CallNode) (names : List FunctionName) (x : NamedCallNode) (fits : IsValidNamedNode x)
-    (agrees : AgreesWithName x.name (name_of x.spot.function names)) where
-  says : (f : ℕ) → name_of f (with_name (function_name x) names) ≡ cond (x.spot.function == f) (Some x.name) (name_of f names)
+    (agrees : AgreesWithName x.name (name_of x.node.function names)) where
+  says : (f : ℕ) → name_of f (with_name (function_name x) names) ≡ cond (x.node.function == f) (Some x.name) (name_of f names)
   says f = name_with (function_name x) names f agrees
 
-  pub it_has_its_name : named (with_name (function_name x) names) x.spot ≡ x
+  pub it_has_its_name : named (with_name (function_name x) names) x.node ≡ x
   it_has_its_name =
-      let e = says x.spot.function ∙ ap (λ (b : Bool). cond b (Some x.name) (name_of x.spot.function names)) (same x.spot.function) in
-      λ i. record { spot = x.spot; name = name_or_empty (e i) }
+      let e = says x.node.function ∙ ap (λ (b : Bool). cond b (Some x.name) (name_of x.node.function names)) (same x.node.function) in
+      λ i. record { node = x.node; name = name_or_empty (e i) }
 
   others_keep : AreNamesOf ss names → (f : ℕ) → ends_some_path f ss ≡ true → name_of f (with_name (function_name x) names) ≡ name_of f names
-  others_keep h f some = says f ∙ elim (cases_Bool (x.spot.function == f)) [
+  others_keep h f some = says f ∙ elim (cases_Bool (x.node.function == f)) [
     | inl t ↦
-        let e = eqb-true x.spot.function f t in
-        let have : has_name (name_of x.spot.function names) ≡ true = ap (λ (g : ℕ). has_name (name_of g names)) e ∙ h f ∙ some in
-        ap (λ (b : Bool). cond b (Some x.name) (name_of f names)) t ∙ sym (agreed x.name (name_of x.spot.function names) agrees have)
+        let e = eqb-true x.node.function f t in
+        let have : has_name (name_of x.node.function names) ≡ true = ap (λ (g : ℕ). has_name (name_of g names)) e ∙ h f ∙ some in
+        ap (λ (b : Bool). cond b (Some x.name) (name_of f names)) t ∙ sym (agreed x.name (name_of x.node.function names) agrees have)
         ∙ ap (λ (g : ℕ). name_of g names) e
     | inr t ↦ ap (λ (b : Bool). cond b (Some x.name) (name_of f names)) t
   ]
@@ -334,14 +334,14 @@ module _ (ss : List CallNode) (names : List FunctionName) (x : NamedCallNode) (f
   has_either true false o h = refl
   has_either false c o h = h ∙ sym (or_false c)
 
-  pub names_so_far : AreNamesSoFar ss names → AreNamesSoFar (ss ++ x.spot ∷ []) (with_name (function_name x) names)
+  pub names_so_far : AreNamesSoFar ss names → AreNamesSoFar (ss ++ x.node ∷ []) (with_name (function_name x) names)
   names_so_far h = record {
     names = are_more (function_name x) names
-        (record { function = fits.spot.function; name = fits.name; text = fits.text }) h.names;
-    of_spots = λ f. ap has_name (says f)
-        ∙ has_either (x.spot.function == f) (ends_some_path f ss) (name_of f names) (h.of_spots f)
-        ∙ sym (last_of_more f ss x.spot);
-    known = ap (with_name (function_name x)) (h.known ∙ ap (with_names []) (sym (others_are_named h.of_spots)))
-        ∙ sym (ap (with_names []) (more_named (with_name (function_name x) names) ss x.spot ∙ ap (λ (n : NamedCallNode). map (named (with_name (function_name x) names)) ss ++ n ∷ []) it_has_its_name)
+        (record { function = fits.node.function; name = fits.name; text = fits.text }) h.names;
+    names_of_nodes = λ f. ap has_name (says f)
+        ∙ has_either (x.node.function == f) (ends_some_path f ss) (name_of f names) (h.names_of_nodes f)
+        ∙ sym (last_of_more f ss x.node);
+    known = ap (with_name (function_name x)) (h.known ∙ ap (with_names []) (sym (others_are_named h.names_of_nodes)))
+        ∙ sym (ap (with_names []) (more_named (with_name (function_name x) names) ss x.node ∙ ap (λ (n : NamedCallNode). map (named (with_name (function_name x) names)) ss ++ n ∷ []) it_has_its_name)
         ∙ more_names [] (map (named (with_name (function_name x) names)) ss) x);
   }

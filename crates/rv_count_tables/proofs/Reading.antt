@@ -147,7 +147,7 @@ same_image i j d p a = λ k. record {
   path = p k;
   addresses = a.addresses k;
   functions = a.functions k;
-  spots = a.spots k;
+  nodes = a.nodes k;
 }
 
 same_images : (is js : List ImageCounts) (n m r q : ℕ) → AllByRecursion IsValidImage is → AllByRecursion IsValidImage js

@@ -169,7 +169,7 @@ all_so_far text lowest read h no_more = record {
 -- ---- one image
 
 image_line_is_kept : (i : ImageCounts) (cs : List AddressCounts) (ns : List FunctionName) (ss : List CallNode)
-    → image_text (record i { addresses = cs; functions = ns; spots = ss })
+    → image_text (record i { addresses = cs; functions = ns; nodes = ss })
     ≡ image_line i ++ flat_map address_line cs ++ flat_map (line_of_node ns) ss
 unfolding image_text image_line
 image_line_is_kept i cs ns ss = refl
@@ -199,14 +199,14 @@ plain_image text i e =
     (ap (lacks 10) (sym (same_words p.0 (image_words i) p.2)) ∙ p.1)
 
 -- what was read behind the line of an image
-pub record AreParts (text : List ℕ) (start : ℕ) (lines : ParsedAddresses) (spots : ParsedNodes) (n : ℕ) : Type 0 where
+pub record AreParts (text : List ℕ) (start : ℕ) (lines : ParsedAddresses) (nodes : ParsedNodes) (n : ℕ) : Type 0 where
   pub addresses : AreParsedAddresses (drop start text) lines
-  pub stacks : AreParsedNodes (drop (start + lines.length) text) spots
-  pub end : n ≡ start + lines.length + spots.length
+  pub stacks : AreParsedNodes (drop (start + lines.length) text) nodes
+  pub end : n ≡ start + lines.length + nodes.length
 
-parts_within : (text : List ℕ) (start : ℕ) (lines : ParsedAddresses) (spots : ParsedNodes) (n : ℕ)
-    → AreParts text start lines spots n → start ≤ length text → n ≤ length text
-parts_within text start lines spots n h le =
+parts_within : (text : List ℕ) (start : ℕ) (lines : ParsedAddresses) (nodes : ParsedNodes) (n : ℕ)
+    → AreParts text start lines nodes n → start ≤ length text → n ≤ length text
+parts_within text start lines nodes n h le =
     let a = h.addresses.within in
     let b = h.stacks.within in
     let p = length-drop start text in
@@ -214,46 +214,46 @@ parts_within text start lines spots n h le =
     let e = h.end in
     omega (arith, a, b, p, q, e)
 
-parts_text : (text : List ℕ) (start : ℕ) (lines : ParsedAddresses) (spots : ParsedNodes) (n : ℕ)
-    → AreParts text start lines spots n → drop start text ≡ flat_map address_line lines.addresses
-    ++ (flat_map (line_of_node spots.functions) spots.spots ++ drop n text)
-parts_text text start lines spots n h =
-    let second : drop (start + lines.length) text ≡ flat_map (line_of_node spots.functions) spots.spots ++ drop n text =
-    h.stacks.lines ∙ ap (λ (t : List ℕ). flat_map (line_of_node spots.functions) spots.spots ++ t)
-    (drop-drop spots.length (start + lines.length) text ∙ ap (λ (k : ℕ). drop k text) (sym h.end)) in
+parts_text : (text : List ℕ) (start : ℕ) (lines : ParsedAddresses) (nodes : ParsedNodes) (n : ℕ)
+    → AreParts text start lines nodes n → drop start text ≡ flat_map address_line lines.addresses
+    ++ (flat_map (line_of_node nodes.functions) nodes.nodes ++ drop n text)
+parts_text text start lines nodes n h =
+    let second : drop (start + lines.length) text ≡ flat_map (line_of_node nodes.functions) nodes.nodes ++ drop n text =
+    h.stacks.lines ∙ ap (λ (t : List ℕ). flat_map (line_of_node nodes.functions) nodes.nodes ++ t)
+    (drop-drop nodes.length (start + lines.length) text ∙ ap (λ (k : ℕ). drop k text) (sym h.end)) in
     h.addresses.lines ∙ ap (λ (t : List ℕ). flat_map address_line lines.addresses ++ t)
     (drop-drop lines.length start text ∙ second)
 
-no_part : (text : List ℕ) (start : ℕ) (lines : ParsedAddresses) (spots : ParsedNodes) (n : ℕ) → AreParts text start lines spots n
-    → IsNotAnEntry (after_entries after_image_line (all_entries lines.addresses spots.functions spots.spots)) (whole_line (drop n text))
-no_part text start lines spots n h =
-    let end = drop-drop spots.length (start + lines.length) text ∙ ap (λ (k : ℕ). drop k text) (sym h.end) in
-    subst (λ (t : List ℕ). IsNotAnEntry (after_entries after_image_line (all_entries lines.addresses spots.functions spots.spots)) (whole_line t)) end
-    (empty_entry lines.addresses spots.functions spots.spots (whole_line (drop lines.length (drop start text)))
-    (whole_line (drop spots.length (drop (start + lines.length) text)))
+no_part : (text : List ℕ) (start : ℕ) (lines : ParsedAddresses) (nodes : ParsedNodes) (n : ℕ) → AreParts text start lines nodes n
+    → IsNotAnEntry (after_entries after_image_line (all_entries lines.addresses nodes.functions nodes.nodes)) (whole_line (drop n text))
+no_part text start lines nodes n h =
+    let end = drop-drop nodes.length (start + lines.length) text ∙ ap (λ (k : ℕ). drop k text) (sym h.end) in
+    subst (λ (t : List ℕ). IsNotAnEntry (after_entries after_image_line (all_entries lines.addresses nodes.functions nodes.nodes)) (whole_line t)) end
+    (empty_entry lines.addresses nodes.functions nodes.nodes (whole_line (drop lines.length (drop start text)))
+    (whole_line (drop nodes.length (drop (start + lines.length) text)))
     h.addresses.behind h.stacks.behind h.stacks.known
     (λ e. ap whole_line (drop-drop lines.length start text ∙ h.stacks.lines
-    ∙ ap (λ (ss : List CallNode). flat_map (line_of_node spots.functions) ss ++ drop spots.length (drop (start + lines.length) text)) e)))
+    ∙ ap (λ (ss : List CallNode). flat_map (line_of_node nodes.functions) ss ++ drop nodes.length (drop (start + lines.length) text)) e)))
 
 pub one_image : (last : Option (List ℕ)) (text : List ℕ) (image : ImageCounts) (lines : ParsedAddresses)
-    (spots : ParsedNodes) (n : ℕ) → whole_line text ≡ image_line image → length image.digest ≡ 32
+    (nodes : ParsedNodes) (n : ℕ) → whole_line text ≡ image_line image → length image.digest ≡ 32
     → is_greater_than_last last image.digest ≡ true → AllByRecursion (λ b. b < 256) image.digest → IsUtf8 image.path
-    → AreParts text (length (whole_line text)) lines spots n
+    → AreParts text (length (whole_line text)) lines nodes n
     → IsParsedImage last text (record {
-      image = record image { addresses = lines.addresses; functions = spots.functions; spots = spots.spots };
+      image = record image { addresses = lines.addresses; functions = nodes.functions; nodes = nodes.nodes };
       length = n;
     })
-one_image last text image lines spots n is long rising bytes utf h =
+one_image last text image lines nodes n is long rising bytes utf h =
     let w = whole_line text in
     let split = whole_split text in
     let long_enough : 0 < length w = subst (λ (s : List ℕ). 0 < length s) (sym is) (image_is_long image) in
     let end = h.end in record {
-      within = parts_within text (length w) lines spots n h (whole_within text);
+      within = parts_within text (length w) lines nodes n h (whole_within text);
       lines = split ∙ ap (λ (s : List ℕ). s ++ drop (length w) text) is
-          ∙ ap (λ (s : List ℕ). image_line image ++ s) (parts_text text (length w) lines spots n h)
+          ∙ ap (λ (s : List ℕ). image_line image ++ s) (parts_text text (length w) lines nodes n h)
           ∙ four_parts (image_line image) (flat_map address_line lines.addresses)
-          (flat_map (line_of_node spots.functions) spots.spots) (drop n text)
-          ∙ ap (λ (s : List ℕ). s ++ drop n text) (sym (image_line_is_kept image lines.addresses spots.functions spots.spots));
+          (flat_map (line_of_node nodes.functions) nodes.nodes) (drop n text)
+          ∙ ap (λ (s : List ℕ). s ++ drop n text) (sym (image_line_is_kept image lines.addresses nodes.functions nodes.nodes));
       some = omega (arith, long_enough, end);
       image = record {
         digest = long;
@@ -262,11 +262,11 @@ one_image last text image lines spots n is long rising bytes utf h =
         text = utf;
         counts = h.addresses.counts;
         names = h.stacks.names;
-        spots = h.stacks.spots;
-        of_spots = h.stacks.of_spots;
+        nodes = h.stacks.nodes;
+        names_of_nodes = h.stacks.names_of_nodes;
       };
       rising = rising;
-      behind = no_part text (length w) lines spots n h;
+      behind = no_part text (length w) lines nodes n h;
     }
 
 pub no_image_digest : (last : Option (List ℕ)) (text digest : List ℕ)

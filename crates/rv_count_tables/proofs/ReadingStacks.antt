@@ -69,29 +69,29 @@ lines_by_more text ss names more n e h = record {
 }
 
 pub one_spot : (text : List ℕ) (ss : List CallNode) (names : List FunctionName) (front : List ℕ) (n m : ℕ) (x : NamedCallNode)
-    → SpotsSoFar text ss names front n → IsValidNamedNode x → FollowsInPreorder front x.spot
-    → AgreesWithName x.name (name_of x.spot.function names) → whole_line (drop n text) ≡ node_line x
+    → SpotsSoFar text ss names front n → IsValidNamedNode x → FollowsInPreorder front x.node
+    → AgreesWithName x.name (name_of x.node.function names) → whole_line (drop n text) ≡ node_line x
     → m ≡ n + length (whole_line (drop n text))
-    → SpotsSoFar text (ss ++ x.spot ∷ []) (with_name (function_name x) names) (path_after front x.spot) m
+    → SpotsSoFar text (ss ++ x.node ∷ []) (with_name (function_name x) names) (path_after front x.node) m
 one_spot text ss names front n m x h fits stands agrees is e =
     let more = with_name (function_name x) names in record {
-      lines = one_line (line_of_node more) text ss x.spot n m
-          (lines_by_more text ss names more n (others_are_named ss names x fits agrees h.named.of_spots) h.lines)
+      lines = one_line (line_of_node more) text ss x.node n m
+          (lines_by_more text ss names more n (others_are_named ss names x fits agrees h.named.names_of_nodes) h.lines)
           (is ∙ ap node_line (sym (it_has_its_name ss names x fits agrees))) e;
-      each = each_push IsValidNode ss x.spot h.each fits.spot;
-      tree = stand_of_parts [] ss (x.spot ∷ []) h.tree (subst (λ (path : List ℕ). FollowsInPreorder path x.spot) h.path stands, tt);
-      path = ap (λ (path : List ℕ). path_after path x.spot) h.path ∙ sym (last_parts [] ss (x.spot ∷ []));
+      each = each_push IsValidNode ss x.node h.each fits.node;
+      tree = stand_of_parts [] ss (x.node ∷ []) h.tree (subst (λ (path : List ℕ). FollowsInPreorder path x.node) h.path stands, tt);
+      path = ap (λ (path : List ℕ). path_after path x.node) h.path ∙ sym (last_parts [] ss (x.node ∷ []));
       named = names_so_far ss names x fits agrees h.named;
     }
 
-spots_read : (text : List ℕ) (front : List ℕ) (read : ParsedNodes) → SpotsSoFar text read.spots read.functions front read.length
+spots_read : (text : List ℕ) (front : List ℕ) (read : ParsedNodes) → SpotsSoFar text read.nodes read.functions front read.length
     → IsNotANode read.functions front (whole_line (drop read.length text)) → AreParsedNodes text read
 spots_read text front read h no_more = record {
   within = h.lines.within;
   lines = h.lines.lines;
-  spots = record { each = h.each; tree = h.tree };
+  nodes = record { each = h.each; tree = h.tree };
   names = h.named.names;
-  of_spots = h.named.of_spots;
+  names_of_nodes = h.named.names_of_nodes;
   known = h.named.known;
   behind = subst (λ (path : List ℕ). IsNotANode read.functions path (whole_line (drop read.length text))) h.path no_more;
 }
@@ -101,37 +101,37 @@ spots_read text front read h no_more = record {
 pub plain_name : (text : List ℕ) (n : NamedCallNode) → whole_line text ≡ node_line n → lacks 10 n.name ≡ true
 plain_name text n e =
     let p = plain_line text (spot_words n) (e ∙ spot_is_line n) in
-    lacks_path (fields_of_node n.spot ++ codes " ") n.name (ap (lacks 10) (sym (same_words p.0 (spot_words n) p.2)) ∙ p.1)
+    lacks_path (fields_of_node n.node ++ codes " ") n.name (ap (lacks 10) (sym (same_words p.0 (spot_words n) p.2)) ∙ p.1)
 
 pub no_spot_here : (names : List FunctionName) (front text : List ℕ) (read : NamedCallNode)
-    → ((n : NamedCallNode) → IsValidNamedNode n → text ≡ node_line n → read.spot ≡ n.spot)
-    → ((IsValidNode read.spot × FollowsInPreorder front read.spot) → ⊥) → IsNotANode names front text
+    → ((n : NamedCallNode) → IsValidNamedNode n → text ≡ node_line n → read.node ≡ n.node)
+    → ((IsValidNode read.node × FollowsInPreorder front read.node) → ⊥) → IsNotANode names front text
 no_spot_here names front text read same not n h stands agrees e =
     let s = same n h e in
-    not (subst IsValidNode (sym s) h.spot, subst (FollowsInPreorder front) (sym s) stands)
+    not (subst IsValidNode (sym s) h.node, subst (FollowsInPreorder front) (sym s) stands)
 
 pub no_spot_by_name : (names : List FunctionName) (front text : List ℕ) (read : NamedCallNode)
-    → ((n : NamedCallNode) → IsValidNamedNode n → text ≡ node_line n → read.spot ≡ n.spot)
+    → ((n : NamedCallNode) → IsValidNamedNode n → text ≡ node_line n → read.node ≡ n.node)
     → ((n : NamedCallNode) → IsValidNamedNode n → text ≡ node_line n → read.name ≡ n.name)
-    → (AgreesWithName read.name (name_of read.spot.function names) → ⊥) → IsNotANode names front text
+    → (AgreesWithName read.name (name_of read.node.function names) → ⊥) → IsNotANode names front text
 no_spot_by_name names front text read same name not n h stands agrees e =
     let s = same n h e in
-    not (subst (λ (t : List ℕ). AgreesWithName t (name_of read.spot.function names)) (sym (name n h e))
+    not (subst (λ (t : List ℕ). AgreesWithName t (name_of read.node.function names)) (sym (name n h e))
     (subst (λ (t : CallNode). AgreesWithName n.name (name_of t.function names)) (sym s) agrees))
 
 pub no_spot_line : (names : List FunctionName) (front text : List ℕ) (read : NamedCallNode)
-    → ((n : NamedCallNode) → IsValidNamedNode n → text ≡ node_line n → read.spot ≡ n.spot)
+    → ((n : NamedCallNode) → IsValidNamedNode n → text ≡ node_line n → read.node ≡ n.node)
     → ((n : NamedCallNode) → IsValidNamedNode n → text ≡ node_line n → read.name ≡ n.name)
     → bytes_eq text (node_line read) ≡ false → IsNotANode names front text
 no_spot_line names front text read same name other n h stands agrees e =
     let s = same n h e in
     let t = name n h e in
-    let one : read ≡ n = λ i. record { spot = s i; name = t i } in
+    let one : read ≡ n = λ i. record { node = s i; name = t i } in
     both_ways _ other ((bytes_decides text (node_line read)).1 (e ∙ ap node_line (sym one)))
 
 -- no other spot stands behind those that were read
 pub all_spots : (text behind front line : List ℕ) (ss : List CallNode) (names : List FunctionName) (read : ParsedNodes)
-    → SpotsSoFar text ss names front read.length → read.spots ≡ ss → read.functions ≡ names → behind ≡ front
+    → SpotsSoFar text ss names front read.length → read.nodes ≡ ss → read.functions ≡ names → behind ≡ front
     → line ≡ whole_line (drop read.length text) → IsNotANode names behind line → AreParsedNodes text read
 all_spots text behind front line ss names read h same named e w none = spots_read text front read
     (subst (λ (xs : List CallNode). SpotsSoFar text xs read.functions front read.length) (sym same)

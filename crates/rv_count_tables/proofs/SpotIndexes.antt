@@ -104,7 +104,7 @@ index_more index more ns n x is none put words f =
 
 -- by the words of a function it is that of its name
 line_by_name : (o : Option (List ℕ)) (s : CallNode)
-    → line_by_fields (option_map (fields_of_function s.function) o) s ≡ node_line (record { spot = s; name = name_or_empty o })
+    → line_by_fields (option_map (fields_of_function s.function) o) s ≡ node_line (record { node = s; name = name_or_empty o })
 unfolding line_with_digits fields_with_digits node_line fields_of_node
 line_by_name None s = refl
 line_by_name (Some name) s = refl

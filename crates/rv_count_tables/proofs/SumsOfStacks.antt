@@ -122,10 +122,10 @@ has_either None p = refl
 has_either (Some name) None = refl
 has_either (Some name) (Some other) = refl
 
-pub names_of_sum : (x y : ImageCounts) (functions : List FunctionName) (spots : List CallNode) → IsValidImage x → IsValidImage y
-    → IsSumOfNames x.functions y.functions functions → IsSumOfCallTrees x.spots y.spots spots → AreNamesOf spots functions
-names_of_sum x y functions spots h k names is f =
+pub names_of_sum : (x y : ImageCounts) (functions : List FunctionName) (nodes : List CallNode) → IsValidImage x → IsValidImage y
+    → IsSumOfNames x.functions y.functions functions → IsSumOfCallTrees x.nodes y.nodes nodes → AreNamesOf nodes functions
+names_of_sum x y functions nodes h k names is f =
     ap has_name (first_is functions 0 f names.names.rising ∙ names.each f) ∙ has_either (name_at f x.functions) (name_at f y.functions)
     ∙ (λ i. has_name ((sym (first_is x.functions 0 f h.names.rising)) i) || has_name ((sym (first_is y.functions 0 f k.names.rising)) i))
-    ∙ (λ i. h.of_spots f i || k.of_spots f i)
-    ∙ sym (functions_of_sum x.spots y.spots spots (all_come_to x.spots h.spots.each) (all_come_to y.spots k.spots.each) is f)
+    ∙ (λ i. h.names_of_nodes f i || k.names_of_nodes f i)
+    ∙ sym (functions_of_sum x.nodes y.nodes nodes (all_come_to x.nodes h.nodes.each) (all_come_to y.nodes k.nodes.each) is f)

@@ -49,16 +49,16 @@ taken_is n digest [] = refl
 taken_is n digest (i ∷ is) = ap (λ (m : ℕ). cond (bytes_eq i.digest digest) (taken_at n i.addresses) 0 + m) (taken_is n digest is)
 
 arrivals_is : (path digest : List ℕ) (is : List ImageCounts)
-    → calls_in_image digest path is ≡ counted_in (λ i. calls_at path i.spots) digest is
+    → calls_in_image digest path is ≡ counted_in (λ i. calls_at path i.nodes) digest is
 arrivals_is path digest [] = refl
 arrivals_is path digest (i ∷ is) =
-    ap (λ (m : ℕ). cond (bytes_eq i.digest digest) (calls_at path i.spots) 0 + m) (arrivals_is path digest is)
+    ap (λ (m : ℕ). cond (bytes_eq i.digest digest) (calls_at path i.nodes) 0 + m) (arrivals_is path digest is)
 
 steps_is : (path digest : List ℕ) (is : List ImageCounts)
-    → steps_in digest path is ≡ counted_in (λ i. steps_at path i.spots) digest is
+    → steps_in digest path is ≡ counted_in (λ i. steps_at path i.nodes) digest is
 steps_is path digest [] = refl
 steps_is path digest (i ∷ is) =
-    ap (λ (m : ℕ). cond (bytes_eq i.digest digest) (steps_at path i.spots) 0 + m) (steps_is path digest is)
+    ap (λ (m : ℕ). cond (bytes_eq i.digest digest) (steps_at path i.nodes) 0 + m) (steps_is path digest is)
 
 -- ---- the first image of a list
 
@@ -136,13 +136,13 @@ same_image l m i j is js h k p q d alike =
     let functions = one_list_of_names i.functions j.functions p.names q.names
     (λ f. sym (name_of_first l i is f h) ∙ alike.names i.digest f
     ∙ ap (λ (s : List ℕ). truncated_name s f (j ∷ js)) d ∙ name_of_first m j js f k) in
-    let spots = one_tree_of_counts i.spots j.spots p.spots.tree q.spots.tree (all_come_to i.spots p.spots.each)
-    (all_come_to j.spots q.spots.each)
-    (λ at. first_count (λ x. calls_at at x.spots) l m i j is js h k d
+    let nodes = one_tree_of_counts i.nodes j.nodes p.nodes.tree q.nodes.tree (all_come_to i.nodes p.nodes.each)
+    (all_come_to j.nodes q.nodes.each)
+    (λ at. first_count (λ x. calls_at at x.nodes) l m i j is js h k d
     (sym (arrivals_is at i.digest (i ∷ is)) ∙ alike.calls i.digest at ∙ arrivals_is at i.digest (j ∷ js)))
-    (λ at. first_count (λ x. steps_at at x.spots) l m i j is js h k d
+    (λ at. first_count (λ x. steps_at at x.nodes) l m i j is js h k d
     (sym (steps_is at i.digest (i ∷ is)) ∙ alike.steps i.digest at ∙ steps_is at i.digest (j ∷ js))) in
-    λ x. record { digest = d x; path = path x; addresses = addresses x; functions = functions x; spots = spots x }
+    λ x. record { digest = d x; path = path x; addresses = addresses x; functions = functions x; nodes = nodes x }
 
 -- the paths of the others
 other_paths : (l m : Option (List ℕ)) (i j : ImageCounts) (is js : List ImageCounts) (digest : List ℕ) → i ≡ j
@@ -185,9 +185,9 @@ others_alike l m i j is js h k one alike = record {
       (sym (taken_is n d (i ∷ is)) ∙ alike.taken d n ∙ taken_is n d (j ∷ js)) ∙ sym (taken_is n d js);
   paths = λ d. other_paths l m i j is js d one h k (alike.paths d);
   names = λ d f. other_names l m i j is js d f one h k (alike.names d f);
-  calls = λ d p. arrivals_is p d is ∙ other_counts (λ x. calls_at p x.spots) d i j is js one
+  calls = λ d p. arrivals_is p d is ∙ other_counts (λ x. calls_at p x.nodes) d i j is js one
       (sym (arrivals_is p d (i ∷ is)) ∙ alike.calls d p ∙ arrivals_is p d (j ∷ js)) ∙ sym (arrivals_is p d js);
-  steps = λ d p. steps_is p d is ∙ other_counts (λ x. steps_at p x.spots) d i j is js one
+  steps = λ d p. steps_is p d is ∙ other_counts (λ x. steps_at p x.nodes) d i j is js one
       (sym (steps_is p d (i ∷ is)) ∙ alike.steps d p ∙ steps_is p d (j ∷ js)) ∙ sym (steps_is p d js);
 }
 

@@ -30,7 +30,7 @@ line_with_digits digits s name = line (fields_with_digits digits s ++ codes " " 
 
 -- the line of a node with these words of its function, or with an empty name if there are no words
 abbrev pub line_by_fields : Option FunctionFields → CallNode → List ℕ
-line_by_fields None s = node_line (record { spot = s; name = [] })
+line_by_fields None s = node_line (record { node = s; name = [] })
 line_by_fields (Some words) s = line_with_digits words.digits s words.name
 
 -- the line of a node with the words of its function in the index, or with an empty name if it has none

@@ -19,7 +19,7 @@ use Rattle.rv_call_tree.specs.Trees.{last_path, path_after, FollowsInPreorder}
 
 -- the function of a node, with its name
 abbrev pub function_name : NamedCallNode → FunctionName
-function_name n = record { function = n.spot.function; name = n.name }
+function_name n = record { function = n.node.function; name = n.name }
 
 -- the names with `n` inserted before the names of functions at higher addresses
 abbrev pub inserted : FunctionName → List FunctionName → List FunctionName
@@ -62,7 +62,7 @@ entry_of_node names s = Node (named names s)
 
 -- the entries of all lines of an image after its first line, in order
 abbrev pub entries_of : ImageCounts → List Entry
-entries_of i = map Address i.addresses ++ map (entry_of_node i.functions) i.spots
+entries_of i = map Address i.addresses ++ map (entry_of_node i.functions) i.nodes
 
 -- ---- which lines can come next
 
@@ -91,7 +91,7 @@ next_path (Some previous_path) s = Some (path_after previous_path s)
 -- the lines that can come next after the line of an address or a node: after a node, only another node
 abbrev pub after_entry : NextLines → Entry → NextLines
 after_entry p (Address c) = record { address = Some (c.address + 1); names = []; front = Some [] }
-after_entry p (Node n) = record { address = None; names = with_name (function_name n) p.names; front = next_path p.front n.spot }
+after_entry p (Node n) = record { address = None; names = with_name (function_name n) p.names; front = next_path p.front n.node }
 
 -- the lines that can come next after the lines of these entries
 abbrev pub after_entries : NextLines → List Entry → NextLines
@@ -116,7 +116,7 @@ NodeCanComeNext (Some previous_path) s = FollowsInPreorder previous_path s
 -- the entry can come next: its address is not too low, or its node may follow the preceding one and its name agrees with the earlier ones
 abbrev pub CanComeNext : NextLines → Entry → Type 0
 CanComeNext p (Address c) = can_be_next_address p.address c.address ≡ true
-CanComeNext p (Node n) = NodeCanComeNext p.front n.spot × AgreesWithName n.name (name_of n.spot.function p.names)
+CanComeNext p (Node n) = NodeCanComeNext p.front n.node × AgreesWithName n.name (name_of n.node.function p.names)
 
 -- the line is not the line of an address or a node that can come next
 abbrev pub IsNotAnEntry : NextLines → List ℕ → Type 0
@@ -140,8 +140,8 @@ IsNotAnAddress lowest line = (c : AddressCounts) → IsValidCount c → nat_le l
 
 -- no node that may follow the path `previous_path` and whose name agrees with `names` has this line
 abbrev pub IsNotANode : List FunctionName → List ℕ → List ℕ → Type 0
-IsNotANode names previous_path line = (n : NamedCallNode) → IsValidNamedNode n → FollowsInPreorder previous_path n.spot
-    → AgreesWithName n.name (name_of n.spot.function names) → line ≡ node_line n → ⊥
+IsNotANode names previous_path line = (n : NamedCallNode) → IsValidNamedNode n → FollowsInPreorder previous_path n.node
+    → AgreesWithName n.name (name_of n.node.function names) → line ≡ node_line n → ⊥
 
 -- the line is not the line of an image whose digest is greater than `last`
 abbrev pub IsNotAnImage : Option (List ℕ) → List ℕ → Type 0
@@ -159,12 +159,12 @@ pub record AreParsedAddresses (text : List ℕ) (read : ParsedAddresses) : Type 
 -- is not the line of a node that may follow
 pub record AreParsedNodes (text : List ℕ) (read : ParsedNodes) : Type 0 where
   pub within : read.length ≤ length text
-  pub lines : text ≡ flat_map (line_of_node read.functions) read.spots ++ drop read.length text
-  pub spots : AreValidNodes read.spots
+  pub lines : text ≡ flat_map (line_of_node read.functions) read.nodes ++ drop read.length text
+  pub nodes : AreValidNodes read.nodes
   pub names : AreValidNames read.functions
-  pub of_spots : AreNamesOf read.spots read.functions
-  pub known : read.functions ≡ with_names [] (map (named read.functions) read.spots)
-  pub behind : IsNotANode read.functions (last_path [] read.spots) (whole_line (drop read.length text))
+  pub names_of_nodes : AreNamesOf read.nodes read.functions
+  pub known : read.functions ≡ with_names [] (map (named read.functions) read.nodes)
+  pub behind : IsNotANode read.functions (last_path [] read.nodes) (whole_line (drop read.length text))
 
 -- ---- images
 

@@ -10,7 +10,7 @@ use Rattle.rv_count_tables.specs.declared.sum.SumError.TheVariants.{OutOfMemory,
 use Rattle.rv_count_tables.specs.Table.{executed_at, taken_at, name_at, executed_in, taken_in, next_path, truncated_name, calls_in_image, steps_in, min_text_of, AreValidCounts, AreValidNames, IsValidTable}
 use Rattle.rv_call_tree.specs.Trees.{ends_with}
 use Rattle.rv_call_tree.specs.declared.sum.CallTreeSumError.{CallTreeSumError}
-use Rattle.rv_call_tree.specs.declared.sum.CallTreeSumError.TheVariants as spots
+use Rattle.rv_call_tree.specs.declared.sum.CallTreeSumError.TheVariants as nodes
 
 -- `sum` has valid counts, and at each address they are the sums of the counts in `a` and `b`
 pub record IsSumOfCounts (a b sum : List AddressCounts) : Type 0 where
@@ -53,8 +53,8 @@ pub record IsSumOfTables (a b sum : CountTable) : Type 0 where
 
 -- the error of a sum of tables, given why their call trees have no sum
 abbrev pub sum_error_of : CallTreeSumError → SumError
-sum_error_of spots.OutOfMemory = OutOfMemory
-sum_error_of (spots.Count function) = Spot function
+sum_error_of nodes.OutOfMemory = OutOfMemory
+sum_error_of (nodes.Count function) = Spot function
 
 -- the function has this name in the list
 abbrev pub HasName : ℕ → List ℕ → List FunctionName → Type 0

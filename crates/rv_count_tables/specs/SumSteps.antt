@@ -25,10 +25,10 @@ pub record CountsAddUp (a b sum : List AddressCounts) : Type 0 where
 -- `next` has the counts of the lowest address in a sum, and how many counts of each list they add up; followed by the sum of the remaining
 -- counts, they are the sum of `a` and `b`
 pub record IsNextCount (a b : List AddressCounts) (next : NextCount) : Type 0 where
-  pub of_a : next.of_a ≤ length a
-  pub of_b : next.of_b ≤ length b
-  pub some : 0 < next.of_a + next.of_b
-  pub ahead : (others : List AddressCounts) → CountsAddUp (drop next.of_a a) (drop next.of_b b) others
+  pub count_in_a : next.count_in_a ≤ length a
+  pub count_in_b : next.count_in_b ≤ length b
+  pub some : 0 < next.count_in_a + next.count_in_b
+  pub ahead : (others : List AddressCounts) → CountsAddUp (drop next.count_in_a a) (drop next.count_in_b b) others
       → CountsAddUp a b (next.sum ∷ others)
 
 -- if the functions in `a` and in `b` increase, then those in `sum` do, no function has different names in the two lists, and `sum` has the
@@ -43,10 +43,10 @@ pub record NamesAddUp (a b sum : List FunctionName) : Type 0 where
 -- `next` has the name of the lowest function in a sum, and how many names of each list it comes from; followed by the sum of the remaining
 -- names, it is the sum of `a` and `b`
 pub record IsNextName (a b : List FunctionName) (next : NextName) : Type 0 where
-  pub of_a : next.of_a ≤ length a
-  pub of_b : next.of_b ≤ length b
-  pub some : 0 < next.of_a + next.of_b
-  pub ahead : (others : List FunctionName) → NamesAddUp (drop next.of_a a) (drop next.of_b b) others
+  pub count_in_a : next.count_in_a ≤ length a
+  pub count_in_b : next.count_in_b ≤ length b
+  pub some : 0 < next.count_in_a + next.count_in_b
+  pub ahead : (others : List FunctionName) → NamesAddUp (drop next.count_in_a a) (drop next.count_in_b b) others
       → NamesAddUp a b (next.name ∷ others)
 
 -- for each image, the counts in `sum` at each address and of each call path are the sums of the counts in `a` and `b`, the path is the
@@ -71,10 +71,10 @@ pub record ImagesAddUp (a b sum : List ImageCounts) : Type 0 where
 -- `next` has the image with the lowest digest in a sum, and how many images of each list it adds up; followed by the sum of the remaining
 -- images, it is the sum of `a` and `b`
 pub record IsNextImage (a b : List ImageCounts) (next : NextImage) : Type 0 where
-  pub of_a : next.of_a ≤ length a
-  pub of_b : next.of_b ≤ length b
-  pub some : 0 < next.of_a + next.of_b
-  pub ahead : (others : List ImageCounts) → ImagesAddUp (drop next.of_a a) (drop next.of_b b) others
+  pub count_in_a : next.count_in_a ≤ length a
+  pub count_in_b : next.count_in_b ≤ length b
+  pub some : 0 < next.count_in_a + next.count_in_b
+  pub ahead : (others : List ImageCounts) → ImagesAddUp (drop next.count_in_a a) (drop next.count_in_b b) others
       → ImagesAddUp a b (next.image ∷ others)
 
 -- the error is true of the image with some digest in the two lists; `OutOfMemory` is always true
@@ -94,7 +94,7 @@ abbrev pub ImageHasNoSum : SumError → ImageCounts → ImageCounts → Type 0
 ImageHasNoSum OutOfMemory a b = Unit {0}
 ImageHasNoSum (Count address) a b = CountsHaveNoSum (Count address) a.addresses b.addresses
 ImageHasNoSum (Spot function) a b = (path : List ℕ) × (ends_with function path ≡ true)
-    × ((2 ^ 64 ≤ calls_at path a.spots + calls_at path b.spots)
-    ⊎ (2 ^ 64 ≤ steps_at path a.spots + steps_at path b.spots))
+    × ((2 ^ 64 ≤ calls_at path a.nodes + calls_at path b.nodes)
+    ⊎ (2 ^ 64 ≤ steps_at path a.nodes + steps_at path b.nodes))
 ImageHasNoSum (Names function) a b = NamesHaveNoSum (Names function) a.functions b.functions
 ImageHasNoSum Runs a b = ⊥

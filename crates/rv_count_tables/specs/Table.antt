@@ -74,13 +74,13 @@ truncated_name digest function (i ∷ is) =
 abbrev pub calls_in_image : List ℕ → List ℕ → List ImageCounts → ℕ
 calls_in_image digest path [] = 0
 calls_in_image digest path (i ∷ is) =
-    (if bytes_eq i.digest digest then calls_at path i.spots else 0) + calls_in_image digest path is
+    (if bytes_eq i.digest digest then calls_at path i.nodes else 0) + calls_in_image digest path is
 
 -- how many instructions runs executed in a call path in the image with this digest
 abbrev pub steps_in : List ℕ → List ℕ → List ImageCounts → ℕ
 steps_in digest path [] = 0
 steps_in digest path (i ∷ is) =
-    (if bytes_eq i.digest digest then steps_at path i.spots else 0) + steps_in digest path is
+    (if bytes_eq i.digest digest then steps_at path i.nodes else 0) + steps_in digest path is
 
 -- ---- valid tables
 
@@ -129,7 +129,7 @@ pub record IsValidNode (s : CallNode) : Type 0 where
 
 -- the node and the name of its function are valid
 pub record IsValidNamedNode (n : NamedCallNode) : Type 0 where
-  pub spot : IsValidNode n.spot
+  pub node : IsValidNode n.node
   pub name : lacks 10 n.name ≡ true
   pub text : IsUtf8 n.name
 
@@ -145,7 +145,7 @@ name_of function (n ∷ ns) = if n.function == function then Some n.name else na
 
 -- the functions that have names are exactly those in which a node's path ends
 abbrev pub AreNamesOf : List CallNode → List FunctionName → Type 0
-AreNamesOf spots names = (function : ℕ) → has_name (name_of function names) ≡ ends_some_path function spots
+AreNamesOf nodes names = (function : ℕ) → has_name (name_of function names) ≡ ends_some_path function nodes
 
 -- the nodes are valid and form a call tree in preorder
 pub record AreValidNodes (ss : List CallNode) : Type 0 where
@@ -160,8 +160,8 @@ pub record IsValidImage (i : ImageCounts) : Type 0 where
   pub text : IsUtf8 i.path
   pub counts : AreValidCounts i.addresses
   pub names : AreValidNames i.functions
-  pub spots : AreValidNodes i.spots
-  pub of_spots : AreNamesOf i.spots i.functions
+  pub nodes : AreValidNodes i.nodes
+  pub names_of_nodes : AreNamesOf i.nodes i.functions
 
 -- whether a digest is greater than the last one; true if there is no last one
 abbrev pub is_greater_than_last : Option (List ℕ) → List ℕ → Bool

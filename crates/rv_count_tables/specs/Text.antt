@@ -24,14 +24,14 @@ first_line = line (codes "rvcounts 1")
 unfoldable pub address_line : AddressCounts → List ℕ
 address_line c = line (word_digits c.address ++ codes " " ++ decimal c.executed ++ codes " " ++ decimal c.taken)
 
--- the words `spot DEPTH FUNCTION ARRIVALS STEPS` of a node
+-- the words `node DEPTH FUNCTION ARRIVALS STEPS` of a node
 unfoldable pub fields_of_node : CallNode → List ℕ
 fields_of_node s = codes "spot " ++ decimal s.depth ++ codes " " ++ word_digits s.function ++ codes " "
     ++ decimal s.calls ++ codes " " ++ decimal s.steps
 
--- the line `spot DEPTH FUNCTION ARRIVALS STEPS NAME` of a node
+-- the line `node DEPTH FUNCTION ARRIVALS STEPS NAME` of a node
 unfoldable pub node_line : NamedCallNode → List ℕ
-node_line n = line (fields_of_node n.spot ++ codes " " ++ n.name)
+node_line n = line (fields_of_node n.node ++ codes " " ++ n.name)
 
 -- the name, or an empty text if there is no name
 abbrev pub name_or_empty : Option (List ℕ) → List ℕ
@@ -40,7 +40,7 @@ name_or_empty (Some name) = name
 
 -- a node with the name of its function in the list, or with an empty name if it has none there
 abbrev pub named : List FunctionName → CallNode → NamedCallNode
-named names s = record { spot = s; name = name_or_empty (name_of s.function names) }
+named names s = record { node = s; name = name_or_empty (name_of s.function names) }
 
 -- the line of a node, with the name of its function in the list
 abbrev pub line_of_node : List FunctionName → CallNode → List ℕ
@@ -52,7 +52,7 @@ image_line i = line (codes "image " ++ encode_lower i.digest ++ codes " " ++ i.p
 
 -- the lines of an image: first its own line, then the lines of its addresses, then the lines of its nodes
 unfoldable pub image_text : ImageCounts → List ℕ
-image_text i = image_line i ++ flat_map address_line i.addresses ++ flat_map (line_of_node i.functions) i.spots
+image_text i = image_line i ++ flat_map address_line i.addresses ++ flat_map (line_of_node i.functions) i.nodes
 
 -- the last line `done IMAGES RUNS` of a table with these numbers of images and runs
 unfoldable pub last_line : ℕ → ℕ → List ℕ

@@ -87,11 +87,11 @@ fn read_image(
     }
     let lines = read_addresses(alloc, tail_from(text, line.len()))?;
     let addresses_end = line.len() + lines.length;
-    let spots = read_nodes(alloc, tail_from(text, addresses_end))?;
-    let length = addresses_end + spots.length;
+    let nodes = read_nodes(alloc, tail_from(text, addresses_end))?;
+    let length = addresses_end + nodes.length;
     image.addresses = lines.addresses;
-    image.functions = spots.functions;
-    image.spots = spots.spots;
+    image.functions = nodes.functions;
+    image.nodes = nodes.nodes;
     Ok(Some(ParsedImage { image, length }))
 }
 
@@ -201,7 +201,7 @@ fn image_of_line(alloc: Global, line: &[u8]) -> Result<ImageCounts, AllocError>
         path: Text::new(path),
         addresses: Addresses::new(Vec::new(alloc)),
         functions: FunctionNames::new(Vec::new(alloc)),
-        spots: CallNodes::new(Vec::new(alloc)),
+        nodes: CallNodes::new(Vec::new(alloc)),
     })
 }
 

@@ -23,7 +23,7 @@ use std::alloc::{AllocError, Global};
 /// Parsed nodes, the names of their functions, and the length of their lines in bytes.
 #[derive(Drop)]
 pub(crate) struct ParsedNodes {
-    pub(crate) spots: CallNodes,
+    pub(crate) nodes: CallNodes,
     pub(crate) functions: FunctionNames,
     pub(crate) length: usize,
 }
@@ -32,7 +32,7 @@ pub(crate) struct ParsedNodes {
 pub(crate) fn read_nodes(alloc: Global, text: &[u8]) -> Result<ParsedNodes, AllocError>
     ensures { IfOk result (λ read. AreParsedNodes text.now read) }
 {
-    let mut spots = Vec::new(alloc);
+    let mut nodes = Vec::new(alloc);
     let mut names = NamesByFunction::new(alloc);
     let mut front = Vec::new(alloc);
     let mut length = 0;
@@ -41,14 +41,14 @@ pub(crate) fn read_nodes(alloc: Global, text: &[u8]) -> Result<ParsedNodes, Allo
         match next_node(alloc, line, front.as_slice(), &names)? {
             Some(read) => {
                 length += line.len();
-                front.truncate(read.spot.depth);
-                push_item(&mut front, read.spot.function)?;
-                push_item(&mut spots, read.spot)?;
+                front.truncate(read.node.depth);
+                push_item(&mut front, read.node.function)?;
+                push_item(&mut nodes, read.node)?;
                 names.add(function_name(read))?;
             }
             None => {
                 return Ok(ParsedNodes {
-                    spots: CallNodes::new(spots),
+                    nodes: CallNodes::new(nodes),
                     functions: names.into_names(alloc)?,
                     length,
                 });
@@ -62,7 +62,7 @@ fn function_name(named: NamedCallNode) -> FunctionName
     ensures { result ≡ function_name named }
 {
     FunctionName {
-        function: named.spot.function,
+        function: named.node.function,
         name: named.name,
     }
 }
@@ -75,14 +75,14 @@ fn next_node(
     previous_path: &[u32],
     names: &NamesByFunction,
 ) -> Result<Option<NamedCallNode>, AllocError>
-    ensures spot { (text : List ℕ) → line.now ≡ whole_line text → IfOk result (λ read. IfSome read IsValidNamedNode) }
-    ensures stands { IfOk result (λ read. IfSome read (λ n. FollowsInPreorder previous_path.now n.spot)) }
-    ensures agrees { IfOk result (λ read. IfSome read (λ n. AgreesWithName n.name (name_of n.spot.function names.now))) }
+    ensures node { (text : List ℕ) → line.now ≡ whole_line text → IfOk result (λ read. IfSome read IsValidNamedNode) }
+    ensures stands { IfOk result (λ read. IfSome read (λ n. FollowsInPreorder previous_path.now n.node)) }
+    ensures agrees { IfOk result (λ read. IfSome read (λ n. AgreesWithName n.name (name_of n.node.function names.now))) }
     ensures line { IfOk result (λ read. IfSome read (λ n. line.now ≡ node_line n)) }
     ensures none { IfOk result (λ read. IfNone read (IsNotANode names.now previous_path.now line.now)) }
 {
     let read = node_of_line(alloc, line)?;
-    if can_come_next(read.spot, previous_path)
+    if can_come_next(read.node, previous_path)
         && agrees(&read, names)
         && has_node_line(alloc, &read, line)?
     {
@@ -93,27 +93,27 @@ fn next_node(
 }
 
 // Whether a table can have this node directly after a node with the path `previous_path`.
-fn can_come_next(spot: CallNode, previous_path: &[u32]) -> bool
-    ensures { IsTrue result ↔ (IsValidNode spot × FollowsInPreorder previous_path.now spot) }
+fn can_come_next(node: CallNode, previous_path: &[u32]) -> bool
+    ensures { IsTrue result ↔ (IsValidNode node × FollowsInPreorder previous_path.now node) }
 {
-    0 < spot.calls
-        && spot.depth <= previous_path.len()
-        && (spot.depth == previous_path.len() || previous_path[spot.depth] < spot.function)
+    0 < node.calls
+        && node.depth <= previous_path.len()
+        && (node.depth == previous_path.len() || previous_path[node.depth] < node.function)
 }
 
 // Whether the node's name equals the name of its function in `names`, or `names` has none for it.
 fn agrees(read: &NamedCallNode, names: &NamesByFunction) -> bool
-    ensures { IsTrue result ↔ AgreesWithName read.now.name (name_of read.now.spot.function names.now) }
+    ensures { IsTrue result ↔ AgreesWithName read.now.name (name_of read.now.node.function names.now) }
 {
-    match names.find(read.spot.function) {
+    match names.find(read.node.function) {
         Some(name) => name == read.name.as_str(),
         None => true,
     }
 }
 
-// Returns the node of a line `spot DEPTH FUNCTION ARRIVALS STEPS NAME`. For any other line, the result is arbitrary.
+// Returns the node of a line `node DEPTH FUNCTION ARRIVALS STEPS NAME`. For any other line, the result is arbitrary.
 fn node_of_line(alloc: Global, line: &[u8]) -> Result<NamedCallNode, AllocError>
-    ensures spot { (n : ANamedSpot) → IsValidNamedNode n → line.now ≡ node_line n → IfOk result (λ read. read.spot ≡ n.spot) }
+    ensures node { (n : ANamedSpot) → IsValidNamedNode n → line.now ≡ node_line n → IfOk result (λ read. read.node ≡ n.node) }
     ensures name { (n : ANamedSpot) → IsValidNamedNode n → line.now ≡ node_line n → IfOk result (λ read. read.name ≡ n.name) }
     ensures text { IfOk result (λ read. IsUtf8 read.name) }
 {
@@ -126,7 +126,7 @@ fn node_of_line(alloc: Global, line: &[u8]) -> Result<NamedCallNode, AllocError>
         text_before_byte(b'\n', text_after_byte(b' ', behind)),
     )?;
     Ok(NamedCallNode {
-        spot: CallNode {
+        node: CallNode {
             depth: decimal_number(text_before_byte(b' ', words)) as usize,
             function: hex_word(leading_bytes(function, 8)),
             calls: decimal_number(text_before_byte(b' ', numbers)),
@@ -141,6 +141,6 @@ fn has_node_line(alloc: Global, read: &NamedCallNode, line: &[u8]) -> Result<boo
     ensures { IfOk result (λ same. same ≡ bytes_eq line.now (node_line read.now)) }
 {
     let mut text = String::new(alloc);
-    push_node_line(alloc, &mut text, read.spot, read.name.as_str())?;
+    push_node_line(alloc, &mut text, read.node, read.name.as_str())?;
     Ok(line == text.as_bytes())
 }

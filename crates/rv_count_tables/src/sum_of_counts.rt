@@ -30,8 +30,8 @@ pub(crate) fn sum_of_counts(
     while from_a < a.len() || from_b < b.len() {
         let next = next_count(&a[from_a..], &b[from_b..])?;
         push_item(&mut sums, next.sum)?;
-        from_a += next.of_a;
-        from_b += next.of_b;
+        from_a += next.count_in_a;
+        from_b += next.count_in_b;
     }
     Ok(Addresses::new(sums))
 }
@@ -40,8 +40,8 @@ pub(crate) fn sum_of_counts(
 #[derive(Clone, Copy)]
 pub(crate) struct NextCount {
     pub(crate) sum: AddressCounts,
-    pub(crate) of_a: usize,
-    pub(crate) of_b: usize,
+    pub(crate) count_in_a: usize,
+    pub(crate) count_in_b: usize,
 }
 
 // Returns the counts of the lowest address in the sum of two lists, and how many counts of each list they are made of.
@@ -67,30 +67,30 @@ fn next_count(a: &[AddressCounts], b: &[AddressCounts]) -> Result<NextCount, Sum
     let sum = sum_at_address(a[0], b[0])?;
     Ok(NextCount {
         sum,
-        of_a: 1,
-        of_b: 1,
+        count_in_a: 1,
+        count_in_b: 1,
     })
 }
 
 // Returns `sum` as the next counts of a sum, which only the first list has.
 fn count_of_first(sum: AddressCounts) -> NextCount
-    ensures { result ≡ record { sum = sum; of_a = 1; of_b = 0 } }
+    ensures { result ≡ record { sum = sum; count_in_a = 1; count_in_b = 0 } }
 {
     NextCount {
         sum,
-        of_a: 1,
-        of_b: 0,
+        count_in_a: 1,
+        count_in_b: 0,
     }
 }
 
 // Returns `sum` as the next counts of a sum, which only the second list has.
 fn count_of_second(sum: AddressCounts) -> NextCount
-    ensures { result ≡ record { sum = sum; of_a = 0; of_b = 1 } }
+    ensures { result ≡ record { sum = sum; count_in_a = 0; count_in_b = 1 } }
 {
     NextCount {
         sum,
-        of_a: 0,
-        of_b: 1,
+        count_in_a: 0,
+        count_in_b: 1,
     }
 }
 
@@ -102,7 +102,7 @@ fn sum_at_address(a: AddressCounts, b: AddressCounts) -> Result<AddressCounts, S
     ensures executed { IfOk result (λ sum. sum.executed ≡ a.executed + b.executed) }
     ensures taken { IfOk result (λ sum. sum.taken ≡ a.taken + b.taken) }
     ensures error { IfErr result (λ error. error ≡ Count a.address) }
-    ensures too_great { IfErr result (λ error. 2 ^ 64 ≤ a.executed + b.executed) }
+    ensures overflow { IfErr result (λ error. 2 ^ 64 ≤ a.executed + b.executed) }
     ensures fits { IfOk result (λ sum. sum.executed < 2 ^ 64) }
 {
     match a.executed.checked_add(b.executed) {

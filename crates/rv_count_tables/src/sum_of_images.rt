@@ -34,8 +34,8 @@ pub(crate) fn sum_of_images(
     while from_a < a.len() || from_b < b.len() {
         let next = next_image(alloc, &a[from_a..], &b[from_b..])?;
         push_item(&mut sums, next.image)?;
-        from_a += next.of_a;
-        from_b += next.of_b;
+        from_a += next.count_in_a;
+        from_b += next.count_in_b;
     }
     Ok(Images::new(sums))
 }
@@ -60,8 +60,8 @@ pub(crate) fn add_images(alloc: Global, a: Images, b: Images) -> Result<Images, 
 #[derive(Drop)]
 pub(crate) struct NextImage {
     pub(crate) image: ImageCounts,
-    pub(crate) of_a: usize,
-    pub(crate) of_b: usize,
+    pub(crate) count_in_a: usize,
+    pub(crate) count_in_b: usize,
 }
 
 // Returns the image with the lowest digest in the sum of two lists, and how many images of each list it is made of.
@@ -89,34 +89,34 @@ fn next_image(alloc: Global, a: &[ImageCounts], b: &[ImageCounts]) -> Result<Nex
     let image = sum_of_image(alloc, first, second)?;
     Ok(NextImage {
         image,
-        of_a: 1,
-        of_b: 1,
+        count_in_a: 1,
+        count_in_b: 1,
     })
 }
 
 // Returns a copy of an image as the next image of a sum, which only the first list has.
 fn image_of_first(alloc: Global, image: &ImageCounts) -> Result<NextImage, SumError>
-    ensures value { IfOk result (λ next. next ≡ record { image = image.now; of_a = 1; of_b = 0 }) }
+    ensures value { IfOk result (λ next. next ≡ record { image = image.now; count_in_a = 1; count_in_b = 0 }) }
     ensures refused { IfErr result (λ error. error ≡ OutOfMemory) }
 {
     let image = copy_of_image(alloc, image)?;
     Ok(NextImage {
         image,
-        of_a: 1,
-        of_b: 0,
+        count_in_a: 1,
+        count_in_b: 0,
     })
 }
 
 // Returns a copy of an image as the next image of a sum, which only the second list has.
 fn image_of_second(alloc: Global, image: &ImageCounts) -> Result<NextImage, SumError>
-    ensures value { IfOk result (λ next. next ≡ record { image = image.now; of_a = 0; of_b = 1 }) }
+    ensures value { IfOk result (λ next. next ≡ record { image = image.now; count_in_a = 0; count_in_b = 1 }) }
     ensures refused { IfErr result (λ error. error ≡ OutOfMemory) }
 {
     let image = copy_of_image(alloc, image)?;
     Ok(NextImage {
         image,
-        of_a: 0,
-        of_b: 1,
+        count_in_a: 0,
+        count_in_b: 1,
     })
 }
 
@@ -135,22 +135,22 @@ fn sum_of_image(alloc: Global, a: &ImageCounts, b: &ImageCounts) -> Result<Image
     ensures path { IfOk result (λ sum. sum.path ≡ min_text a.now.path b.now.path) }
     ensures counts { IfOk result (λ sum. IsSumOfCounts a.now.addresses b.now.addresses sum.addresses) }
     ensures names { IfOk result (λ sum. IsSumOfNames a.now.functions b.now.functions sum.functions) }
-    ensures of_spots { IfOk result (λ sum. AreNamesOf sum.spots sum.functions) }
-    ensures tree { IfOk result (λ sum. AreValidNodes sum.spots) }
-    ensures spots { IfOk result (λ sum. IsSumOfCallTrees a.now.spots b.now.spots sum.spots) }
+    ensures names_of_nodes { IfOk result (λ sum. AreNamesOf sum.nodes sum.functions) }
+    ensures tree { IfOk result (λ sum. AreValidNodes sum.nodes) }
+    ensures nodes { IfOk result (λ sum. IsSumOfCallTrees a.now.nodes b.now.nodes sum.nodes) }
     ensures refused { IfErr result (λ error. ImageHasNoSum error a.now b.now) }
 {
     let addresses = sum_of_counts(alloc, a.addresses.as_slice(), b.addresses.as_slice())?;
     let digest = Digest::new(copy_of(alloc, a.digest.as_slice())?);
     let path = Text::copy(alloc, min_text(a.path.as_str(), b.path.as_str()))?;
     let functions = sum_of_names(alloc, a.functions.as_slice(), b.functions.as_slice())?;
-    let spots = sum_of_call_trees(alloc, a.spots.as_slice(), b.spots.as_slice())?;
+    let nodes = sum_of_call_trees(alloc, a.nodes.as_slice(), b.nodes.as_slice())?;
     Ok(ImageCounts {
         digest,
         path,
         addresses,
         functions,
-        spots,
+        nodes,
     })
 }
 
@@ -162,13 +162,13 @@ fn copy_of_image(alloc: Global, image: &ImageCounts) -> Result<ImageCounts, Allo
     let path = Text::copy(alloc, image.path.as_str())?;
     let addresses = Addresses::new(copy_of(alloc, image.addresses.as_slice())?);
     let functions = copy_of_names(alloc, image.functions.as_slice())?;
-    let spots = CallNodes::new(copy_of(alloc, image.spots.as_slice())?);
+    let nodes = CallNodes::new(copy_of(alloc, image.nodes.as_slice())?);
     Ok(ImageCounts {
         digest,
         path,
         addresses,
         functions,
-        spots,
+        nodes,
     })
 }
 

@@ -31,8 +31,8 @@ pub(crate) fn sum_of_names(
     while from_a < a.len() || from_b < b.len() {
         let next = next_name(alloc, &a[from_a..], &b[from_b..])?;
         push_item(&mut sums, next.name)?;
-        from_a += next.of_a;
-        from_b += next.of_b;
+        from_a += next.count_in_a;
+        from_b += next.count_in_b;
     }
     Ok(FunctionNames::new(sums))
 }
@@ -41,8 +41,8 @@ pub(crate) fn sum_of_names(
 #[derive(Drop)]
 pub(crate) struct NextName {
     pub(crate) name: FunctionName,
-    pub(crate) of_a: usize,
-    pub(crate) of_b: usize,
+    pub(crate) count_in_a: usize,
+    pub(crate) count_in_b: usize,
 }
 
 // Returns the name of the lowest function in both lists, and how many entries of each list it is made of, or an error if the function has
@@ -74,8 +74,8 @@ fn next_name(alloc: Global, a: &[FunctionName], b: &[FunctionName]) -> Result<Ne
     let name = copy_of_name(alloc, first)?;
     Ok(NextName {
         name,
-        of_a: 1,
-        of_b: 1,
+        count_in_a: 1,
+        count_in_b: 1,
     })
 }
 
@@ -88,27 +88,27 @@ fn have_equal_names(a: &FunctionName, b: &FunctionName) -> bool
 
 // Returns a copy of a name as the next name of a sum, which only the first list has.
 fn name_of_first(alloc: Global, name: &FunctionName) -> Result<NextName, SumError>
-    ensures value { IfOk result (λ next. next ≡ record { name = name.now; of_a = 1; of_b = 0 }) }
+    ensures value { IfOk result (λ next. next ≡ record { name = name.now; count_in_a = 1; count_in_b = 0 }) }
     ensures refused { IfErr result (λ error. error ≡ OutOfMemory) }
 {
     let name = copy_of_name(alloc, name)?;
     Ok(NextName {
         name,
-        of_a: 1,
-        of_b: 0,
+        count_in_a: 1,
+        count_in_b: 0,
     })
 }
 
 // Returns a copy of a name as the next name of a sum, which only the second list has.
 fn name_of_second(alloc: Global, name: &FunctionName) -> Result<NextName, SumError>
-    ensures value { IfOk result (λ next. next ≡ record { name = name.now; of_a = 0; of_b = 1 }) }
+    ensures value { IfOk result (λ next. next ≡ record { name = name.now; count_in_a = 0; count_in_b = 1 }) }
     ensures refused { IfErr result (λ error. error ≡ OutOfMemory) }
 {
     let name = copy_of_name(alloc, name)?;
     Ok(NextName {
         name,
-        of_a: 0,
-        of_b: 1,
+        count_in_a: 0,
+        count_in_b: 1,
     })
 }
 

@@ -36,7 +36,7 @@ pub struct FunctionName {
 /// A call-tree node with the name of its function, as in a line of the text.
 #[derive(Debug, Drop)]
 pub struct NamedCallNode {
-    pub spot: CallNode,
+    pub node: CallNode,
     pub name: Text,
 }
 
@@ -52,7 +52,7 @@ pub struct ImageCounts {
     /// The functions that the nodes end in, each once, sorted by address.
     pub functions: FunctionNames,
     /// The call tree; empty if call paths were not counted.
-    pub spots: CallNodes,
+    pub nodes: CallNodes,
 }
 
 /// How often each instruction of each image was executed in some runs.

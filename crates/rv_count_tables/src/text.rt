@@ -45,7 +45,7 @@ fn push_image(alloc: Global, text: &mut String, image: &ImageCounts) -> Result<(
         alloc,
         text,
         image.functions.as_slice(),
-        image.spots.as_slice(),
+        image.nodes.as_slice(),
     )
 }
 
@@ -68,13 +68,13 @@ fn push_nodes(
     alloc: Global,
     text: &mut String,
     names: &[FunctionName],
-    spots: &[CallNode],
+    nodes: &[CallNode],
 ) -> Result<(), AllocError>
-    ensures { OnOk result (string_bytes text.new ≡ string_bytes text.old ++ flat_map (line_of_node names.now) spots.now) }
+    ensures { OnOk result (string_bytes text.new ≡ string_bytes text.old ++ flat_map (line_of_node names.now) nodes.now) }
 {
     let index = index_of_functions(alloc, names)?;
-    for spot in spots {
-        push_indexed_line(alloc, text, *spot, &index)?;
+    for node in nodes {
+        push_indexed_line(alloc, text, *node, &index)?;
     }
     Ok(())
 }
@@ -121,16 +121,16 @@ fn fields_of_function(alloc: Global, name: &FunctionName) -> Result<FunctionFiel
 fn push_indexed_line(
     alloc: Global,
     text: &mut String,
-    spot: CallNode,
+    node: CallNode,
     index: &BTreeMap<u32, FunctionFields>,
 ) -> Result<(), AllocError>
-    ensures { OnOk result (string_bytes text.new ≡ string_bytes text.old ++ line_by_index index.now spot) }
+    ensures { OnOk result (string_bytes text.new ≡ string_bytes text.old ++ line_by_index index.now node) }
 {
-    match index.get(&spot.function) {
+    match index.get(&node.function) {
         Some(words) => {
-            push_line_with_digits(text, spot, words.digits.as_str(), words.name.as_str())
+            push_line_with_digits(text, node, words.digits.as_str(), words.name.as_str())
         }
-        None => push_node_line(alloc, text, spot, ""),
+        None => push_node_line(alloc, text, node, ""),
     }
 }
 
@@ -170,26 +170,26 @@ pub(crate) fn push_address_line(
 pub(crate) fn push_node_line(
     alloc: Global,
     text: &mut String,
-    spot: CallNode,
+    node: CallNode,
     name: &str,
 ) -> Result<(), AllocError>
-    ensures { OnOk result (string_bytes text.new ≡ string_bytes text.old ++ node_line (record { spot = spot; name = name.now })) }
+    ensures { OnOk result (string_bytes text.new ≡ string_bytes text.old ++ node_line (record { node = node; name = name.now })) }
 {
-    let digits = hex::encode(alloc, spot.function.to_be_bytes().as_slice())?;
-    push_line_with_digits(text, spot, digits.as_str(), name)
+    let digits = hex::encode(alloc, node.function.to_be_bytes().as_slice())?;
+    push_line_with_digits(text, node, digits.as_str(), name)
 }
 
 // Appends the line of a node, with these digits for the address of its function.
 #[tactic(auto, unfolding(crate::specs::ParsedNodes::line_with_digits))]
 fn push_line_with_digits(
     text: &mut String,
-    spot: CallNode,
+    node: CallNode,
     digits: &str,
     name: &str,
 ) -> Result<(), AllocError>
-    ensures { OnOk result (string_bytes text.new ≡ string_bytes text.old ++ line_with_digits digits.now spot name.now) }
+    ensures { OnOk result (string_bytes text.new ≡ string_bytes text.old ++ line_with_digits digits.now node name.now) }
 {
-    push_fields_with_digits(text, spot, digits)?;
+    push_fields_with_digits(text, node, digits)?;
     push_field(text, name)?;
     text.push_str("\n")
 }
@@ -198,16 +198,16 @@ fn push_line_with_digits(
 #[tactic(auto, unfolding(crate::specs::ParsedNodes::fields_with_digits))]
 fn push_fields_with_digits(
     text: &mut String,
-    spot: CallNode,
+    node: CallNode,
     digits: &str,
 ) -> Result<(), AllocError>
-    ensures { OnOk result (string_bytes text.new ≡ string_bytes text.old ++ fields_with_digits digits.now spot) }
+    ensures { OnOk result (string_bytes text.new ≡ string_bytes text.old ++ fields_with_digits digits.now node) }
 {
     text.push_str("spot")?;
-    push_number(text, spot.depth as u64)?;
+    push_number(text, node.depth as u64)?;
     push_field(text, digits)?;
-    push_number(text, spot.calls)?;
-    push_number(text, spot.steps)
+    push_number(text, node.calls)?;
+    push_number(text, node.steps)
 }
 
 // Appends a space and a word.

@@ -53,12 +53,12 @@ none_more table sum failed error results made goes h refused = record {
   refused = refused;
 }
 
-module _ {H : Type 0} (is_made : ℕ → H → Type 0) (jobs : ℕ) (has_received : List H → Type 0) (stops : Type 0) where
-  heard_some : (flow : Flow) → IsRunDelivered is_made jobs has_received stops (Ok flow) → HasReceivedSome is_made jobs has_received
+module _ {H : Type 0} (is_output : ℕ → H → Type 0) (jobs : ℕ) (has_received : List H → Type 0) (stops : Type 0) where
+  heard_some : (flow : Flow) → IsRunDelivered is_output jobs has_received stops (Ok flow) → HasReceivedSome is_output jobs has_received
   heard_some Continue h = record { count = jobs; hears = h.0 }
   heard_some Stop h = h.0
 
-  heard_all : (flow : Flow) → (stops → ⊥) → IsRunDelivered is_made jobs has_received stops (Ok flow) → HasReceived is_made jobs has_received jobs
+  heard_all : (flow : Flow) → (stops → ⊥) → IsRunDelivered is_output jobs has_received stops (Ok flow) → HasReceived is_output jobs has_received jobs
   heard_all Continue goes h = h.0
   heard_all Stop goes h = absurd (goes h.1)
 

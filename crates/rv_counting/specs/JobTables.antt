@@ -68,7 +68,7 @@ table_of_runs runs path bytes addresses = record {
     path = printable_text path;
     addresses = addresses;
     functions = [];
-    spots = [];
+    nodes = [];
   } ∷ [];
   runs = runs;
 }

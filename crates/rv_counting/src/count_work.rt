@@ -63,7 +63,7 @@ impl Work<JobsTable> for CountWork<'_> {
 
     ghost jobs = { λ s. length s.pieces.now };
 
-    ghost is_made = { λ s number table. IsTableOfRange s.batch.now.plan.now
+    ghost is_output = { λ s number table. IsTableOfRange s.batch.now.plan.now
         (indices_in s.batch.now.places.now (range_at s.pieces.now number)) table };
 
     ghost is_worker_state = { λ _ _. Unit {0} };

@@ -118,7 +118,7 @@ fn table_of_runs(
             path,
             addresses,
             functions: FunctionNames::new(Vec::new(alloc)),
-            spots: CallNodes::new(Vec::new(alloc)),
+            nodes: CallNodes::new(Vec::new(alloc)),
         },
     )?;
     Ok(CountTable { images, runs })

@@ -97,12 +97,12 @@ not_compared_text count = if count == 0 then [] else codes ", " ++ decimal count
 
 -- the last line: how many of the compared jobs differ and how, how many jobs were not compared, and the total steps, if there are sums
 unfoldable pub count_line : ℕ → DifferenceCounts → ℕ → Option StepSums → List ℕ
-count_line job_count counts left_out sums = line (differing_text (differing_count counts) job_count ++ change_counts_text counts
-    ++ not_compared_text left_out ++ sums_text sums)
+count_line job_count counts not_compared sums = line (differing_text (differing_count counts) job_count ++ change_counts_text counts
+    ++ not_compared_text not_compared ++ sums_text sums)
 
--- the output of `diff` for the rows of two reports: a line for each difference, and the line of counts; `left_out` is how many jobs were
+-- the output of `diff` for the rows of two reports: a line for each difference, and the line of counts; `not_compared` is how many jobs were
 -- not compared, since one report is a part without them
 unfoldable pub diff_text : CompareMode → List Row → List Row → ℕ → List ℕ
-diff_text mode old new left_out = let counts = difference_counts mode old new in
+diff_text mode old new not_compared = let counts = difference_counts mode old new in
     difference_lines mode old new
-    ++ count_line (length new + counts.gone) counts left_out (step_sums mode old new)
+    ++ count_line (length new + counts.gone) counts not_compared (step_sums mode old new)

@@ -40,7 +40,7 @@ pub struct ComparedReports<'a> {
     pub old: &'a [Row],
     pub new: &'a [Row],
     /// The number of jobs that are not compared, since one of the reports is a part without them.
-    pub left_out: usize,
+    pub not_compared: usize,
 }
 
 /// The total steps of two reports.
@@ -64,11 +64,11 @@ pub fn push_diff(
     requires old { length compared.old.now < 2 ^ 32 }
     requires new { length compared.new.now < 2 ^ 32 }
     ensures text { OnOk result (text.new.items ≡ text.old.items
-        ++ diff_text mode compared.entry.old.now compared.entry.new.now compared.entry.left_out) }
+        ++ diff_text mode compared.entry.old.now compared.entry.new.now compared.entry.not_compared) }
     ensures counts { IfOk result (λ counts. counts
         ≡ difference_counts mode compared.entry.old.now compared.entry.new.now) }
 {
-    let ComparedReports { old, new, left_out } = compared;
+    let ComparedReports { old, new, not_compared } = compared;
     let gone = push_gone_lines(alloc, text, mode, old, new)?;
     let (added, changed) = push_added_and_changed_lines(alloc, text, mode, old, new)?;
     let counts = DifferenceCounts {
@@ -77,7 +77,7 @@ pub fn push_diff(
         changed,
     };
     let sums = step_sums(mode, old, new);
-    push_count_line(text, new.len() + gone, counts, left_out, sums)?;
+    push_count_line(text, new.len() + gone, counts, not_compared, sums)?;
     Ok(counts)
 }
 
@@ -207,14 +207,14 @@ fn push_count_line(
     text: &mut Vec<u8>,
     job_count: usize,
     counts: DifferenceCounts,
-    left_out: usize,
+    not_compared: usize,
     sums: Option<StepSums>,
 ) -> Result<(), AllocError>
     requires { differing_count counts < 2 ^ 64 }
-    ensures { OnOk result (text.new.items ≡ text.old.items ++ count_line job_count counts left_out sums) }
+    ensures { OnOk result (text.new.items ≡ text.old.items ++ count_line job_count counts not_compared sums) }
 {
     push_counts(text, job_count, counts)?;
-    push_not_compared(text, left_out)?;
+    push_not_compared(text, not_compared)?;
     push_step_sums(text, sums)?;
     push_text(text, "\n")
 }

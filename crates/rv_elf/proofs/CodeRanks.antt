@@ -388,16 +388,16 @@ module _ (image : Image) (file strings : List ℕ) (es : List CodeSymbol) where
 
 -- ---- one address
 
-module _ (image : Image) (file strings : List ℕ) (es : List CodeSymbol) (finds : AgreeWithSymbolAt image file strings es)
+module _ (image : Image) (file strings : List ℕ) (es : List CodeSymbol) (agree_with_symbol_at : AgreeWithSymbolAt image file strings es)
     (addr above : ℕ) (d : CodeSymbol) (bound : above ≤ length es)
     (point : IsPartitionPoint (λ s. leb s.value addr ≡ true) (λ s. leb s.value addr ≡ false) es above) where
   pub nothing_below : above ≡ 0 → symbol_at image file addr ≡ None
-  nothing_below e = finds addr above d bound point
+  nothing_below e = agree_with_symbol_at addr above d bound point
       ∙ ap (λ b. cond b None (named_in_segment image.segments strings addr (get_or es (above - 1) d))) (eq-eqb above 0 e)
 
   module _ (some : 0 < above) (s : CodeSymbol) (is : s ≡ get_or es (above - 1) d) where
     by_this : symbol_at image file addr ≡ named_in_segment image.segments strings addr s
-    by_this = finds addr above d bound point
+    by_this = agree_with_symbol_at addr above d bound point
         ∙ ap (λ b. cond b None (named_in_segment image.segments strings addr (get_or es (above - 1) d)))
         (ne_eqb above 0 (λ e. omega (arith, e, some)))
         ∙ sym (ap (named_in_segment image.segments strings addr) is)

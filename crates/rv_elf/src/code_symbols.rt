@@ -32,7 +32,7 @@ pub struct CodeSymbols<'a> {
     symbols: Vec<CodeSymbol>,
     ghost rising: { IsNonDecreasingBy (λ s. s.value) symbols.items },
     ghost named: { HaveNames strings.now symbols.items },
-    ghost finds: { AgreeWithSymbolAt image.now bytes.now strings.now symbols.items },
+    ghost agree_with_symbol_at: { AgreeWithSymbolAt image.now bytes.now strings.now symbols.items },
 }
 
 // A table has fewer symbols than this, since its size has 32 bits.

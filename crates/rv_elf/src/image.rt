@@ -56,7 +56,7 @@ pub struct Image {
 pub fn read_image(alloc: Global, file: &[u8], isa: Isa) -> Result<Image, ImageError>
     ensures value { MatchResult result (λ image. image_of isa file.now ≡ Ok image)
         (λ e. e ≢ OutOfMemory → image_of isa file.now ≡ Err e) }
-    ensures of_bytes { IfOk result (IsImageOf file.now) }
+    ensures image { IfOk result (IsImageOf file.now) }
 
     // An instruction may start there.
     ensures even { IfOk result (λ image. image.entry % 2 ≡ 0) }

@@ -101,9 +101,9 @@ nothing_left [] h = refl
 nothing_left (x ∷ xs) h = absurd (omega arith)
 
 -- a piece of what is made
-pub piece_made : {H : Type 0} (is_made is_result : ℕ → H → Type 0) (jobs group piece : ℕ) (results : List H)
-    → OutputsAreAllowed is_made is_result → IsChunk is_made jobs group piece results → IsChunk is_result jobs group piece results
-piece_made is_made is_result jobs group piece results are made = record {
+pub piece_made : {H : Type 0} (is_output is_result : ℕ → H → Type 0) (jobs group piece : ℕ) (results : List H)
+    → OutputsAreAllowed is_output is_result → IsChunk is_output jobs group piece results → IsChunk is_result jobs group piece results
+piece_made is_output is_result jobs group piece results are made = record {
   each = λ k any low. are (piece * group + k) (get_or results k any) (made.each k any low);
   count = made.count;
 }

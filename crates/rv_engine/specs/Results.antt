@@ -77,4 +77,4 @@ IsDelivered is_result jobs group has_received stops next Stop = HasReceivedSome 
 
 -- each result that the work can compute for a job is one of the results that the run allows for the job
 abbrev pub OutputsAreAllowed : {H : Type 0} → (ℕ → H → Type 0) → (ℕ → H → Type 0) → Type 0
-OutputsAreAllowed {H} is_made is_result = (number : ℕ) (made : H) → is_made number made → is_result number made
+OutputsAreAllowed {H} is_output is_result = (number : ℕ) (made : H) → is_output number made → is_result number made

@@ -29,7 +29,7 @@ pub(crate) fn compute_chunk<H: Drop, W: Work<H>>(
     requires group { (0 < group) × (group ≤ max_group) }
     requires piece { chunk < chunk_count (W.jobs work.now) group }
     requires worker_state { W.is_worker_state work.now worker_state.old }
-    ensures made { IfOk result (λ made. IsChunk (W.is_made work.now) (W.jobs work.now) group chunk made.items) }
+    ensures made { IfOk result (λ made. IsChunk (W.is_output work.now) (W.jobs work.now) group chunk made.items) }
     ensures worker_state { OnOk result (W.is_worker_state work.now worker_state.new) }
 {
     let jobs = work.jobs();

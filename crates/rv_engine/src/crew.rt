@@ -13,8 +13,8 @@ pub struct Crew<'r, R> {
     pub workers: u32,
     /// The number of jobs in a chunk.
     pub group: u32,
-    pub ghost workers_few: { (0 < workers) × (workers ≤ max_workers) },
-    pub ghost group_few: { (0 < group) × (group ≤ max_group) },
+    pub ghost workers_in_range: { (0 < workers) × (workers ≤ max_workers) },
+    pub ghost group_in_range: { (0 < group) × (group ≤ max_group) },
 }
 
 impl<'r, R> Crew<'r, R> {

@@ -53,7 +53,7 @@ pub fn run_jobs<
     W: Work<H> + Sync,
     L: Listener<H> + Drop + Send,
 >(crew: &Crew<'_, R>, work: &W, listener: L) -> (L, Result<Flow, RunError>)
-    requires results { OutputsAreAllowed (W.is_made work.now) J.is_result }
+    requires results { OutputsAreAllowed (W.is_output work.now) J.is_result }
     requires jobs { J.jobs ≡ W.jobs work.now }
     requires group { J.group ≡ crew.now.group }
     requires received { L.has_received listener [] }
@@ -88,7 +88,7 @@ fn deliver_remaining<J: RunSpec<H>, H: Drop, R, W: Work<H>, L: Listener<H>>(
     listener: L,
     remaining: Undelivered<H>,
 ) -> (L, Result<Flow, RunError>)
-    requires results { OutputsAreAllowed (W.is_made work.now) J.is_result }
+    requires results { OutputsAreAllowed (W.is_output work.now) J.is_result }
     requires jobs { J.jobs ≡ W.jobs work.now }
     requires group { J.group ≡ crew.now.group }
     requires rest { IsInOrder J.is_result J.jobs J.group (L.has_received listener) (L.stops listener) remaining.next remaining.ended remaining.pending.items }
@@ -120,7 +120,7 @@ fn deliver_from<J: RunSpec<H>, H: Drop, R, W: Work<H>, L: Listener<H>>(
     pending: Vec<Option<Vec<H>>>,
     next: usize,
 ) -> Result<Flow, RunError>
-    requires results { OutputsAreAllowed (W.is_made work.now) J.is_result }
+    requires results { OutputsAreAllowed (W.is_output work.now) J.is_result }
     requires jobs { J.jobs ≡ W.jobs work.now }
     requires group { J.group ≡ crew.now.group }
     requires pending { ArePending J.is_result J.jobs J.group pending.items }

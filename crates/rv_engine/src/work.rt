@@ -13,7 +13,7 @@ pub trait Work<H> {
     ghost jobs: { Self → ℕ };
 
     // Which results the job with a number can have.
-    ghost is_made: { Self → ℕ → H → Type 0 };
+    ghost is_output: { Self → ℕ → H → Type 0 };
 
     // What is true of a worker's state before and after each of its jobs.
     ghost is_worker_state: { Self → WorkerState → Type 0 };
@@ -36,6 +36,6 @@ pub trait Work<H> {
     ) -> Result<H, AllocError>
         requires number { number < jobs self.now }
         requires worker_state { is_worker_state self.now worker_state.old }
-        ensures made { IfOk result (is_made self.now number) }
+        ensures made { IfOk result (is_output self.now number) }
         ensures worker_state { OnOk result (is_worker_state self.now worker_state.new) };
 }

@@ -20,7 +20,7 @@ pub(crate) struct WorkerContext<'a, J: RunSpec<H>, H: Drop, R, W: Work<H>, L: Li
     pub(crate) work: &'a W,
     pub(crate) group: u32,
     pub(crate) in_order: Mutex<DeliveryState<J, H, L>>,
-    pub(crate) ghost group_few: { (0 < group) × (group ≤ max_group) },
+    pub(crate) ghost group_in_range: { (0 < group) × (group ≤ max_group) },
     pub(crate) ghost jobs: { J.jobs ≡ W.jobs work.now },
     pub(crate) ghost pieces: { J.group ≡ group },
 }
@@ -36,7 +36,7 @@ impl<
     ghost use Rattle.std.specs.Prelude.{◌≡◌};
     ghost use Rattle.rv_engine.specs.Results.{OutputsAreAllowed, chunk_count};
 
-    ghost draws = { λ s draw. (draw.pieces ≡ chunk_count (W.jobs s.work.now) s.group) × OutputsAreAllowed (W.is_made s.work.now) J.is_result };
+    ghost draws = { λ s draw. (draw.pieces ≡ chunk_count (W.jobs s.work.now) s.group) × OutputsAreAllowed (W.is_output s.work.now) J.is_result };
 
     // Draws chunks, computes them and delivers their results until no chunk is left or the run ends.
     fn compute_chunks(&self, claims: &Claims, pass: Pass) -> Result<(), AllocError> {

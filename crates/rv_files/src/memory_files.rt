@@ -95,14 +95,14 @@ impl LastError for MemorySink {
 /// Files that were written to memory.
 #[derive(Debug, Drop)]
 pub struct MemoryOutputs {
-    placed: Vec<MemoryFile>,
+    committed: Vec<MemoryFile>,
     steps_left: u64,
 }
 
 impl MemoryOutputs {
     /// Returns outputs without files. Does not allocate.
     pub fn new(alloc: Global) -> MemoryOutputs
-        ensures { result.placed.items ≡ [] }
+        ensures { result.committed.items ≡ [] }
     {
         MemoryOutputs::with_steps(alloc, u64::MAX)
     }
@@ -110,25 +110,25 @@ impl MemoryOutputs {
     /// Returns outputs without files that allow `steps` steps and reject all later ones. Creating, syncing and placing a file are one step
     /// each. Does not allocate.
     pub fn with_steps(alloc: Global, steps: u64) -> MemoryOutputs
-        ensures nothing { result.placed.items ≡ [] }
+        ensures nothing { result.committed.items ≡ [] }
         ensures steps { result.steps_left ≡ steps }
     {
         MemoryOutputs {
-            placed: Vec::new(alloc),
+            committed: Vec::new(alloc),
             steps_left: steps,
         }
     }
 
     /// Returns the files placed at their paths, in the order in which they were placed.
     pub fn committed_files(&self) -> &[MemoryFile]
-        ensures { result.now ≡ self.now.placed.items }
+        ensures { result.now ≡ self.now.committed.items }
     {
-        &self.placed
+        &self.committed
     }
 
     // Uses up one of the allowed steps, or returns an error if none is left.
     fn take_step(&mut self) -> Result<(), FileError>
-        ensures same { self.new.placed ≡ self.old.placed }
+        ensures same { self.new.committed ≡ self.old.committed }
         ensures taken { MatchResult result (λ _. self.new.steps_left + 1 ≡ self.old.steps_left)
             (λ error. (self.old.steps_left ≡ 0) × (error ≡ FileError.Failed ErrorKind.StorageFull)) }
     {
@@ -149,7 +149,7 @@ impl Outputs for MemoryOutputs {
 
     type Synced = Vec<u8>;
 
-    ghost placed = { λ outputs. Some (committed_memory_files outputs.placed.items) };
+    ghost committed = { λ outputs. Some (committed_memory_files outputs.committed.items) };
 
     ghost pending_path = { λ path. path };
 
@@ -191,7 +191,7 @@ impl Outputs for MemoryOutputs {
     // Places a file at its path, which uses up one step.
     fn place(&mut self, path: Text, bytes: Vec<u8>) -> Result<(), FileError> {
         self.take_step()?;
-        match self.placed.push(MemoryFile { path, bytes }) {
+        match self.committed.push(MemoryFile { path, bytes }) {
             Ok(()) => Ok(()),
             Err(_) => Err(FileError::OutOfMemory),
         }

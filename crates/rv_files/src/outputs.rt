@@ -20,7 +20,7 @@ pub trait Outputs {
     type Synced: Drop;
 
     // The placed files in the order in which they were placed, if known.
-    ghost placed: { Self → Option (List CommittedFile) };
+    ghost committed: { Self → Option (List CommittedFile) };
 
     // The path of a destination.
     ghost pending_path: { Self.Place → List ℕ };
@@ -31,44 +31,44 @@ pub trait Outputs {
     /// Returns a text that is equal for two paths if and only if they denote one file, however the paths are spelled.
     fn identity(&self, alloc: Global, path: &str) -> Result<Text, AllocError>
         // If the placed files are known, a file has only one path.
-        ensures { IfOk result (λ identity. IfSome (placed self.now) (λ _. identity ≡ path.now)) };
+        ensures { IfOk result (λ identity. IfSome (committed self.now) (λ _. identity ≡ path.now)) };
 
     /// Whether the file at a path is in a directory or in one of its subdirectories, however both paths are spelled.
     fn is_below(&self, alloc: Global, directory: &str, path: &str) -> Result<bool, AllocError>
         // If the placed files are known, there are no directories.
-        ensures { IfOk result (λ below. IfSome (placed self.now) (λ _. IsTrue below)) };
+        ensures { IfOk result (λ below. IfSome (committed self.now) (λ _. IsTrue below)) };
 
     /// Returns the identities of the files that writing to a path replaces or removes. If no file can be written there, because its
     /// directory is missing or a read-only file is in the way, returns an error.
     fn replaced_files(&self, alloc: Global, path: &str) -> Result<Vec<Text>, FileError>
-        ensures { IfOk result (λ replaced. IfSome (placed self.now) (λ _. replaced.items ≡ path.now ∷ [])) };
+        ensures { IfOk result (λ replaced. IfSome (committed self.now) (λ _. replaced.items ≡ path.now ∷ [])) };
 
     /// Creates an empty file that is to be placed at a path, and returns its destination and the file. Any file at the path remains.
     fn create(&mut self, alloc: Global, path: &str) -> Result<(Self::Place, Self::File), FileError>
-        ensures same { placed self.new ≡ placed self.old }
+        ensures same { committed self.new ≡ committed self.old }
         ensures path { IfOk result (λ made. pending_path made.0 ≡ path.now) }
         ensures empty { IfOk result (λ made. IfSome (Self.File.accepted made.1) (λ bytes. bytes ≡ [])) }
 
         // If the placed files are known, the bytes that this file accepts are known, too.
-        ensures told { IfOk result (λ made. IfSome (placed self.old) (λ _. Self.File.accepted made.1 ≡ Some [])) }
-        ensures unfailed { IfOk result (λ made. Self.File.failure_count made.1 ≡ 0) };
+        ensures told { IfOk result (λ made. IfSome (committed self.old) (λ _. Self.File.accepted made.1 ≡ Some [])) }
+        ensures no_failures { IfOk result (λ made. Self.File.failure_count made.1 ≡ 0) };
 
     /// Syncs a file's bytes to disk.
     fn sync(&mut self, file: Self::File) -> Result<Self::Synced, FileError>
         // Every write succeeded.
         requires { Self.File.failure_count file ≡ 0 }
-        ensures same { placed self.new ≡ placed self.old }
+        ensures same { committed self.new ≡ committed self.old }
         ensures synced { IfOk result (λ synced. synced_bytes synced ≡ Self.File.accepted file) }
         ensures another_error { IfErr result (λ error. error ≢ FileError.SameFile) };
 
     /// Places a file at its path.
     fn place(&mut self, place: Self::Place, file: Self::Synced) -> Result<(), FileError>
-        ensures placed { OnOk result
-            (IsCommittedFileAdded (placed self.old) (placed self.new) (pending_path place) (synced_bytes file)) }
-        ensures same { OnErr result (placed self.new ≡ placed self.old) }
+        ensures committed { OnOk result
+            (IsCommittedFileAdded (committed self.old) (committed self.new) (pending_path place) (synced_bytes file)) }
+        ensures same { OnErr result (committed self.new ≡ committed self.old) }
         ensures another_error { IfErr result (λ error. error ≢ FileError.SameFile) };
 
     /// Removes a file that was not placed. Any file at its path remains.
     fn abandon(&mut self, place: Self::Place)
-        ensures { placed self.new ≡ placed self.old };
+        ensures { committed self.new ≡ committed self.old };
 }

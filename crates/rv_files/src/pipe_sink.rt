@@ -32,7 +32,7 @@ impl<W: Write + Drop> PipeSink<W> {
     /// Returns an open sink over a stream, without failures.
     pub fn new(stream: W) -> PipeSink<W>
         ensures stream { result.stream ≡ stream }
-        ensures unfailed { result.failures ≡ 0 }
+        ensures no_failures { result.failures ≡ 0 }
         ensures open { result.is_closed ≡ false }
     {
         PipeSink {

@@ -30,7 +30,7 @@ use std::rt::Files;
 pub struct SystemOutputs<'a, R: Files> {
     files: &'a R,
     // The temporary paths, with `.new` appended, of the files that are neither placed nor abandoned.
-    unplaced: Vec<PathBuf>,
+    uncommitted: Vec<PathBuf>,
 }
 
 /// The destination of a system file.
@@ -55,11 +55,11 @@ where
     /// Returns outputs over the system's files. Does not allocate.
     pub fn new(files: &'a R, alloc: Global) -> SystemOutputs<'a, R>
         ensures files { result.files ≡ files.entry }
-        ensures nothing { result.unplaced.items ≡ [] }
+        ensures nothing { result.uncommitted.items ≡ [] }
     {
         SystemOutputs {
             files,
-            unplaced: Vec::new(alloc),
+            uncommitted: Vec::new(alloc),
         }
     }
 
@@ -70,7 +70,7 @@ where
         path: &str,
         paths: Option<&FilePaths>,
     ) -> Result<R::File, FileError>
-        ensures first { IfErr result (λ error. error ≡ FileError.SameFile → 0 < vec_len self.old.unplaced) }
+        ensures first { IfErr result (λ error. error ≡ FileError.SameFile → 0 < vec_len self.old.uncommitted) }
     {
         let _streams = (
             open_null_device(self.files),
@@ -89,14 +89,14 @@ where
         alloc: Global,
         paths: &FilePaths,
     ) -> Result<R::File, FileError>
-        ensures first { IfErr result (λ error. error ≡ FileError.SameFile → 0 < vec_len self.old.unplaced) }
+        ensures first { IfErr result (λ error. error ≡ FileError.SameFile → 0 < vec_len self.old.uncommitted) }
     {
         self.check_not_same_file(alloc, paths)?;
         self.record_uncommitted(alloc, paths.new.as_str())?;
         match create_new_file(self.files, paths) {
             Ok(file) => Ok(file),
             Err(error) => {
-                self.unplaced.pop();
+                self.uncommitted.pop();
                 Err(FileError::from(error))
             }
         }
@@ -105,11 +105,11 @@ where
     // Returns an error if the final or temporary path of a file belongs to another file that is not yet placed: neither would end up
     // complete.
     fn check_not_same_file(&self, alloc: Global, paths: &FilePaths) -> Result<(), FileError>
-        ensures first { IfErr result (λ error. error ≡ FileError.SameFile → 0 < vec_len self.now.unplaced) }
+        ensures first { IfErr result (λ error. error ≡ FileError.SameFile → 0 < vec_len self.now.uncommitted) }
     {
         // If the other file's final path is this one's temporary path, this is the other's temporary path.
         let newer = with_new_suffix(alloc, paths.new.as_str())?;
-        for other in &self.unplaced {
+        for other in &self.uncommitted {
             for path in [&paths.new, &paths.whole, &newer] {
                 if is_same_file(self.files, alloc, path.as_str(), other.as_str())? {
                     return Err(FileError::SameFile);
@@ -121,13 +121,13 @@ where
 
     // Records that the file at this temporary path is not yet placed.
     fn record_uncommitted(&mut self, alloc: Global, new: &str) -> Result<(), AllocError> {
-        self.unplaced.push(PathBuf::from_str(alloc, new)?)?;
+        self.uncommitted.push(PathBuf::from_str(alloc, new)?)?;
         Ok(())
     }
 
     // Removes the record that the file at this temporary path is not yet placed.
     fn remove_uncommitted(&mut self, temporary: &str) {
-        self.unplaced.retain(|path| path.as_str() != temporary);
+        self.uncommitted.retain(|path| path.as_str() != temporary);
     }
 }
 
@@ -174,7 +174,7 @@ where
 
     type Synced = SyncedFile<R::File>;
 
-    ghost placed = { λ _. None };
+    ghost committed = { λ _. None };
 
     ghost pending_path = { λ place. place.given };
 
@@ -216,8 +216,8 @@ where
         path: &str,
     ) -> Result<(PendingFile, FileSink<R::File>), FileError>
         ensures path { IfOk result (λ made. made.0.given ≡ path.now) }
-        ensures unfailed { IfOk result (λ made. made.1.stream.failures ≡ 0) }
-        ensures first { IfErr result (λ error. error ≡ FileError.SameFile → 0 < vec_len self.old.unplaced) }
+        ensures no_failures { IfOk result (λ made. made.1.stream.failures ≡ 0) }
+        ensures first { IfErr result (λ error. error ≡ FileError.SameFile → 0 < vec_len self.old.uncommitted) }
     {
         let given = Text::copy(alloc, path)?;
         let places = temporary_and_final_path(self.files, alloc, path)?;
@@ -247,12 +247,12 @@ where
             return Ok(());
         };
         let (new, whole) = (places.new.as_str(), places.whole.as_str());
-        let placed = self.files.rename(new, whole);
-        if placed.is_err() {
+        let committed = self.files.rename(new, whole);
+        if committed.is_err() {
             let _ = self.files.remove_file(new);
         }
         self.remove_uncommitted(new);
-        placed?;
+        committed?;
         sync_directory(self.files, whole);
         Ok(())
     }

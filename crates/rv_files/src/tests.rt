@@ -23,8 +23,8 @@ fn write_file<F: Outputs>(
     path: &str,
     bytes: &[u8],
 ) -> Result<(), FileError>
-    ensures { OnOk result (IfSome (F.placed outputs.old)
-        (λ earlier. F.placed outputs.new ≡ Some (earlier ++ committed_file path.now bytes.now ∷ []))) }
+    ensures { OnOk result (IfSome (F.committed outputs.old)
+        (λ earlier. F.committed outputs.new ≡ Some (earlier ++ committed_file path.now bytes.now ∷ []))) }
 {
     let (place, mut file) = outputs.create(alloc, path)?;
     if put_all(&mut file, bytes).is_err() {
@@ -48,7 +48,7 @@ fn answer_text(outcome: Result<(), FileError>) -> &'static str {
 // Two files of one command, of which the second is written before the first is placed: their paths | the outcome of the second | the final
 // contents at the first path.
 const PAIRS: &str = "\
-report|junit|placed|first
+report|junit|committed|first
 report|report|the same place|first
 report|./report|the same place|first
 report|link|the same place|first
@@ -56,7 +56,7 @@ link|report|the same place|first
 report|report.new|the same place|first
 report.new|report|the same place|first
 report|missing/report|failed|first
-/dev/null|/dev/null|placed|
+/dev/null|/dev/null|committed|
 ";
 
 // Writes a second file while a first one is not yet placed, and checks the outcome, and the contents of the first file once it is placed,

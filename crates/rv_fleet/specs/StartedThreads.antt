@@ -17,7 +17,7 @@ pub record IsGroupedBatch (plan : PlanView) (places : List ℕ) (group : ℕ) : 
   pub within : AreJobIndices plan places
   pub rising : IsStrictlyIncreasing places
   pub few : length places ≤ max_jobs
-  pub group_few : (0 < group) × (group ≤ max_group)
+  pub group_in_range : (0 < group) × (group ≤ max_group)
 
 -- the jobs at these indices form a batch of the plan, and the shared counter has the number of its chunks
 abbrev pub CanStart : PlanView → List ℕ → ℕ → CounterView → Type 0

@@ -24,7 +24,7 @@ impl Work<Row> for BatchRows<'_> {
 
     ghost jobs = { λ s. length s.batch.now.places.now };
 
-    ghost is_made = { λ s number row. row ≡ row_of_number s.batch.now number };
+    ghost is_output = { λ s number row. row ≡ row_of_number s.batch.now number };
 
     ghost is_worker_state = { λ s worker_state. AreOutcomesOfPlan s.batch.now.plan.now worker_state.recent };
 

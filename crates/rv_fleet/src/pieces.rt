@@ -11,7 +11,7 @@ pub(crate) struct Pieces<'a> {
     pub(crate) batch: Batch<'a>,
     /// The number of jobs in a chunk.
     pub(crate) group: u32,
-    pub(crate) ghost group_few: { (0 < group) × (group ≤ max_group) },
+    pub(crate) ghost group_in_range: { (0 < group) × (group ≤ max_group) },
 }
 
 impl<'a> Pieces<'a> {

@@ -66,7 +66,7 @@ pub fn serve<R: Threads, E: EndText, I: Read + Send, O: Sink>(
         (I.remaining input.new) (O.accepted out.old) (O.accepted out.new) session.new) }
     ensures ended { OnOk result (IsEnded session.new (I.remaining input.new)) }
     ensures failed { IfErr result (λ broken. broken ≡ SessionError.ReplyWriteFailed → O.failure_count out.new ≡ one_more (O.failure_count out.old)) }
-    ensures unfailed { IfErr result (λ broken. broken ≢ SessionError.ReplyWriteFailed → O.failure_count out.new ≡ O.failure_count out.old) }
+    ensures no_failures { IfErr result (λ broken. broken ≢ SessionError.ReplyWriteFailed → O.failure_count out.new ≡ O.failure_count out.old) }
     ensures counted { OnOk result (O.failure_count out.new ≡ O.failure_count out.old) }
 {
     if session.is_over() {
@@ -101,7 +101,7 @@ fn respond_to_chunk<R: Threads, E: EndText, I: Read + Send, O: Sink>(
         (option_map (λ bytes. bytes.items) next) session.new) }
     ensures run { OnOk result (IsSameRun session.old session.new) }
     ensures failed { IfErr result (λ broken. broken ≡ SessionError.ReplyWriteFailed → O.failure_count out.new ≡ one_more (O.failure_count out.old)) }
-    ensures unfailed { IfErr result (λ broken. broken ≢ SessionError.ReplyWriteFailed → O.failure_count out.new ≡ O.failure_count out.old) }
+    ensures no_failures { IfErr result (λ broken. broken ≢ SessionError.ReplyWriteFailed → O.failure_count out.new ≡ O.failure_count out.old) }
     ensures counted { OnOk result (O.failure_count out.new ≡ O.failure_count out.old) }
 {
     for index in 0..chunk.len() {
@@ -132,7 +132,7 @@ fn respond_to_byte<R, E: EndText, O: Sink>(
     ensures not_over { OnOk result (IsOpenIfRequested session.new) }
     ensures run { OnOk result (IsSameRun session.old session.new) }
     ensures failed { IfErr result (λ broken. broken ≡ SessionError.ReplyWriteFailed → O.failure_count out.new ≡ one_more (O.failure_count out.old)) }
-    ensures unfailed { IfErr result (λ broken. broken ≢ SessionError.ReplyWriteFailed → O.failure_count out.new ≡ O.failure_count out.old) }
+    ensures no_failures { IfErr result (λ broken. broken ≢ SessionError.ReplyWriteFailed → O.failure_count out.new ≡ O.failure_count out.old) }
     ensures counted { OnOk result (O.failure_count out.new ≡ O.failure_count out.old) }
 {
     write_byte_reply(context.alloc, session, chunk[index], out)?;
@@ -159,7 +159,7 @@ fn write_move_reply_before<R, E: EndText, O: Sink>(
         (O.accepted out.new) session.new) }
     ensures run { OnOk result (IsSameRun session.old session.new) }
     ensures failed { IfErr result (λ broken. broken ≡ SessionError.ReplyWriteFailed → O.failure_count out.new ≡ one_more (O.failure_count out.old)) }
-    ensures unfailed { IfErr result (λ broken. broken ≢ SessionError.ReplyWriteFailed → O.failure_count out.new ≡ O.failure_count out.old) }
+    ensures no_failures { IfErr result (λ broken. broken ≢ SessionError.ReplyWriteFailed → O.failure_count out.new ≡ O.failure_count out.old) }
     ensures counted { OnOk result (O.failure_count out.new ≡ O.failure_count out.old) }
 {
     if behind == CTRL_C {
@@ -181,7 +181,7 @@ fn write_byte_reply<O: Sink>(
     ensures not_over { OnOk result (IsOpenIfRequested session.new) }
     ensures run { OnOk result (IsSameRun session.old session.new) }
     ensures failed { IfErr result (λ broken. broken ≡ SessionError.ReplyWriteFailed → O.failure_count out.new ≡ one_more (O.failure_count out.old)) }
-    ensures unfailed { IfErr result (λ broken. broken ≢ SessionError.ReplyWriteFailed → O.failure_count out.new ≡ O.failure_count out.old) }
+    ensures no_failures { IfErr result (λ broken. broken ≢ SessionError.ReplyWriteFailed → O.failure_count out.new ≡ O.failure_count out.old) }
     ensures counted { OnOk result (O.failure_count out.new ≡ O.failure_count out.old) }
 {
     let told = session.receive(alloc, byte)?;
@@ -201,7 +201,7 @@ fn write_move_reply<R, E: EndText, J: Interrupt, O: Sink>(
         (O.accepted out.old) (O.accepted out.new) session.new) }
     ensures run { OnOk result (IsSameRun session.old session.new) }
     ensures failed { IfErr result (λ broken. broken ≡ SessionError.ReplyWriteFailed → O.failure_count out.new ≡ one_more (O.failure_count out.old)) }
-    ensures unfailed { IfErr result (λ broken. broken ≢ SessionError.ReplyWriteFailed → O.failure_count out.new ≡ O.failure_count out.old) }
+    ensures no_failures { IfErr result (λ broken. broken ≢ SessionError.ReplyWriteFailed → O.failure_count out.new ≡ O.failure_count out.old) }
     ensures counted { OnOk result (O.failure_count out.new ≡ O.failure_count out.old) }
 {
     match session.work(context.alloc, context.end, interrupt) {
@@ -218,7 +218,7 @@ fn write_move_reply<R, E: EndText, J: Interrupt, O: Sink>(
 fn write_reply_bytes<O: Sink>(out: &mut O, told: &[u8]) -> Result<(), SessionError>
     ensures put { OnOk result (Appends (O.accepted out.old) (O.accepted out.new) told.now) }
     ensures failed { IfErr result (λ broken. broken ≡ SessionError.ReplyWriteFailed → O.failure_count out.new ≡ one_more (O.failure_count out.old)) }
-    ensures unfailed { IfErr result (λ broken. broken ≢ SessionError.ReplyWriteFailed → O.failure_count out.new ≡ O.failure_count out.old) }
+    ensures no_failures { IfErr result (λ broken. broken ≢ SessionError.ReplyWriteFailed → O.failure_count out.new ≡ O.failure_count out.old) }
     ensures counted { OnOk result (O.failure_count out.new ≡ O.failure_count out.old) }
 {
     match put_all(out, told) {
@@ -241,7 +241,7 @@ fn move_while_reading<R: Threads, E: EndText, I: Read + Send, O: Sink>(
         session.old (O.accepted out.old) (O.accepted out.new) session.new) }
     ensures run { OnOk result (IsSameRun session.old session.new) }
     ensures failed { IfErr result (λ broken. broken ≡ SessionError.ReplyWriteFailed → O.failure_count out.new ≡ one_more (O.failure_count out.old)) }
-    ensures unfailed { IfErr result (λ broken. broken ≢ SessionError.ReplyWriteFailed → O.failure_count out.new ≡ O.failure_count out.old) }
+    ensures no_failures { IfErr result (λ broken. broken ≢ SessionError.ReplyWriteFailed → O.failure_count out.new ≡ O.failure_count out.old) }
     ensures counted { OnOk result (O.failure_count out.new ≡ O.failure_count out.old) }
 {
     let raised = AtomicBool::new(false);
@@ -264,7 +264,7 @@ fn move_while_reading_into<R: Threads, E: EndText, I: Read + Send, O: Sink>(
         session.old (O.accepted out.old) (O.accepted out.new) session.new) }
     ensures run { OnOk result (IsSameRun session.old session.new) }
     ensures failed { IfErr result (λ broken. broken ≡ SessionError.ReplyWriteFailed → O.failure_count out.new ≡ one_more (O.failure_count out.old)) }
-    ensures unfailed { IfErr result (λ broken. broken ≢ SessionError.ReplyWriteFailed → O.failure_count out.new ≡ O.failure_count out.old) }
+    ensures no_failures { IfErr result (λ broken. broken ≢ SessionError.ReplyWriteFailed → O.failure_count out.new ≡ O.failure_count out.old) }
     ensures counted { OnOk result (O.failure_count out.new ≡ O.failure_count out.old) }
 {
     let alloc = context.alloc;

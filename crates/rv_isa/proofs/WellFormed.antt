@@ -23,28 +23,28 @@ no_shift : (b : Bool) → (not b || false) ≡ true → b ≡ true → ⊥
 no_shift true h e = cc
 no_shift false h e = cc
 
-formed : (name : Op) (format : Format) (w : ℕ) → (not (is_shift name) || takes_shift format) ≡ true
+well_formed : (name : Op) (format : Format) (w : ℕ) → (not (is_shift name) || takes_shift format) ≡ true
     → IsWellFormed (instruction name format w)
-formed name TypeR w h =
+well_formed name TypeR w h =
     (field_lt w 11 7, field_lt w 19 15, field_lt w 24 20, λ s. absurd (no_shift (is_shift name) h s))
-formed name TypeI w h = (field_lt w 11 7, field_lt w 19 15, omega arith, λ s. absurd (no_shift (is_shift name) h s))
-formed name TypeShift w h = (
+well_formed name TypeI w h = (field_lt w 11 7, field_lt w 19 15, omega arith, λ s. absurd (no_shift (is_shift name) h s))
+well_formed name TypeShift w h = (
   field_lt w 11 7,
   field_lt w 19 15,
   omega arith,
   λ s. (omega (arith, ints, field_lt w 24 20), omega (arith, ints, field_lt w 24 20)),
 )
-formed name TypeS w h = (omega arith, field_lt w 19 15, field_lt w 24 20, λ s. absurd (no_shift (is_shift name) h s))
-formed name TypeB w h = (omega arith, field_lt w 19 15, field_lt w 24 20, λ s. absurd (no_shift (is_shift name) h s))
-formed name TypeU w h = (field_lt w 11 7, omega arith, omega arith, λ s. absurd (no_shift (is_shift name) h s))
-formed name TypeJ w h = (field_lt w 11 7, omega arith, omega arith, λ s. absurd (no_shift (is_shift name) h s))
-formed name NoOperands w h = (omega arith, omega arith, omega arith, λ s. absurd (no_shift (is_shift name) h s))
+well_formed name TypeS w h = (omega arith, field_lt w 19 15, field_lt w 24 20, λ s. absurd (no_shift (is_shift name) h s))
+well_formed name TypeB w h = (omega arith, field_lt w 19 15, field_lt w 24 20, λ s. absurd (no_shift (is_shift name) h s))
+well_formed name TypeU w h = (field_lt w 11 7, omega arith, omega arith, λ s. absurd (no_shift (is_shift name) h s))
+well_formed name TypeJ w h = (field_lt w 11 7, omega arith, omega arith, λ s. absurd (no_shift (is_shift name) h s))
+well_formed name NoOperands w h = (omega arith, omega arith, omega arith, λ s. absurd (no_shift (is_shift name) h s))
 
 pub means32_formed : (isa : Isa) (w : ℕ) (i : Instr) → Means32 isa w i → IsWellFormed i
 unfolding Means32
 means32_formed isa w i m =
     subst IsWellFormed (sym m.4.1)
-    (formed m.1.name m.1.format w
+    (well_formed m.1.name m.1.format w
     (all_at (λ r. not (is_shift r.name) || takes_shift r.format) rows m.0 m.1 shift_rows m.2 m.3))
 
 pub meaning32_formed : (isa : Isa) (w : ℕ) (r : Option Instr) → r ≡ meaning32 isa w → IfSome r IsWellFormed

@@ -86,7 +86,7 @@ pub(crate) fn write_cases<T: RowReporter, W: Sink>(
     out: &mut W,
 ) -> Result<(), WriteError>
     requires known { AreLinesOf (T.line cases.now.reporter.now) cases.now.places.now cases.now.rows.now cases.now.texts.now }
-    ensures under_way { OnOk result (IsPartlyWritten (W.accepted out.old) (W.accepted out.new) text.new.items
+    ensures partly_written { OnOk result (IsPartlyWritten (W.accepted out.old) (W.accepted out.new) text.new.items
         (text.old.items ++ joined_row_texts (case_text suite.now.name.now (judge_view suite.now.judge) (T.line cases.now.reporter.now))
         cases.now.places.now cases.now.rows.now)) }
     ensures counted { OnOk result (W.failure_count out.new ≡ W.failure_count out.old) }
@@ -108,7 +108,7 @@ pub(crate) fn write_cases<T: RowReporter, W: Sink>(
 
 // Writes the buffered text if it is long enough for a large write.
 fn write_if_large<W: Sink>(text: &mut Vec<u8>, out: &mut W) -> Result<(), WriteError>
-    ensures under_way { OnOk result (IsPartlyWritten (W.accepted out.old) (W.accepted out.new)
+    ensures partly_written { OnOk result (IsPartlyWritten (W.accepted out.old) (W.accepted out.new)
         text.new.items text.old.items) }
     ensures counted { OnOk result (W.failure_count out.new ≡ W.failure_count out.old) }
     ensures part { OnErr result

@@ -221,15 +221,15 @@ types_of_keys =
     ∷ []
 
 -- whether a value has this type
-abbrev pub is_of_kind : ValueType → Data → Bool
-is_of_kind kind.Text = is_text
-is_of_kind kind.Number = is_number
-is_of_kind kind.Texts = is_text_array
-is_of_kind kind.Regions = is_region_array
+abbrev pub is_value_of_type : ValueType → Data → Bool
+is_value_of_type kind.Text = is_text
+is_value_of_type kind.Number = is_number
+is_value_of_type kind.Texts = is_text_array
+is_value_of_type kind.Regions = is_region_array
 
 -- whether the job has this key, with a value that does not have the type of the key
 abbrev pub has_wrong_type_at : Members → List ℕ × ValueType → Bool
-has_wrong_type_at ms key = not (is_absent_or (is_of_kind key.1) key.0 ms)
+has_wrong_type_at ms key = not (is_absent_or (is_value_of_type key.1) key.0 ms)
 
 -- a key and its type in the code's table, as contracts see them
 abbrev pub key_and_type : Bor (List ℕ) × ValueType → List ℕ × ValueType

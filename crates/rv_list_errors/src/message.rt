@@ -128,7 +128,7 @@ impl Message {
     /// failed before, returns `usize::MAX`.
     pub(crate) fn edit_distance(&mut self, text: &str, other: &str) -> usize
         ensures distance { OnOk self.new.grown (IsOk self.old.grown × (result ≡ text_distance text.now other.now)) }
-        ensures unwritten { self.new.bytes ≡ self.old.bytes }
+        ensures unchanged { self.new.bytes ≡ self.old.bytes }
     {
         if self.grown.is_err() {
             return usize::MAX;

@@ -129,7 +129,7 @@ pub(crate) fn near_name<'a>(
 ) -> Option<&'a str>
     ensures near { OnOk message.new.grown (IsOk message.old.grown
         × IsNearName (borrowed_names names.now) text.now (borrowed_name result)) }
-    ensures unwritten { message.new.bytes ≡ message.old.bytes }
+    ensures unchanged { message.new.bytes ≡ message.old.bytes }
 {
     let mut nearest = None;
     let mut least = usize::MAX;
@@ -235,7 +235,7 @@ fn push_listed_name(message: &mut Message, name: &str, place: usize, count: usiz
 fn name_distance(message: &mut Message, name: Option<&str>, text: &str) -> usize
     ensures distance { OnOk message.new.grown (IsOk message.old.grown
         × (result ≡ name_distance text.now (borrowed_name name.entry))) }
-    ensures unwritten { message.new.bytes ≡ message.old.bytes }
+    ensures unchanged { message.new.bytes ≡ message.old.bytes }
 {
     match name {
         Some(name) if name.len() <= MAX_NAME_LEN && text.len() <= MAX_NAME_LEN => {

@@ -7,7 +7,7 @@ ghost use Rattle.toml.specs.View.{table_view, view};
 ghost use Rattle.rv_lists.specs.Keys.{is_absent_or, has_key_types, is_boolean, is_number, is_region, is_region_array, is_text};
 ghost use Rattle.rv_lists.specs.Keys.{is_text_array, region_keys};
 ghost use Rattle.rv_list_errors.specs.JobFaults.{BeginsWithRegion, BeginsWithValue, ExplainsWrongType, ExplainsFirstWrongType, has_wrong_type_at_key};
-ghost use Rattle.rv_list_errors.specs.JobFaults.{is_of_kind, has_wrong_type_at, key_and_type};
+ghost use Rattle.rv_list_errors.specs.JobFaults.{is_value_of_type, has_wrong_type_at, key_and_type};
 ghost use Rattle.rv_list_errors.specs.Lines.{BeginsWith};
 ghost use Rattle.rv_list_errors.specs.Explanation.{AppendsTextThat, region_number_text};
 
@@ -52,7 +52,7 @@ fn first_key_of_wrong_type<'k>(
 
 // Whether there is a value at a key and it does not have this type.
 fn is_value_of_other_kind(table: &Table, key: &str, kind: ValueType) -> bool
-    ensures { result ≡ not (is_absent_or (is_of_kind kind) key.now (table_view table.now)) }
+    ensures { result ≡ not (is_absent_or (is_value_of_type kind) key.now (table_view table.now)) }
 {
     match value_at_key(table, key) {
         Some(value) => !is_value_of_type(kind, value),
@@ -62,7 +62,7 @@ fn is_value_of_other_kind(table: &Table, key: &str, kind: ValueType) -> bool
 
 /// Whether a value has this type.
 pub(crate) fn is_value_of_type(kind: ValueType, value: &Value) -> bool
-    ensures { result ≡ is_of_kind kind (view value.now) }
+    ensures { result ≡ is_value_of_type kind (view value.now) }
 {
     match kind {
         ValueType::Text => value.is_str(),

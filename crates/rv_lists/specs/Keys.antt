@@ -45,11 +45,11 @@ array_at_key k ms = option_and_then as_array (get_member k ms)
 -- a key: its name, and a predicate that is true of the values that have the required type
 pub record Key : Type 0 where
   pub name : List ℕ
-  pub is_of_kind : Data → Bool
+  pub is_of_type : Data → Bool
 
 -- the key with this name, whose values must satisfy this predicate
 abbrev pub key : List ℕ → (Data → Bool) → Key
-key name is_of_kind = record { name = name; is_of_kind = is_of_kind }
+key name is_of_type = record { name = name; is_of_type = is_of_type }
 
 -- whether the key `k` is missing, or its value satisfies the predicate `p`
 abbrev pub is_absent_or : (Data → Bool) → List ℕ → Members → Bool
@@ -57,7 +57,7 @@ is_absent_or p k ms = option_map_or p (get_member k ms) true
 
 -- whether each of these keys is missing, or its value has the required type
 abbrev pub has_key_types : List Key → Members → Bool
-has_key_types keys ms = list_all (λ (k : Key). is_absent_or k.is_of_kind k.name ms) keys
+has_key_types keys ms = list_all (λ (k : Key). is_absent_or k.is_of_type k.name ms) keys
 
 -- whether `name` is one of these keys
 abbrev pub is_key_among : List Key → List ℕ → Bool

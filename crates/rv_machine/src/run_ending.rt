@@ -36,7 +36,7 @@ impl Hart {
     // Returns the ending of the run, given that this fetched instruction does not complete.
     #[tactic(auto, unfolding(crate::specs::Effect::effect))]
     fn instruction_ending(&mut self, instr: Instr, length: u32) -> Ending
-        requires formed { IsWellFormed instr }
+        requires well_formed { IsWellFormed instr }
         requires ends { is_ok (effect instr length self.old) ≡ false }
         ensures { (effect instr length self.old ≡ Err result) × (self.new ≡ self.old) }
     {
@@ -74,7 +74,7 @@ impl Hart {
         extension: LoadExtension,
         next: u32,
     ) -> Ending
-        requires formed { IsWellFormed instr }
+        requires well_formed { IsWellFormed instr }
         requires ends { is_ok (load_of width extension self.old instr next) ≡ false }
         ensures { (load_of width extension self.old instr next ≡ Err result)
             × (self.new ≡ self.old) }
@@ -88,7 +88,7 @@ impl Hart {
 
     // Returns the ending of the run, given that the bus rejects this store.
     fn store_ending(&mut self, instr: Instr, width: Width, next: u32) -> Ending
-        requires formed { IsWellFormed instr }
+        requires well_formed { IsWellFormed instr }
         requires ends { is_ok (store_of width self.old instr next) ≡ false }
         ensures { (store_of width self.old instr next ≡ Err result) × (self.new ≡ self.old) }
     {

@@ -49,10 +49,10 @@ by_address low xs rise k d from within =
     (subst (λ (n : ℕ). address_of (get_or xs k d) ≤ address_of (get_or xs n d)) (sym next)
     (neighbours low xs k d rise (omega (arith, within))))
 
-addresses : (spots : List CallNode) (names : List FunctionName) (xs : List FunctionProfile) → profiles_of xs ≡ map (function_counts spots) names
+addresses : (nodes : List CallNode) (names : List FunctionName) (xs : List FunctionProfile) → profiles_of xs ≡ map (function_counts nodes) names
     → map (λ n. n.function) names ≡ map address_of xs
-addresses spots names xs is =
-    sym (map-map (λ (p : FunctionCounts). p.function) (function_counts spots) names)
+addresses nodes names xs is =
+    sym (map-map (λ (p : FunctionCounts). p.function) (function_counts nodes) names)
     ∙ ap (map (λ (p : FunctionCounts). p.function)) (sym is)
     ∙ map-map (λ (p : FunctionCounts). p.function) function_counts_of xs
 
@@ -105,16 +105,16 @@ none_in_order : IsSortedBy precedes (profiles_of [])
 none_in_order k d from lt = absurd (omega arith)
 
 -- functions that stood by address, sorted stably by these keys
-pub by_own_steps : (spots : List CallNode) (names : List FunctionName) (xs ys : List FunctionProfile) → all_steps spots < 2 ^ 64
-    → functions_increase_from 0 names ≡ true → profiles_of xs ≡ map (function_counts spots) names → IsPermutation xs ys
-    → IsSortedByKey key_of nat_cmp ys → IsStableByKey key_of nat_cmp xs ys → IsProfileOf spots names (profiles_of ys)
-by_own_steps spots names xs ys few rise is same sorted stable =
-    let each : IsPermutation (map (function_counts spots) names) (profiles_of ys) =
+pub by_own_steps : (nodes : List CallNode) (names : List FunctionName) (xs ys : List FunctionProfile) → all_steps nodes < 2 ^ 64
+    → functions_increase_from 0 names ≡ true → profiles_of xs ≡ map (function_counts nodes) names → IsPermutation xs ys
+    → IsSortedByKey key_of nat_cmp ys → IsStableByKey key_of nat_cmp xs ys → IsProfileOf nodes names (profiles_of ys)
+by_own_steps nodes names xs ys few rise is same sorted stable =
+    let each : IsPermutation (map (function_counts nodes) names) (profiles_of ys) =
     subst (λ (ps : List FunctionCounts). IsPermutation ps (profiles_of ys)) is (IsPermutation-map function_counts_of xs ys same) in
-    let before = by_address 0 xs (subst (RiseFrom 0) (addresses spots names xs is) (names_above 0 names rise)) in
-    record { each = each; order = ordered ys (profile_within spots names (profiles_of ys) each) before sorted stable }
+    let before = by_address 0 xs (subst (RiseFrom 0) (addresses nodes names xs is) (names_above 0 names rise)) in
+    record { each = each; order = ordered ys (profile_within nodes names (profiles_of ys) each) before sorted stable }
   where
-    ordered : (zs : List FunctionProfile) → AreWithin (all_steps spots) (profiles_of zs) → IsSortedByKey address_of nat_cmp xs
+    ordered : (zs : List FunctionProfile) → AreWithin (all_steps nodes) (profiles_of zs) → IsSortedByKey address_of nat_cmp xs
         → IsSortedByKey key_of nat_cmp zs → IsStableByKey key_of nat_cmp xs zs → IsSortedBy precedes (profiles_of zs)
     ordered [] within before sorted stable = none_in_order
-    ordered (z ∷ zs) within before sorted stable = in_order xs (z ∷ zs) (all_steps spots) few within before sorted stable z
+    ordered (z ∷ zs) within before sorted stable = in_order xs (z ∷ zs) (all_steps nodes) few within before sorted stable z

@@ -47,18 +47,18 @@ named_once low f (n ∷ ns) rise =
         let named = ap (λ (b : Bool). address_if (has_name (cond b (Some n.name) (name_of f ns)))) is in
         omega (arith, here, named, rest)
 
-pub are_functions : (spots : List CallNode) (names : List FunctionName) → functions_increase_from 0 names ≡ true → AreNamesOf spots names
-    → AreFunctionsOf spots (map function_of names)
-are_functions spots names rise of = record { once = λ f. named_once 0 f names rise ∙ ap address_if (of f) }
+pub are_functions : (nodes : List CallNode) (names : List FunctionName) → functions_increase_from 0 names ≡ true → AreNamesOf nodes names
+    → AreFunctionsOf nodes (map function_of names)
+are_functions nodes names rise of = record { once = λ f. named_once 0 f names rise ∙ ap address_if (of f) }
 
-pub own_of_names : (spots : List CallNode) (names : List FunctionName) → total_own_steps (map (function_counts spots) names) ≡ own_steps_of_all (map function_of names) spots
-own_of_names spots [] = refl
-own_of_names spots (n ∷ ns) =
-    let h = own_of_names spots ns in
-    let a = sum_by-cons (λ (p : FunctionCounts). p.own) (function_counts spots n) (map (function_counts spots) ns) in
+pub own_of_names : (nodes : List CallNode) (names : List FunctionName) → total_own_steps (map (function_counts nodes) names) ≡ own_steps_of_all (map function_of names) nodes
+own_of_names nodes [] = refl
+own_of_names nodes (n ∷ ns) =
+    let h = own_of_names nodes ns in
+    let a = sum_by-cons (λ (p : FunctionCounts). p.own) (function_counts nodes n) (map (function_counts nodes) ns) in
     omega (arith, h, a)
 
-pub own_of_profile : (spots : List CallNode) (names : List FunctionName) (found : List FunctionCounts) → IsProfileOf spots names found
-    → total_own_steps found ≡ own_steps_of_all (map function_of names) spots
-own_of_profile spots names found is =
-    sum_by-IsPermutation (λ (p : FunctionCounts). p.own) (map (function_counts spots) names) found is.each ∙ own_of_names spots names
+pub own_of_profile : (nodes : List CallNode) (names : List FunctionName) (found : List FunctionCounts) → IsProfileOf nodes names found
+    → total_own_steps found ≡ own_steps_of_all (map function_of names) nodes
+own_of_profile nodes names found is =
+    sum_by-IsPermutation (λ (p : FunctionCounts). p.own) (map (function_counts nodes) names) found is.each ∙ own_of_names nodes names

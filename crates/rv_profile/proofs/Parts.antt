@@ -14,27 +14,27 @@ if_at_most : (test : Bool) (n : ℕ) → steps_if test n ≤ n
 if_at_most true n = omega arith
 if_at_most false n = omega arith
 
-own_at_most : (function : ℕ) (spots : List CallNode) → own_steps_of function spots ≤ all_steps spots
+own_at_most : (function : ℕ) (nodes : List CallNode) → own_steps_of function nodes ≤ all_steps nodes
 own_at_most function [] = omega arith
 own_at_most function (s ∷ ss) =
     let here = if_at_most (s.function == function) s.steps in
     let rest = own_at_most function ss in
     omega (arith, here, rest)
 
-inclusive_at_most : (function : ℕ) (front : List ℕ) (spots : List CallNode) → inclusive_steps_after function front spots ≤ all_steps spots
+inclusive_at_most : (function : ℕ) (front : List ℕ) (nodes : List CallNode) → inclusive_steps_after function front nodes ≤ all_steps nodes
 inclusive_at_most function front [] = omega arith
 inclusive_at_most function front (s ∷ ss) =
     let here = if_at_most (has_function function (path_after front s)) s.steps in
     let rest = inclusive_at_most function (path_after front s) ss in
     omega (arith, here, rest)
 
-named_within : (spots : List CallNode) (names : List FunctionName) → AreWithin (all_steps spots) (map (function_counts spots) names)
-named_within spots [] = All-nil (IsWithin (all_steps spots))
-named_within spots (n ∷ ns) =
-    All-cons (IsWithin (all_steps spots)) (function_counts spots n) (map (function_counts spots) ns)
-    (own_at_most n.function spots, inclusive_at_most n.function [] spots) (named_within spots ns)
+named_within : (nodes : List CallNode) (names : List FunctionName) → AreWithin (all_steps nodes) (map (function_counts nodes) names)
+named_within nodes [] = All-nil (IsWithin (all_steps nodes))
+named_within nodes (n ∷ ns) =
+    All-cons (IsWithin (all_steps nodes)) (function_counts nodes n) (map (function_counts nodes) ns)
+    (own_at_most n.function nodes, inclusive_at_most n.function [] nodes) (named_within nodes ns)
 
-pub profile_within : (spots : List CallNode) (names : List FunctionName) (found : List FunctionCounts) → IsPermutation (map (function_counts spots) names) found
-    → AreWithin (all_steps spots) found
-profile_within spots names found each =
-    All-permutation (IsWithin (all_steps spots)) (map (function_counts spots) names) found each (named_within spots names)
+pub profile_within : (nodes : List CallNode) (names : List FunctionName) (found : List FunctionCounts) → IsPermutation (map (function_counts nodes) names) found
+    → AreWithin (all_steps nodes) found
+profile_within nodes names found each =
+    All-permutation (IsWithin (all_steps nodes)) (map (function_counts nodes) names) found each (named_within nodes names)

@@ -13,25 +13,25 @@ sum_parts : (count : CallNode → ℕ) (xs ys : List CallNode)
 sum_parts count [] ys = omega arith
 sum_parts count (x ∷ xs) ys = let h = sum_parts count xs ys in omega (arith, h)
 
-counted_more : (count : CallNode → ℕ) (spots : List CallNode) (k : ℕ) (d : CallNode) → k < length spots
-    → sum_over_nodes count (take (k + 1) spots) ≡ sum_over_nodes count (take k spots) + count (get_or spots k d)
-counted_more count spots k d within =
-    let more = ap (sum_over_nodes count) (take_more spots k d within) in
-    let parts = sum_parts count (take k spots) (get_or spots k d ∷ []) in
+counted_more : (count : CallNode → ℕ) (nodes : List CallNode) (k : ℕ) (d : CallNode) → k < length nodes
+    → sum_over_nodes count (take (k + 1) nodes) ≡ sum_over_nodes count (take k nodes) + count (get_or nodes k d)
+counted_more count nodes k d within =
+    let more = ap (sum_over_nodes count) (take_more nodes k d within) in
+    let parts = sum_parts count (take k nodes) (get_or nodes k d ∷ []) in
     omega (arith, more, parts)
 
-first_at_most : (count : CallNode → ℕ) (spots : List CallNode) (k : ℕ) → sum_over_nodes count (take k spots) ≤ sum_over_nodes count spots
-first_at_most count spots k =
-    let parts = sum_parts count (take k spots) (drop k spots) in
-    let whole = ap (sum_over_nodes count) (take-append-drop k spots) in
+first_at_most : (count : CallNode → ℕ) (nodes : List CallNode) (k : ℕ) → sum_over_nodes count (take k nodes) ≤ sum_over_nodes count nodes
+first_at_most count nodes k =
+    let parts = sum_parts count (take k nodes) (drop k nodes) in
+    let whole = ap (sum_over_nodes count) (take-append-drop k nodes) in
     omega (arith, parts, whole)
 
 -- one spot more
-sums_more : (spots : List CallNode) (k : ℕ) (d : CallNode) → k < length spots
-    → sums_of (take (k + 1) spots) ≡ with_node (sums_of (take k spots)) (get_or spots k d)
-sums_more spots k d within = λ i. record {
-  steps = counted_more steps_of spots k d within i;
-  calls = counted_more calls_of_node spots k d within i;
+sums_more : (nodes : List CallNode) (k : ℕ) (d : CallNode) → k < length nodes
+    → sums_of (take (k + 1) nodes) ≡ with_node (sums_of (take k nodes)) (get_or nodes k d)
+sums_more nodes k d within = λ i. record {
+  steps = counted_more steps_of nodes k d within i;
+  calls = counted_more calls_of_node nodes k d within i;
 }
 
 -- ---- both are numbers of 64 bits
@@ -60,27 +60,27 @@ past_in_more s t a b st ab past = elim (and_cases (nat_lt s (2 ^ 64)) (nat_lt a 
   | inr many ↦ let high = ltb-false a (2 ^ 64) many in and_right (nat_lt t (2 ^ 64)) (nat_lt b (2 ^ 64)) (le-ltb b (2 ^ 64) (omega (arith, high, ab)))
 ]
 
-past_with : (spots : List CallNode) (k : ℕ) (d : CallNode) → k < length spots
-    → fit_in_64_bits (with_node (sums_of (take k spots)) (get_or spots k d)) ≡ false → fit_in_64_bits (sums_of spots) ≡ false
-past_with spots k d within past =
-    past_in_more _ _ _ _ (first_at_most steps_of spots (k + 1)) (first_at_most calls_of_node spots (k + 1))
-    (ap fit_in_64_bits (sums_more spots k d within) ∙ past)
+past_with : (nodes : List CallNode) (k : ℕ) (d : CallNode) → k < length nodes
+    → fit_in_64_bits (with_node (sums_of (take k nodes)) (get_or nodes k d)) ≡ false → fit_in_64_bits (sums_of nodes) ≡ false
+past_with nodes k d within past =
+    past_in_more _ _ _ _ (first_at_most steps_of nodes (k + 1)) (first_at_most calls_of_node nodes (k + 1))
+    (ap fit_in_64_bits (sums_more nodes k d within) ∙ past)
 
 -- with a spot more
-pub one_more : (spots : List CallNode) (k : ℕ) (d : CallNode) (s t : Sums) → k < length spots → s ≡ sums_of (take k spots)
-    → Some t ≡ if_fitting (with_node s (get_or spots k d)) → (t ≡ sums_of (take (k + 1) spots)) × (fit_in_64_bits t ≡ true)
-one_more spots k d s t within is more =
-    let both = fit (with_node s (get_or spots k d)) t more in
-    (both.0 ∙ ap (λ (r : Sums). with_node r (get_or spots k d)) is ∙ sym (sums_more spots k d within), both.1)
+pub one_more : (nodes : List CallNode) (k : ℕ) (d : CallNode) (s t : Sums) → k < length nodes → s ≡ sums_of (take k nodes)
+    → Some t ≡ if_fitting (with_node s (get_or nodes k d)) → (t ≡ sums_of (take (k + 1) nodes)) × (fit_in_64_bits t ≡ true)
+one_more nodes k d s t within is more =
+    let both = fit (with_node s (get_or nodes k d)) t more in
+    (both.0 ∙ ap (λ (r : Sums). with_node r (get_or nodes k d)) is ∙ sym (sums_more nodes k d within), both.1)
 
-pub none_of_all : (spots : List CallNode) (k : ℕ) (d : CallNode) (s : Sums) → k < length spots → s ≡ sums_of (take k spots)
-    → None ≡ if_fitting (with_node s (get_or spots k d)) → None ≡ if_fitting (sums_of spots)
-none_of_all spots k d s within is none =
-    let past = ap (λ (r : Sums). fit_in_64_bits (with_node r (get_or spots k d))) (sym is) ∙ none_fit (with_node s (get_or spots k d)) none in
-    sym (ap (λ (b : Bool). cond b (Some (sums_of spots)) None) (past_with spots k d within past))
+pub none_of_all : (nodes : List CallNode) (k : ℕ) (d : CallNode) (s : Sums) → k < length nodes → s ≡ sums_of (take k nodes)
+    → None ≡ if_fitting (with_node s (get_or nodes k d)) → None ≡ if_fitting (sums_of nodes)
+none_of_all nodes k d s within is none =
+    let past = ap (λ (r : Sums). fit_in_64_bits (with_node r (get_or nodes k d))) (sym is) ∙ none_fit (with_node s (get_or nodes k d)) none in
+    sym (ap (λ (b : Bool). cond b (Some (sums_of nodes)) None) (past_with nodes k d within past))
 
-pub all_fit : (spots : List CallNode) (k : ℕ) (s : Sums) → length spots ≤ k → s ≡ sums_of (take k spots) → fit_in_64_bits s ≡ true
-    → Some s ≡ if_fitting (sums_of spots)
-all_fit spots k s all is few =
-    let same : s ≡ sums_of spots = is ∙ ap sums_of (take_all k spots all) in
-    ap Some same ∙ sym (ap (λ (b : Bool). cond b (Some (sums_of spots)) None) (sym (ap fit_in_64_bits same) ∙ few))
+pub all_fit : (nodes : List CallNode) (k : ℕ) (s : Sums) → length nodes ≤ k → s ≡ sums_of (take k nodes) → fit_in_64_bits s ≡ true
+    → Some s ≡ if_fitting (sums_of nodes)
+all_fit nodes k s all is few =
+    let same : s ≡ sums_of nodes = is ∙ ap sums_of (take_all k nodes all) in
+    ap Some same ∙ sym (ap (λ (b : Bool). cond b (Some (sums_of nodes)) None) (sym (ap fit_in_64_bits same) ∙ few))

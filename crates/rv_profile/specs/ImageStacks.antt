@@ -12,7 +12,7 @@ use Rattle.rv_profile.specs.declared.sums.Sums.{Sums}
 
 -- the call-tree nodes that the table has for the image with these bytes; empty if the table does not have this image
 abbrev pub nodes_of : CountTable → List ℕ → List CallNode
-nodes_of table bytes = option_map_or (λ entry. entry.spots) (entry_of_image table bytes) []
+nodes_of table bytes = option_map_or (λ entry. entry.nodes) (entry_of_image table bytes) []
 
 -- the names of the functions that the table has for the image with these bytes; empty if the table does not have this image
 abbrev pub names_of : CountTable → List ℕ → List FunctionName
@@ -27,13 +27,13 @@ has_nodes (s ∷ ss) = true
 
 -- whether the table has a call tree for at least one image
 abbrev pub has_stacks : CountTable → Bool
-has_stacks table = list_any (λ entry. has_nodes entry.spots) table.images
+has_stacks table = list_any (λ entry. has_nodes entry.nodes) table.images
 
 -- ---- sums
 
 -- the sum of the steps and the sum of the calls of all nodes
 abbrev pub sums_of : List CallNode → Sums
-sums_of spots = record { steps = all_steps spots; calls = all_calls spots }
+sums_of nodes = record { steps = all_steps nodes; calls = all_calls nodes }
 
 -- the sums, to which the steps and the calls of one more node are added
 abbrev pub with_node : Sums → CallNode → Sums

@@ -21,12 +21,12 @@ pub record FunctionCounts : Type 0 where
 
 -- the counts in a call tree of the function with this name and address
 abbrev pub function_counts : List CallNode → FunctionName → FunctionCounts
-function_counts spots named = record {
+function_counts nodes named = record {
   name = named.name;
   function = named.function;
-  own = own_steps_of named.function spots;
-  inclusive = inclusive_steps_after named.function [] spots;
-  calls = calls_of_function named.function spots;
+  own = own_steps_of named.function nodes;
+  inclusive = inclusive_steps_after named.function [] nodes;
+  calls = calls_of_function named.function nodes;
 }
 
 -- whether `p` comes before `q` in a profile: it has more own steps, or equally many and a lower address
@@ -34,8 +34,8 @@ abbrev pub precedes : FunctionCounts → FunctionCounts → Bool
 precedes p q = nat_lt q.own p.own || ((p.own == q.own) && nat_lt p.function q.function)
 
 -- `profile` has the counts of each named function in the call tree, once, in the order that `precedes` defines
-pub record IsProfileOf (spots : List CallNode) (names : List FunctionName) (profile : List FunctionCounts) : Type 0 where
-  pub each : IsPermutation (map (function_counts spots) names) profile
+pub record IsProfileOf (nodes : List CallNode) (names : List FunctionName) (profile : List FunctionCounts) : Type 0 where
+  pub each : IsPermutation (map (function_counts nodes) names) profile
   pub order : IsSortedBy precedes profile
 
 -- the sum of the own steps of the functions

@@ -20,7 +20,7 @@ pub(crate) fn profile_of_function<'a>(
     index: &CallTreeIndex<'_>,
     named: &'a FunctionName,
 ) -> FunctionProfile<'a>
-    ensures { function_counts_of result ≡ function_counts index.now.spots.now named.now }
+    ensures { function_counts_of result ≡ function_counts index.now.nodes.now named.now }
 {
     FunctionProfile {
         name: named.name.as_str(),

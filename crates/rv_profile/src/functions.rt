@@ -16,9 +16,9 @@ pub(crate) fn functions_by_own_steps<'t>(
     alloc: Global,
     stacks: ImageStacks<'t>,
 ) -> Result<Vec<FunctionProfile<'t>>, AllocError>
-    requires tree { IsTree stacks.spots.now }
-    requires few { fit_in_64_bits (sums_of stacks.spots.now) ≡ true }
-    ensures { IfOk result (λ found. IsProfileOf stacks.entry.spots.now stacks.entry.names.now (profiles_of found.items)) }
+    requires tree { IsTree stacks.nodes.now }
+    requires few { fit_in_64_bits (sums_of stacks.nodes.now) ≡ true }
+    ensures { IfOk result (λ found. IsProfileOf stacks.entry.nodes.now stacks.entry.names.now (profiles_of found.items)) }
 {
     let mut functions = functions_of_stacks(alloc, stacks)?;
     functions.sort_by_key(|function| u64::MAX - function.steps.own)?;
@@ -30,11 +30,11 @@ fn functions_of_stacks<'t>(
     alloc: Global,
     stacks: ImageStacks<'t>,
 ) -> Result<Vec<FunctionProfile<'t>>, AllocError>
-    requires tree { IsTree stacks.spots.now }
-    requires few { fit_in_64_bits (sums_of stacks.spots.now) ≡ true }
-    ensures { IfOk result (λ found. profiles_of found.items ≡ map (function_counts stacks.entry.spots.now) stacks.entry.names.now) }
+    requires tree { IsTree stacks.nodes.now }
+    requires few { fit_in_64_bits (sums_of stacks.nodes.now) ≡ true }
+    ensures { IfOk result (λ found. profiles_of found.items ≡ map (function_counts stacks.entry.nodes.now) stacks.entry.names.now) }
 {
-    let index = CallTreeIndex::new(alloc, stacks.spots)?;
+    let index = CallTreeIndex::new(alloc, stacks.nodes)?;
     let mut functions = Vec::new(alloc);
     for named in stacks.names {
         functions.push(profile_of_function(&index, named))?;

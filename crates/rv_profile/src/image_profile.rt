@@ -26,12 +26,12 @@ pub(crate) fn profile_of_image<'t>(
     alloc: Global,
     stacks: ImageStacks<'t>,
 ) -> Result<ImageProfile<'t>, AllocError>
-    requires tree { IsTree stacks.spots.now }
-    requires few { fit_in_64_bits (sums_of stacks.spots.now) ≡ true }
-    ensures sums { IfOk result (λ profile. profile.sums ≡ sums_of stacks.entry.spots.now) }
-    ensures functions { IfOk result (λ profile. IsProfileOf stacks.entry.spots.now stacks.entry.names.now (profiles_of profile.functions.items)) }
+    requires tree { IsTree stacks.nodes.now }
+    requires few { fit_in_64_bits (sums_of stacks.nodes.now) ≡ true }
+    ensures sums { IfOk result (λ profile. profile.sums ≡ sums_of stacks.entry.nodes.now) }
+    ensures functions { IfOk result (λ profile. IsProfileOf stacks.entry.nodes.now stacks.entry.names.now (profiles_of profile.functions.items)) }
 {
     let functions = functions_by_own_steps(alloc, stacks)?;
-    let sums = sums_of(stacks.spots).unwrap();
+    let sums = sums_of(stacks.nodes).unwrap();
     Ok(ImageProfile { sums, functions })
 }

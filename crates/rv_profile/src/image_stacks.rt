@@ -14,7 +14,7 @@ use rv_cover_view::{ImageFile, entry_of_image};
 /// The call tree of an image.
 #[derive(Clone, Copy)]
 pub(crate) struct ImageStacks<'t> {
-    pub(crate) spots: &'t [CallNode],
+    pub(crate) nodes: &'t [CallNode],
     /// The names of the functions in it, sorted by function address.
     pub(crate) names: &'t [FunctionName],
     ghost rising: { functions_increase_from 0 names.now ≡ true },
@@ -23,9 +23,9 @@ pub(crate) struct ImageStacks<'t> {
 /// Returns the call tree that the table has for the image with these bytes; empty if the table does not have this image.
 pub(crate) fn stacks_of<'t>(table: &'t CountTable, bytes: &[u8]) -> ImageStacks<'t>
     requires { IsValidTable table.now }
-    ensures spots { result.spots.now ≡ nodes_of table.now bytes.now }
+    ensures nodes { result.nodes.now ≡ nodes_of table.now bytes.now }
     ensures names { result.names.now ≡ names_of table.now bytes.now }
-    ensures tree { IsTree result.spots.now }
+    ensures tree { IsTree result.nodes.now }
 {
     match entry_of_image(table, bytes) {
         Some(entry) => stacks_of_image(entry),
@@ -36,12 +36,12 @@ pub(crate) fn stacks_of<'t>(table: &'t CountTable, bytes: &[u8]) -> ImageStacks<
 // Returns the call tree of an image of a table.
 fn stacks_of_image(entry: &ImageCounts) -> ImageStacks<'_>
     requires { IsValidImage entry.now }
-    ensures spots { result.spots.now ≡ entry.now.spots }
+    ensures nodes { result.nodes.now ≡ entry.now.nodes }
     ensures names { result.names.now ≡ entry.now.functions }
-    ensures tree { IsTree result.spots.now }
+    ensures tree { IsTree result.nodes.now }
 {
     ImageStacks {
-        spots: entry.spots.as_slice(),
+        nodes: entry.nodes.as_slice(),
         names: entry.functions.as_slice(),
     }
 }
@@ -49,12 +49,12 @@ fn stacks_of_image(entry: &ImageCounts) -> ImageStacks<'_>
 // Returns an empty call tree.
 #[tactic(auto, unfolding(rv_count_tables::specs::Table::functions_increase_from))]
 fn no_stacks<'t>() -> ImageStacks<'t>
-    ensures spots { result.spots.now ≡ [] }
+    ensures nodes { result.nodes.now ≡ [] }
     ensures names { result.names.now ≡ [] }
-    ensures tree { IsTree result.spots.now }
+    ensures tree { IsTree result.nodes.now }
 {
     ImageStacks {
-        spots: &[],
+        nodes: &[],
         names: &[],
     }
 }
@@ -68,9 +68,9 @@ pub fn has_stacks(table: &CountTable) -> bool
 
 // Whether an image of a table has a call tree.
 fn has_spots(entry: &ImageCounts) -> bool
-    ensures { result ≡ has_nodes entry.now.spots }
+    ensures { result ≡ has_nodes entry.now.nodes }
 {
-    !entry.spots.as_slice().is_empty()
+    !entry.nodes.as_slice().is_empty()
 }
 
 /// Returns the path of the first image whose steps or calls in a table add up to 2^64 or more, or `None` if there is none.
@@ -101,5 +101,5 @@ fn is_past_64_bits(table: &CountTable, image: &ImageFile<'_>) -> bool
     let Some(entry) = entry_of_image(table, image.bytes) else {
         return false;
     };
-    sums_of(entry.spots.as_slice()).is_none()
+    sums_of(entry.nodes.as_slice()).is_none()
 }

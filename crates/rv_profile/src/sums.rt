@@ -14,26 +14,26 @@ pub(crate) struct Sums {
 
 impl Sums {
     // Returns the sums, to which the counts of one more node are added, or `None` if one of them does not fit in 64 bits.
-    fn with_node(self, spot: CallNode) -> Option<Sums>
-        ensures { result ≡ if_fitting (with_node self spot) }
+    fn with_node(self, node: CallNode) -> Option<Sums>
+        ensures { result ≡ if_fitting (with_node self node) }
     {
         Some(Sums {
-            steps: self.steps.checked_add(spot.steps)?,
-            calls: self.calls.checked_add(spot.calls)?,
+            steps: self.steps.checked_add(node.steps)?,
+            calls: self.calls.checked_add(node.calls)?,
         })
     }
 }
 
 /// Returns the sums over all nodes, or `None` if one of them does not fit in 64 bits.
-pub(crate) fn sums_of(spots: &[CallNode]) -> Option<Sums>
-    ensures { result ≡ if_fitting (sums_of spots.now) }
+pub(crate) fn sums_of(nodes: &[CallNode]) -> Option<Sums>
+    ensures { result ≡ if_fitting (sums_of nodes.now) }
 {
     let mut sums = Sums {
         steps: 0,
         calls: 0,
     };
-    for spot in spots {
-        sums = sums.with_node(*spot)?;
+    for node in nodes {
+        sums = sums.with_node(*node)?;
     }
     Some(sums)
 }

@@ -163,8 +163,8 @@ draft_whole : (numbers : List ℕ) (rows : List Row) (e : Extent) → AreGood ro
 unfolding state_between_rows
 draft_whole numbers rows e h = (h, dash_is_name, tt, omega arith, (λ i. omega arith), omega arith, omega arith, tt)
 
-signature_good : (signed : Bool) (words : List ℕ) → length words ≤ max_words → AllByRecursion IsWord words
-    → IsValidSignature (if signed then Some words else None)
+signature_good : (has_signature : Bool) (words : List ℕ) → length words ≤ max_words → AllByRecursion IsWord words
+    → IsValidSignature (if has_signature then Some words else None)
 signature_good true words few each = (few, each)
 signature_good false words few each = tt
 
@@ -178,7 +178,7 @@ row_good v g h =
       ending = h.2;
       steps = h.3;
       console = h.4;
-      signature = signature_good g.signed g.words (omega arith) h.7;
+      signature = signature_good g.has_signature g.words (omega arith) h.7;
     }
 
 draft_closed : (v : Verdict) (g : ReaderStateView) → IsDraft g → IsDraft (with_finished_row v g)
@@ -222,7 +222,7 @@ draft_signature line g h =
     let count = decimal_number (drop 10 line) in
     let is : Bool = (slice_index line 0 == 115) && (slice_index line 1 == 105) in
     let is_in_row : ReaderStateView = record g {
-      signed = not (slice_index line 10 == 45);
+      has_signature = not (slice_index line 10 == 45);
       count = count;
       words = [];
       stage = stage.Words;

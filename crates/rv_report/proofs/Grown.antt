@@ -84,7 +84,7 @@ grown_at stage.Console l g =
     (unchanged (with_stage_done g))
 grown_at stage.Signature l g =
     let next : ReaderStateView = record g {
-      signed = not (slice_index l 10 == 45);
+      has_signature = not (slice_index l 10 == 45);
       count = decimal_number (drop 10 l);
       words = [];
       stage = stage.Words;

@@ -166,7 +166,7 @@ all_words n row g = record g {
   ending = row.ending;
   steps = row.steps;
   console = row.console;
-  signed = is_some row.signature;
+  has_signature = is_some row.signature;
   count = length (words_or_nil row.signature);
   words = words_or_nil row.signature;
   stage = stage.Words;
@@ -286,16 +286,16 @@ pub next_word : (n : ℕ) (row : Row) (ws : List ℕ) (i : ℕ) (b : ℕ) (p q :
     ∷ console_change_text row.console ∷ count_words (length ws) ∷ map word_digits (take i ws)) ++ b ∷ p)
     (record g { stage = stage.BetweenRows })))
 unfolding with_lines
-next_word n row ws i b p q g is small few plain signed within fits begins =
+next_word n row ws i b p q g is small few plain has_signature within fits begins =
     let count = length ws in
     let some = take i ws in
     let h = hex_word (b ∷ p) in
     let before = after_console n row g in
-    let words : IsValidSignature (Some ws) = subst (λ (s : Option (List ℕ)). IsValidSignature s) signed is.signature in
+    let words : IsValidSignature (Some ws) = subst (λ (s : Option (List ℕ)). IsValidSignature s) has_signature is.signature in
     let most : length ws ≤ max_words = words.0 in
     let fewer : length some < count = let e = length-taken i ws (omega arith) in omega arith in
-    let now : ReaderStateView = record before { signed = true; count = count; words = some; stage = stage.Words } in
-    let next : ReaderStateView = record before { signed = true; count = count; words = some ++ h ∷ [] } in
+    let now : ReaderStateView = record before { has_signature = true; count = count; words = some; stage = stage.Words } in
+    let next : ReaderStateView = record before { has_signature = true; count = count; words = some ++ h ∷ [] } in
     let longer = length-append some (h ∷ []) in
     let ls = count_words count ∷ map word_digits some in
     let read = four_lines n row ls (b ∷ p) g is small few

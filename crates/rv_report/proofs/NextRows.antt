@@ -62,15 +62,15 @@ last_goes_on : (s : Option (List ℕ)) (i n : ℕ) (row : Row) (b : ℕ) (p q : 
     → suc i < length (lines_of_signature s ++ verdict_change_text row.verdict ∷ [])
     → get_or (lines_of_signature s ++ verdict_change_text row.verdict ∷ []) (suc i) [] ≡ (b ∷ p) ++ q
     → ContinuesIn n row (with_head n row (take (suc i) (lines_of_signature s ++ verdict_change_text row.verdict ∷ []))) (b ∷ p) g
-last_goes_on None zero n row b p q g signed is small few plain within begins =
-    subst (λ (s : Option (List ℕ)). ContinuesIn n row (with_head n row (lines_of_signature s)) (b ∷ p) g) signed
+last_goes_on None zero n row b p q g has_signature is small few plain within begins =
+    subst (λ (s : Option (List ℕ)). ContinuesIn n row (with_head n row (lines_of_signature s)) (b ∷ p) g) has_signature
     (next_verdict n row b p q g is small few plain begins)
-last_goes_on None (suc i) n row b p q g signed is small few plain within begins = absurd (omega arith)
-last_goes_on (Some ws) i n row b p q g signed is small few plain within begins =
+last_goes_on None (suc i) n row b p q g has_signature is small few plain within begins = absurd (omega arith)
+last_goes_on (Some ws) i n row b p q g has_signature is small few plain within begins =
     let v = verdict_change_text row.verdict in
     let digits = map word_digits ws in
     let count = count_words (length ws) in
-    let words : IsValidSignature (Some ws) = subst (λ (s : Option (List ℕ)). IsValidSignature s) signed is.signature in
+    let words : IsValidSignature (Some ws) = subst (λ (s : Option (List ℕ)). IsValidSignature s) has_signature is.signature in
     let a = length-append digits (v ∷ []) in
     let l : length digits ≡ length ws = length-map ws word_digits in
     elim (cases_lt i (length ws)) [
@@ -80,14 +80,14 @@ last_goes_on (Some ws) i n row b p q g signed is small few plain within begins =
           let element : word_digits (get_or ws i 0) ≡ (b ∷ p) ++ q =
           sym (get_map ws i inside) ∙ sym (get_in digits (v ∷ []) i [] (omega arith)) ∙ begins in
           subst (λ (ls : List (List ℕ)). ContinuesIn n row (with_head n row (count ∷ ls)) (b ∷ p) g) taken
-          (next_word n row ws i b p q g is small few plain signed inside (word_at ws i words.1 inside) element)
+          (next_word n row ws i b p q g is small few plain has_signature inside (word_at ws i words.1 inside) element)
       | inr past ↦
           let e : i ≡ length digits + zero = omega arith in
           let taken : digits ≡ take i (digits ++ v ∷ []) =
           sym (take_past digits (v ∷ []) i zero e ∙ append-nil digits) in
           let element : v ≡ (b ∷ p) ++ q = sym (get_past digits (v ∷ []) i zero [] e) ∙ begins in
           subst (λ (ls : List (List ℕ)). ContinuesIn n row (with_head n row (count ∷ ls)) (b ∷ p) g) taken
-          (subst (λ (s : Option (List ℕ)). ContinuesIn n row (with_head n row (lines_of_signature s)) (b ∷ p) g) signed
+          (subst (λ (s : Option (List ℕ)). ContinuesIn n row (with_head n row (lines_of_signature s)) (b ∷ p) g) has_signature
           (next_verdict n row b p q g is small few plain element))
     ]
 

@@ -34,14 +34,14 @@ taken_within (suc count) (x ∷ xs) = let h = taken_within count xs in omega ari
 -- the line of the count
 count_says : (n : ℕ) (g : ReaderStateView) → n ≤ max_words
     → with_line (count_words n) (record g { stage = stage.Signature })
-    ≡ record g { signed = true; count = n; words = []; stage = stage.Words }
+    ≡ record g { has_signature = true; count = n; words = []; stage = stage.Words }
 count_says n g few =
     let value : decimal_number (decimal n) ≡ n = number_of-decimal n (omega arith) in
     let small : nat_le (decimal_number (decimal n)) max_words ≡ true = grind (arith, nat_tests) in
     signature_text_says (decimal n) g small
-    ∙ ap (λ (t : Bool). record g { signed = not t; count = decimal_number (decimal n); words = []; stage = stage.Words })
+    ∙ ap (λ (t : Bool). record g { has_signature = not t; count = decimal_number (decimal n); words = []; stage = stage.Words })
     (first_is_other 45 (decimal n) (omega arith) (lacks-decimal 45 n (omega arith) (omega arith)))
-    ∙ ap (λ (k : ℕ). record g { signed = true; count = k; words = []; stage = stage.Words }) value
+    ∙ ap (λ (k : ℕ). record g { has_signature = true; count = k; words = []; stage = stage.Words }) value
 
 -- a row has what is known before the signature, and these lines of it
 pub record KnowsLines (ls : List (List ℕ)) (g : ReaderStateView) (r : Row) : Type 0 where
@@ -52,7 +52,7 @@ pub record KnowsLines (ls : List (List ℕ)) (g : ReaderStateView) (r : Row) : T
   pub more : List (List ℕ)
   pub signature : lines_of_signature r.signature ≡ ls ++ more
 
-unsigned_lines : (g : ReaderStateView) (r : Row) → KnowsWords (record g { signed = false; count = 0; words = [] }) r
+unsigned_lines : (g : ReaderStateView) (r : Row) → KnowsWords (record g { has_signature = false; count = 0; words = [] }) r
     → KnowsLines (codes "signature -" ∷ []) g r
 unsigned_lines g r k = record {
   name = k.name;
@@ -64,7 +64,7 @@ unsigned_lines g r k = record {
 }
 
 pub signed_lines : (n : ℕ) (ws : List ℕ) (g : ReaderStateView) (r : Row)
-    → KnowsWords (record g { signed = true; count = n; words = ws }) r
+    → KnowsWords (record g { has_signature = true; count = n; words = ws }) r
     → KnowsLines (count_words n ∷ map word_digits ws) g r
 signed_lines n ws g r k = record {
   name = k.name;
@@ -78,7 +78,7 @@ signed_lines n ws g r k = record {
 }
 
 unsigned_says : (w : List ℕ) (g : ReaderStateView) → says (joined (codes "signature -" ∷ []) ++ w) (record g { stage = stage.Signature })
-    ≡ says w (record g { signed = false; count = 0; words = []; stage = stage.Words })
+    ≡ says w (record g { has_signature = false; count = 0; words = []; stage = stage.Words })
 unfolding decimal_number_from
 unsigned_says w g =
     says_first (codes "signature -") [] w (record g { stage = stage.Signature }) refl
@@ -86,9 +86,9 @@ unsigned_says w g =
 
 pub signed_says : (n : ℕ) (ws w : List ℕ) (g : ReaderStateView) → n ≤ max_words → length ws ≤ n → AllByRecursion IsWord ws
     → says (joined (count_words n ∷ map word_digits ws) ++ w) (record g { stage = stage.Signature })
-    ≡ says w (record g { signed = true; count = n; words = ws; stage = stage.Words })
+    ≡ says w (record g { has_signature = true; count = n; words = ws; stage = stage.Words })
 signed_says n ws w g few within each =
-    let known : ReaderStateView = record g { signed = true; count = n; words = []; stage = stage.Words } in
+    let known : ReaderStateView = record g { has_signature = true; count = n; words = []; stage = stage.Words } in
     says_first (count_words n) (map word_digits ws) w (record g { stage = stage.Signature })
     (lacks-decimal 10 n (omega arith) (omega arith))
     ∙ ap (says (joined (map word_digits ws) ++ w)) (count_says n g few)
@@ -102,7 +102,7 @@ pub signature_part : (s : Option (List ℕ)) (i : ℕ) (v w : List ℕ) (g : Rea
     (with_unfinished_row (says (joined (take (suc i) (lines_of_signature s ++ v ∷ [])) ++ w)
     (record g { is_in_row = true; stage = stage.Signature })))
 signature_part None zero v w g h within =
-    let known : ReaderStateView = record g { signed = false; count = 0; words = [] } in
+    let known : ReaderStateView = record g { has_signature = false; count = 0; words = [] } in
     let K = KnowsLines (codes "signature -" ∷ []) in
     subst (λ (f : ReaderStateView). Kept K g (with_unfinished_row f)) (sym (unsigned_says w (record g { is_in_row = true })))
     (with_less g.numbers g.rows g.number (KnowsWords known) (K g)
@@ -112,7 +112,7 @@ signature_part None (suc i) v w g h within = absurd (omega arith)
 signature_part (Some ws) i v w g h within =
     let n = length ws in
     let some = take i ws in
-    let known : ReaderStateView = record g { signed = true; count = n; words = some } in
+    let known : ReaderStateView = record g { has_signature = true; count = n; words = some } in
     let a = length-append (map word_digits ws) (v ∷ []) in
     let b : length (map word_digits ws) ≡ n = length-map ws word_digits in
     let taken : map word_digits some ≡ take i (map word_digits ws ++ v ∷ []) =

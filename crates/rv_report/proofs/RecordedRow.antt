@@ -53,7 +53,7 @@ abbrev pub KnowsConsole : ReaderStateView → Row → Type 0
 KnowsConsole g r = (r.name ≡ g.name) × (r.ending ≡ g.ending) × (r.steps ≡ g.steps) × (r.console ≡ g.console)
 
 abbrev pub signature_of : Bool → List ℕ → Option (List ℕ)
-signature_of signed words = if signed then Some words else None
+signature_of has_signature words = if has_signature then Some words else None
 
 -- the words so far, and so many more that all are there
 pub record KnowsWords (g : ReaderStateView) (r : Row) : Type 0 where
@@ -62,7 +62,7 @@ pub record KnowsWords (g : ReaderStateView) (r : Row) : Type 0 where
   pub steps : r.steps ≡ g.steps
   pub console : r.console ≡ g.console
   pub more : List ℕ
-  pub signature : r.signature ≡ signature_of g.signed (g.words ++ more)
+  pub signature : r.signature ≡ signature_of g.has_signature (g.words ++ more)
   pub all : length (g.words ++ more) ≡ g.count
 
 abbrev pub Kept : (ReaderStateView → Row → Type 0) → ReaderStateView → ReaderStateView → Type 0
@@ -115,7 +115,7 @@ word_less g w r k = record {
   steps = k.steps;
   console = k.console;
   more = w ∷ k.more;
-  signature = k.signature ∙ ap (λ (t : List ℕ). signature_of g.signed t) (append_assoc g.words (w ∷ []) k.more);
+  signature = k.signature ∙ ap (λ (t : List ℕ). signature_of g.has_signature t) (append_assoc g.words (w ∷ []) k.more);
   all = sym (ap (λ (t : List ℕ). length t) (append_assoc g.words (w ∷ []) k.more)) ∙ k.all;
 }
 
@@ -137,7 +137,7 @@ whole_row v g f full h =
         steps = refl;
         console = refl;
         more = [];
-        signature = ap (λ (t : List ℕ). signature_of g.signed t) (sym (append-nil g.words));
+        signature = ap (λ (t : List ℕ). signature_of g.has_signature t) (sym (append-nil g.words));
         all = ap (λ (t : List ℕ). length t) (append-nil g.words) ∙ eqb-true (length g.words) g.count full;
       };
     }
@@ -182,7 +182,7 @@ signature_keep [] g within =
     (closed_row stage.Signature g within) (words_to_console g)
 signature_keep (l ∷ ls) g within =
     let here : ReaderStateView = record g { is_in_row = true; stage = stage.Signature } in
-    let known : ReaderStateView = record g { signed = not (slice_index l 10 == 45); count = decimal_number (drop 10 l); words = [] } in
+    let known : ReaderStateView = record g { has_signature = not (slice_index l 10 == 45); count = decimal_number (drop 10 l); words = [] } in
     let next : ReaderStateView = record known { is_in_row = true; stage = stage.Words } in
     chosen (λ f. Kept KnowsConsole g (at_end ls f))
     (((slice_index l 0 == 115) && (slice_index l 1 == 105)) && nat_le (decimal_number (drop 10 l)) max_words) next

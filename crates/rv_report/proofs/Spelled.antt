@@ -331,10 +331,10 @@ words_or_nil (Some words) = words
 
 pub signature_text_says : (text : List ℕ) (g : ReaderStateView) → nat_le (decimal_number text) max_words ≡ true
     → with_line (codes "signature " ++ text) (record g { stage = stage.Signature })
-    ≡ record g { signed = not (slice_index text 0 == 45); count = decimal_number text; words = []; stage = stage.Words }
+    ≡ record g { has_signature = not (slice_index text 0 == 45); count = decimal_number text; words = []; stage = stage.Words }
 unfolding with_line after_signature_line
 signature_text_says text g small = ap (λ (t : Bool). cond t (record g {
-  signed = not (slice_index text 0 == 45);
+  has_signature = not (slice_index text 0 == 45);
   count = decimal_number text;
   words = [];
   stage = stage.Words;
@@ -343,7 +343,7 @@ signature_text_says text g small = ap (λ (t : Bool). cond t (record g {
 pub signature_says : (s : Option (List ℕ)) (rest : List ℕ) (g : ReaderStateView) → IsValidSignature s
     → says (signature_lines s ++ rest) (record g { stage = stage.Signature })
     ≡ says rest (record g {
-      signed = is_some s;
+      has_signature = is_some s;
       count = length (words_or_nil s);
       words = words_or_nil s;
       stage =
@@ -364,12 +364,12 @@ signature_says (Some ws) rest g h =
     (lacks-decimal 10 n (omega arith) (omega arith))
     ∙ ap (says (flat_map word_line ws ++ rest)) (signature_text_says (decimal n) g small)
     ∙ ap (λ (t : Bool). says (flat_map word_line ws ++ rest)
-    (record g { signed = not t; count = decimal_number (decimal n); words = []; stage = stage.Words }))
+    (record g { has_signature = not t; count = decimal_number (decimal n); words = []; stage = stage.Words }))
     (first_is_other 45 (decimal n) (omega arith) (lacks-decimal 45 n (omega arith) (omega arith)))
     ∙ ap (λ (k : ℕ). says (flat_map word_line ws ++ rest)
-    (record g { signed = true; count = k; words = []; stage = stage.Words }))
+    (record g { has_signature = true; count = k; words = []; stage = stage.Words }))
     value
-    ∙ words_say ws rest (record g { signed = true; count = n; words = [] }) h.1 (omega arith)
+    ∙ words_say ws rest (record g { has_signature = true; count = n; words = [] }) h.1 (omega arith)
 
 -- ---- the verdict's line
 
@@ -408,7 +408,7 @@ up_to_verdict n row numbers rows extent = record {
   ending = row.ending;
   steps = row.steps;
   console = row.console;
-  signed = is_some row.signature;
+  has_signature = is_some row.signature;
   count = length (words_or_nil row.signature);
   words = words_or_nil row.signature;
   is_in_row = true;

@@ -189,7 +189,7 @@ pub record ReaderStateView : Type 0 where
   pub ending : RowEnd
   pub steps : ℕ
   pub console : List ℕ
-  pub signed : Bool
+  pub has_signature : Bool
   pub count : ℕ
   pub words : List ℕ
   -- whether a row is unfinished
@@ -208,7 +208,7 @@ state_between_rows numbers rows extent = record {
   ending = ending.Budget;
   steps = 0;
   console = [];
-  signed = false;
+  has_signature = false;
   count = 0;
   words = [];
   is_in_row = false;
@@ -227,7 +227,7 @@ unfinished_row verdict state = record {
   ending = state.ending;
   steps = state.steps;
   console = state.console;
-  signature = if state.signed then Some state.words else None;
+  signature = if state.has_signature then Some state.words else None;
   verdict = verdict;
 }
 
@@ -274,7 +274,7 @@ after_signature_line line state =
     if ((slice_index line 0 == 115) && (slice_index line 1 == 105))
     && nat_le (decimal_number (drop 10 line)) max_words then
     record state {
-      signed = not (slice_index line 10 == 45);
+      has_signature = not (slice_index line 10 == 45);
       count = decimal_number (drop 10 line);
       words = [];
       stage = stage.Words;

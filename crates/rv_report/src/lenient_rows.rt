@@ -31,7 +31,7 @@ pub struct ReaderState {
     ending: RowEnd,
     steps: u32,
     console: Vec<u8>,
-    signed: bool,
+    has_signature: bool,
     count: u32,
     words: Vec<u32>,
     is_in_row: bool,
@@ -88,7 +88,7 @@ fn initial_state(alloc: Global) -> Result<ReaderState, AllocError>
         ending: RowEnd::Budget,
         steps: 0,
         console: Vec::new(alloc),
-        signed: false,
+        has_signature: false,
         count: 0,
         words: Vec::new(alloc),
         is_in_row: false,
@@ -188,7 +188,7 @@ fn add_signature_line(state: &mut ReaderState, line: &[u8])
 {
     let count = decimal_number(tail_from(line, 10));
     if byte_at(line, 0) == b's' && byte_at(line, 1) == b'i' && count <= MAX_WORDS {
-        state.signed = byte_at(line, 10) != b'-';
+        state.has_signature = byte_at(line, 10) != b'-';
         state.count = count;
         state.words.clear();
         state.stage = Stage::Words;
@@ -266,7 +266,7 @@ fn take_row(alloc: Global, state: &mut ReaderState, verdict: Verdict) -> Result<
     let name = mem::replace(&mut state.name, dash);
     let console = mem::replace(&mut state.console, Vec::new(alloc));
     let words = mem::replace(&mut state.words, Vec::new(alloc));
-    let signature = if state.signed {
+    let signature = if state.has_signature {
         Some(Words::new(words))
     } else {
         None
@@ -282,7 +282,7 @@ fn take_row(alloc: Global, state: &mut ReaderState, verdict: Verdict) -> Result<
     state.number = 0;
     state.ending = RowEnd::Budget;
     state.steps = 0;
-    state.signed = false;
+    state.has_signature = false;
     state.count = 0;
     state.is_in_row = false;
     state.stage = Stage::BetweenRows;

@@ -21,12 +21,12 @@ pub struct PartialReport {
     /// The report with this text; or, if the text is truncated, its complete rows, as a report of chosen jobs.
     pub report: SavedReport,
     /// Whether the text ends before its report does.
-    pub is_cut_off: bool,
+    pub is_truncated: bool,
 }
 
 /// Returns the report with this text, or the complete rows of a truncated text. Every prefix of a report's text is accepted.
 pub fn read_partial_report(alloc: Global, bytes: &[u8]) -> Result<PartialReport, ReadError>
-    ensures found { IfOk result (λ read. IsReadAs bytes.now read.is_cut_off read.report) }
+    ensures found { IfOk result (λ read. IsReadAs bytes.now read.is_truncated read.report) }
     ensures saved { IfOk result (λ read. IsValidReport read.report) }
     ensures beginning { IsReportPrefix bytes.now → IfErr result (λ error. error ≡ OutOfMemory) }
     ensures refused { IfErr result (λ error. (error ≡ OutOfMemory)
@@ -35,13 +35,13 @@ pub fn read_partial_report(alloc: Global, bytes: &[u8]) -> Result<PartialReport,
     match read_report(alloc, bytes) {
         Ok(report) => Ok(PartialReport {
             report,
-            is_cut_off: false,
+            is_truncated: false,
         }),
         Err(ReadError::Truncated) => {
             let report = read_complete_rows(alloc, bytes)?;
             Ok(PartialReport {
                 report,
-                is_cut_off: true,
+                is_truncated: true,
             })
         }
         Err(ReadError::Line(line)) => Err(ReadError::Line(line)),

@@ -83,7 +83,7 @@ fn write_rows<W: Sink>(
     out: &mut W,
 ) -> Result<(), WriteError>
     requires { string_bytes text.old ≡ [] }
-    ensures under_way { OnOk result
+    ensures partly_written { OnOk result
         (IsPartlyWritten (W.accepted out.old) (W.accepted out.new)
         (string_bytes text.new) (rows_text 0 rows.now)) }
     ensures counted { OnOk result (W.failure_count out.new ≡ W.failure_count out.old) }
@@ -101,7 +101,7 @@ fn write_rows<W: Sink>(
 
 /// Writes the buffered text and clears the buffer, if there is enough for a large write.
 pub(crate) fn write_text_if_large<W: Sink>(text: &mut String, out: &mut W) -> Result<(), WriteError>
-    ensures under_way { OnOk result
+    ensures partly_written { OnOk result
         (IsPartlyWritten (W.accepted out.old) (W.accepted out.new)
         (string_bytes text.new) (string_bytes text.old)) }
     ensures counted { OnOk result (W.failure_count out.new ≡ W.failure_count out.old) }
@@ -120,7 +120,7 @@ pub(crate) fn write_text_if_large<W: Sink>(text: &mut String, out: &mut W) -> Re
 pub(crate) fn flush_text<W: Sink>(text: &mut String, out: &mut W) -> Result<(), WriteError>
     ensures appended { OnOk result
         (Appends (W.accepted out.old) (W.accepted out.new) (string_bytes text.old)) }
-    ensures anew { OnOk result (string_bytes text.new ≡ []) }
+    ensures cleared { OnOk result (string_bytes text.new ≡ []) }
     ensures counted { OnOk result (W.failure_count out.new ≡ W.failure_count out.old) }
     ensures part { OnErr result
         (AppendsPrefix (W.accepted out.old) (W.accepted out.new) (string_bytes text.old)) }

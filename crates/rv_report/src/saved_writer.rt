@@ -51,7 +51,7 @@ fn write_numbered_rows<W: Sink>(
     requires counted { length numbers.now ≡ length rows.now }
     requires rising { are_increasing 0 max_jobs numbers.now ≡ true }
     requires empty { string_bytes text.old ≡ [] }
-    ensures under_way { OnOk result
+    ensures partly_written { OnOk result
         (IsPartlyWritten (W.accepted out.old) (W.accepted out.new)
         (string_bytes text.new) (numbered_rows_text numbers.now rows.now)) }
     ensures counted { OnOk result (W.failure_count out.new ≡ W.failure_count out.old) }

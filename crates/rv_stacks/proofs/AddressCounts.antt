@@ -199,9 +199,9 @@ module _ (function : ℕ → ℕ) (f : ℕ) where
       let first = first_in_function n s in
       omega (arith, split, here, rest, first)
 
-pub own_counts : (function : ℕ → ℕ) (f n : ℕ) (s : State) (cs : List AddressCounts) (spots : List CallNode)
-    → AreCountsOf n s cs → AreStacksOf function n s spots → own_steps_of f spots ≡ counts_of_function function f cs
-own_counts function f n s cs spots counts stacks =
+pub own_counts : (function : ℕ → ℕ) (f n : ℕ) (s : State) (cs : List AddressCounts) (nodes : List CallNode)
+    → AreCountsOf n s cs → AreStacksOf function n s nodes → own_steps_of f nodes ≡ counts_of_function function f cs
+own_counts function f n s cs nodes counts stacks =
     stacks.own f
     ∙ sym (counts_are_over function f 0 cs counts.consistent.rising
     ∙ over_same function f (λ a. executed_at a cs) (λ a. executed_in_run a n s) counts.executed cs

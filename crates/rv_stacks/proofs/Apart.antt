@@ -30,8 +30,8 @@ each_bare (i ∷ is) h = (
     text = h.0.text;
     counts = h.0.counts;
     names = no_names;
-    spots = no_spots;
-    of_spots = no_owners;
+    nodes = no_spots;
+    names_of_nodes = no_owners;
   },
   each_bare is h.1,
 )
@@ -115,7 +115,7 @@ image_without_counts i = record {
   path = i.path;
   addresses = [];
   functions = i.functions;
-  spots = i.spots;
+  nodes = i.nodes;
 }
 
 abbrev stacked : List ImageCounts → List ImageCounts
@@ -134,8 +134,8 @@ each_stacked (i ∷ is) h = (
     text = h.0.text;
     counts = no_addresses;
     names = h.0.names;
-    spots = h.0.spots;
-    of_spots = h.0.of_spots;
+    nodes = h.0.nodes;
+    names_of_nodes = h.0.names_of_nodes;
   },
   each_stacked is h.1,
 )
@@ -179,12 +179,12 @@ module _ (digest : List ℕ) where
       → calls_in_image digest path (stacked is) ≡ calls_in_image digest path is
   same_arrivals path [] = refl
   same_arrivals path (i ∷ is) =
-      ap (λ (n : ℕ). cond (bytes_eq i.digest digest) (calls_at path i.spots) 0 + n) (same_arrivals path is)
+      ap (λ (n : ℕ). cond (bytes_eq i.digest digest) (calls_at path i.nodes) 0 + n) (same_arrivals path is)
 
   same_steps : (path : List ℕ) (is : List ImageCounts) → steps_in digest path (stacked is) ≡ steps_in digest path is
   same_steps path [] = refl
   same_steps path (i ∷ is) =
-      ap (λ (n : ℕ). cond (bytes_eq i.digest digest) (steps_at path i.spots) 0 + n) (same_steps path is)
+      ap (λ (n : ℕ). cond (bytes_eq i.digest digest) (steps_at path i.nodes) 0 + n) (same_steps path is)
 
 stacks_of_jobs : (plan : PlanView) (indices : List ℕ) (t : CountTable) → IsOfJobs plan.answers (jobs_at plan indices) t
     → AreStacksOfJobsAt plan indices (stacks_alone t)

@@ -28,38 +28,38 @@ module _ (function : ℕ → ℕ) (path : List ℕ) where
       let b = once_at_most (calls_to function path frames t) in
       omega (arith, a, b)
 
-  few_arrivals : (n : ℕ) (frames : List Frame) (s : State) → calls_in function path n frames s ≤ n + n
+  calls_fit : (n : ℕ) (frames : List Frame) (s : State) → calls_in function path n frames s ≤ n + n
   unfolding calls_in
-  few_arrivals zero frames s = omega arith
-  few_arrivals (suc n) frames s =
+  calls_fit zero frames s = omega arith
+  calls_fit (suc n) frames s =
       behind_at_most (step_of s)
       (λ t. calls_by function path frames (transfer_of s t)
       + calls_in function path n (after_transfer frames (transfer_of s t)) t)
       (suc n + suc n)
       (λ t. let a = two_at_most frames (transfer_of s t) in
-      let b = few_arrivals n (after_transfer frames (transfer_of s t)) t in
+      let b = calls_fit n (after_transfer frames (transfer_of s t)) t in
       omega (arith, a, b))
 
-  few_steps : (n : ℕ) (frames : List Frame) (s : State) → steps_in function path n frames s ≤ n
+  steps_fit : (n : ℕ) (frames : List Frame) (s : State) → steps_in function path n frames s ≤ n
   unfolding steps_in
-  few_steps zero frames s = omega arith
-  few_steps (suc n) frames s =
+  steps_fit zero frames s = omega arith
+  steps_fit (suc n) frames s =
       let a = once_at_most (is_executed (fetch_at s) && bytes_eq (path_at function frames s.pc) path) in
       let b = behind_at_most (step_of s)
       (λ t. steps_in function path n (after_transfer frames (transfer_of s t)) t) n
-      (λ t. few_steps n (after_transfer frames (transfer_of s t)) t) in
+      (λ t. steps_fit n (after_transfer frames (transfer_of s t)) t) in
       omega (arith, a, b)
 
   pub arrivals_at_most : (n : ℕ) (o : Option State) → calls_from function path n o ≤ 1 + n + n
   arrivals_at_most n None = omega arith
   arrivals_at_most n (Some s) =
       let a = once_at_most (bytes_eq (function s.pc ∷ []) path) in
-      let b = few_arrivals n [] s in
+      let b = calls_fit n [] s in
       omega (arith, a, b)
 
   pub steps_at_most : (n : ℕ) (o : Option State) → steps_from function path n o ≤ n
   steps_at_most n None = omega arith
-  steps_at_most n (Some s) = few_steps n [] s
+  steps_at_most n (Some s) = steps_fit n [] s
 
 few_begun : (address n : ℕ) (s : State) → executed_in_run address n s ≤ n
 unfolding executed_in_run

@@ -71,18 +71,18 @@ come_to f digest (i ∷ is) h named =
     elim (either_named (cond (bytes_eq i.digest digest) (name_at f i.functions) None) (truncated_name digest f is) named) [
       | inl t ↦
           let here = named_here (bytes_eq i.digest digest) (name_at f i.functions) t in
-          let last = sym (h.0.of_spots f) ∙ ap has_name (first_is i.functions 0 f h.0.names.rising) ∙ here.1 in
-          let k = last_of_list f [] i.spots h.0.spots.each last in
+          let last = sym (h.0.names_of_nodes f) ∙ ap has_name (first_is i.functions 0 f h.0.names.rising) ∙ here.1 in
+          let k = last_of_list f [] i.nodes h.0.nodes.each last in
           record {
             path = k.path;
             ends = k.ends;
-            some = here_counts (bytes_eq i.digest digest) (calls_at k.path i.spots) (calls_in_image digest k.path is) here.0 k.some;
+            some = here_counts (bytes_eq i.digest digest) (calls_at k.path i.nodes) (calls_in_image digest k.path is) here.0 k.some;
           }
       | inr t ↦
           let k = come_to f digest is h.1 t in
           record {
             path = k.path;
             ends = k.ends;
-            some = further_counts (bytes_eq i.digest digest) (calls_at k.path i.spots) (calls_in_image digest k.path is) k.some;
+            some = further_counts (bytes_eq i.digest digest) (calls_at k.path i.nodes) (calls_in_image digest k.path is) k.some;
           }
     ]

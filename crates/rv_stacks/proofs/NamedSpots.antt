@@ -29,7 +29,7 @@ or_without false c h = h
 -- ---- names of spots
 
 pub none_named : (name : ℕ → List ℕ) → AreNamesBy name [] []
-none_named name = record { sound = no_names; of_spots = λ f. refl; each = λ f h. absurd (false≢true h) }
+none_named name = record { sound = no_names; names_of_nodes = λ f. refl; each = λ f h. absurd (false≢true h) }
 
 either_named : (b c : Bool) (text : List ℕ) (o : Option (List ℕ)) → has_name o ≡ c
     → has_name (cond b (Some text) o) ≡ (c || b)
@@ -45,33 +45,33 @@ picked_name false text other o h k some = k some
 agrees_if_none : (text : List ℕ) (o : Option (List ℕ)) → o ≡ None → AgreesWithName text o
 agrees_if_none text o h = subst (AgreesWithName text) (sym h) tt
 
-module _ (name : ℕ → List ℕ) (spots : List CallNode) (s : CallNode) (names : List FunctionName)
-    (h : AreNamesBy name spots names) where
+module _ (name : ℕ → List ℕ) (nodes : List CallNode) (s : CallNode) (names : List FunctionName)
+    (h : AreNamesBy name nodes names) where
   known : (f : ℕ) → has_name (name_of s.function names) ≡ true
-      → has_name (name_of f names) ≡ ends_some_path f (spots ++ s ∷ [])
+      → has_name (name_of f names) ≡ ends_some_path f (nodes ++ s ∷ [])
   known f has = elim (cases_Bool (s.function == f)) [
     | inl t ↦
         ap (λ (g : ℕ). has_name (name_of g names)) (sym (eqb-true s.function f t)) ∙ has
-        ∙ sym (last_of_more f spots s ∙ or_with (ends_some_path f spots) (s.function == f) t)
-    | inr t ↦ h.of_spots f ∙ sym (last_of_more f spots s ∙ or_without (ends_some_path f spots) (s.function == f) t)
+        ∙ sym (last_of_more f nodes s ∙ or_with (ends_some_path f nodes) (s.function == f) t)
+    | inr t ↦ h.names_of_nodes f ∙ sym (last_of_more f nodes s ∙ or_without (ends_some_path f nodes) (s.function == f) t)
   ]
 
   -- a function that has a name
-  pub one_known : has_name (name_of s.function names) ≡ true → AreNamesBy name (spots ++ s ∷ []) names
-  one_known has = record { sound = h.sound; of_spots = λ f. known f has; each = h.each }
+  pub one_known : has_name (name_of s.function names) ≡ true → AreNamesBy name (nodes ++ s ∷ []) names
+  one_known has = record { sound = h.sound; names_of_nodes = λ f. known f has; each = h.each }
 
   -- a function that gets its name
   pub one_named : (text : List ℕ) → has_name (name_of s.function names) ≡ false → s.function < 2 ^ 32
       → text ≡ name s.function → lacks 10 text ≡ true → IsUtf8 text
-      → AreNamesBy name (spots ++ s ∷ []) (with_name (record { function = s.function; name = text }) names)
+      → AreNamesBy name (nodes ++ s ∷ []) (with_name (record { function = s.function; name = text }) names)
   one_named text none fits is line utf8 =
       let n : FunctionName = record { function = s.function; name = text } in
       let says : (f : ℕ) → name_of f (with_name n names) ≡ cond (s.function == f) (Some text) (name_of f names) =
       λ f. name_with n names f (agrees_if_none text (name_of s.function names) (not_named (name_of s.function names) none)) in record {
         sound = are_more n names (record { function = fits; name = line; text = utf8 }) h.sound;
-        of_spots = λ f. ap has_name (says f)
-            ∙ either_named (s.function == f) (ends_some_path f spots) text (name_of f names) (h.of_spots f)
-            ∙ sym (last_of_more f spots s);
+        names_of_nodes = λ f. ap has_name (says f)
+            ∙ either_named (s.function == f) (ends_some_path f nodes) text (name_of f names) (h.names_of_nodes f)
+            ∙ sym (last_of_more f nodes s);
         each = λ f some. says f
             ∙ picked_name (s.function == f) text (name f) (name_of f names)
             (λ t. is ∙ ap name (eqb-true s.function f t)) (h.each f) (sym (ap has_name (says f)) ∙ some);

@@ -74,36 +74,36 @@ module _ (answers : List PathResult) (job : Job) where
   module _ (file : List ℕ) (image : Image) (bytes : image_bytes answers job ≡ Some file)
       (read : image_in answers job ≡ Some image) where
     module _ (s : State) (start : start_state_in answers job ≡ Ok s) (addresses : List AddressCounts) (functions : List FunctionName)
-        (spots : List CallNode) (counts : AreCountsOf job.budget s addresses)
-        (stacks : AreStacksOf (function_at image file) job.budget s spots)
-        (named : AreNamesBy (name_of_function image file) spots functions) where
+        (nodes : List CallNode) (counts : AreCountsOf job.budget s addresses)
+        (stacks : AreStacksOf (function_at image file) job.budget s nodes)
+        (named : AreNamesBy (name_of_function image file) nodes functions) where
       arrivals_are : (digest path : List ℕ)
-          → cond (bytes_eq (sha256 file) digest) (calls_at path spots) 0 ≡ calls_by_job answers digest path job
+          → cond (bytes_eq (sha256 file) digest) (calls_at path nodes) 0 ≡ calls_by_job answers digest path job
       arrivals_are digest path =
-          picked_arrivals (bytes_eq (sha256 file) digest) (calls_at path spots) (function_at image file) path job.budget s
+          picked_arrivals (bytes_eq (sha256 file) digest) (calls_at path nodes) (function_at image file) path job.budget s
           (stacks.calls path)
           ∙ (λ i. calls_from (function_in (sym read i) (sym bytes i)) path job.budget (sym (over answers job digest file s bytes start) i))
 
       steps_are : (digest path : List ℕ)
-          → cond (bytes_eq (sha256 file) digest) (steps_at path spots) 0 ≡ steps_by_job answers digest path job
+          → cond (bytes_eq (sha256 file) digest) (steps_at path nodes) 0 ≡ steps_by_job answers digest path job
       steps_are digest path =
-          picked_steps (bytes_eq (sha256 file) digest) (steps_at path spots) (function_at image file) path job.budget s
+          picked_steps (bytes_eq (sha256 file) digest) (steps_at path nodes) (function_at image file) path job.budget s
           (stacks.steps path)
           ∙ (λ i. steps_from (function_in (sym read i) (sym bytes i)) path job.budget (sym (over answers job digest file s bytes start) i))
 
       it_is_named : (digest : List ℕ) (f : ℕ)
-          → IsNamedBy answers (table_of_run job.image file addresses functions spots) digest f job
+          → IsNamedBy answers (table_of_run job.image file addresses functions nodes) digest f job
       it_is_named digest f path ends some =
-          let came = if_some (bytes_eq (sha256 file) digest) (calls_at path spots)
+          let came = if_some (bytes_eq (sha256 file) digest) (calls_at path nodes)
           (subst (λ (n : ℕ). 0 < n) (sym (arrivals_are digest path)) some) in
-          let has = named.of_spots f ∙ last_if_come f path [] spots ends came.1 in
+          let has = named.names_of_nodes f ∙ last_if_come f path [] nodes ends came.1 in
           ap (λ (b : Bool). min_text_of (cond b (name_at f functions) None) None) came.0
           ∙ ap (λ (o : Option (List ℕ)). min_text_of o None)
           (sym (first_is functions 0 f named.sound.rising) ∙ named.each f has)
           ∙ (λ i. Some (name_in_image (sym read i) (sym bytes i) f))
 
-      its_table : RunsWithinABudget answers job → IsValidTable (table_of_run job.image file addresses functions spots)
-          → IsOfJobs answers (job ∷ []) (table_of_run job.image file addresses functions spots)
+      its_table : RunsWithinABudget answers job → IsValidTable (table_of_run job.image file addresses functions nodes)
+          → IsOfJobs answers (job ∷ []) (table_of_run job.image file addresses functions nodes)
       its_table small table = record {
         table = table;
         executed = λ digest address.
@@ -129,17 +129,17 @@ module _ (answers : List PathResult) (job : Job) where
       }
 
     -- with what `count_job_with_stacks` answers
-    pub ran : (addresses : List AddressCounts) (spots : List CallNode) (t : CountTable)
-        → IsTableOfRun (name_of_function image file) job.image file addresses spots t
-        → AreCountsAndStacksOfJob (function_at image file) job.budget (start_state_in answers job) (Some (addresses, spots))
+    pub ran : (addresses : List AddressCounts) (nodes : List CallNode) (t : CountTable)
+        → IsTableOfRun (name_of_function image file) job.image file addresses nodes t
+        → AreCountsAndStacksOfJob (function_at image file) job.budget (start_state_in answers job) (Some (addresses, nodes))
         → RunsWithinABudget answers job → IsOfJobs answers (job ∷ []) t
-    ran addresses spots t is both small = by (start_state_in answers job) refl both
+    ran addresses nodes t is both small = by (start_state_in answers job) refl both
       where
         by : (r : Result State Refusal) → start_state_in answers job ≡ r
-            → AreCountsAndStacksOfJob (function_at image file) job.budget r (Some (addresses, spots))
+            → AreCountsAndStacksOfJob (function_at image file) job.budget r (Some (addresses, nodes))
             → IsOfJobs answers (job ∷ []) t
         by (Ok s) start both = subst (IsOfJobs answers (job ∷ [])) (sym is.value)
-            (its_table s start addresses is.functions spots both.0 both.1 is.named small (subst IsValidTable is.value is.table))
+            (its_table s start addresses is.functions nodes both.0 both.1 is.named small (subst IsValidTable is.value is.table))
         by (Err why) start both = absurd both
 
 pub tree_of_job : (function : ℕ → ℕ) (n : ℕ) (r : Result State Refusal) (both : List AddressCounts × List CallNode)

@@ -69,31 +69,31 @@ at_end next n (m ∷ ms) h over =
 pub none_named_yet : (name : ℕ → List ℕ) → AreNamedUpTo name [] 0 []
 none_named_yet name = record { named = none_named name; below = tt; last = λ f at. absurd (omega (arith, at)) }
 
-module _ (name : ℕ → List ℕ) (spots : List CallNode) (next : ℕ) (names : List FunctionName) (s : CallNode)
-    (h : AreNamedUpTo name spots next names) (rises : next ≤ s.function + 1) where
-  last_is : (f : ℕ) → f + 1 ≡ s.function + 1 → ends_some_path f (spots ++ s ∷ []) ≡ true
+module _ (name : ℕ → List ℕ) (nodes : List CallNode) (next : ℕ) (names : List FunctionName) (s : CallNode)
+    (h : AreNamedUpTo name nodes next names) (rises : next ≤ s.function + 1) where
+  last_is : (f : ℕ) → f + 1 ≡ s.function + 1 → ends_some_path f (nodes ++ s ∷ []) ≡ true
   last_is f at =
-      last_of_more f spots s
-      ∙ or_with (ends_some_path f spots) (s.function == f) (equal s.function f (omega (arith, at)))
+      last_of_more f nodes s
+      ∙ or_with (ends_some_path f nodes) (s.function == f) (equal s.function f (omega (arith, at)))
 
-  pub stays_named : s.function < next → AreNamedUpTo name (spots ++ s ∷ []) (s.function + 1) names
+  pub stays_named : s.function < next → AreNamedUpTo name (nodes ++ s ∷ []) (s.function + 1) names
   stays_named less =
       let at : s.function + 1 ≡ next = omega (arith, less, rises) in record {
-        named = one_known name spots s names h.named (h.named.of_spots s.function ∙ h.last s.function at);
+        named = one_known name nodes s names h.named (h.named.names_of_nodes s.function ∙ h.last s.function at);
         below = subst (λ (n : ℕ). AreBelow n names) (sym at) h.below;
         last = last_is;
       }
 
   pub gets_name : (text : List ℕ) → next ≤ s.function → s.function < 2 ^ 32 → text ≡ name s.function
       → lacks 10 text ≡ true → IsUtf8 text
-      → AreNamedUpTo name (spots ++ s ∷ []) (s.function + 1) (names ++ record { function = s.function; name = text } ∷ [])
+      → AreNamedUpTo name (nodes ++ s ∷ []) (s.function + 1) (names ++ record { function = s.function; name = text } ∷ [])
   gets_name text over fits is line utf8 =
       let n : FunctionName = record { function = s.function; name = text } in
       let none = no_name next s.function names h.below over in
       let same : with_name n names ≡ names ++ n ∷ [] =
       ap (λ (b : Bool). cond b names (inserted n names)) none ∙ at_end next n names h.below over in record {
-        named = subst (λ (ns : List FunctionName). AreNamesBy name (spots ++ s ∷ []) ns) same
-            (one_named name spots s names h.named text none fits is line utf8);
+        named = subst (λ (ns : List FunctionName). AreNamesBy name (nodes ++ s ∷ []) ns) same
+            (one_named name nodes s names h.named text none fits is line utf8);
         below = each_push (λ (m : FunctionName). m.function < s.function + 1) names n
             (below_more next (s.function + 1) names rises h.below) (omega arith);
         last = last_is;
@@ -101,15 +101,15 @@ module _ (name : ℕ → List ℕ) (spots : List CallNode) (next : ℕ) (names :
 
 -- ---- spots in another order
 
-pub named_in_order : (name : ℕ → List ℕ) (spots sorted : List CallNode) (names : List FunctionName) → IsPermutation spots sorted
-    → AreNamesBy name sorted names → AreNamesBy name spots names
-named_in_order name spots sorted names same h = record {
+pub named_in_order : (name : ℕ → List ℕ) (nodes sorted : List CallNode) (names : List FunctionName) → IsPermutation nodes sorted
+    → AreNamesBy name sorted names → AreNamesBy name nodes names
+named_in_order name nodes sorted names same h = record {
   sound = h.sound;
-  of_spots = λ f. h.of_spots f ∙ sym (list_any-IsPermutation (λ (s : CallNode). s.function == f) spots sorted same);
+  names_of_nodes = λ f. h.names_of_nodes f ∙ sym (list_any-IsPermutation (λ (s : CallNode). s.function == f) nodes sorted same);
   each = h.each;
 }
 
-pub fit_in_order : (spots sorted : List CallNode) → IsPermutation spots sorted → AllByRecursion FitsFields sorted
-    → AllByRecursion FitsFields spots
-fit_in_order spots sorted same h = recursion_from_All FitsFields spots
-    (All-permutation FitsFields sorted spots (IsPermutation-sym spots sorted same) (All-from_recursion FitsFields sorted h))
+pub fit_in_order : (nodes sorted : List CallNode) → IsPermutation nodes sorted → AllByRecursion FitsFields sorted
+    → AllByRecursion FitsFields nodes
+fit_in_order nodes sorted same h = recursion_from_All FitsFields nodes
+    (All-permutation FitsFields sorted nodes (IsPermutation-sym nodes sorted same) (All-from_recursion FitsFields sorted h))

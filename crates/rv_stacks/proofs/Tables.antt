@@ -34,22 +34,22 @@ one_image_is_table i h = record { images = (h, tt); rising = one_rises i; few = 
 
 -- that of a run, by what was made for it
 pub run_table : (name : ℕ → List ℕ) (path file digest shown : List ℕ) (addresses : List AddressCounts)
-    (functions : List FunctionName) (spots given : List CallNode) (images : List ImageCounts)
-    → images ≡ record { digest = digest; path = shown; addresses = addresses; functions = functions; spots = spots } ∷ []
-    → digest ≡ sha256 file → shown ≡ printable_text path → AreValidCounts addresses → given ≡ spots
-    → AreNamesBy name given functions → AllByRecursion FitsFields given → IsTree spots → HasCalls spots
+    (functions : List FunctionName) (nodes given : List CallNode) (images : List ImageCounts)
+    → images ≡ record { digest = digest; path = shown; addresses = addresses; functions = functions; nodes = nodes } ∷ []
+    → digest ≡ sha256 file → shown ≡ printable_text path → AreValidCounts addresses → given ≡ nodes
+    → AreNamesBy name given functions → AllByRecursion FitsFields given → IsTree nodes → HasCalls nodes
     → length digest ≡ 32 → AllByRecursion (λ b. b < 256) digest → IsUtf8 shown → lacks 10 shown ≡ true
-    → IsTableOfRun name path file addresses spots (record { images = images; runs = 1 })
-run_table name path file digest shown addresses functions spots given images is d p counts same named fits tree some long
+    → IsTableOfRun name path file addresses nodes (record { images = images; runs = 1 })
+run_table name path file digest shown addresses functions nodes given images is d p counts same named fits tree some long
     bytes utf8 line =
-    let i : ImageCounts = record { digest = digest; path = shown; addresses = addresses; functions = functions; spots = spots } in
+    let i : ImageCounts = record { digest = digest; path = shown; addresses = addresses; functions = functions; nodes = nodes } in
     let names = subst (λ (ss : List CallNode). AreNamesBy name ss functions) same named in
     record {
       functions = functions;
       named = names;
       value = (λ k. record { images = is k; runs = 1 })
           ∙ (λ k. record {
-            images = record { digest = d k; path = p k; addresses = addresses; functions = functions; spots = spots } ∷ [];
+            images = record { digest = d k; path = p k; addresses = addresses; functions = functions; nodes = nodes } ∷ [];
             runs = 1;
           });
       table = subst (λ (images : List ImageCounts). IsValidTable (record { images = images; runs = 1 })) (sym is)
@@ -60,11 +60,11 @@ run_table name path file digest shown addresses functions spots given images is 
             text = utf8;
             counts = counts;
             names = names.sound;
-            spots = record {
-              each = can_stand spots (subst (λ (ss : List CallNode). AllByRecursion FitsFields ss) same fits) some;
+            nodes = record {
+              each = can_stand nodes (subst (λ (ss : List CallNode). AllByRecursion FitsFields ss) same fits) some;
               tree = tree;
             };
-            of_spots = names.of_spots;
+            names_of_nodes = names.names_of_nodes;
           }));
     }
 

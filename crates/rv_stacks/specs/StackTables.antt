@@ -44,40 +44,40 @@ name_in_file image file f = if f == run.last_address then codes "?" else symbol_
 unfoldable pub name_of_function : Image → List ℕ → ℕ → List ℕ
 name_of_function image file f = printable_text (name_in_file image file f)
 
--- `names` has each function with which the path of a node of `spots` ends, once, and with the name that the function `name` returns; it has
+-- `names` has each function with which the path of a node of `nodes` ends, once, and with the name that the function `name` returns; it has
 -- no other function
-pub record AreNamesBy (name : ℕ → List ℕ) (spots : List CallNode) (names : List FunctionName) : Type 0 where
+pub record AreNamesBy (name : ℕ → List ℕ) (nodes : List CallNode) (names : List FunctionName) : Type 0 where
   pub sound : AreValidNames names
-  pub of_spots : AreNamesOf spots names
+  pub names_of_nodes : AreNamesOf nodes names
   pub each : (f : ℕ) → has_name (name_of f names) ≡ true → name_of f names ≡ Some (name f)
 
--- `names` has the names of the functions of `spots`; all these functions are below `next`, and unless `next` is 0, `next` - 1 is one of
+-- `names` has the names of the functions of `nodes`; all these functions are below `next`, and unless `next` is 0, `next` - 1 is one of
 -- them
-pub record AreNamedUpTo (name : ℕ → List ℕ) (spots : List CallNode) (next : ℕ) (names : List FunctionName) : Type 0 where
-  pub named : AreNamesBy name spots names
+pub record AreNamedUpTo (name : ℕ → List ℕ) (nodes : List CallNode) (next : ℕ) (names : List FunctionName) : Type 0 where
+  pub named : AreNamesBy name nodes names
   pub below : AllByRecursion (λ n. n.function < next) names
-  pub last : (f : ℕ) → f + 1 ≡ next → ends_some_path f spots ≡ true
+  pub last : (f : ℕ) → f + 1 ≡ next → ends_some_path f nodes ≡ true
 
 -- the table of one run: for the image with this path and these bytes, it has these counts, function names and nodes
 abbrev pub table_of_run : List ℕ → List ℕ → List AddressCounts → List FunctionName → List CallNode → CountTable
-table_of_run path file addresses functions spots = record {
+table_of_run path file addresses functions nodes = record {
   images = record {
     digest = sha256 file;
     path = printable_text path;
     addresses = addresses;
     functions = functions;
-    spots = spots;
+    nodes = nodes;
   } ∷ [];
   runs = 1;
 }
 
 -- `t` is the table of one run with these counts and nodes, of the image with this path and these bytes; the function `name` returns the
 -- names of its functions
-pub record IsTableOfRun (name : ℕ → List ℕ) (path file : List ℕ) (addresses : List AddressCounts) (spots : List CallNode) (t : CountTable)
+pub record IsTableOfRun (name : ℕ → List ℕ) (path file : List ℕ) (addresses : List AddressCounts) (nodes : List CallNode) (t : CountTable)
     : Type 0 where
   pub functions : List FunctionName
-  pub named : AreNamesBy name spots functions
-  pub value : t ≡ table_of_run path file addresses functions spots
+  pub named : AreNamesBy name nodes functions
+  pub value : t ≡ table_of_run path file addresses functions nodes
   pub table : IsValidTable t
 
 -- ---- one job
@@ -200,7 +200,7 @@ image_without_stacks i = record {
   path = i.path;
   addresses = i.addresses;
   functions = [];
-  spots = [];
+  nodes = [];
 }
 
 -- a table without its nodes and its function names

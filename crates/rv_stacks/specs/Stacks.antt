@@ -89,16 +89,16 @@ executed_in_function function f zero s = 0
 executed_in_function function f (suc n) s =
     address_if (is_executed (fetch_at s) && (function s.pc == f)) + after_step (step_of s) (λ t. executed_in_function function f n t)
 
--- `spots` are the call-tree nodes of the run of at most `n` steps from the state `s`, which begins without frames, and so by entering its
+-- `nodes` are the call-tree nodes of the run of at most `n` steps from the state `s`, which begins without frames, and so by entering its
 -- first function
-pub record AreStacksOf (function : ℕ → ℕ) (n : ℕ) (s : State) (spots : List CallNode) : Type 0 where
-  pub tree : IsTree spots
-  pub some : HasCalls spots
-  pub steps : (path : List ℕ) → steps_at path spots ≡ steps_in function path n [] s
-  pub calls : (path : List ℕ) → calls_at path spots
+pub record AreStacksOf (function : ℕ → ℕ) (n : ℕ) (s : State) (nodes : List CallNode) : Type 0 where
+  pub tree : IsTree nodes
+  pub some : HasCalls nodes
+  pub steps : (path : List ℕ) → steps_at path nodes ≡ steps_in function path n [] s
+  pub calls : (path : List ℕ) → calls_at path nodes
       ≡ address_if (bytes_eq (function s.pc ∷ []) path) + calls_in function path n [] s
-  pub own : (f : ℕ) → own_steps_of f spots ≡ executed_in_function function f n s
-  pub all : all_steps spots ≡ executed_steps n s
+  pub own : (f : ℕ) → own_steps_of f nodes ≡ executed_in_function function f n s
+  pub all : all_steps nodes ≡ executed_steps n s
 
 -- the `Option` has the counts and the call tree of the job that begins in this state, within a budget of `n` steps; it is `None` if the job
 -- is refused

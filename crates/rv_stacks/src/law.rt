@@ -30,8 +30,8 @@ pub fn run_has_one_call_tree()
 
 /// The instructions in the call-tree nodes whose paths end with a function are as many as the counts of the function's addresses say.
 pub fn own_steps_are_the_counts_of_addresses()
-    ensures { (function : ℕ → ℕ) (f n : ℕ) (s : State) (cs : List AddressCounts) (spots : List CallNode)
-        → AreCountsOf n s cs → AreStacksOf function n s spots → own_steps_of f spots ≡ counts_of_function function f cs }
+    ensures { (function : ℕ → ℕ) (f n : ℕ) (s : State) (cs : List AddressCounts) (nodes : List CallNode)
+        → AreCountsOf n s cs → AreStacksOf function n s nodes → own_steps_of f nodes ≡ counts_of_function function f cs }
 {}
 
 /// The table of counts and call trees of the jobs at some indices does not depend on the order of the indices.

@@ -20,25 +20,25 @@ use std::alloc::{AllocError, Global};
 pub(crate) fn names_of_functions(
     alloc: Global,
     symbols: &CodeSymbols<'_>,
-    spots: &[CallNode],
+    nodes: &[CallNode],
 ) -> Result<FunctionNames, AllocError>
-    ensures names { IfOk result (AreNamesBy (name_of_function symbols.now.image.now symbols.now.bytes.now) spots.now) }
-    ensures fits { IfOk result (λ _. AllByRecursion FitsFields spots.now) }
+    ensures names { IfOk result (AreNamesBy (name_of_function symbols.now.image.now symbols.now.bytes.now) nodes.now) }
+    ensures fits { IfOk result (λ _. AllByRecursion FitsFields nodes.now) }
 {
-    let sorted = by_function(alloc, spots)?;
+    let sorted = by_function(alloc, nodes)?;
     names_in_order(alloc, symbols, sorted.as_slice())
 }
 
 // Returns a copy of the nodes, sorted by function.
-fn by_function(alloc: Global, spots: &[CallNode]) -> Result<Vec<CallNode>, AllocError>
-    ensures same { IfOk result (λ sorted. IsPermutation spots.now sorted.items) }
+fn by_function(alloc: Global, nodes: &[CallNode]) -> Result<Vec<CallNode>, AllocError>
+    ensures same { IfOk result (λ sorted. IsPermutation nodes.now sorted.items) }
     ensures rising { IfOk result (λ sorted. IsNonDecreasingBy (λ s. s.function) sorted.items) }
 {
     let mut sorted = Vec::new(alloc);
-    for spot in spots {
-        sorted.push(*spot)?;
+    for node in nodes {
+        sorted.push(*node)?;
     }
-    sorted.sort_unstable_by_key(|spot| spot.function);
+    sorted.sort_unstable_by_key(|node| node.function);
     Ok(sorted)
 }
 
@@ -46,17 +46,17 @@ fn by_function(alloc: Global, spots: &[CallNode]) -> Result<Vec<CallNode>, Alloc
 fn names_in_order(
     alloc: Global,
     symbols: &CodeSymbols<'_>,
-    spots: &[CallNode],
+    nodes: &[CallNode],
 ) -> Result<FunctionNames, AllocError>
-    requires { IsNonDecreasingBy (λ s. s.function) spots.now }
-    ensures names { IfOk result (AreNamesBy (name_of_function symbols.now.image.now symbols.now.bytes.now) spots.now) }
-    ensures fits { IfOk result (λ _. AllByRecursion FitsFields spots.now) }
+    requires { IsNonDecreasingBy (λ s. s.function) nodes.now }
+    ensures names { IfOk result (AreNamesBy (name_of_function symbols.now.image.now symbols.now.bytes.now) nodes.now) }
+    ensures fits { IfOk result (λ _. AllByRecursion FitsFields nodes.now) }
 {
     let mut names = Vec::new(alloc);
     let mut next = 0;
-    for spot in spots {
-        name_function_of(alloc, symbols, &mut names, next, *spot)?;
-        next = spot.function as u64 + 1;
+    for node in nodes {
+        name_function_of(alloc, symbols, &mut names, next, *node)?;
+        next = node.function as u64 + 1;
     }
     Ok(FunctionNames::new(names))
 }
@@ -67,22 +67,22 @@ fn name_function_of(
     symbols: &CodeSymbols<'_>,
     names: &mut Vec<FunctionName>,
     next: u64,
-    spot: CallNode,
+    node: CallNode,
 ) -> Result<(), AllocError>
-    ensures names { (spots : List ACallNode)
-        → AreNamedUpTo (name_of_function symbols.now.image.now symbols.now.bytes.now) spots next names.old.items
-        → next ≤ spot.function + 1
-        → OnOk result (AreNamedUpTo (name_of_function symbols.now.image.now symbols.now.bytes.now) (spots ++ spot ∷ [])
-        (spot.function + 1) names.new.items) }
-    ensures fits { FitsFields spot }
+    ensures names { (nodes : List ACallNode)
+        → AreNamedUpTo (name_of_function symbols.now.image.now symbols.now.bytes.now) nodes next names.old.items
+        → next ≤ node.function + 1
+        → OnOk result (AreNamedUpTo (name_of_function symbols.now.image.now symbols.now.bytes.now) (nodes ++ node ∷ [])
+        (node.function + 1) names.new.items) }
+    ensures fits { FitsFields node }
 {
-    let known = (spot.function as u64) < next;
+    let known = (node.function as u64) < next;
     if known {
         return Ok(());
     }
-    let name = shown_name(alloc, symbols, spot.function)?;
+    let name = shown_name(alloc, symbols, node.function)?;
     names.push(FunctionName {
-        function: spot.function,
+        function: node.function,
         name,
     })?;
     Ok(())

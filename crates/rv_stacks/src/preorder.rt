@@ -18,7 +18,7 @@ pub struct PreorderBuilder {
     pub path: Vec<u32>,
     /// 0, followed by the number of the node for each prefix of the path.
     pub trail: Vec<usize>,
-    pub spots: Vec<CallNode>,
+    pub nodes: Vec<CallNode>,
     /// The lowest function that the next child can have.
     pub from: u64,
 }
@@ -38,7 +38,7 @@ pub(crate) fn preorder_of_nodes(
         builder.visit_next(&mut remaining, children)?;
     }
     if are_empty(remaining.as_slice()) {
-        return Ok(CallNodes::new(builder.spots));
+        return Ok(CallNodes::new(builder.nodes));
     }
     // Out of memory: not reached. Each node is found from its parent, so all counts have been moved; no contract says so.
     Err(AllocError)
@@ -61,14 +61,14 @@ fn is_empty(node: &WalkNode) -> bool
 impl PreorderBuilder {
     // Creates the conversion's state before the first node.
     fn new(alloc: Global) -> Result<PreorderBuilder, AllocError>
-        ensures { IfOk result (λ builder. (nodes : List ANode) → IsPreorderBuilder nodes builder × (builder.spots.items ≡ [])) }
+        ensures { IfOk result (λ builder. (nodes : List ANode) → IsPreorderBuilder nodes builder × (builder.nodes.items ≡ [])) }
     {
         let mut trail = Vec::new(alloc);
         trail.push(0)?;
         Ok(PreorderBuilder {
             path: Vec::new(alloc),
             trail,
-            spots: Vec::new(alloc),
+            nodes: Vec::new(alloc),
             from: 0,
         })
     }
@@ -100,7 +100,7 @@ impl PreorderBuilder {
         ensures { OnOk result (MovesCounts remaining.old.items self.old remaining.new.items self.new) }
     {
         let node = remaining[number - 1];
-        self.spots.push(CallNode {
+        self.nodes.push(CallNode {
             depth: self.path.len(),
             function: node.function,
             calls: node.calls,

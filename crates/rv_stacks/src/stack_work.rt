@@ -16,7 +16,7 @@ impl Work<JobsTable> for StackWork<'_> {
 
     ghost jobs = { λ s. length s.batch.now.places.now };
 
-    ghost is_made = { λ s number table. IsTableWithStacks s.batch.now.plan.now
+    ghost is_output = { λ s number table. IsTableWithStacks s.batch.now.plan.now
         (slice_index_or s.batch.now.places.now number 0 ∷ []) table };
 
     ghost is_worker_state = { λ _ _. Unit {0} };

@@ -38,8 +38,8 @@ pub(crate) fn stack_table_of_job(
         image: &image,
     };
     match count_job_with_stacks(alloc, &job_image, &symbols)? {
-        Some((addresses, spots)) => {
-            table_of_run(alloc, job.image.as_str(), &symbols, addresses, spots)
+        Some((addresses, nodes)) => {
+            table_of_run(alloc, job.image.as_str(), &symbols, addresses, nodes)
         }
         None => Ok(empty_table(alloc)),
     }
@@ -51,15 +51,15 @@ fn table_of_run(
     path: &str,
     symbols: &CodeSymbols<'_>,
     addresses: Addresses,
-    spots: CallNodes,
+    nodes: CallNodes,
 ) -> Result<CountTable, AllocError>
     requires counts { AreValidCounts addresses }
-    requires tree { IsTree spots }
-    requires some { HasCalls spots }
+    requires tree { IsTree nodes }
+    requires some { HasCalls nodes }
     ensures { IfOk result (IsTableOfRun (name_of_function symbols.now.image.now symbols.now.bytes.now) path.now
-        symbols.now.bytes.now addresses spots) }
+        symbols.now.bytes.now addresses nodes) }
 {
-    let functions = names_of_functions(alloc, symbols, spots.as_slice())?;
+    let functions = names_of_functions(alloc, symbols, nodes.as_slice())?;
     let digest = digest_of(alloc, symbols.bytes)?;
     let path = shown_text(alloc, path.as_bytes())?;
     let images = images_of_one(
@@ -69,7 +69,7 @@ fn table_of_run(
             path,
             addresses,
             functions,
-            spots,
+            nodes,
         },
     )?;
     Ok(CountTable { images, runs: 1 })

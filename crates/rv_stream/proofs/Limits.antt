@@ -129,8 +129,8 @@ module _ (fails : Row → Bool) where
 -- nothing is heard yet
 pub no_rows_yet : (most : Option ℕ) (judging : JudgeView) → AreRowsUpToFailure most judging most false [] []
 no_rows_yet most judging = record {
-  kept_all = λ kept. refl;
-  left_is = first_left (fails judging) most;
+  collected_all = λ kept. refl;
+  failures_left = first_left (fails judging) most;
   within = first_within (fails judging) most;
 }
 
@@ -141,7 +141,7 @@ pub one_row_more : (most : Option ℕ) (judging : JudgeView) (left now : Option 
     → (gone ≡ false → after ≡ kept ++ row ∷ [])
     → AreRowsUpToFailure most judging now gone after (rows ++ row ∷ [])
 one_row_more most judging left now refused gone kept after rows row first goes none less pushed = record {
-  kept_all = λ there. pushed there ∙ ap (λ (l : List Row). l ++ row ∷ []) (first.kept_all none);
-  left_is = less ∙ more_left (fails judging) most left rows row first.left_is goes;
-  within = more_within (fails judging) most left rows row first.left_is goes first.within;
+  collected_all = λ there. pushed there ∙ ap (λ (l : List Row). l ++ row ∷ []) (first.collected_all none);
+  failures_left = less ∙ more_left (fails judging) most left rows row first.failures_left goes;
+  within = more_within (fails judging) most left rows row first.failures_left goes first.within;
 }

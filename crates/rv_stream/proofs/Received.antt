@@ -65,19 +65,19 @@ module _ (has_seen : List ReportedRow → Type 0) (line : ℕ → Row → List �
   -- the texts that it has seen
   pub seen_texts : concat (texts_of_reported seen.reported) ≡ joined_row_texts line places rows
   seen_texts =
-      ap concat (texts_first line places seen.reported seen.few seen.each) ∙ ap (joined_row_texts line places) seen.rows_are
+      ap concat (texts_first line places seen.reported seen.few seen.each) ∙ ap (joined_row_texts line places) seen.same_rows
 
   -- the texts that another reporter gives of the rows
   pub reported_texts : (other : ℕ → Row → List ℕ) → text_by_index other seen.reported ≡ joined_row_texts other places rows
   reported_texts other =
       ap concat (by_index_first other places seen.reported seen.few (λ k d lt. (seen.each k d lt).index_is))
-      ∙ ap (joined_row_texts other places) seen.rows_are
+      ∙ ap (joined_row_texts other places) seen.same_rows
 
 module _ (line : ℕ → Row → List ℕ) (batch : Batch) (told : List ReportedRow) (few : length told ≤ length batch.places.now)
     (each : (k : ℕ) (any : ReportedRow) → k < length told → IsReportedRow line batch k (get_or told k any)) where
-  rows_are : rows_of_reported told ≡ take (length told) (batch_rows batch)
+  same_rows : rows_of_reported told ≡ take (length told) (batch_rows batch)
   unfolding rows_at
-  rows_are =
+  same_rows =
       rows_first (λ i. row_of batch.plan.now (get_or batch.plan.now.jobs i (single_job [] 0 []))) batch.places.now told few
       (λ k d lt. (each k d lt).row)
 
@@ -86,7 +86,7 @@ module _ (line : ℕ → Row → List ℕ) (batch : Batch) (told : List Reported
   are_seen has_seen seen = record {
     reported = told;
     seen = seen;
-    rows_are = refl;
+    same_rows = refl;
     few = few;
     each = λ k any lt. record { index_is = (each k any lt).index; text = (each k any lt).text };
   }
@@ -99,7 +99,7 @@ pub seen_as : (had has : List ReportedRow → Type 0) (line : ℕ → Row → Li
 seen_as had has line places rows f seen = record {
   reported = seen.reported;
   seen = f seen.reported seen.seen;
-  rows_are = seen.rows_are;
+  same_rows = seen.same_rows;
   few = seen.few;
   each = seen.each;
 }
@@ -120,7 +120,7 @@ pub seen_none : (has_seen : List ReportedRow → Type 0) (line : ℕ → Row →
 seen_none has_seen line places none = record {
   reported = [];
   seen = none;
-  rows_are = refl;
+  same_rows = refl;
   few = omega arith;
   each = λ k any lt. absurd (omega (arith, lt));
 }
@@ -128,7 +128,7 @@ seen_none has_seen line places none = record {
 -- all rows were received, and kept
 pub record HasEnded (received : List ReportedRow → Type 0) (line : ℕ → Row → List ℕ) (places : List ℕ) (every kept : List Row) : Type 0 where
   pub seen : HasSeenRows received line places every
-  pub kept_all : kept ≡ every
+  pub collected_all : kept ≡ every
 
 module _ (line : ℕ → Row → List ℕ) (batch : Batch) (most : Option ℕ) (judging : JudgeView) (left : Option ℕ) (refused : Bool) (kept : List Row)
     (received : List ReportedRow → Type 0) (stops : Type 0)
@@ -141,7 +141,7 @@ module _ (line : ℕ → Row → List ℕ) (batch : Batch) (most : Option ℕ) (
       let within = hears.few in
       let few : length told ≤ length batch.places.now = omega (arith, long, within) in
       let k = length told in
-      let are = rows_are line batch told few hears.each in
+      let are = same_rows line batch told few hears.each in
       let front = first_of (fails judging) most (rows_of_reported told) (drop k (batch_rows batch))
       (first told hears.received).within in record {
         first = rows_of_reported told;
@@ -166,12 +166,12 @@ module _ (line : ℕ → Row → List ℕ) (batch : Batch) (most : Option ℕ) (
       let long = hears.count_is in
       let few : length told ≤ length batch.places.now = omega (arith, long) in
       let rows = rows_count batch.plan.now batch.places.now in
-      let every = rows_are line batch told few hears.each
+      let every = same_rows line batch told few hears.each
       ∙ take_all (length told) (batch_rows batch) (omega (arith, rows, long)) in
       let is : rows_of_reported told ≡ rows_up_to most (fails judging) (batch_rows batch) =
       sym (ap (rows_up_to most (fails judging)) (sym every) ∙ (first told hears.received).within) in record {
         seen = subst (HasSeenRows received line batch.places.now) is (are_seen line batch told few hears.each received hears.received);
-        kept_all = (first told hears.received).kept_all there ∙ is;
+        collected_all = (first told hears.received).collected_all there ∙ is;
       }
   has_ended Stop run there ends =
       let hears = run.0.hears in
@@ -180,15 +180,15 @@ module _ (line : ℕ → Row → List ℕ) (batch : Batch) (most : Option ℕ) (
       let within = hears.few in
       let few : length told ≤ length batch.places.now = omega (arith, long, within) in
       let k = length told in
-      let are = rows_are line batch told few hears.each in
+      let are = same_rows line batch told few hears.each in
       let told_first = first told hears.received in
       let is : rows_of_reported told ≡ rows_up_to most (fails judging) (batch_rows batch) =
       sym (ap (rows_up_to most (fails judging)) (sym (take-append-drop k (batch_rows batch)))
       ∙ ap (λ (rs : List Row). rows_up_to most (fails judging) (rs ++ drop k (batch_rows batch))) (sym are)
       ∙ ended_there (fails judging) most (rows_of_reported told) (drop k (batch_rows batch))
-      told_first.within (sym told_first.left_is ∙ ends refl)) in record {
+      told_first.within (sym told_first.failures_left ∙ ends refl)) in record {
         seen = subst (HasSeenRows received line batch.places.now) is (are_seen line batch told few hears.each received hears.received);
-        kept_all = told_first.kept_all there ∙ is;
+        collected_all = told_first.collected_all there ∙ is;
       }
 
   -- a run that ended well
@@ -221,7 +221,7 @@ pub begun_of_all : (has_seen : List ReportedRow → Type 0) (line : ℕ → Row 
 begun_of_all has_seen line places rows seen before now part =
     let first = seen.first in
     let few : length first ≤ length places =
-    let same = ap length (sym seen.seen.rows_are) in
+    let same = ap length (sym seen.seen.same_rows) in
     let count = length-map seen.seen.reported (λ (t : ReportedRow). t.row) in
     let most = seen.seen.few in
     omega (arith, same, count, most) in

@@ -41,22 +41,22 @@ pub none_failed : (failed : Option WriteError) → (is_some failed ≡ true → 
 none_failed None goes = refl
 none_failed (Some error) goes = absurd (goes refl)
 
-module _ (before now : Option (List ℕ)) (failures_before failures : ℕ) (unsent text : List ℕ) where
-  under_way : (failed : Option WriteError) → failed ≡ None → IsSent before now failures_before failures failed unsent text
-      → IsWriteInProgress before now failures_before failures unsent text
-  under_way failed none sent =
-      subst (λ (f : Option WriteError). IsSent before now failures_before failures f unsent text) none sent
+module _ (before now : Option (List ℕ)) (failures_before failures : ℕ) (buffered text : List ℕ) where
+  partly_written : (failed : Option WriteError) → failed ≡ None → IsSent before now failures_before failures failed buffered text
+      → IsWriteInProgress before now failures_before failures buffered text
+  partly_written failed none sent =
+      subst (λ (f : Option WriteError). IsSent before now failures_before failures f buffered text) none sent
 
   -- a text more waits
-  pub one_waits : (failed : Option WriteError) (more waits : List ℕ) → failed ≡ None → waits ≡ unsent ++ more
-      → IsSent before now failures_before failures failed unsent text
+  pub one_waits : (failed : Option WriteError) (more waits : List ℕ) → failed ≡ None → waits ≡ buffered ++ more
+      → IsSent before now failures_before failures failed buffered text
       → IsSent before now failures_before failures failed waits (text ++ more)
   one_waits failed more waits none is sent =
-      let was = under_way failed none sent in
+      let was = partly_written failed none sent in
       subst (λ (f : Option WriteError). IsSent before now failures_before failures f waits (text ++ more)) (sym none)
       (record {
         sent = was.sent;
-        whole = ap (λ (l : List ℕ). was.sent ++ l) is ∙ sym (append_assoc was.sent unsent more)
+        whole = ap (λ (l : List ℕ). was.sent ++ l) is ∙ sym (append_assoc was.sent buffered more)
             ∙ ap (λ (l : List ℕ). l ++ more) was.whole;
         appended = was.appended;
         counted = was.counted;
@@ -64,14 +64,14 @@ module _ (before now : Option (List ℕ)) (failures_before failures : ℕ) (unse
 
   -- there was no memory for a text more
   pub one_lacks : (failed : Option WriteError) (more waits : List ℕ) → failed ≡ None
-      → IsSent before now failures_before failures failed unsent text
+      → IsSent before now failures_before failures failed buffered text
       → IsSent before now failures_before failures (Some OutOfMemory) waits (text ++ more)
   one_lacks failed more waits none sent =
-      let was = under_way failed none sent in (
+      let was = partly_written failed none sent in (
         record {
           part = was.sent;
-          rest = unsent ++ more;
-          whole = ap (λ (l : List ℕ). l ++ more) (sym was.whole) ∙ append_assoc was.sent unsent more;
+          rest = buffered ++ more;
+          whole = ap (λ (l : List ℕ). l ++ more) (sym was.whole) ∙ append_assoc was.sent buffered more;
           appended = was.appended;
         },
         was.counted,
@@ -79,25 +79,25 @@ module _ (before now : Option (List ℕ)) (failures_before failures : ℕ) (unse
 
   -- all that waits went out
   pub all_went : (failed : Option WriteError) (after : Option (List ℕ)) (count : ℕ) (waits : List ℕ) → failed ≡ None → waits ≡ []
-      → Appends now after unsent → count ≡ failures → IsSent before now failures_before failures failed unsent text
+      → Appends now after buffered → count ≡ failures → IsSent before now failures_before failures failed buffered text
       → IsSent before after failures_before count failed waits text
   all_went failed after count waits none empty appended same sent =
-      let was = under_way failed none sent in
+      let was = partly_written failed none sent in
       subst (λ (f : Option WriteError). IsSent before after failures_before count f waits text) (sym none)
       (record {
         sent = text;
         whole = ap (λ (l : List ℕ). text ++ l) empty ∙ append-nil text;
-        appended = subst (Appends before after) was.whole (Appends-trans before now after was.sent unsent was.appended appended);
+        appended = subst (Appends before after) was.whole (Appends-trans before now after was.sent buffered was.appended appended);
         counted = same ∙ was.counted;
       })
 
   -- a beginning of it did
   pub part_went : (failed : Option WriteError) (after : Option (List ℕ)) (count : ℕ) (waits : List ℕ) → failed ≡ None
-      → AppendsPrefix now after unsent → count ≡ one_more failures
-      → IsSent before now failures_before failures failed unsent text
+      → AppendsPrefix now after buffered → count ≡ one_more failures
+      → IsSent before now failures_before failures failed buffered text
       → IsSent before after failures_before count (Some Failed) waits text
   part_went failed after count waits none begun once sent =
-      let was = under_way failed none sent in (
+      let was = partly_written failed none sent in (
         record {
           part = was.sent ++ begun.part;
           rest = begun.rest;
@@ -108,27 +108,27 @@ module _ (before now : Option (List ℕ)) (failures_before failures : ℕ) (unse
       )
 
   -- a beginning is out, whatever happened
-  pub begun : (failed : Option WriteError) → IsSent before now failures_before failures failed unsent text
+  pub begun : (failed : Option WriteError) → IsSent before now failures_before failures failed buffered text
       → AppendsPrefix before now text
-  begun None sent = record { part = sent.sent; rest = unsent; whole = sym sent.whole; appended = sent.appended }
+  begun None sent = record { part = sent.sent; rest = buffered; whole = sym sent.whole; appended = sent.appended }
   begun (Some OutOfMemory) sent = sent.0
   begun (Some Failed) sent = sent.0
 
   -- and all of the text once what waits is out
-  pub all_out : (after : Option (List ℕ)) (failed : Option WriteError) → failed ≡ None → Appends now after unsent
-      → IsSent before now failures_before failures failed unsent text → Appends before after text
+  pub all_out : (after : Option (List ℕ)) (failed : Option WriteError) → failed ≡ None → Appends now after buffered
+      → IsSent before now failures_before failures failed buffered text → Appends before after text
   all_out after failed none appended sent =
-      let was = under_way failed none sent in
-      subst (Appends before after) was.whole (Appends-trans before now after was.sent unsent was.appended appended)
+      let was = partly_written failed none sent in
+      subst (Appends before after) was.whole (Appends-trans before now after was.sent buffered was.appended appended)
 
   pub counted_out : (failed : Option WriteError) (count : ℕ) → failed ≡ None → count ≡ failures
-      → IsSent before now failures_before failures failed unsent text → count ≡ failures_before
-  counted_out failed count none same sent = same ∙ (under_way failed none sent).counted
+      → IsSent before now failures_before failures failed buffered text → count ≡ failures_before
+  counted_out failed count none same sent = same ∙ (partly_written failed none sent).counted
 
-  pub part_out : (after : Option (List ℕ)) (failed : Option WriteError) → failed ≡ None → AppendsPrefix now after unsent
-      → IsSent before now failures_before failures failed unsent text → AppendsPrefix before after text
+  pub part_out : (after : Option (List ℕ)) (failed : Option WriteError) → failed ≡ None → AppendsPrefix now after buffered
+      → IsSent before now failures_before failures failed buffered text → AppendsPrefix before after text
   part_out after failed none begins sent =
-      let was = under_way failed none sent in record {
+      let was = partly_written failed none sent in record {
         part = was.sent ++ begins.part;
         rest = begins.rest;
         whole = sym was.whole ∙ ap (λ (l : List ℕ). was.sent ++ l) begins.whole ∙ sym (append_assoc was.sent begins.part begins.rest);

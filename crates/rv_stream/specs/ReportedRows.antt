@@ -29,6 +29,6 @@ failures_left_after_row max_failures judging rows = option_map (λ number. failu
 -- `collected` are the rows up to the failure that stops the run, unless an allocation failed, as `refused` says; `left` is the number of further
 -- failures that stop the run
 pub record AreRowsUpToFailure (max_failures : Option ℕ) (judging : JudgeView) (left : Option ℕ) (refused : Bool) (collected rows : List Row) : Type 0 where
-  pub kept_all : refused ≡ false → collected ≡ rows
-  pub left_is : left ≡ failures_left_after_row max_failures judging rows
+  pub collected_all : refused ≡ false → collected ≡ rows
+  pub failures_left : left ≡ failures_left_after_row max_failures judging rows
   pub within : rows_up_to max_failures (fails judging) rows ≡ rows

@@ -18,7 +18,7 @@ pub record IsReportAt (row_text : ℕ → Row → List ℕ) (index : ℕ) (repor
 pub record HasSeenRows (has_seen : List ReportedRow → Type 0) (row_text : ℕ → Row → List ℕ) (indices : List ℕ) (rows : List Row) : Type 0 where
   pub reported : List ReportedRow
   pub seen : has_seen reported
-  pub rows_are : rows_of_reported reported ≡ rows
+  pub same_rows : rows_of_reported reported ≡ rows
   pub few : length reported ≤ length indices
   pub each : (k : ℕ) (any : ReportedRow) → k < length reported → IsReportAt row_text (slice_index_or indices k 0) (slice_index_or reported k any)
 

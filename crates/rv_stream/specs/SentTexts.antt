@@ -6,17 +6,17 @@ use Rattle.rv_base.specs.Sinks.{AppendsPrefix}
 use Rattle.rv_fleet.specs.declared_report.WriteError.{WriteError}
 use Rattle.rv_fleet.specs.declared_report.WriteError.TheVariants.{Failed, OutOfMemory}
 
--- all of the text except for its end `unsent` was written, and no write failed
-pub record IsWriteInProgress (before now : Option (List ℕ)) (failures_before failures : ℕ) (unsent text : List ℕ) : Type 0 where
+-- all of the text except for its end `buffered` was written, and no write failed
+pub record IsWriteInProgress (before now : Option (List ℕ)) (failures_before failures : ℕ) (buffered text : List ℕ) : Type 0 where
   pub sent : List ℕ
-  pub whole : sent ++ unsent ≡ text
+  pub whole : sent ++ buffered ≡ text
   pub appended : Appends before now sent
   pub counted : failures ≡ failures_before
 
--- without an error, the text was written except for `unsent`; after an error a prefix of it was written, and a failed write is counted
+-- without an error, the text was written except for `buffered`; after an error a prefix of it was written, and a failed write is counted
 abbrev pub IsSent : Option (List ℕ) → Option (List ℕ) → ℕ → ℕ → Option WriteError → List ℕ → List ℕ → Type 0
-IsSent before now failures_before failures None unsent text = IsWriteInProgress before now failures_before failures unsent text
-IsSent before now failures_before failures (Some OutOfMemory) unsent text =
+IsSent before now failures_before failures None buffered text = IsWriteInProgress before now failures_before failures buffered text
+IsSent before now failures_before failures (Some OutOfMemory) buffered text =
     AppendsPrefix before now text × (failures ≡ failures_before)
-IsSent before now failures_before failures (Some Failed) unsent text =
+IsSent before now failures_before failures (Some Failed) buffered text =
     AppendsPrefix before now text × (failures ≡ one_more failures_before)

@@ -18,7 +18,7 @@ use std::marker::PhantomData;
 pub(crate) struct Outbox<J: StreamSpec, W: Sink + Drop> {
     pub(crate) out: W,
     /// The buffered text.
-    pub(crate) unsent: Vec<u8>,
+    pub(crate) buffered: Vec<u8>,
     /// The error after which nothing more is written.
     pub(crate) failed: Option<WriteError>,
     of: PhantomData<J>,
@@ -29,12 +29,12 @@ impl<J: StreamSpec, W: Sink + Drop> Outbox<J, W> {
     pub(crate) fn new(alloc: Global, out: W) -> Outbox<J, W>
         requires before { J.before ≡ W.accepted out }
         requires failures { J.failures ≡ W.failure_count out }
-        ensures sent { IsSent J.before (W.accepted result.out) J.failures (W.failure_count result.out) result.failed result.unsent.items [] }
+        ensures sent { IsSent J.before (W.accepted result.out) J.failures (W.failure_count result.out) result.failed result.buffered.items [] }
         ensures goes { result.failed ≡ None }
     {
         Outbox {
             out,
-            unsent: Vec::new(alloc),
+            buffered: Vec::new(alloc),
             failed: None,
             of: PhantomData,
         }
@@ -49,13 +49,13 @@ impl<J: StreamSpec, W: Sink + Drop> Outbox<J, W> {
     ) -> Flow
         requires { self.old.failed ≡ None }
         ensures sent { (text : List ℕ)
-            → IsSent J.before (W.accepted self.old.out) J.failures (W.failure_count self.old.out) self.old.failed self.old.unsent.items text
-            → IsSent J.before (W.accepted self.new.out) J.failures (W.failure_count self.new.out) self.new.failed self.new.unsent.items
+            → IsSent J.before (W.accepted self.old.out) J.failures (W.failure_count self.old.out) self.old.failed self.old.buffered.items text
+            → IsSent J.before (W.accepted self.new.out) J.failures (W.failure_count self.new.out) self.new.failed self.new.buffered.items
             (text ++ T.line reporter.now made.now.index made.now.row) }
         ensures goes { result ≡ Continue → self.new.failed ≡ None }
         ensures stops { result ≡ Stop → is_some self.new.failed ≡ true }
     {
-        match reporter.push_row_text(alloc, made.index, &made.row, &mut self.unsent) {
+        match reporter.push_row_text(alloc, made.index, &made.row, &mut self.buffered) {
             Ok(()) => Flow::Continue,
             Err(_) => {
                 // Out of memory: a reporter fails for that alone.
@@ -69,14 +69,14 @@ impl<J: StreamSpec, W: Sink + Drop> Outbox<J, W> {
     pub(crate) fn send(&mut self) -> Flow
         requires { self.old.failed ≡ None }
         ensures sent { (text : List ℕ)
-            → IsSent J.before (W.accepted self.old.out) J.failures (W.failure_count self.old.out) self.old.failed self.old.unsent.items text
-            → IsSent J.before (W.accepted self.new.out) J.failures (W.failure_count self.new.out) self.new.failed self.new.unsent.items text }
+            → IsSent J.before (W.accepted self.old.out) J.failures (W.failure_count self.old.out) self.old.failed self.old.buffered.items text
+            → IsSent J.before (W.accepted self.new.out) J.failures (W.failure_count self.new.out) self.new.failed self.new.buffered.items text }
         ensures goes { result ≡ Continue → self.new.failed ≡ None }
         ensures stops { result ≡ Stop → is_some self.new.failed ≡ true }
     {
-        match put_all(&mut self.out, self.unsent.as_slice()) {
+        match put_all(&mut self.out, self.buffered.as_slice()) {
             Ok(()) => {
-                self.unsent.clear();
+                self.buffered.clear();
                 Flow::Continue
             }
             Err(_) => {
@@ -88,18 +88,18 @@ impl<J: StreamSpec, W: Sink + Drop> Outbox<J, W> {
 
     /// Writes the buffered text, and returns the sink and whether it has received the whole text; after an error it has received a prefix.
     pub(crate) fn finish(self) -> (W, Result<(), WriteError>)
-        ensures all { (text : List ℕ) → IsSent J.before (W.accepted self.out) J.failures (W.failure_count self.out) self.failed self.unsent.items text
+        ensures all { (text : List ℕ) → IsSent J.before (W.accepted self.out) J.failures (W.failure_count self.out) self.failed self.buffered.items text
             → OnOk result.1 (Appends J.before (W.accepted result.0) text
             × (W.failure_count result.0 ≡ J.failures)) }
-        ensures part { (text : List ℕ) → IsSent J.before (W.accepted self.out) J.failures (W.failure_count self.out) self.failed self.unsent.items text
+        ensures part { (text : List ℕ) → IsSent J.before (W.accepted self.out) J.failures (W.failure_count self.out) self.failed self.buffered.items text
             → OnErr result.1 (AppendsPrefix J.before (W.accepted result.0) text) }
         ensures goes { OnOk result.1 (self.failed ≡ None) }
-        ensures begun { (text : List ℕ) → IsSent J.before (W.accepted self.out) J.failures (W.failure_count self.out) self.failed self.unsent.items text
+        ensures begun { (text : List ℕ) → IsSent J.before (W.accepted self.out) J.failures (W.failure_count self.out) self.failed self.buffered.items text
             → AppendsPrefix J.before (W.accepted result.0) text }
     {
         let Outbox {
             out,
-            unsent,
+            buffered,
             failed,
             ..
         } = self;
@@ -107,7 +107,7 @@ impl<J: StreamSpec, W: Sink + Drop> Outbox<J, W> {
         if let Some(error) = failed {
             return (out, Err(error));
         }
-        match put_all(&mut out, unsent.as_slice()) {
+        match put_all(&mut out, buffered.as_slice()) {
             Ok(()) => (out, Ok(())),
             Err(_) => (out, Err(WriteError::Failed)),
         }

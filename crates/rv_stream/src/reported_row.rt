@@ -28,7 +28,7 @@ impl<T: RowReporter> Work<ReportedRow> for ReportedRowWork<'_, '_, T> {
 
     ghost jobs = { λ s. length s.batch.now.places.now };
 
-    ghost is_made = { λ s number told. IsReportedRow (T.line s.reporter.now) s.batch.now number told };
+    ghost is_output = { λ s number told. IsReportedRow (T.line s.reporter.now) s.batch.now number told };
 
     ghost is_worker_state = { λ s worker_state. AreOutcomesOfPlan s.batch.now.plan.now worker_state.recent };
 

@@ -20,16 +20,16 @@ pub struct RowSender<'t, J: StreamSpec, T: RowReporter, W: Sink + Drop> {
     reporter: &'t T,
     pub(crate) outbox: Option<Outbox<J, W>>,
     ghost line: { T.line reporter.now ≡ J.line },
-    ghost there: { is_some outbox ≡ J.sends },
+    ghost there: { is_some outbox ≡ J.has_sink },
 }
 
 impl<'t, J: StreamSpec, T: RowReporter, W: Sink + Drop> RowSender<'t, J, T, W> {
     /// Creates a sender that has seen no rows.
     pub fn new(alloc: Global, reporter: &'t T, out: Option<W>) -> RowSender<'t, J, T, W>
-        requires there { is_some out ≡ J.sends }
+        requires there { is_some out ≡ J.has_sink }
         requires before { IfSome out (λ out. (J.before ≡ W.accepted out) × (J.failures ≡ W.failure_count out)) }
         requires line { T.line reporter.now ≡ J.line }
-        ensures sent { IfSome result.outbox (λ box. IsSent J.before (W.accepted box.out) J.failures (W.failure_count box.out) box.failed box.unsent.items []) }
+        ensures sent { IfSome result.outbox (λ box. IsSent J.before (W.accepted box.out) J.failures (W.failure_count box.out) box.failed box.buffered.items []) }
         ensures goes { IfSome result.outbox (λ box. box.failed ≡ None) }
     {
         let outbox = match out {
@@ -46,15 +46,15 @@ impl<'t, J: StreamSpec, T: RowReporter, W: Sink + Drop> RowSender<'t, J, T, W> {
     /// Writes the buffered text, and returns the sink, if there is one, and whether it has received the whole text; after an error it has
     /// received a prefix.
     pub fn finish(self) -> (Option<W>, Result<(), WriteError>)
-        ensures there { is_some result.0 ≡ J.sends }
+        ensures there { is_some result.0 ≡ J.has_sink }
         ensures all { (text : List ℕ)
-            → IfSome self.entry.outbox (λ box. IsSent J.before (W.accepted box.out) J.failures (W.failure_count box.out) box.failed box.unsent.items text)
+            → IfSome self.entry.outbox (λ box. IsSent J.before (W.accepted box.out) J.failures (W.failure_count box.out) box.failed box.buffered.items text)
             → OnOk result.1 (IfSome result.0 (λ out. Appends J.before (W.accepted out) text × (W.failure_count out ≡ J.failures))) }
         ensures part { (text : List ℕ)
-            → IfSome self.entry.outbox (λ box. IsSent J.before (W.accepted box.out) J.failures (W.failure_count box.out) box.failed box.unsent.items text)
+            → IfSome self.entry.outbox (λ box. IsSent J.before (W.accepted box.out) J.failures (W.failure_count box.out) box.failed box.buffered.items text)
             → OnErr result.1 (IfSome result.0 (λ out. AppendsPrefix J.before (W.accepted out) text)) }
         ensures goes { OnOk result.1 (IfSome self.entry.outbox (λ box. box.failed ≡ None)) }
-        ensures failed { OnErr result.1 (J.sends ≡ true) }
+        ensures failed { OnErr result.1 (J.has_sink ≡ true) }
     {
         let RowSender { outbox, .. } = self;
         match outbox {
@@ -74,7 +74,7 @@ impl<J: StreamSpec, T: RowReporter, W: Sink + Drop> Observer<ReportedRow>
     ghost use Rattle.rv_stream.specs.SentTexts.{IsSent};
 
     ghost has_seen = { λ s reported. IfSome s.outbox (λ box. IsSent J.before (W.accepted box.out) J.failures (W.failure_count box.out)
-        box.failed box.unsent.items (text_by_index J.line reported)) };
+        box.failed box.buffered.items (text_by_index J.line reported)) };
 
     ghost stops = { λ s. IsSomeAnd s.outbox (λ box. is_some box.failed ≡ true) };
 

@@ -19,7 +19,7 @@ pub trait StreamSpec {
     ghost judging: { JudgeView };
 
     // Whether a [`crate::RowSender`] has a sink, and what it sends for the job at an index and its row.
-    ghost sends: { Bool };
+    ghost has_sink: { Bool };
 
     // Whether an observer may keep the texts of rows that count as failures.
     ghost keeps: { Bool };
@@ -40,7 +40,7 @@ impl StreamSpec for Brand {
 
     ghost judging = { judge_by_rule Strict };
 
-    ghost sends = { false };
+    ghost has_sink = { false };
 
     ghost keeps = { false };
 

@@ -22,7 +22,7 @@ impl<J: StreamSpec, W: Sink + Drop> TextSender<J, W> {
         requires before { J.before ≡ W.accepted out }
         requires failures { J.failures ≡ W.failure_count out }
         ensures sent { IsSent J.before (W.accepted result.outbox.out) J.failures (W.failure_count result.outbox.out)
-            result.outbox.failed result.outbox.unsent.items [] }
+            result.outbox.failed result.outbox.buffered.items [] }
         ensures goes { result.outbox.failed ≡ None }
     {
         TextSender {
@@ -38,13 +38,13 @@ impl<J: StreamSpec, W: Sink + Drop> Observer<ReportedRow> for TextSender<J, W> {
     ghost use Rattle.rv_stream.specs.ReportedRows.{texts_of_reported};
 
     ghost has_seen = { λ s told. IsSent J.before (W.accepted s.outbox.out) J.failures (W.failure_count s.outbox.out)
-        s.outbox.failed s.outbox.unsent.items (concat (texts_of_reported told)) };
+        s.outbox.failed s.outbox.buffered.items (concat (texts_of_reported told)) };
 
     ghost stops = { λ s. is_some s.outbox.failed ≡ true };
 
     // Buffers the text of a row, and returns whether the run should continue.
     fn see(&mut self, output: &ReportedRow) -> Flow {
-        match self.outbox.unsent.extend_from_slice(output.text.as_slice()) {
+        match self.outbox.buffered.extend_from_slice(output.text.as_slice()) {
             Ok(()) => Flow::Continue,
             Err(_) => {
                 // Out of memory: `extend_from_slice` fails by that alone.

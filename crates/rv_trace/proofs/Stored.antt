@@ -22,7 +22,7 @@ use Rattle.rv_machine.specs.State.{State, with_pc, with_bus}
 use Rattle.rv_trace.specs.declared.write_targets.Access.{Access}
 use Rattle.rv_trace.specs.declared.write_targets.Access.TheVariants as access
 use Rattle.rv_trace.specs.declared.write_targets.WriteTarget.TheVariants as aim
-use Rattle.rv_trace.specs.declared.step.WriteEffect.TheVariants as wrote
+use Rattle.rv_trace.specs.declared.step.WriteEffect.TheVariants as write
 use Rattle.rv_trace.specs.Steps.{access_of, instruction_write_target, write_target, traced_step, completed_write}
 use Rattle.rv_trace.proofs.Fetched.{code_is_fetched}
 
@@ -94,7 +94,7 @@ stores_as op.Sw w i next s e = let same : Word ≡ w = cc in ap (λ x. store x s
 stores_as _ w i next s e = cc
 
 nothing_stored : (b : Bool) (n a : ℕ) (w : Width) (v : ℕ) (t : State) (P : Type 0)
-    → completed_write (cond b aim.Nothing (aim.Register n)) t ≡ wrote.Stored a w v → P
+    → completed_write (cond b aim.Nothing (aim.Register n)) t ≡ write.Stored a w v → P
 nothing_stored true n a w v t P e = cc
 nothing_stored false n a w v t P e = cc
 
@@ -110,7 +110,7 @@ module _ (s t : State) (i : Instr) (next a v : ℕ) (w : Width) where
       ap (λ c. value_at c.memory (address s i) w) bus ∙ value_put s.bus (address s i) w (rs2_value s i)
   left_there (Err fault) is e outside = cc
 
-  by_access : (x : Access) → access_of i.op ≡ x → completed_write (instruction_write_target x i s) t ≡ wrote.Stored a w v
+  by_access : (x : Access) → access_of i.op ≡ x → completed_write (instruction_write_target x i s) t ≡ write.Stored a w v
       → effect_of i.op i next s ≡ Ok t → touches_console a (size_of w) ≡ false → value_at t.bus.memory a w ≡ v
   by_access access.Load is e done outside = cc
   by_access access.Neither is e done outside =
@@ -126,7 +126,7 @@ module _ (s t : State) (i : Instr) (next a v : ℕ) (w : Width) where
       ap (λ b. value_at t.bus.memory b w) (sym at) ∙ there
       ∙ sym (ap (λ x. rs2_value s i % 2 ^ (8 * size_of x)) wide) ∙ value
 
-module _ (s t : State) (a v : ℕ) (w : Width) (e : (traced_step s t).wrote ≡ wrote.Stored a w v)
+module _ (s t : State) (a v : ℕ) (w : Width) (e : (traced_step s t).write ≡ write.Stored a w v)
     (outside : touches_console a (size_of w) ≡ false) where
   by_fetch : (f : FetchResult) → fetch s.isa s.bus s.pc ≡ f → after_fetch f s ≡ Ok t → value_at t.bus.memory a w ≡ v
   unfolding effect
@@ -140,6 +140,6 @@ module _ (s t : State) (a v : ℕ) (w : Width) (e : (traced_step s t).wrote ≡ 
   unfolding step_of
   stands done = by_fetch (fetch s.isa s.bus s.pc) refl done
 
-pub stored_stands : (s t : State) (a v : ℕ) (w : Width) → step_of s ≡ Ok t → (traced_step s t).wrote ≡ wrote.Stored a w v
+pub stored_stands : (s t : State) (a v : ℕ) (w : Width) → step_of s ≡ Ok t → (traced_step s t).write ≡ write.Stored a w v
     → touches_console a (size_of w) ≡ false → value_at t.bus.memory a w ≡ v
 stored_stands s t a v w done e outside = stands s t a v w e outside done

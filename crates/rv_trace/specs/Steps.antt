@@ -16,7 +16,7 @@ use Rattle.rv_trace.specs.declared.write_targets.WriteTarget.{WriteTarget}
 use Rattle.rv_trace.specs.declared.write_targets.WriteTarget.TheVariants as aim
 use Rattle.rv_trace.specs.declared.step.TracedStep.{TracedStep}
 use Rattle.rv_trace.specs.declared.step.WriteEffect.{WriteEffect}
-use Rattle.rv_trace.specs.declared.step.WriteEffect.TheVariants as wrote
+use Rattle.rv_trace.specs.declared.step.WriteEffect.TheVariants as write
 use Rattle.rv_trace.specs.Code.{code_at, instr_of}
 
 -- ---- the target of an instruction's write
@@ -57,10 +57,10 @@ HasRegister _ = Unit {0}
 -- the effect of a completed write to this target: the new value of a register is read from the state `t` after the instruction, and the
 -- value of a store is in the target
 abbrev pub completed_write : WriteTarget → State → WriteEffect
-completed_write aim.Nothing t = wrote.Nothing
-completed_write (aim.Register number) t = wrote.Register number (register t number)
-completed_write (aim.Load number address) t = wrote.Loaded number (register t number) address
-completed_write (aim.Store address width value) t = wrote.Stored address width value
+completed_write aim.Nothing t = write.Nothing
+completed_write (aim.Register number) t = write.Register number (register t number)
+completed_write (aim.Load number address) t = write.Loaded number (register t number) address
+completed_write (aim.Store address width value) t = write.Stored address width value
 
 -- the instruction at the pc of a state, in RV32IMC; `None` if there is none
 abbrev pub instr_at : State → Option Instr
@@ -71,7 +71,7 @@ abbrev pub traced_step : State → State → TracedStep
 traced_step s t = record {
   pc = s.pc;
   code = code_at s.bus s.pc;
-  wrote = completed_write (write_target (instr_at s) s) t;
+  write = completed_write (write_target (instr_at s) s) t;
 }
 
 -- ---- several instructions

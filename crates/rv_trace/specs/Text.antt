@@ -21,7 +21,7 @@ use Rattle.rv_trace.specs.declared.code.Code.{Code}
 use Rattle.rv_trace.specs.declared.code.Code.TheVariants.{Half, Word}
 use Rattle.rv_trace.specs.declared.step.TracedStep.{TracedStep}
 use Rattle.rv_trace.specs.declared.step.WriteEffect.{WriteEffect}
-use Rattle.rv_trace.specs.declared.step.WriteEffect.TheVariants as wrote
+use Rattle.rv_trace.specs.declared.step.WriteEffect.TheVariants as write
 use Rattle.rv_trace.specs.declared.trace.Trace.{Trace}
 
 -- ---- columns
@@ -113,7 +113,7 @@ assembly_or_empty pc (Some code) = assembly pc code
 unfoldable pub step_line : Image → List ℕ → TracedStep → List ℕ
 step_line image file step =
     instruction_line (symbol_at image file step.pc) step.pc step.code
-    (assembly_or_empty step.pc step.code) (write_effect_text image file step.wrote)
+    (assembly_or_empty step.pc step.code) (write_effect_text image file step.write)
 
 -- ---- the end
 

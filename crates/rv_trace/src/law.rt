@@ -35,7 +35,7 @@ pub fn codes_are_fetched()
 /// correct by definition.
 pub fn stored_values_stand()
     ensures { (s t : State) (a v : ℕ) (w : Width) → step_of s ≡ Ok t
-        → (traced_step s t).wrote ≡ Stored a w v → touches_console a (size_of w) ≡ false
+        → (traced_step s t).write ≡ Stored a w v → touches_console a (size_of w) ≡ false
         → value_at t.bus.memory a w ≡ v }
 {}
 

@@ -28,7 +28,7 @@ pub struct TracedStep {
     pub pc: u32,
     /// The encoding that was fetched; always present, since the instruction completed.
     pub code: Option<Code>,
-    pub wrote: WriteEffect,
+    pub write: WriteEffect,
 }
 
 /// Completed instructions in order; contracts see them as a list.
@@ -51,7 +51,7 @@ pub(crate) fn trace_next_step(machine: &mut Machine) -> Option<TracedStep>
     Some(TracedStep {
         pc,
         code,
-        wrote: aim.completed_write(machine),
+        write: aim.completed_write(machine),
     })
 }
 

@@ -165,7 +165,7 @@ fn push_step_line(
     let mut text = Vec::new(alloc);
     push_assembly(alloc, &mut text, step.pc, step.code)?;
     let mut effect_text = Vec::new(alloc);
-    push_write_effect(alloc, &mut effect_text, elf, step.wrote)?;
+    push_write_effect(alloc, &mut effect_text, elf, step.write)?;
     let shown = InstructionLine {
         symbol: elf.symbol_at(step.pc),
         pc: step.pc,

@@ -14,21 +14,21 @@ any_of_paths : (read : List (List ℕ)) (files : List InputPath)
 any_of_paths read [] = refl
 any_of_paths read (file ∷ files) = ap (λ rest. is_golden_input read file || rest) (any_of_paths read files)
 
-pub accept_apart : (placed : Option (List CommittedFile)) (words : AcceptArgs) (jobs : List Job) (selection : List Bool)
+pub accept_apart : (placed : Option (List CommittedFile)) (args : AcceptArgs) (jobs : List Job) (selection : List Bool)
     (list inputs : List (List ℕ)) (files : List InputPath)
-    → input_paths files ≡ golden_paths_of_selected (optional_text words.run.root) jobs selection
-    → IfSome placed (λ _. list ≡ words.run.list.now ∷ [])
-    → IfSome placed (λ _. inputs ≡ inputs_of_accept words jobs)
-    → IfSome placed (λ _. IsNoInput (inputs_of_accept words jobs) words.run.list.now)
+    → input_paths files ≡ golden_paths_of_selected (optional_text args.run.root) jobs selection
+    → IfSome placed (λ _. list ≡ args.run.list.now ∷ [])
+    → IfSome placed (λ _. inputs ≡ inputs_of_accept args jobs)
+    → IfSome placed (λ _. IsNoInput (inputs_of_accept args jobs) args.run.list.now)
     → IfSome placed (λ _. list_any (is_golden_input list) files ≡ false)
     → IfSome placed (λ _. list_any (is_golden_input inputs) files ≡ false)
-    → IfSome placed (λ _. AreAcceptFilesNoInputs words jobs selection)
-accept_apart None words jobs selection list inputs files are is_list are_inputs unread no_list no_input = tt
-accept_apart (Some earlier) words jobs selection list inputs files are is_list are_inputs unread no_list no_input = record {
+    → IfSome placed (λ _. AreAcceptFilesNoInputs args jobs selection)
+accept_apart None args jobs selection list inputs files are is_list are_inputs unread no_list no_input = tt
+accept_apart (Some earlier) args jobs selection list inputs files are is_list are_inputs unread no_list no_input = record {
   list = unread;
-  no_list = ap (λ paths. list_any (is_read (words.run.list.now ∷ [])) paths) (sym are)
+  no_list = ap (λ paths. list_any (is_read (args.run.list.now ∷ [])) paths) (sym are)
       ∙ ap (λ read. list_any (is_read read) (input_paths files)) (sym is_list) ∙ sym (any_of_paths list files) ∙ no_list;
-  no_input = ap (λ paths. list_any (is_read (inputs_of_accept words jobs)) paths) (sym are)
+  no_input = ap (λ paths. list_any (is_read (inputs_of_accept args jobs)) paths) (sym are)
       ∙ ap (λ read. list_any (is_read read) (input_paths files)) (sym are_inputs) ∙ sym (any_of_paths inputs files) ∙ no_input;
 }
 

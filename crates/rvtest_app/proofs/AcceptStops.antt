@@ -34,49 +34,49 @@ abbrev HasGoldenPath : List Job → Target → Type 0
 HasGoldenPath jobs target = IsGoldenPath jobs target.path
 
 -- files of targets stand where targets lead
-pub places_of_targets : (known : Option FileContents) (root : Option (List ℕ)) (jobs : List Job) (targets : List Target)
-    (files : List GoldenFile) → AreGoldenFiles known root targets files
+pub places_of_targets : (contents : Option FileContents) (root : Option (List ℕ)) (jobs : List Job) (targets : List Target)
+    (files : List GoldenFile) → AreGoldenFiles contents root targets files
     → All (λ (target : Target). IsGoldenPath jobs target.path) targets
     → All (λ (file : GoldenFile). IsGoldenPlace root jobs file.resolved_path) files
-places_of_targets known root jobs [] [] are each = All-nil (HasGoldenPlace root jobs)
-places_of_targets known root jobs (target ∷ targets) (file ∷ files) are each =
+places_of_targets contents root jobs [] [] are each = All-nil (HasGoldenPlace root jobs)
+places_of_targets contents root jobs (target ∷ targets) (file ∷ files) are each =
     All-cons (HasGoldenPlace root jobs) file files
     (target.path, (All-head (HasGoldenPath jobs) target targets each, are.0.leads))
-    (places_of_targets known root jobs targets files are.1 (All-tail (HasGoldenPath jobs) target targets each))
-places_of_targets known root jobs [] (file ∷ files) are each = elim are [ ]
-places_of_targets known root jobs (target ∷ targets) [] are each = elim are [ ]
+    (places_of_targets contents root jobs targets files are.1 (All-tail (HasGoldenPath jobs) target targets each))
+places_of_targets contents root jobs [] (file ∷ files) are each = elim are [ ]
+places_of_targets contents root jobs (target ∷ targets) [] are each = elim are [ ]
 
 -- the file of a target that was not read is one of the list
-pub golden_of_targets : (known : Option FileContents) (words : AcceptArgs) (jobs : List Job) (targets : List Target)
-    (why : Stop) → All (λ (target : Target). IsGoldenPath jobs target.path) targets
-    → IsTargetsUnreadStop known (optional_text words.run.root) targets why → IsGoldenUnreadStop known words jobs why
-golden_of_targets known words jobs targets why each = ⊎_elim inl
+pub golden_of_targets : (contents : Option FileContents) (args : AcceptArgs) (jobs : List Job) (targets : List Target)
+    (stop : Stop) → All (λ (target : Target). IsGoldenPath jobs target.path) targets
+    → IsTargetsUnreadStop contents (optional_text args.run.root) targets stop → IsGoldenUnreadStop contents args jobs stop
+golden_of_targets contents args jobs targets stop each = ⊎_elim inl
     (λ some. inr (
-      resolved_path (optional_text words.run.root) some.1.path,
+      resolved_path (optional_text args.run.root) some.1.path,
       (inr (some.1.path, (rw some.3 at (each some.0 some.1 some.2), refl)), some.4),
     ))
 
 -- a golden file that was not read stops the command
-pub stop_of_unread : (known : Option FileContents) (words : AcceptArgs) (jobs : List Job) (why : Stop)
-    → IsGoldenUnreadStop known words jobs why → IsAcceptingStop known words jobs why
-stop_of_unread known words jobs why =
+pub stop_of_unread : (contents : Option FileContents) (args : AcceptArgs) (jobs : List Job) (stop : Stop)
+    → IsGoldenUnreadStop contents args jobs stop → IsAcceptingStop contents args jobs stop
+stop_of_unread contents args jobs stop =
     ⊎_elim inl (λ is. inr (inr (inr (is.0, (is.1.0, inl is.1.1)))))
 
 -- the list, or a golden file, was not written
-stop_of_files : (known : Option FileContents) (words : AcceptArgs) (jobs : List Job) (list : List ℕ)
-    (files : List GoldenFile) (why : Stop) → list ≡ words.run.list.now
-    → All (λ (file : GoldenFile). IsGoldenPlace (optional_text words.run.root) jobs file.resolved_path) files
-    → IsStopForSomeFile (IsFileNotWrittenStop known) list files why
-    → (path : List ℕ) × (IsListOrGoldenPath words jobs path × IsFileNotWrittenStop known path why)
-stop_of_files known words jobs list files why same each = ⊎_elim (λ own. (list, (inl same, own)))
+stop_of_files : (contents : Option FileContents) (args : AcceptArgs) (jobs : List Job) (list : List ℕ)
+    (files : List GoldenFile) (stop : Stop) → list ≡ args.run.list.now
+    → All (λ (file : GoldenFile). IsGoldenPlace (optional_text args.run.root) jobs file.resolved_path) files
+    → IsStopForSomeFile (IsFileNotWrittenStop contents) list files stop
+    → (path : List ℕ) × (IsListOrGoldenPath args jobs path × IsFileNotWrittenStop contents path stop)
+stop_of_files contents args jobs list files stop same each = ⊎_elim (λ own. (list, (inl same, own)))
     (λ some. (some.1.resolved_path, (inr (rw some.3 at (each some.0 some.1 some.2)), some.4)))
 
-pub stop_of_put : (known : Option FileContents) (words : AcceptArgs) (jobs : List Job) (list : List ℕ)
-    (files : List GoldenFile) (why : Stop) → list ≡ words.run.list.now
-    → All (λ (file : GoldenFile). IsGoldenPlace (optional_text words.run.root) jobs file.resolved_path) files
-    → IsAcceptanceWriteStop known words.check list files why → IsAcceptingStop known words jobs why
-stop_of_put known words jobs list files why same each = ⊎_elim inl (⊎_elim (λ failed. inr (inr (inl failed)))
-    (λ is. let of = stop_of_files known words jobs list files why same each is.1 in
+pub stop_of_put : (contents : Option FileContents) (args : AcceptArgs) (jobs : List Job) (list : List ℕ)
+    (files : List GoldenFile) (stop : Stop) → list ≡ args.run.list.now
+    → All (λ (file : GoldenFile). IsGoldenPlace (optional_text args.run.root) jobs file.resolved_path) files
+    → IsAcceptanceWriteStop contents args.check list files stop → IsAcceptingStop contents args jobs stop
+stop_of_put contents args jobs list files stop same each = ⊎_elim inl (⊎_elim (λ failed. inr (inr (inl failed)))
+    (λ is. let of = stop_of_files contents args jobs list files stop same each is.1 in
     inr (inr (inr (of.0, (of.1.0, inr (is.0, of.1.1)))))))
 
 -- ---- by the claims of runs
@@ -87,25 +87,25 @@ golden_paths : (jobs : List Job) (runs : List (Option JobRun)) (golden_texts : L
     → All (λ (target : Target). IsGoldenPath jobs target.path) targets
 golden_paths jobs runs golden_texts targets found are = rw (found, are) (targets_are_of_jobs jobs runs)
 
-pub targets_unread : (known : Option FileContents) (words : AcceptArgs) (jobs : List Job) (runs : List (Option JobRun))
-    (golden_texts : List GoldenText) (targets : List Target) (why : Stop)
+pub targets_unread : (contents : Option FileContents) (args : AcceptArgs) (jobs : List Job) (runs : List (Option JobRun))
+    (golden_texts : List GoldenText) (targets : List Target) (stop : Stop)
     → targets ≡ fold (with_target runs golden_texts) [] golden_texts → golden_texts ≡ golden_texts_of_runs 0 jobs runs
-    → IsTargetsUnreadStop known (optional_text words.run.root) targets why → IsGoldenUnreadStop known words jobs why
-targets_unread known words jobs runs golden_texts targets why found are =
-    golden_of_targets known words jobs targets why (golden_paths jobs runs golden_texts targets found are)
+    → IsTargetsUnreadStop contents (optional_text args.run.root) targets stop → IsGoldenUnreadStop contents args jobs stop
+targets_unread contents args jobs runs golden_texts targets stop found are =
+    golden_of_targets contents args jobs targets stop (golden_paths jobs runs golden_texts targets found are)
 
-pub files_unput : (known : Option FileContents) (words : AcceptArgs) (jobs : List Job) (list : List ℕ)
-    (runs : List (Option JobRun)) (golden_texts : List GoldenText) (files : List GoldenFile) (why : Stop)
-    → list ≡ words.run.list.now → golden_texts ≡ golden_texts_of_runs 0 jobs runs
-    → AreGoldenFiles known (optional_text words.run.root) (fold (with_target runs golden_texts) [] golden_texts) files
-    → IsAcceptanceWriteStop known words.check list files why → IsAcceptingStop known words jobs why
-files_unput known words jobs list runs golden_texts files why same are golden =
-    stop_of_put known words jobs list files why same
-    (places_of_targets known (optional_text words.run.root) jobs (fold (with_target runs golden_texts) [] golden_texts) files golden
+pub files_unput : (contents : Option FileContents) (args : AcceptArgs) (jobs : List Job) (list : List ℕ)
+    (runs : List (Option JobRun)) (golden_texts : List GoldenText) (files : List GoldenFile) (stop : Stop)
+    → list ≡ args.run.list.now → golden_texts ≡ golden_texts_of_runs 0 jobs runs
+    → AreGoldenFiles contents (optional_text args.run.root) (fold (with_target runs golden_texts) [] golden_texts) files
+    → IsAcceptanceWriteStop contents args.check list files stop → IsAcceptingStop contents args jobs stop
+files_unput contents args jobs list runs golden_texts files stop same are golden =
+    stop_of_put contents args jobs list files stop same
+    (places_of_targets contents (optional_text args.run.root) jobs (fold (with_target runs golden_texts) [] golden_texts) files golden
     (golden_paths jobs runs golden_texts (fold (with_target runs golden_texts) [] golden_texts) refl are))
 
 -- what happened to a file of these happened in another sense
-pub files_stop : (P Q : List ℕ → Stop → Type 0) (list : List ℕ) (files : List GoldenFile) (why : Stop)
-    → ((path : List ℕ) → P path why → Q path why) → IsStopForSomeFile P list files why → IsStopForSomeFile Q list files why
-files_stop P Q list files why f = ⊎_elim (λ own. inl (f list own))
+pub files_stop : (P Q : List ℕ → Stop → Type 0) (list : List ℕ) (files : List GoldenFile) (stop : Stop)
+    → ((path : List ℕ) → P path stop → Q path stop) → IsStopForSomeFile P list files stop → IsStopForSomeFile Q list files stop
+files_stop P Q list files stop f = ⊎_elim (λ own. inl (f list own))
     (λ some. inr (some.0, some.1, some.2, some.3, f some.1.resolved_path some.4))

@@ -24,17 +24,17 @@ use Rattle.rv_rows.specs.declared_job.Job.{Job}
 use Rattle.rvtest_app.specs.Accepts.{AreGoldenFiles, IsAcceptOutcome, IsAcceptSummaryOf}
 
 -- of the file of the list, its text and its jobs
-pub outcome_told : (known : Option FileContents) (words : AcceptArgs) (list : ListFile) (judged : List (Option JobRun))
+pub outcome_told : (contents : Option FileContents) (args : AcceptArgs) (list : ListFile) (judged : List (Option JobRun))
     (golden_texts : List GoldenText) (files : List GoldenFile) (new : NewList) (told : AcceptSummary)
-    → list.path.now ≡ words.run.list.now → AreSkippedFrom judged new.runs.items
+    → list.path.now ≡ args.run.list.now → AreSkippedFrom judged new.runs.items
     → golden_texts ≡ golden_texts_of_runs 0 list.jobs.now new.runs.items
-    → AreGoldenFiles known (optional_text words.run.root) (fold (with_target new.runs.items golden_texts) [] golden_texts) files
+    → AreGoldenFiles contents (optional_text args.run.root) (fold (with_target new.runs.items golden_texts) [] golden_texts) files
     → IfSome new.text (λ text. (edits : List Edit) × (text.items ≡ edited_rest 0 list.text.now edits))
     → IfSome new.text (λ text. job_list_of text.items ≡ Ok (intended_jobs list.jobs.now new.runs.items))
     → (new.text ≡ None → intended_jobs list.jobs.now new.runs.items ≡ list.jobs.now)
     → IsAcceptSummaryOf list new.runs.items golden_texts files new told
-    → IsAcceptOutcome known words list.text.now list.jobs.now judged told
-outcome_told known words list judged golden_texts files new told path left are golden edited meant unchanged of = record {
+    → IsAcceptOutcome contents args list.text.now list.jobs.now judged told
+outcome_told contents args list judged golden_texts files new told path left are golden edited meant unchanged of = record {
   path = rw of.0 path;
   text = rw of.0 refl;
   listed = rw of.0 refl;

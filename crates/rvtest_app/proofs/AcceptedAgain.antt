@@ -19,7 +19,7 @@ use Rattle.rv_accept.specs.Sharing.{is_same_path, jobs_to_run, names_golden_file
 use Rattle.rv_accept.specs.Targets.{is_accepted_entry, has_target, with_target}
 use Rattle.rv_accept.specs.declared.golden_texts.GoldenText.{GoldenText}
 use Rattle.rv_accept.specs.declared.golden_outcomes.GoldenFileOutcome.{GoldenFileOutcome}
-use Rattle.rv_accept.specs.declared.golden_outcomes.GoldenFileOutcome.TheVariants as fate
+use Rattle.rv_accept.specs.declared.golden_outcomes.GoldenFileOutcome.TheVariants as outcome
 use Rattle.rv_accept.specs.declared.runs.JobRun.{JobRun}
 use Rattle.rv_accept.specs.declared.targets.Target.{Target}
 use Rattle.rv_accept_text.proofs.Public.{accepted_from_the_first, list_is_no_image}
@@ -141,12 +141,12 @@ is_told before root path (target ∷ targets) (file ∷ files) are is =
 
 -- the fate of a file that is not left, and that a job names
 agreed_fate : (text : List ℕ) (what : GoldenFileOutcome) (kept : Bool) → is_skipped_with kept what ≡ false
-    → (what ≡ fate.Unclaimed → what ≡ fate.Agreed text)
-    → ((other : List ℕ) → what ≡ fate.Agreed other → other ≡ text) → what ≡ fate.Agreed text
-agreed_fate text fate.Unclaimed kept left none same = none refl
-agreed_fate text (fate.Agreed other) kept left none same = ap fate.Agreed (same other refl)
-agreed_fate text (fate.SkippedBy job) kept left none same = cc
-agreed_fate text (fate.Disagree job other) kept left none same = cc
+    → (what ≡ outcome.Unclaimed → what ≡ outcome.Agreed text)
+    → ((other : List ℕ) → what ≡ outcome.Agreed other → other ≡ text) → what ≡ outcome.Agreed text
+agreed_fate text outcome.Unclaimed kept left none same = none refl
+agreed_fate text (outcome.Agreed other) kept left none same = ap outcome.Agreed (same other refl)
+agreed_fate text (outcome.SkippedBy job) kept left none same = cc
+agreed_fate text (outcome.Disagree job other) kept left none same = cc
 
 same_bytes : (bytes : List ℕ) → bytes_eq bytes bytes ≡ true
 same_bytes bytes = (bytes_eq-Decides bytes bytes).1 refl
@@ -184,12 +184,12 @@ accepted_row_of run accepted = rw accepted refl
 
 -- ---- over what `accept` came to
 
-module _ (words : AcceptArgs) (before after : FileContents) (bytes : List ℕ) (jobs : List Job)
-    (judged : List (Option JobRun)) (told : AcceptSummary) (outcome : IsAcceptOutcome (Some before) words bytes jobs judged told)
-    (read : IsTextAt (Some before) words.run.list.now bytes) (listed : job_list_of bytes ≡ Ok jobs)
+module _ (args : AcceptArgs) (before after : FileContents) (bytes : List ℕ) (jobs : List Job)
+    (judged : List (Option JobRun)) (told : AcceptSummary) (outcome : IsAcceptOutcome (Some before) args bytes jobs judged told)
+    (read : IsTextAt (Some before) args.run.list.now bytes) (listed : job_list_of bytes ≡ Ok jobs)
     (store : IsStoreAfter (written_files told) before after) (alike : HaveOneTextPerFile store.leads told.files.now) where
   abbrev root : Option (List ℕ)
-  root = optional_text words.run.root
+  root = optional_text args.run.root
 
   abbrev golden_texts : List GoldenText
   golden_texts = golden_texts_of_runs 0 jobs told.runs.now
@@ -210,7 +210,7 @@ module _ (words : AcceptArgs) (before after : FileContents) (bytes : List ℕ) (
   no_image = rw outcome.text (list_is_no_image bytes jobs listed)
 
   -- the list reads as the jobs that are meant
-  list_reads : (text : List ℕ) (others : List Job) → after words.run.list.now ≡ Some text → job_list_of text ≡ Ok others
+  list_reads : (text : List ℕ) (others : List Job) → after args.run.list.now ≡ Some text → job_list_of text ≡ Ok others
       → others ≡ intended_jobs jobs told.runs.now
   list_reads text others stands reads = go told.new.now.text refl
     where
@@ -232,8 +232,8 @@ module _ (words : AcceptArgs) (before after : FileContents) (bytes : List ℕ) (
 
   -- a golden file that an accepted job names, and that is not left, holds what the job gives it
   golden_text : (job : Job) (path text : List ℕ) → names_golden_file path job ≡ true → has_target path targets ≡ true
-      → (outcome_of_golden_file path golden_texts ≡ fate.Unclaimed → outcome_of_golden_file path golden_texts ≡ fate.Agreed text)
-      → ((other : List ℕ) → outcome_of_golden_file path golden_texts ≡ fate.Agreed other → other ≡ text)
+      → (outcome_of_golden_file path golden_texts ≡ outcome.Unclaimed → outcome_of_golden_file path golden_texts ≡ outcome.Agreed text)
+      → ((other : List ℕ) → outcome_of_golden_file path golden_texts ≡ outcome.Agreed other → other ≡ text)
       → All (λ (file : GoldenFile). names_golden_file file.target.path job ≡ true → is_skipped told.list file ≡ false)
       told.files.now → after (resolved_path root path) ≡ Some text
   golden_text job path text names target unclaimed_is agreed_is left =
@@ -252,7 +252,7 @@ module _ (words : AcceptArgs) (before after : FileContents) (bytes : List ℕ) (
           let kept = left k d below (rw same at names) in
           let fate_is : outcome_of_golden_file path golden_texts ≡ file.target.outcome =
           ap (λ path. outcome_of_golden_file path golden_texts) same ∙ sym of.1 in
-          let agrees : file.target.outcome ≡ fate.Agreed text = sym fate_is ∙ agreed_fate text (outcome_of_golden_file path golden_texts)
+          let agrees : file.target.outcome ≡ outcome.Agreed text = sym fate_is ∙ agreed_fate text (outcome_of_golden_file path golden_texts)
           (is_protected told.list file) (rw fate_is kept) unclaimed_is agreed_is in
           let there = golden_files_there told before after store list_stood files_stood alike k d below text agrees kept in
           rw same (subst (λ place. after place ≡ Some text) of.0 there)
@@ -339,14 +339,14 @@ read_of_job answers job row files = record {
       (console_path_stays job.expect_console row.console) files.console;
 }
 
-pub passes_after : (words : AcceptArgs) (before after : FileContents) (bytes : List ℕ) (jobs : List Job)
+pub passes_after : (args : AcceptArgs) (before after : FileContents) (bytes : List ℕ) (jobs : List Job)
     (chosen : List Bool) (status : ℕ) (from to : CommandOutputs) (place : ℕ) (job : Job) (row : Row)
-    → IsTextAt (Some before) words.run.list.now bytes → job_list_of bytes ≡ Ok jobs
-    → (accepted : IsAcceptOfSelected (Some before) words bytes jobs chosen status from to)
+    → IsTextAt (Some before) args.run.list.now bytes → job_list_of bytes ≡ Ok jobs
+    → (accepted : IsAcceptOfSelected (Some before) args bytes jobs chosen status from to)
     → (store : IsStoreAfter (written_files accepted.told) before after)
     → HaveOneTextPerFile store.leads accepted.told.files.now → IsFullyAccepted accepted.told place job
-    → IsRowOfRun after words.run place row → is_pass_or_none row.verdict ≡ true
-passes_after words before after bytes jobs chosen status from to place job row read listed accepted store alike whole later =
+    → IsRowOfRun after args.run place row → is_pass_or_none row.verdict ≡ true
+passes_after args before after bytes jobs chosen status from to place job row read listed accepted store alike whole later =
     let told = accepted.told in
     let outcome = accepted.outcome in
     let judged = accepted.judged in
@@ -354,10 +354,10 @@ passes_after words before after bytes jobs chosen status from to place job row r
     let at : slice_get jobs place ≡ Some job = rw outcome.listed at whole.at_index in
     let run : AcceptedRun (slice_get told.runs.now place) = accepted_run (slice_get told.runs.now place) whole.accepted in
     let first = accepted_from_the_first judged told.runs.now place run.of outcome.runs run.is run.accepted in
-    let of : IsAccepted (acceptance_of words.ends) job accepted.judging.candidates accepted.rows place run.of =
-    accepted_at (acceptance_of words.ends) jobs accepted.judging.candidates accepted.rows place job run.of at
+    let of : IsAccepted (acceptance_of args.ends) job accepted.judging.candidates accepted.rows place run.of =
+    accepted_at (acceptance_of args.ends) jobs accepted.judging.candidates accepted.rows place job run.of at
     (rw accepted.judging.are at first) run.accepted in
-    let standing_is = stands_at (Some before) (optional_text words.run.root) accepted.rows jobs chosen
+    let standing_is = stands_at (Some before) (optional_text args.run.root) accepted.rows jobs chosen
     accepted.judging.candidates place job run.of.row of.candidate accepted.judging.stand at of.row of.stands in
     let bare : slice_index_or earlier.jobs place (single_job [] 0 []) ≡ without_expectations job =
     ap (λ jobs. slice_index_or jobs place (single_job [] 0 [])) accepted.ran.are.planned.listed
@@ -366,13 +366,13 @@ passes_after words before after bytes jobs chosen status from to place job row r
     let row_is : run.of.row ≡ row_of earlier (without_expectations job) =
     row_at_place earlier (jobs_to_run jobs chosen) place run.of.row (rw accepted.ran.are.are at of.row)
     ∙ ap (row_of earlier) bare in
-    let jobs_are = list_reads words before after bytes jobs judged told outcome read listed store alike later.bytes later.jobs
+    let jobs_are = list_reads args before after bytes jobs judged told outcome read listed store alike later.bytes later.jobs
     later.read later.listed in
     let job_is : later.job ≡ accepted_job job run.of.row.ending run.of.row.console =
     new_job jobs later.jobs told.runs.now place job later.job run.of jobs_are at run.is run.accepted later.at_index in
     let files = read_of_job later.plan.answers job run.of.row
     (subst (AreFilesRead later.plan.answers) job_is later.files) in
-    let finds_them = finds words before after bytes jobs judged told outcome read listed store alike place job run.of at run.is
+    let finds_them = finds args before after bytes jobs judged told outcome read listed store alike place job run.of at run.is
     run.accepted whole.files earlier later.plan.answers accepted.ran.are.planned.kept later.planned.kept files row_is in
-    rw later.is (rw job_is (passes_over_files (acceptance_of words.ends) of.candidate.standing job earlier later.plan run.of.row
+    rw later.is (rw job_is (passes_over_files (acceptance_of args.ends) of.candidate.verdict job earlier later.plan run.of.row
     row_is of.kept (λ passes. ended_well _ (sym standing_is.is ∙ passes)) whole.alone finds_them))

@@ -15,40 +15,40 @@ use Rattle.rvtest_app.specs.Outlets.{AreFilesCommitted}
 
 -- files of the last targets, behind these, are the files of all
 abbrev pub ContinuesIn : Option FileContents → Option (List ℕ) → List Target → List Target → List GoldenFile → Type 0
-ContinuesIn known root all rest files =
-    (more : List GoldenFile) → AreGoldenFiles known root rest more → AreGoldenFiles known root all (files ++ more)
+ContinuesIn contents root all rest files =
+    (more : List GoldenFile) → AreGoldenFiles contents root rest more → AreGoldenFiles contents root all (files ++ more)
 
 -- what stops at one of the last targets stops at one of all
 abbrev pub AreLast : Option FileContents → Option (List ℕ) → List Target → List Target → Type 0
-AreLast known root all rest = (why : Stop)
-    → Any (λ target. IsListUnreadStop known (resolved_path root target.path) why) rest
-    → Any (λ target. IsListUnreadStop known (resolved_path root target.path) why) all
+AreLast contents root all rest = (stop : Stop)
+    → Any (λ target. IsListUnreadStop contents (resolved_path root target.path) stop) rest
+    → Any (λ target. IsListUnreadStop contents (resolved_path root target.path) stop) all
 
-pub one_more_file : (known : Option FileContents) (root : Option (List ℕ)) (all before after : List Target)
-    (target : Target) (files new : List GoldenFile) (file : GoldenFile) → ContinuesIn known root all before files
-    → before ≡ target ∷ after → IsGoldenFile known root target file → new ≡ files ++ file ∷ []
-    → ContinuesIn known root all after new
-one_more_file known root all before after target files new file goes is of added more are =
-    let whole = goes (file ∷ more) (subst (λ targets. AreGoldenFiles known root targets (file ∷ more)) (sym is) (of, are)) in
-    subst (AreGoldenFiles known root all) (sym (rw added (append_assoc files (file ∷ []) more))) whole
+pub one_more_file : (contents : Option FileContents) (root : Option (List ℕ)) (all before after : List Target)
+    (target : Target) (files new : List GoldenFile) (file : GoldenFile) → ContinuesIn contents root all before files
+    → before ≡ target ∷ after → IsGoldenFile contents root target file → new ≡ files ++ file ∷ []
+    → ContinuesIn contents root all after new
+one_more_file contents root all before after target files new file goes is of added more are =
+    let whole = goes (file ∷ more) (subst (λ targets. AreGoldenFiles contents root targets (file ∷ more)) (sym is) (of, are)) in
+    subst (AreGoldenFiles contents root all) (sym (rw added (append_assoc files (file ∷ []) more))) whole
 
-pub all_files : (known : Option FileContents) (root : Option (List ℕ)) (all rest : List Target) (files : List GoldenFile)
-    → ContinuesIn known root all rest files → rest ≡ [] → AreGoldenFiles known root all files
-all_files known root all rest files goes is =
-    subst (AreGoldenFiles known root all) (append-nil files)
-    (goes [] (subst (λ targets. AreGoldenFiles known root targets []) (sym is) tt))
+pub all_files : (contents : Option FileContents) (root : Option (List ℕ)) (all rest : List Target) (files : List GoldenFile)
+    → ContinuesIn contents root all rest files → rest ≡ [] → AreGoldenFiles contents root all files
+all_files contents root all rest files goes is =
+    subst (AreGoldenFiles contents root all) (append-nil files)
+    (goes [] (subst (λ targets. AreGoldenFiles contents root targets []) (sym is) tt))
 
-pub one_target_less : (known : Option FileContents) (root : Option (List ℕ)) (all before after : List Target)
-    (target : Target) → AreLast known root all before → before ≡ target ∷ after → AreLast known root all after
-one_target_less known root all before after target last is why some =
-    last why (rw is (suc some.0, some.1, omega (arith, some.2), some.3, some.4))
+pub one_target_less : (contents : Option FileContents) (root : Option (List ℕ)) (all before after : List Target)
+    (target : Target) → AreLast contents root all before → before ≡ target ∷ after → AreLast contents root all after
+one_target_less contents root all before after target last is stop some =
+    last stop (rw is (suc some.0, some.1, omega (arith, some.2), some.3, some.4))
 
-pub stops_at_first : (known : Option FileContents) (root : Option (List ℕ)) (all before after : List Target)
-    (target : Target) (why : Stop) → AreLast known root all before → before ≡ target ∷ after
-    → IsListUnreadStop known (resolved_path root target.path) why
-    → Any (λ target. IsListUnreadStop known (resolved_path root target.path) why) all
-stops_at_first known root all before after target why last is stop =
-    last why (rw is (0, target, omega arith, refl, stop))
+pub stops_at_first : (contents : Option FileContents) (root : Option (List ℕ)) (all before after : List Target)
+    (target : Target) (stop : Stop) → AreLast contents root all before → before ≡ target ∷ after
+    → IsListUnreadStop contents (resolved_path root target.path) stop
+    → Any (λ target. IsListUnreadStop contents (resolved_path root target.path) stop) all
+stops_at_first contents root all before after target stop last is stop_is =
+    last stop (rw is (0, target, omega arith, refl, stop_is))
 
 pub none_left : (rest : List Target) (count : ℕ) → count ≡ length rest → count ≡ 0 → rest ≡ []
 none_left [] count counted none = refl

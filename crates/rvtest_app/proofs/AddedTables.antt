@@ -10,24 +10,24 @@ use Rattle.rv_count_tables.specs.declared.table.CountTable.{CountTable}
 use Rattle.rvtest_app.specs.CountStops.{IsSumStop, IsTableNotAddedStop}
 use Rattle.rvtest_app.specs.CountSums.{AreTablesAdded, IsTableAdded}
 
-snoc : (known : Option FileContents) (paths : List (Bor (List ℕ))) (path : Bor (List ℕ)) (first sum next : CountTable)
-    → AreTablesAdded known paths first sum → IsTableAdded known path.now sum next → AreTablesAdded known (paths ++ path ∷ []) first next
-snoc known [] path first sum next are is = (next, (rw are at is, refl))
-snoc known (p ∷ ps) path first sum next are is = (are.0, (are.1.0, snoc known ps path are.0 sum next are.1.1 is))
+snoc : (contents : Option FileContents) (paths : List (Bor (List ℕ))) (path : Bor (List ℕ)) (first sum next : CountTable)
+    → AreTablesAdded contents paths first sum → IsTableAdded contents path.now sum next → AreTablesAdded contents (paths ++ path ∷ []) first next
+snoc contents [] path first sum next are is = (next, (rw are at is, refl))
+snoc contents (p ∷ ps) path first sum next are is = (are.0, (are.1.0, snoc contents ps path are.0 sum next are.1.1 is))
 
 -- the tables at the first paths, and one more behind them
-pub one_more_table : (known : Option FileContents) (paths : List (Bor (List ℕ))) (i : ℕ) (d : Bor (List ℕ))
-    (sum next : CountTable) → i < length paths → AreTablesAdded known (take i paths) no_counts sum
-    → IsTableAdded known (get_or paths i d).now sum next → AreTablesAdded known (take (i + 1) paths) no_counts next
-one_more_table known paths i d sum next within are is =
+pub one_more_table : (contents : Option FileContents) (paths : List (Bor (List ℕ))) (i : ℕ) (d : Bor (List ℕ))
+    (sum next : CountTable) → i < length paths → AreTablesAdded contents (take i paths) no_counts sum
+    → IsTableAdded contents (get_or paths i d).now sum next → AreTablesAdded contents (take (i + 1) paths) no_counts next
+one_more_table contents paths i d sum next within are is =
     rw (add-one i, take-suc paths i d within)
-    (snoc known (take i paths) (get_or paths i d) no_counts sum next are is)
+    (snoc contents (take i paths) (get_or paths i d) no_counts sum next are is)
 
 -- the table at a place was not added, and those before it were
-pub unadded_table : (known : Option FileContents) (paths : List (Bor (List ℕ))) (i : ℕ) (d : Bor (List ℕ))
-    (sum : CountTable) (why : Stop) → i < length paths → AreTablesAdded known (take i paths) no_counts sum
-    → IsTableNotAddedStop known (get_or paths i d).now sum why → IsSumStop known paths why
-unadded_table known paths i d sum why within are stopped = record {
+pub unadded_table : (contents : Option FileContents) (paths : List (Bor (List ℕ))) (i : ℕ) (d : Bor (List ℕ))
+    (sum : CountTable) (stop : Stop) → i < length paths → AreTablesAdded contents (take i paths) no_counts sum
+    → IsTableNotAddedStop contents (get_or paths i d).now sum stop → IsSumStop contents paths stop
+unadded_table contents paths i d sum stop within are stopped = record {
   before = take i paths;
   path = get_or paths i d;
   later_tables = drop (suc i) paths;

@@ -65,50 +65,50 @@ placed_behind_same : (earlier before after files : Option (List CommittedFile)) 
 placed_behind_same None before after files same are = rw same tt
 placed_behind_same (Some placed) before after files same are = are
 
-pub run_put_where_told : (words : RunArgs) (reporter : RowReporter) (places : List ℕ) (shard : Option Shard)
-    (old : Option (List Row)) (rows : List Row) (before after : CommandOutputs) → IsRunWritten words reporter places shard old rows before after
-    → IsRunWritten words reporter places shard old rows before (with_committed_if_reported before.placed after)
-run_put_where_told words reporter places shard old rows before after put = record {
+pub run_put_where_told : (args : RunArgs) (reporter : RowReporter) (places : List ℕ) (shard : Option Shard)
+    (old : Option (List Row)) (rows : List Row) (before after : CommandOutputs) → IsRunWritten args reporter places shard old rows before after
+    → IsRunWritten args reporter places shard old rows before (with_committed_if_reported before.placed after)
+run_put_where_told args reporter places shard old rows before after put = record {
   middle = put.middle;
   seen = put.seen;
   out = put.out;
   quiet = put.quiet;
   placed = placed_behind_same before.placed put.middle.placed after.placed
-      (Some (junit_file words reporter places rows ++ report_file words reporter places shard old rows))
+      (Some (junit_file args reporter places rows ++ report_file args reporter places shard old rows))
       (placed_of_shown _ _ before put.middle put.seen) put.placed;
 }
 
 -- ---- what is left
 
 -- where the rows' files did not all go out
-pub part_of_rows : (words : RunArgs) (reporter : RowReporter) (places : List ℕ) (shard : Option Shard)
+pub part_of_rows : (args : RunArgs) (reporter : RowReporter) (places : List ℕ) (shard : Option Shard)
     (old : Option (List Row)) (rows : List Row) (before after : Option (List CommittedFile))
-    → AreFilesPartlyCommitted before after (Some (junit_file words reporter places rows))
-    → (after ≡ before) ⊎ AreRunFilesPartlyCommitted words reporter places shard old rows before after
-part_of_rows words reporter places shard old rows before after = ⊎_elim inl (λ placed. inr (inl placed))
+    → AreFilesPartlyCommitted before after (Some (junit_file args reporter places rows))
+    → (after ≡ before) ⊎ AreRunFilesPartlyCommitted args reporter places shard old rows before after
+part_of_rows args reporter places shard old rows before after = ⊎_elim inl (λ placed. inr (inl placed))
 
-given_text : (words : RunArgs) → is_some (optional_text words.counts) ≡ true → is_some words.counts ≡ true
-given_text words = of words.counts
+given_text : (args : RunArgs) → is_some (optional_text args.counts) ≡ true → is_some args.counts ≡ true
+given_text args = of args.counts
   where
     of : (path : Option (Bor (List ℕ))) → is_some (optional_text path) ≡ true → is_some path ≡ true
     of None given = given
     of (Some path) given = refl
 
 -- where the counts did not
-pub part_of_counts : (words : RunArgs) (reporter : RowReporter) (places : List ℕ) (shard : Option Shard)
+pub part_of_counts : (args : RunArgs) (reporter : RowReporter) (places : List ℕ) (shard : Option Shard)
     (old : Option (List Row)) (rows : List Row) (before after placed : Option (List CommittedFile))
-    → is_some (optional_text words.counts) ≡ true
-    → AreFilesCommitted before after (Some (junit_file words reporter places rows ++ report_file words reporter places shard old rows))
-    → placed ≡ after → (placed ≡ before) ⊎ AreRunFilesPartlyCommitted words reporter places shard old rows before placed
-part_of_counts words reporter places shard old rows before after placed given files same =
-    inr (inr (given_text words given, rw same files))
+    → is_some (optional_text args.counts) ≡ true
+    → AreFilesCommitted before after (Some (junit_file args reporter places rows ++ report_file args reporter places shard old rows))
+    → placed ≡ after → (placed ≡ before) ⊎ AreRunFilesPartlyCommitted args reporter places shard old rows before placed
+part_of_counts args reporter places shard old rows before after placed given files same =
+    inr (inr (given_text args given, rw same files))
 
 -- ---- why
 
-pub unopened_counts : (words : RunArgs) (why : Stop)
-    → IsSomeAnd (file_path_at (optional_text words.counts)) (λ path. IsUnopenedJobStop path why) → IsRunWriteStop words why
-unopened_counts words why is = inr (inl (unopened _ why is))
+pub unopened_counts : (args : RunArgs) (stop : Stop)
+    → IsSomeAnd (file_path_at (optional_text args.counts)) (λ path. IsUnopenedJobStop path stop) → IsRunWriteStop args stop
+unopened_counts args stop is = inr (inl (unopened _ stop is))
 
-pub unput_counts : (words : RunArgs) (why : Stop) → IsCountsWriteStop words (file_path_at (optional_text words.counts)) why
-    → IsRunWriteStop words why
-unput_counts words why = ⊎_elim (λ memory. inl (inr (inl memory))) (⊎_elim (λ failed. inl (inr (inr (inl failed)))) (λ is. inr is))
+pub unput_counts : (args : RunArgs) (stop : Stop) → IsCountsWriteStop args (file_path_at (optional_text args.counts)) stop
+    → IsRunWriteStop args stop
+unput_counts args stop = ⊎_elim (λ memory. inl (inr (inl memory))) (⊎_elim (λ failed. inl (inr (inr (inl failed)))) (λ is. inr is))

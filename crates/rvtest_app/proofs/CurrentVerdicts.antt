@@ -5,7 +5,7 @@ use Rattle.std.proofs.lemmas.Option.{slice_get-get_or}
 use Rattle.std.specs.List.{list_any}
 use Rattle.rv_accept.specs.Passing.{HasExpectedEnd}
 use Rattle.rv_accept.specs.declared.current_verdict.Candidate.{Candidate}
-use Rattle.rv_accept.specs.declared.current_verdict.CurrentVerdict.TheVariants as standing
+use Rattle.rv_accept.specs.declared.current_verdict.CurrentVerdict.TheVariants as current
 use Rattle.rv_files.specs.Files.{FileContents}
 use Rattle.rv_expect.specs.Comparisons.{ComparisonView}
 use Rattle.rv_expect.specs.Reference.{signature_difference}
@@ -22,11 +22,11 @@ use Rattle.rvtest_app.specs.CurrentVerdicts.{AreCandidates, IsCandidateAt, IsCur
 
 -- ---- nothing is unmet
 
-differing : {A : Type 0} (same : Bool) → (if same then standing.Differs else standing.Fails) ≡ standing.Passes → A
+differing : {A : Type 0} (same : Bool) → (if same then current.Differs else current.Fails) ≡ current.Passes → A
 differing true is = cc
 differing false is = cc
 
-passes_by : (ran : Bool) (found : List UnmetExpectation) → verdict_by ran found ≡ standing.Passes → (ran ≡ true) × (found ≡ [])
+passes_by : (ran : Bool) (found : List UnmetExpectation) → verdict_by ran found ≡ current.Passes → (ran ≡ true) × (found ≡ [])
 passes_by true [] is = (refl, refl)
 passes_by true (one ∷ more) is = differing (list_any is_same (one ∷ more)) is
 passes_by false found is = differing (list_any is_same found) is
@@ -51,7 +51,7 @@ any_end : (how : Option ExpectedEnd) (end : RowEnd) → is_some how ≡ false �
 any_end None end is = refl
 any_end (Some how) end is = cc
 
-pub ended_well : (sides : ComparisonView) → verdict_of_comparison sides ≡ standing.Passes → HasExpectedEnd sides.job sides.row
+pub ended_well : (sides : ComparisonView) → verdict_of_comparison sides ≡ current.Passes → HasExpectedEnd sides.job sides.row
 unfolding unmet_expectations_of
 ended_well sides passes =
     let none = passes_by (did_run sides.row.ending) (unmet_expectations_of sides) passes in
@@ -108,19 +108,19 @@ some_same : {X : Type 0} (x y : X) → Some x ≡ Some y → x ≡ y
 some_same x y is = cc
 
 -- the first so many jobs have a candidate
-pub record StandSoFar (known : Option FileContents) (root : Option (List ℕ)) (rows : List (Option Row)) (jobs : List Job)
+pub record StandSoFar (contents : Option FileContents) (root : Option (List ℕ)) (rows : List (Option Row)) (jobs : List Job)
     (chosen : List Bool) (count : ℕ) (candidates : List Candidate) : Type 0 where
   pub counted : length candidates ≡ count
   pub within : count ≤ length jobs
   pub each : (place : ℕ) (job : Job) (candidate : Candidate) → slice_get jobs place ≡ Some job
-      → slice_get candidates place ≡ Some candidate → IsCandidateAt known root rows chosen place job candidate
+      → slice_get candidates place ≡ Some candidate → IsCandidateAt contents root rows chosen place job candidate
 
-pub one_more_stands : (known : Option FileContents) (root : Option (List ℕ)) (rows : List (Option Row)) (jobs : List Job)
+pub one_more_stands : (contents : Option FileContents) (root : Option (List ℕ)) (rows : List (Option Row)) (jobs : List Job)
     (chosen : List Bool) (count place : ℕ) (before after : List Candidate) (job : Job) (candidate : Candidate)
-    → StandSoFar known root rows jobs chosen count before → count < length jobs → job ≡ get_or jobs count job
-    → place ≡ length before → IsCandidateAt known root rows chosen place job candidate → after ≡ before ++ candidate ∷ []
-    → StandSoFar known root rows jobs chosen (count + 1) after
-one_more_stands known root rows jobs chosen count place before after job candidate so below is at one added = record {
+    → StandSoFar contents root rows jobs chosen count before → count < length jobs → job ≡ get_or jobs count job
+    → place ≡ length before → IsCandidateAt contents root rows chosen place job candidate → after ≡ before ++ candidate ∷ []
+    → StandSoFar contents root rows jobs chosen (count + 1) after
+one_more_stands contents root rows jobs chosen count place before after job candidate so below is at one added = record {
   counted = rw added (one_more_count before candidate ∙ ap (λ n. n + 1) so.counted);
   within = omega (arith, below);
   each = λ k other some there stands.
@@ -132,25 +132,25 @@ one_more_stands known root rows jobs chosen count place before after job candida
 
     go : (k : ℕ) (other : Job) (some : Candidate) → slice_get jobs k ≡ Some other
         → (slice_get before k ≡ Some some) ⊎ ((k ≡ length before) × (candidate ≡ some))
-        → IsCandidateAt known root rows chosen k other some
+        → IsCandidateAt contents root rows chosen k other some
     go k other some there (inl earlier) = so.each k other some there earlier
     go k other some there (inr last) =
         let same : k ≡ place = last.0 ∙ sym at in
         let same_job : job ≡ other = some_same job other (sym here ∙ (rw same at there)) in
         rw same (rw (← same_job) (rw (← last.1) one))
 
-pub all_stand : (known : Option FileContents) (root : Option (List ℕ)) (rows : List (Option Row)) (jobs : List Job)
+pub all_stand : (contents : Option FileContents) (root : Option (List ℕ)) (rows : List (Option Row)) (jobs : List Job)
     (chosen : List Bool) (count : ℕ) (candidates : List Candidate)
-    → StandSoFar known root rows jobs chosen count candidates → length jobs ≤ count
-    → AreCandidates known root rows jobs chosen candidates
-all_stand known root rows jobs chosen count candidates so all = record {
+    → StandSoFar contents root rows jobs chosen count candidates → length jobs ≤ count
+    → AreCandidates contents root rows jobs chosen candidates
+all_stand contents root rows jobs chosen count candidates so all = record {
   counted = let counted = so.counted in let within = so.within in omega (arith, counted, within, all);
   each = so.each;
 }
 
-pub none_stand : (known : Option FileContents) (root : Option (List ℕ)) (rows : List (Option Row)) (jobs : List Job)
-    (chosen : List Bool) → StandSoFar known root rows jobs chosen 0 []
-none_stand known root rows jobs chosen = record {
+pub none_stand : (contents : Option FileContents) (root : Option (List ℕ)) (rows : List (Option Row)) (jobs : List Job)
+    (chosen : List Bool) → StandSoFar contents root rows jobs chosen 0 []
+none_stand contents root rows jobs chosen = record {
   counted = refl;
   within = omega arith;
   each = λ place job candidate at stands. no_candidate place candidate stands;
@@ -160,10 +160,10 @@ none_stand known root rows jobs chosen = record {
     no_candidate place candidate is = cc
 
 -- how the job stands that came to a row
-pub stands_at : (known : Option FileContents) (root : Option (List ℕ)) (rows : List (Option Row)) (jobs : List Job)
+pub stands_at : (contents : Option FileContents) (root : Option (List ℕ)) (rows : List (Option Row)) (jobs : List Job)
     (chosen : List Bool) (candidates : List Candidate) (place : ℕ) (job : Job) (row : Row) (candidate : Candidate)
-    → AreCandidates known root rows jobs chosen candidates → slice_get jobs place ≡ Some job
+    → AreCandidates contents root rows jobs chosen candidates → slice_get jobs place ≡ Some job
     → slice_get rows place ≡ Some (Some row) → slice_get candidates place ≡ Some candidate
-    → IsCurrentVerdict known root rows job row candidate.standing
-stands_at known root rows jobs chosen candidates place job row candidate are at ran stands =
+    → IsCurrentVerdict contents root rows job row candidate.verdict
+stands_at contents root rows jobs chosen candidates place job row candidate are at ran stands =
     rw ran at (are.each place job candidate at stands).1

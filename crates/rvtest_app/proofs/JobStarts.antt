@@ -24,7 +24,7 @@ start_is plan place d first within starts =
 
 ok_there : {A E : Type 0} (r : Result A E) → is_ok r ≡ true → (x : A) × (r ≡ Ok x)
 ok_there (Ok x) e = (x, refl)
-ok_there (Err why) e = cc
+ok_there (Err stop) e = cc
 
 -- a job that is not refused starts there
 pub starts_there : (plan : PlanView) (place : ℕ) (d : Job) → place < length plan.jobs

@@ -12,29 +12,29 @@ use Rattle.rv_command.specs.declared.stop.Stop.{Stop}
 use Rattle.rvtest_app.specs.MergeStops.{IsPartsUnreadStop}
 use Rattle.rvtest_app.specs.Merges.{AreTextsAt}
 
-snoc : (known : Option FileContents) (paths : List (Bor (List ℕ))) (texts : List (List ℕ)) (path : Bor (List ℕ))
-    (text : List ℕ) → AreTextsAt known paths texts → IsTextAt known path.now text
-    → AreTextsAt known (paths ++ path ∷ []) (texts ++ text ∷ [])
-snoc known [] [] path text are is = (is, tt)
-snoc known (p ∷ ps) (t ∷ ts) path text are is = (are.0, snoc known ps ts path text are.1 is)
-snoc known [] (t ∷ ts) path text are is = elim are [ ]
-snoc known (p ∷ ps) [] path text are is = elim are [ ]
+snoc : (contents : Option FileContents) (paths : List (Bor (List ℕ))) (texts : List (List ℕ)) (path : Bor (List ℕ))
+    (text : List ℕ) → AreTextsAt contents paths texts → IsTextAt contents path.now text
+    → AreTextsAt contents (paths ++ path ∷ []) (texts ++ text ∷ [])
+snoc contents [] [] path text are is = (is, tt)
+snoc contents (p ∷ ps) (t ∷ ts) path text are is = (are.0, snoc contents ps ts path text are.1 is)
+snoc contents [] (t ∷ ts) path text are is = elim are [ ]
+snoc contents (p ∷ ps) [] path text are is = elim are [ ]
 
 -- the texts of the first paths, and one more behind them
-pub one_more_text : (known : Option FileContents) (paths : List (Bor (List ℕ))) (i : ℕ) (d : Bor (List ℕ))
+pub one_more_text : (contents : Option FileContents) (paths : List (Bor (List ℕ))) (i : ℕ) (d : Bor (List ℕ))
     (old new : List (Vec ℕ Global)) (text : Vec ℕ Global) → i < length paths
-    → AreTextsAt known (take i paths) (map (λ text. text.items) old)
-    → IsTextAt known (get_or paths i d).now text.items → new ≡ old ++ text ∷ []
-    → AreTextsAt known (take (i + 1) paths) (map (λ text. text.items) new)
-one_more_text known paths i d old new text within are is more =
+    → AreTextsAt contents (take i paths) (map (λ text. text.items) old)
+    → IsTextAt contents (get_or paths i d).now text.items → new ≡ old ++ text ∷ []
+    → AreTextsAt contents (take (i + 1) paths) (map (λ text. text.items) new)
+one_more_text contents paths i d old new text within are is more =
     rw (add-one i, more, map-append (λ (text : Vec ℕ Global). text.items) old (text ∷ []), take-suc paths i d within)
-    (snoc known (take i paths) _ (get_or paths i d) text.items are is)
+    (snoc contents (take i paths) _ (get_or paths i d) text.items are is)
 
 -- the path at a place was not read, and those before it were
-pub unread_part : (known : Option FileContents) (paths : List (Bor (List ℕ))) (i : ℕ) (d : Bor (List ℕ))
-    (texts : List (List ℕ)) (why : Stop) → i < length paths → AreTextsAt known (take i paths) texts
-    → IsResultUnreadStop known (get_or paths i d).now why → IsPartsUnreadStop known paths why
-unread_part known paths i d texts why within are unread = inr (record {
+pub unread_part : (contents : Option FileContents) (paths : List (Bor (List ℕ))) (i : ℕ) (d : Bor (List ℕ))
+    (texts : List (List ℕ)) (stop : Stop) → i < length paths → AreTextsAt contents (take i paths) texts
+    → IsResultUnreadStop contents (get_or paths i d).now stop → IsPartsUnreadStop contents paths stop
+unread_part contents paths i d texts stop within are unread = inr (record {
   before = take i paths;
   path = get_or paths i d;
   later_parts = drop (suc i) paths;

@@ -15,7 +15,7 @@ use Rattle.rvtest_app.specs.declared.outlets.Outlet.{Outlet}
 use Rattle.rvtest_app.specs.declared.outlets.Outlet.TheVariants as outlet
 
 -- nothing went out
-pub appends_nothing : (known : Option (List ℕ)) → Appends known known []
+pub appends_nothing : (contents : Option (List ℕ)) → Appends contents contents []
 appends_nothing None = tt
 appends_nothing (Some bytes) = sym (append-nil bytes)
 
@@ -36,11 +36,11 @@ module _ {P W : Type 0} (pending_path : P → List ℕ) (taken : W → Option (L
   unfailed_after (outlet.File before) outlet.Nowhere text put none = elim put [ ]
   unfailed_after (outlet.File before) outlet.Out text put none = elim put [ ]
 
-  pub unfailed : (placed : Option (List CommittedFile)) (path : Option (List ℕ)) (text : List ℕ) (o : Outlet P W)
+  pub no_failures : (placed : Option (List CommittedFile)) (path : Option (List ℕ)) (text : List ℕ) (o : Outlet P W)
       → HasReceived pending_path taken failed placed path text o → has_no_failure failed o
-  unfailed placed path text outlet.Nowhere has = tt
-  unfailed placed path text outlet.Out has = tt
-  unfailed placed path text (outlet.File file) has = has.1.1.1
+  no_failures placed path text outlet.Nowhere has = tt
+  no_failures placed path text outlet.Out has = tt
+  no_failures placed path text (outlet.File file) has = has.1.1.1
 
   -- what goes to standard output is told by the path
   pub stdout_told : (placed : Option (List CommittedFile)) (path : Option (List ℕ)) (had : List ℕ) (o : Outlet P W) (text : List ℕ)
@@ -162,8 +162,8 @@ pub same_junit : (name other : List ℕ) (judging : JudgeView) (line told : ℕ 
     → junit_text name judging (row_text_list line places rows) rows ≡ junit_text other judging (row_text_list told places rows) rows
 same_junit name other judging line told places rows e f = rw (e, f) refl
 
-pub begins_nothing : (known : Option (List ℕ)) → AppendsPrefix known known []
-begins_nothing known = record { part = []; rest = []; whole = refl; appended = appends_nothing known }
+pub begins_nothing : (contents : Option (List ℕ)) → AppendsPrefix contents contents []
+begins_nothing contents = record { part = []; rest = []; whole = refl; appended = appends_nothing contents }
 
 -- what is told of rows, whatever their places are
 pub texts_of_rows : (line : Row → List ℕ) (places : List ℕ) (rows : List Row) → length places ≡ length rows

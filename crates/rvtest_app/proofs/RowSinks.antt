@@ -114,7 +114,7 @@ module _ {P V : Type 0} (pending_path : P → List ℕ) (taken : V → Option (L
       → OnOk ran (AreRowsWritten taken failed before after (joined_row_texts (report_row_text is_streaming) places all))
       → IfOk ran (λ rows. HaveRunOutletsReceived pending_path taken failed placed args (streamed_rows old (shown_indices places rows) rows)
       (record { report = whole_after; junit = junit; counts = counts }))
-  taken_of_run placed args old is_streaming places all (Err why) shell before after wb wa junit counts has was is streams same written = tt
+  taken_of_run placed args old is_streaming places all (Err stop) shell before after wb wa junit counts has was is streams same written = tt
   taken_of_run placed args old is_streaming places all (Ok rows) shell before after wb wa junit counts has was is streams same written =
       let text = streamed_rows old (shown_indices places all) all in
       let put = written_into taken failed shell before after wb wa text was is
@@ -142,18 +142,18 @@ lines_of_first line places firsts rows texts are lines = λ k any below.
 pub ran_on : {X E F : Type 0} (after : Result X E) (before : Result X F) (P : X → Type 0) → IfOk after (λ rows. before ≡ Ok rows)
     → IfOk before P → IfOk after P
 ran_on {X = X} {F = F} (Ok rows) before P is holds = subst (λ (r : Result X F). IfOk r P) is holds
-ran_on (Err why) before P is holds = tt
+ran_on (Err stop) before P is holds = tt
 
 pub done_on : {X E F : Type 0} (after : Result X E) (before : Result X F) (P : Type 0) → IfOk after (λ rows. before ≡ Ok rows)
     → OnOk before P → OnOk after P
 done_on {X = X} {F = F} (Ok rows) before P is holds = subst (λ (r : Result X F). OnOk r P) is holds
-done_on (Err why) before P is holds = tt
+done_on (Err stop) before P is holds = tt
 
 -- and so does what follows for the rows from what an observer has seen
 pub known_on : {X E F : Type 0} (after : Result X E) (before : Result X F) (S : Type 0) (P : X → Type 0) (all : X)
     → IfOk after (λ rows. before ≡ Ok rows) → IfOk after (λ rows. rows ≡ all) → OnOk before S → (S → P all) → IfOk after P
 known_on {X = X} {F = F} (Ok rows) before S P all is same seen f = subst P (sym same) (f (subst (λ (r : Result X F). OnOk r S) is seen))
-known_on (Err why) before S P all is same seen f = tt
+known_on (Err stop) before S P all is same seen f = tt
 
 -- the lines of the rows, and then the last line
 pub shown_whole : {E : Type 0} (r : Result (List Row) E) (start middle end : Option (List ℕ)) (texts : List ℕ) (totals : List Row → List ℕ)
@@ -161,7 +161,7 @@ pub shown_whole : {E : Type 0} (r : Result (List Row) E) (start middle end : Opt
     → IfOk r (λ rows. Appends middle end (totals rows)) → OnOk r (Appends start end (texts ++ totals all))
 shown_whole (Ok rows) start middle end texts totals all is first next =
     Appends-trans start middle end texts (totals all) first (subst (λ (rows : List Row). Appends middle end (totals rows)) is next)
-shown_whole (Err why) start middle end texts totals all is first next = tt
+shown_whole (Err stop) start middle end texts totals all is first next = tt
 
 -- ---- the sender of the report's rows
 
@@ -176,7 +176,7 @@ module _ {B F : Type 0} (failed : B → Option F) where
   pub unsent : {X U H : Type 0} (ran : Result X StreamError) (sent : Result U H) (box : Option B)
       → IfErr ran (λ error. error ≡ ObserverStopped → IsSomeAnd box (λ box. is_some (failed box) ≡ true) ⊎ ⊥)
       → OnOk sent (IfSome box (λ box. failed box ≡ None)) → ran ≡ Err ObserverStopped → is_ok sent ≡ false
-  unsent ran (Err why) box stops goes is = refl
+  unsent ran (Err stop) box stops goes is = refl
   unsent {X = X} ran (Ok done) box stops goes is =
       absurd (goes_on box goes (subst (λ (r : Result X StreamError). IfErr r (λ error. error ≡ ObserverStopped
       → IsSomeAnd box (λ box. is_some (failed box) ≡ true) ⊎ ⊥)) is stops refl))
@@ -185,16 +185,16 @@ module _ {B F : Type 0} (failed : B → Option F) where
 pub sent_on : {X E F U H : Type 0} (after : Result X E) (before : Result X F) (sent : Result U H) (S P : Type 0)
     → IfOk after (λ rows. before ≡ Ok rows) → OnOk after (is_ok sent ≡ true) → OnOk before S → (S → OnOk sent P) → OnOk after P
 sent_on {X = X} {F = F} (Ok rows) before (Ok done) S P is ok seen f = f (subst (λ (r : Result X F). OnOk r S) is seen)
-sent_on (Ok rows) before (Err why) S P is ok seen f = absurd (false≢true ok)
-sent_on (Err why) before sent S P is ok seen f = tt
+sent_on (Ok rows) before (Err stop) S P is ok seen f = absurd (false≢true ok)
+sent_on (Err stop) before sent S P is ok seen f = tt
 
 -- the file of the report failed only if there is one
 pub report_of_failure : {X U H : Type 0} (after before : Result X ShowError) (sent : Result U H) (P : Type 0)
     → IfErr after (λ error. error ≡ ReportFailed → before ≡ Err ReportFailed)
     → IfErr before (λ error. error ≡ ReportFailed → is_ok sent ≡ false) → OnErr sent P → IfErr after (λ error. error ≡ ReportFailed → P)
 report_of_failure (Ok rows) before sent P is was failed = tt
-report_of_failure (Err why) before (Err error) P is was failed = λ same. failed
-report_of_failure {X = X} (Err why) before (Ok done) P is was failed = λ same.
+report_of_failure (Err stop) before (Err error) P is was failed = λ same. failed
+report_of_failure {X = X} (Err stop) before (Ok done) P is was failed = λ same.
     absurd (false≢true (sym (subst (λ (r : Result X ShowError). IfErr r (λ error. error ≡ ReportFailed → true ≡ false)) (is same) was refl)))
 
 -- what a sender has sent was written to the sink
@@ -213,11 +213,11 @@ module _ {V : Type 0} (taken : V → Option (List ℕ)) (failed : V → ℕ) whe
 pub shown_on_errors : {X G : Type 0} (ran : Result X G) (is_beside : Bool) (text : List ℕ) (before after : CommandOutputs) → is_beside ≡ true
     → after.out ≡ before.out → OnOk ran (Appends before.errors after.errors text) → OnOk ran (after.failures ≡ before.failures)
     → after.placed ≡ before.placed → OnOk ran (IsWrittenToErrorsIf is_beside text before after)
-shown_on_errors (Err why) is_beside text before after is out appended counted placed = tt
+shown_on_errors (Err stop) is_beside text before after is out appended counted placed = tt
 shown_on_errors (Ok rows) is_beside text before after is out appended counted placed = rw is (out, inl (appended, counted), placed)
 
 pub shown_on_out : {X G : Type 0} (ran : Result X G) (is_beside : Bool) (text : List ℕ) (before after : CommandOutputs) → is_beside ≡ false
     → OnOk ran (Appends before.out after.out text) → after.errors ≡ before.errors → after.failures ≡ before.failures
     → after.placed ≡ before.placed → OnOk ran (IsWrittenToErrorsIf is_beside text before after)
-shown_on_out (Err why) is_beside text before after is appended errors failures placed = tt
+shown_on_out (Err stop) is_beside text before after is appended errors failures placed = tt
 shown_on_out (Ok rows) is_beside text before after is appended errors failures placed = rw is (appended, errors, failures, placed)

@@ -18,40 +18,40 @@ use Rattle.rvtest_app.specs.Runs.{AreRunFilesPartlyCommitted, run_rows, run_repo
 
 -- how rows are told, by a rule, of a plan
 abbrev pub told_by : RunArgs → Option KnownJobs → PlanView → List UnreadablePath → Rule → Verbosity → RowReporter
-told_by words known plan unread rule verbosity = record {
+told_by args known plan unread rule verbosity = record {
   plan = plan;
   unread = unread;
   judging = record { rule = rule; known = known };
   verbosity = verbosity;
-  last = words.last;
+  last = args.last;
 }
 
 -- known failures behind a reference, if there are any
-pub known_behind : (known : Option (Bor KnownJobs)) → option_map (λ jobs. jobs.now) known ≡ option_copied known
+pub known_behind : (contents : Option (Bor KnownJobs)) → option_map (λ jobs. jobs.now) contents ≡ option_copied contents
 known_behind None = refl
 known_behind (Some jobs) = refl
 
 -- ---- what is left of a run, told in equal words
 
 -- how a run is told is what words ask for
-pub reported_as_requested : (words : RunArgs) (failures known : Option KnownJobs) (plan : PlanView) (unread : List UnreadablePath) (rule : Rule)
-    (verbosity : Verbosity) → rule ≡ failure_rule words.lenient → known ≡ failures
-    → verbosity ≡ requested_verbosity words.verbose words.quiet
-    → told_by words known plan unread rule verbosity ≡ run_reporter words failures plan unread
-reported_as_requested words failures known plan unread rule verbosity e f h =
-    ap (λ (r : Rule). told_by words known plan unread r verbosity) e
-    ∙ ap (λ (k : Option KnownJobs). told_by words k plan unread (failure_rule words.lenient) verbosity) f
-    ∙ ap (λ (v : Verbosity). told_by words failures plan unread (failure_rule words.lenient) v) h
+pub reported_as_requested : (args : RunArgs) (failures known : Option KnownJobs) (plan : PlanView) (unread : List UnreadablePath) (rule : Rule)
+    (verbosity : Verbosity) → rule ≡ failure_rule args.lenient → known ≡ failures
+    → verbosity ≡ requested_verbosity args.verbose args.quiet
+    → told_by args known plan unread rule verbosity ≡ run_reporter args failures plan unread
+reported_as_requested args failures known plan unread rule verbosity e f h =
+    ap (λ (r : Rule). told_by args known plan unread r verbosity) e
+    ∙ ap (λ (k : Option KnownJobs). told_by args k plan unread (failure_rule args.lenient) verbosity) f
+    ∙ ap (λ (v : Verbosity). told_by args failures plan unread (failure_rule args.lenient) v) h
 
 pub same_rows : (stop_after : Option ℕ) (judging other : JudgeView) (plan : PlanView) (places others : List ℕ) → judging ≡ other
     → places ≡ others → run_rows stop_after other plan others ≡ run_rows stop_after judging plan places
 same_rows stop_after judging other plan places others e f =
     sym (ap (λ (j : JudgeView). run_rows stop_after j plan places) e ∙ ap (λ (p : List ℕ). run_rows stop_after other plan p) f)
 
-pub same_part : (words : RunArgs) (reporter other : RowReporter) (places others : List ℕ) (shard : Option Shard)
+pub same_part : (args : RunArgs) (reporter other : RowReporter) (places others : List ℕ) (shard : Option Shard)
     (old : Option (List Row)) (rows : List Row) (before after : Option (List CommittedFile)) → reporter ≡ other → places ≡ others
-    → AreRunFilesPartlyCommitted words reporter places shard old rows before after
-    → AreRunFilesPartlyCommitted words other others shard old rows before after
-same_part words reporter other places others shard old rows before after e f part =
-    subst (λ (p : List ℕ). AreRunFilesPartlyCommitted words other p shard old rows before after) f
-    (subst (λ (t : RowReporter). AreRunFilesPartlyCommitted words t places shard old rows before after) e part)
+    → AreRunFilesPartlyCommitted args reporter places shard old rows before after
+    → AreRunFilesPartlyCommitted args other others shard old rows before after
+same_part args reporter other places others shard old rows before after e f part =
+    subst (λ (p : List ℕ). AreRunFilesPartlyCommitted args other p shard old rows before after) f
+    (subst (λ (t : RowReporter). AreRunFilesPartlyCommitted args t places shard old rows before after) e part)

@@ -8,7 +8,7 @@ use Rattle.std.proofs.lemmas.List.Elements.{All-append, All-cons, All-head, All-
 use Rattle.std.proofs.lemmas.Slice.Eq.{bytes_eq-Decides}
 use Rattle.rv_accept.proofs.Public.{all_left, all_right}
 use Rattle.rv_accept.specs.declared.golden_outcomes.GoldenFileOutcome.{GoldenFileOutcome}
-use Rattle.rv_accept.specs.declared.golden_outcomes.GoldenFileOutcome.TheVariants as fate
+use Rattle.rv_accept.specs.declared.golden_outcomes.GoldenFileOutcome.TheVariants as outcome
 use Rattle.rv_accept.specs.declared.targets.Target.{Target}
 use Rattle.rv_accept_text.specs.GoldenFiles.{text_if_changed, elf_magic, is_image_path, is_protected, is_skipped, is_skipped_with, new_text, new_text_of}
 use Rattle.rv_accept_text.specs.declared.accepting.AcceptSummary.{AcceptSummary}
@@ -95,10 +95,10 @@ kept_is_not_written {A} list file old text is keeps written =
     (rw (is, keeps) at written)
   where
     no_text : (what : GoldenFileOutcome) (old : Option (List ℕ)) → new_text_of true what old ≡ Some text → A
-    no_text (fate.Agreed other) old none = cc
-    no_text (fate.SkippedBy job) old none = cc
-    no_text (fate.Disagree job other) old none = cc
-    no_text fate.Unclaimed old none = cc
+    no_text (outcome.Agreed other) old none = cc
+    no_text (outcome.SkippedBy job) old none = cc
+    no_text (outcome.Disagree job other) old none = cc
+    no_text outcome.Unclaimed old none = cc
 
     go : (is_list is_image : Bool) → new_text_of (is_list || (is_image || true)) file.target.outcome (Some old) ≡ Some text
         → A
@@ -185,7 +185,7 @@ list_is_there told after text there is =
 
 -- the text that is written is the one on which the jobs agree
 agreed_text : (kept : Bool) (text written : List ℕ) (old : Option (List ℕ))
-    → new_text_of kept (fate.Agreed text) old ≡ Some written → text ≡ written
+    → new_text_of kept (outcome.Agreed text) old ≡ Some written → text ≡ written
 agreed_text true text written old is = cc
 agreed_text false text written None is = cc
 agreed_text false text written (Some old) is = go (bytes_eq text old) is
@@ -215,7 +215,7 @@ is_not_kept {A} list file old is same kept =
     go false false none = cc
 
 -- the fate of a file that is not left, and on which jobs agree
-kept_of : (kept : Bool) (what : GoldenFileOutcome) (text : List ℕ) → what ≡ fate.Agreed text → is_skipped_with kept what ≡ false
+kept_of : (kept : Bool) (what : GoldenFileOutcome) (text : List ℕ) → what ≡ outcome.Agreed text → is_skipped_with kept what ≡ false
     → kept ≡ false
 kept_of kept what text is left = rw is at left
 
@@ -225,7 +225,7 @@ module _ (told : AcceptSummary) (before after : FileContents) (store : IsStoreAf
     (stood : All (λ (file : GoldenFile). before file.resolved_path ≡ file.old) told.files.now)
     (alike : HaveOneTextPerFile store.leads told.files.now) where
   golden_there : (k : ℕ) (d : GoldenFile) → k < length told.files.now → (text : List ℕ)
-      → (get_or told.files.now k d).target.outcome ≡ fate.Agreed text → is_protected told.list (get_or told.files.now k d) ≡ false
+      → (get_or told.files.now k d).target.outcome ≡ outcome.Agreed text → is_protected told.list (get_or told.files.now k d) ≡ false
       → (new : Option (List ℕ)) → new_text_of (is_protected told.list (get_or told.files.now k d)) (get_or told.files.now k d).target.outcome
       (get_or told.files.now k d).old ≡ new → after (get_or told.files.now k d).resolved_path ≡ Some text
   golden_there k d below text agreed kept (Some written) new =
@@ -250,7 +250,7 @@ module _ (told : AcceptSummary) (before after : FileContents) (store : IsStoreAf
           let there = of_golden (λ (file : CommittedFile). after file.path ≡ Some file.bytes) told.list told.files.now
           (all_left (λ (file : CommittedFile). after file.path ≡ Some file.bytes) (golden_written told)
           (file_if_text told.list.path.now (new_list_text told)) store.written_contents) j e within written is in
-          let fate_is : other.target.outcome ≡ fate.Agreed text = sym (alike k d below j e within (sym leads)) ∙ agreed in
+          let fate_is : other.target.outcome ≡ outcome.Agreed text = sym (alike k d below j e within (sym leads)) ∙ agreed in
           let same = agreed_text (is_protected told.list other) text written other.old (rw fate_is at is) in
           store.same_after file.resolved_path other.resolved_path (sym leads) ∙ there ∙ ap Some (sym same)
 
@@ -268,7 +268,7 @@ module _ (told : AcceptSummary) (before after : FileContents) (store : IsStoreAf
           (to_written (λ (other : CommittedFile). store.leads other.path ≡ store.leads file.resolved_path → after file.resolved_path ≡ Some text)
           told golden no_list) some
 
-  pub golden_files_there : All (λ (file : GoldenFile). (text : List ℕ) → file.target.outcome ≡ fate.Agreed text
+  pub golden_files_there : All (λ (file : GoldenFile). (text : List ℕ) → file.target.outcome ≡ outcome.Agreed text
       → is_skipped told.list file ≡ false → after file.resolved_path ≡ Some text) told.files.now
   golden_files_there k d below text agreed left = golden_there k d below text agreed
       (kept_of (is_protected told.list (get_or told.files.now k d)) (get_or told.files.now k d).target.outcome text agreed left) _ refl

@@ -46,30 +46,30 @@ refused_more judging plan unread places i place lt is =
 
 -- ---- files
 
-content_small : (known : Option FileContents) (path : List ℕ) (k : Kept) → AgreesWithContents known path k
+content_small : (contents : Option FileContents) (path : List ℕ) (k : Kept) → AgreesWithContents contents path k
     → IfSome (content_if_read (Some k)) (λ bytes. length bytes ≤ max_file_size)
-content_small known path (kept.Content bytes) of = of.0
-content_small known path kept.Unreadable of = tt
-content_small known path kept.TooLong of = tt
+content_small contents path (kept.Content bytes) of = of.0
+content_small contents path kept.Unreadable of = tt
+content_small contents path kept.TooLong of = tt
 
-kept_small_by : (known : Option FileContents) (path : List ℕ) (answer : PathResult) (answers : List PathResult) (same : Bool)
-    → bytes_eq path answer.path ≡ same → AgreesWithContents known answer.path answer.kept
+kept_small_by : (contents : Option FileContents) (path : List ℕ) (answer : PathResult) (answers : List PathResult) (same : Bool)
+    → bytes_eq path answer.path ≡ same → AgreesWithContents contents answer.path answer.kept
     → IfSome (content_if_read (Some (result_or_unreadable answers path))) (λ bytes. length bytes ≤ max_file_size)
     → IfSome (content_if_read (Some (result_or_unreadable (answer ∷ answers) path))) (λ bytes. length bytes ≤ max_file_size)
-kept_small_by known path answer answers true same of rest = rw same (content_small known answer.path answer.kept of)
-kept_small_by known path answer answers false same of rest = rw same rest
+kept_small_by contents path answer answers true same of rest = rw same (content_small contents answer.path answer.kept of)
+kept_small_by contents path answer answers false same of rest = rw same rest
 
-kept_small : (known : Option FileContents) (path : List ℕ) (answers : List PathResult) → AgreeWithContents known answers
+kept_small : (contents : Option FileContents) (path : List ℕ) (answers : List PathResult) → AgreeWithContents contents answers
     → IfSome (content_if_read (Some (result_or_unreadable answers path))) (λ bytes. length bytes ≤ max_file_size)
-kept_small known path [] are = tt
-kept_small known path (answer ∷ answers) are =
-    kept_small_by known path answer answers (bytes_eq path answer.path) refl
-    (All-head (λ (a : PathResult). AgreesWithContents known a.path a.kept) answer answers are)
-    (kept_small known path answers (All-tail (λ (a : PathResult). AgreesWithContents known a.path a.kept) answer answers are))
+kept_small contents path [] are = tt
+kept_small contents path (answer ∷ answers) are =
+    kept_small_by contents path answer answers (bytes_eq path answer.path) refl
+    (All-head (λ (a : PathResult). AgreesWithContents contents a.path a.kept) answer answers are)
+    (kept_small contents path answers (All-tail (λ (a : PathResult). AgreesWithContents contents a.path a.kept) answer answers are))
 
 -- what is kept of paths is not larger than a store reads
-pub all_small : (known : Option FileContents) (answers : List PathResult) → AgreeWithContents known answers → AreSmall answers
-all_small known answers are job = kept_small known job.image answers are
+pub all_small : (contents : Option FileContents) (answers : List PathResult) → AgreeWithContents contents answers → AreSmall answers
+all_small contents answers are job = kept_small contents job.image answers are
 
 -- ---- tables
 
@@ -77,7 +77,7 @@ counted_table : (shown : View) (plan : PlanView) (places : List ℕ) (table : Co
 counted_table (view.Cover csv) plan places table are = are.table
 counted_table (view.Profile format) plan places table are = are.sum.table
 
-pub table_of_view : (known : Option FileContents) (shown : View) (path : Option (List ℕ)) (plan : PlanView) (places : List ℕ)
-    (table : CountTable) → IsTableForView known shown path plan places table → IsValidTable table
-table_of_view known shown None plan places table are = counted_table shown plan places table are
-table_of_view known shown (Some path) plan places table are = are.at.0
+pub table_of_view : (contents : Option FileContents) (shown : View) (path : Option (List ℕ)) (plan : PlanView) (places : List ℕ)
+    (table : CountTable) → IsTableForView contents shown path plan places table → IsValidTable table
+table_of_view contents shown None plan places table are = counted_table shown plan places table are
+table_of_view contents shown (Some path) plan places table are = are.at.0

@@ -24,55 +24,55 @@ use Rattle.rvtest_app.proofs.StopLemmas.{IfErr-map}
 
 -- a text that did not go to standard output
 pub stdout_stop : {X : Type 0} (written : Result X WriteError) (answer : Result X Stop)
-    → IfErr answer (λ why. MatchResult written (λ _. ⊥) (λ error. why ≡ stop_of_write_error error))
+    → IfErr answer (λ stop. MatchResult written (λ _. ⊥) (λ error. stop ≡ stop_of_write_error error))
     → IfErr answer (IsTextNotWrittenStop None)
 stdout_stop written (Ok x) stopped = tt
-stdout_stop (Ok x) (Err why) stopped = elim stopped [ ]
-stdout_stop (Err write.OutOfMemory) (Err why) stopped = inl stopped
-stdout_stop (Err write.Failed) (Err why) stopped = inr stopped
+stdout_stop (Ok x) (Err stop) stopped = elim stopped [ ]
+stdout_stop (Err write.OutOfMemory) (Err stop) stopped = inl stopped
+stdout_stop (Err write.Failed) (Err stop) stopped = inr stopped
 
 -- a text that did not go to a file
 pub file_text_stop : {X : Type 0} (path : List ℕ) (written : Result X WriteError) (answer : Result X Stop)
-    → IfErr answer (λ why. MatchResult written (λ _. ⊥) (λ error. IsWriteErrorStop path error why))
+    → IfErr answer (λ stop. MatchResult written (λ _. ⊥) (λ error. IsWriteErrorStop path error stop))
     → IfErr answer (IsTextNotWrittenStop (Some path))
 file_text_stop path written (Ok x) stopped = tt
-file_text_stop path (Ok x) (Err why) stopped = elim stopped [ ]
-file_text_stop path (Err write.OutOfMemory) (Err why) stopped = (io.Other, inl stopped)
-file_text_stop path (Err write.Failed) (Err why) stopped = stopped
+file_text_stop path (Ok x) (Err stop) stopped = elim stopped [ ]
+file_text_stop path (Err write.OutOfMemory) (Err stop) stopped = (io.Other, inl stopped)
+file_text_stop path (Err write.Failed) (Err stop) stopped = stopped
 
-pub put_of_report : (report junit : Option (List ℕ)) (why : Stop) → IsTextNotWrittenStop report why → IsOutputWriteStop report junit why
-put_of_report None junit why = ⊎_elim inl (λ failed. inr (inl failed))
-put_of_report (Some path) junit why = λ unwritten. inr (inr (inl (inr unwritten)))
+pub put_of_report : (report junit : Option (List ℕ)) (stop : Stop) → IsTextNotWrittenStop report stop → IsOutputWriteStop report junit stop
+put_of_report None junit stop = ⊎_elim inl (λ failed. inr (inl failed))
+put_of_report (Some path) junit stop = λ unwritten. inr (inr (inl (inr unwritten)))
 
-pub put_of_junit : (report junit : Option (List ℕ)) (why : Stop) → IsTextNotWrittenStop junit why → IsOutputWriteStop report junit why
-put_of_junit report None why = ⊎_elim inl (λ failed. inr (inl failed))
-put_of_junit report (Some path) why = λ unwritten. inr (inr (inr (inr unwritten)))
+pub put_of_junit : (report junit : Option (List ℕ)) (stop : Stop) → IsTextNotWrittenStop junit stop → IsOutputWriteStop report junit stop
+put_of_junit report None stop = ⊎_elim inl (λ failed. inr (inl failed))
+put_of_junit report (Some path) stop = λ unwritten. inr (inr (inr (inr unwritten)))
 
 -- ---- files
 
 -- a file that was not opened
-pub unopened : (path : Option (List ℕ)) (why : Stop) → IsSomeAnd path (λ path. IsUnopenedJobStop path why)
-    → IsFileStop path why
-unopened (Some path) why is = inl is
-unopened None why is = elim is [ ]
+pub unopened : (path : Option (List ℕ)) (stop : Stop) → IsSomeAnd path (λ path. IsUnopenedJobStop path stop)
+    → IsFileStop path stop
+unopened (Some path) stop is = inl is
+unopened None stop is = elim is [ ]
 
 -- a file that the disk did not take, or that was not put in its place
-pub unplaced : (path : List ℕ) (error : FileError) (why : Stop) → error ≢ file.SameFile
-    → IsFileErrorStop path error why → IsUncommittedStop (Some path) why
-unplaced path file.OutOfMemory why other is = (io.NotFound, inl is)
-unplaced path file.SameFile why other is = elim (other refl) [ ]
-unplaced path (file.Failed reason) why other is = (reason, is)
+pub unplaced : (path : List ℕ) (error : FileError) (stop : Stop) → error ≢ file.SameFile
+    → IsFileErrorStop path error stop → IsUncommittedStop (Some path) stop
+unplaced path file.OutOfMemory stop other is = (io.NotFound, inl is)
+unplaced path file.SameFile stop other is = elim (other refl) [ ]
+unplaced path (file.Failed reason) stop other is = (reason, is)
 
-file_of_unplaced : (path : Option (List ℕ)) (why : Stop) → IsUncommittedStop path why → IsFileStop path why
-file_of_unplaced (Some path) why is = inl (file.Failed is.0, is.1)
-file_of_unplaced None why is = elim is [ ]
+file_of_unplaced : (path : Option (List ℕ)) (stop : Stop) → IsUncommittedStop path stop → IsFileStop path stop
+file_of_unplaced (Some path) stop is = inl (file.Failed is.0, is.1)
+file_of_unplaced None stop is = elim is [ ]
 
 -- two files that were written and not put in their places
 pub put_of_unplaced : {X : Type 0} (report junit : Option (List ℕ)) (answer : Result X Stop)
-    → IfErr answer (λ why. IsUncommittedStop report why ⊎ IsUncommittedStop junit why) → IfErr answer (IsOutputWriteStop report junit)
+    → IfErr answer (λ stop. IsUncommittedStop report stop ⊎ IsUncommittedStop junit stop) → IfErr answer (IsOutputWriteStop report junit)
 put_of_unplaced report junit answer = IfErr-map answer _ _
-    (λ why. ⊎_elim (λ is. inr (inr (inl (file_of_unplaced report why is))))
-    (λ is. inr (inr (inr (file_of_unplaced junit why is)))))
+    (λ stop. ⊎_elim (λ is. inr (inr (inl (file_of_unplaced report stop is))))
+    (λ is. inr (inr (inr (file_of_unplaced junit stop is)))))
 
 -- outlets are for the paths that words give
 module _ {P W : Type 0} (pending_path : P → List ℕ) (taken : W → Option (List ℕ)) (failed : W → ℕ) where
@@ -90,14 +90,14 @@ module _ {P W : Type 0} (pending_path : P → List ℕ) (taken : W → Option (L
 -- ---- runs
 
 -- a run whose rows were not all shown and written, with the outlet of its report at the requested path
-pub run_of_show : (words : RunArgs) (path : Option (List ℕ)) (error : ShowError) (why : Stop) → path ≡ file_path_at (run_report_path words)
-    → IsShowErrorStop path error why → IsRunWriteStop words why
-run_of_show words path show.OutOfMemory why is stopped = inl (inr (inl stopped))
-run_of_show words path show.NoWorker why is stopped = inl (inl stopped)
-run_of_show words path show.StreamFailed why is stopped = inl (inr (inr (inl stopped)))
-run_of_show words path show.ReportFailed why is stopped =
-    inl (inr (inr (inr (inl (of (file_path_at (run_report_path words)) (rw is at stopped))))))
+pub run_of_show : (args : RunArgs) (path : Option (List ℕ)) (error : ShowError) (stop : Stop) → path ≡ file_path_at (run_report_path args)
+    → IsShowErrorStop path error stop → IsRunWriteStop args stop
+run_of_show args path show.OutOfMemory stop is stopped = inl (inr (inl stopped))
+run_of_show args path show.NoWorker stop is stopped = inl (inl stopped)
+run_of_show args path show.StreamFailed stop is stopped = inl (inr (inr (inl stopped)))
+run_of_show args path show.ReportFailed stop is stopped =
+    inl (inr (inr (inr (inl (of (file_path_at (run_report_path args)) (rw is at stopped))))))
   where
-    of : (path : Option (List ℕ)) → IsSomeAnd path (λ path. IsUnwrittenStop path why) → IsFileStop path why
+    of : (path : Option (List ℕ)) → IsSomeAnd path (λ path. IsUnwrittenStop path stop) → IsFileStop path stop
     of (Some path) is = inr is
     of None is = elim is [ ]

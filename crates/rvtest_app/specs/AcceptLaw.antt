@@ -68,11 +68,11 @@ pub record AreFilesRead (answers : List PathResult) (job : Job) : Type 0 where
   pub signature : IfSome job.expect_signature (λ path. IsTrue (is_read (result_or_unreadable answers path)))
   pub console : IfSome (console_path job.expect_console) (λ path. IsTrue (is_read (result_or_unreadable answers path)))
 
--- `row` is the row of the job at index `place` when the list at the path in `words` runs with the files of `store`, and all files of the
+-- `row` is the row of the job at index `place` when the list at the path in `args` runs with the files of `store`, and all files of the
 -- job were read
-pub record IsRowOfRun (store : FileContents) (words : RunArgs) (place : ℕ) (row : Row) : Type 0 where
+pub record IsRowOfRun (store : FileContents) (args : RunArgs) (place : ℕ) (row : Row) : Type 0 where
   pub bytes : List ℕ
-  pub read : IsTextAt (Some store) words.list.now bytes
+  pub read : IsTextAt (Some store) args.list.now bytes
   pub jobs : List Job
   pub listed : job_list_of bytes ≡ Ok jobs
   pub job : Job
@@ -81,6 +81,6 @@ pub record IsRowOfRun (store : FileContents) (words : RunArgs) (place : ℕ) (ro
   pub places : List ℕ
   pub plan : PlanView
   pub unread : List UnreadablePath
-  pub planned : IsPlanFor (contents_below (optional_text words.root) (Some store)) jobs places plan unread
+  pub planned : IsPlanFor (contents_below (optional_text args.root) (Some store)) jobs places plan unread
   pub files : AreFilesRead plan.answers job
   pub is : row ≡ row_of plan job

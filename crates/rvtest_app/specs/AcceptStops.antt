@@ -10,7 +10,7 @@ use Rattle.rv_command.specs.Messages.{path_message}
 use Rattle.rv_command.specs.Stops.{IsListUnreadStop, IsStop}
 use Rattle.rv_command.specs.Texts.{IsTextAt, optional_text}
 use Rattle.rv_command.specs.declared.stop.Stop.{Stop}
-use Rattle.rv_command.specs.declared.stop.Stop.TheVariants as stop
+use Rattle.rv_command.specs.declared.stop.Stop.TheVariants as stops
 use Rattle.rv_files.specs.UnreadablePaths.{resolved_path}
 use Rattle.rv_rows.specs.JobList.{job_list_of}
 use Rattle.rv_rows.specs.declared_job.Job.{Job}
@@ -21,40 +21,40 @@ use Rattle.rvtest_app.specs.WriteStops.{IsUnopenedJobStop, IsUnwrittenStop}
 
 -- the stop reports that the file for the path could not be opened, written, or moved to its path
 abbrev pub IsFileNotCreatedStop : List ℕ → Stop → Type 0
-IsFileNotCreatedStop path why = IsUnopenedJobStop path why ⊎ IsUnwrittenStop path why
+IsFileNotCreatedStop path stop = IsUnopenedJobStop path stop ⊎ IsUnwrittenStop path stop
 
 -- the stop reports that the file at the path does not contain the bytes that were written, or that memory ran out
 abbrev pub IsOtherBytesStop : List ℕ → Stop → Type 0
-IsOtherBytesStop path why = IsStop 3 (path_message path (codes "does not contain what was written")) why
+IsOtherBytesStop path stop = IsStop 3 (path_message path (codes "does not contain what was written")) stop
 
 -- the stop reports that the file at the path changed since it was read, or that memory ran out
 abbrev pub IsChangedStop : List ℕ → Stop → Type 0
-IsChangedStop path why = IsStop 3 (path_message path (codes "changed since it was read; nothing was written")) why
+IsChangedStop path stop = IsStop 3 (path_message path (codes "changed since it was read; nothing was written")) stop
 
 -- the stop reports that the file at the path could not be read again, or that its bytes differ from those that were written or read before
 abbrev pub IsUnverifiedStop : Option FileContents → List ℕ → Stop → Type 0
-IsUnverifiedStop known path why = IsListUnreadStop known path why ⊎ (IsOtherBytesStop path why ⊎ IsChangedStop path why)
+IsUnverifiedStop contents path stop = IsListUnreadStop contents path stop ⊎ (IsOtherBytesStop path stop ⊎ IsChangedStop path stop)
 
 -- the stop reports that the file at the path could not be created, or that reading it again failed or found other bytes
 abbrev pub IsFileNotWrittenStop : Option FileContents → List ℕ → Stop → Type 0
-IsFileNotWrittenStop known path why = IsFileNotCreatedStop path why ⊎ IsUnverifiedStop known path why
+IsFileNotWrittenStop contents path stop = IsFileNotCreatedStop path stop ⊎ IsUnverifiedStop contents path stop
 
 -- ---- the golden files
 
 -- the condition `happened` holds for the stop and one path: the path of the list, or the resolved path of one of the golden files
 abbrev pub IsStopForSomeFile : (List ℕ → Stop → Type 0) → List ℕ → List GoldenFile → Stop → Type 0
-IsStopForSomeFile happened list files why = happened list why ⊎ Any (λ file. happened file.resolved_path why) files
+IsStopForSomeFile happened list files stop = happened list stop ⊎ Any (λ file. happened file.resolved_path stop) files
 
 -- why a command stopped: memory ran out, or the golden file of one of the targets could not be read; its path is resolved against `root`
 abbrev pub IsTargetsUnreadStop : Option FileContents → Option (List ℕ) → List Target → Stop → Type 0
-IsTargetsUnreadStop known root targets why = (why ≡ stop.OutOfMemory)
-    ⊎ Any (λ target. IsListUnreadStop known (resolved_path root target.path) why) targets
+IsTargetsUnreadStop contents root targets stop = (stop ≡ stops.OutOfMemory)
+    ⊎ Any (λ target. IsListUnreadStop contents (resolved_path root target.path) stop) targets
 
 -- why a command stopped: memory ran out, a write to standard output failed, or, unless `check` is set, the list or a golden file was not
 -- written
 abbrev pub IsAcceptanceWriteStop : Option FileContents → Bool → List ℕ → List GoldenFile → Stop → Type 0
-IsAcceptanceWriteStop known check list files why = (why ≡ stop.OutOfMemory) ⊎ ((why ≡ stop.WriteFailed)
-    ⊎ ((check ≡ false) × IsStopForSomeFile (IsFileNotWrittenStop known) list files why))
+IsAcceptanceWriteStop contents check list files stop = (stop ≡ stops.OutOfMemory) ⊎ ((stop ≡ stops.WriteFailed)
+    ⊎ ((check ≡ false) × IsStopForSomeFile (IsFileNotWrittenStop contents) list files stop))
 
 -- ---- the command
 
@@ -64,30 +64,30 @@ IsGoldenPath jobs path = IsTrue (list_any (names_golden_file path) jobs)
 
 -- `place` is the path of the list, or the path of a job's golden file, resolved against the `--root` directory
 abbrev pub IsListOrGoldenPath : AcceptArgs → List Job → List ℕ → Type 0
-IsListOrGoldenPath words jobs place = (place ≡ words.run.list.now)
-    ⊎ ((path : List ℕ) × (IsGoldenPath jobs path × (place ≡ resolved_path (optional_text words.run.root) path)))
+IsListOrGoldenPath args jobs place = (place ≡ args.run.list.now)
+    ⊎ ((path : List ℕ) × (IsGoldenPath jobs path × (place ≡ resolved_path (optional_text args.run.root) path)))
 
 -- why a command stopped: memory ran out, or the list or a golden file of its jobs could not be read
 abbrev pub IsGoldenUnreadStop : Option FileContents → AcceptArgs → List Job → Stop → Type 0
-IsGoldenUnreadStop known words jobs why = (why ≡ stop.OutOfMemory)
-    ⊎ ((path : List ℕ) × (IsListOrGoldenPath words jobs path × IsListUnreadStop known path why))
+IsGoldenUnreadStop contents args jobs stop = (stop ≡ stops.OutOfMemory)
+    ⊎ ((path : List ℕ) × (IsListOrGoldenPath args jobs path × IsListUnreadStop contents path stop))
 
 -- why a command stopped: the file at the path could not be read or, unless `check` is set, could not be written
 abbrev pub IsFileAccessStop : Option FileContents → Bool → List ℕ → Stop → Type 0
-IsFileAccessStop known check path why = IsListUnreadStop known path why ⊎ ((check ≡ false) × IsFileNotWrittenStop known path why)
+IsFileAccessStop contents check path stop = IsListUnreadStop contents path stop ⊎ ((check ≡ false) × IsFileNotWrittenStop contents path stop)
 
 -- why a command stopped: memory ran out, no thread could be started, a write to standard output failed, or the list or a golden file of its
 -- jobs could not be read or written
 abbrev pub IsAcceptingStop : Option FileContents → AcceptArgs → List Job → Stop → Type 0
-IsAcceptingStop known words jobs why = (why ≡ stop.OutOfMemory) ⊎ ((why ≡ stop.NoWorker) ⊎ ((why ≡ stop.WriteFailed)
-    ⊎ ((path : List ℕ) × (IsListOrGoldenPath words jobs path × IsFileAccessStop known words.check path why))))
+IsAcceptingStop contents args jobs stop = (stop ≡ stops.OutOfMemory) ⊎ ((stop ≡ stops.NoWorker) ⊎ ((stop ≡ stops.WriteFailed)
+    ⊎ ((path : List ℕ) × (IsListOrGoldenPath args jobs path × IsFileAccessStop contents args.check path stop))))
 
 -- why `accept` stopped after it chose the jobs: a file that it would write is an input or is outside of the directory, or the chosen jobs
 -- could not be accepted
 abbrev pub IsAcceptChosenStop : Option FileContents → AcceptArgs → List Job → Stop → Type 0
-IsAcceptChosenStop known words jobs why = IsAcceptOverwriteStop why ⊎ IsAcceptingStop known words jobs why
+IsAcceptChosenStop contents args jobs stop = IsAcceptOverwriteStop stop ⊎ IsAcceptingStop contents args jobs stop
 
 -- why `accept` stopped after it read a valid list: the jobs that it chose could not be accepted
 abbrev pub IsUnacceptedStop : Option FileContents → AcceptArgs → Stop → Type 0
-IsUnacceptedStop known words why = (text : List ℕ) × (IsTextAt known words.run.list.now text
-    × ((jobs : List Job) × ((job_list_of text ≡ Ok jobs) × IsAcceptChosenStop known words jobs why)))
+IsUnacceptedStop contents args stop = (text : List ℕ) × (IsTextAt contents args.run.list.now text
+    × ((jobs : List Job) × ((job_list_of text ≡ Ok jobs) × IsAcceptChosenStop contents args jobs stop)))

@@ -52,19 +52,19 @@ acceptance_of false = acceptance.Expected
 
 -- `rows` are the rows of the selected jobs of the list `bare`, each at the index of its job, with the files read from the store; `note` is
 -- the note about missing images
-pub record AreRowsOfSelected (known : Option FileContents) (root : Option (List ℕ)) (bare : List Job) (selection : List Bool)
+pub record AreRowsOfSelected (contents : Option FileContents) (root : Option (List ℕ)) (bare : List Job) (selection : List Bool)
     (rows : List (Option Row)) (note : List ℕ) : Type 0 where
   pub plan : PlanView
   pub unread : List UnreadablePath
-  pub planned : IsPlanFor (contents_below root known) bare (selected_job_indices selection) plan unread
+  pub planned : IsPlanFor (contents_below root contents) bare (selected_job_indices selection) plan unread
   pub are : rows ≡ indexed_rows selection (rows_at plan (selected_job_indices selection))
   pub noted : note ≡ missing_images_note plan.jobs unread (length (selected_job_indices selection)) root
 
 -- `rows` are the rows of the selected jobs; nothing but the note about missing images was output, and it went to standard error
-pub record HaveSelectedRun (known : Option FileContents) (root : Option (List ℕ)) (bare : List Job) (selection : List Bool)
+pub record HaveSelectedRun (contents : Option FileContents) (root : Option (List ℕ)) (bare : List Job) (selection : List Bool)
     (rows : List (Option Row)) (before after : CommandOutputs) : Type 0 where
   pub note : List ℕ
-  pub are : AreRowsOfSelected known root bare selection rows note
+  pub are : AreRowsOfSelected contents root bare selection rows note
   pub told : IsOnlyErrorOutput note before after
 
 -- ---- the files
@@ -72,23 +72,23 @@ pub record HaveSelectedRun (known : Option FileContents) (root : Option (List �
 -- `old` is the contents of the file at the path, or `None` if there is no file; if the contents of files are not known, `old` may be
 -- anything
 abbrev pub IsOldContentsAt : Option FileContents → List ℕ → Option (List ℕ) → Type 0
-IsOldContentsAt known path old = IfSome known (λ files. files path ≡ old)
+IsOldContentsAt contents path old = IfSome contents (λ files. files path ≡ old)
 
 -- `file` is the golden file of `target`: it has the target's path, resolved against `root`, and the contents of the file there
-pub record IsGoldenFile (known : Option FileContents) (root : Option (List ℕ)) (target : Target) (file : GoldenFile)
+pub record IsGoldenFile (contents : Option FileContents) (root : Option (List ℕ)) (target : Target) (file : GoldenFile)
     : Type 0 where
   pub of : file.target ≡ target
   pub leads : file.resolved_path ≡ resolved_path root target.path
   -- the old contents are those of the file there
-  pub old_contents : IsOldContentsAt known file.resolved_path file.old
+  pub old_contents : IsOldContentsAt contents file.resolved_path file.old
 
 -- the files are the golden files of the targets, in order: with the targets' paths, resolved against `root`, and the contents of the files
 -- there
 abbrev pub AreGoldenFiles : Option FileContents → Option (List ℕ) → List Target → List GoldenFile → Type 0
-AreGoldenFiles known root [] [] = ⊤
-AreGoldenFiles known root (target ∷ targets) (file ∷ files) =
-    IsGoldenFile known root target file × AreGoldenFiles known root targets files
-AreGoldenFiles known root _ _ = ⊥
+AreGoldenFiles contents root [] [] = ⊤
+AreGoldenFiles contents root (target ∷ targets) (file ∷ files) =
+    IsGoldenFile contents root target file × AreGoldenFiles contents root targets files
+AreGoldenFiles contents root _ _ = ⊥
 
 -- a list with one file, which has this path and text; empty if there is no text
 abbrev pub file_if_text : List ℕ → Option (List ℕ) → List CommittedFile
@@ -113,9 +113,9 @@ accept_status left changed = if left == 0 && changed == 0 then 0 else 1
 
 -- `told` summarizes `accept` for the list with the text `bytes` and the jobs `jobs`; it has the runs in `judged`, of which some more may be
 -- skipped
-pub record IsAcceptOutcome (known : Option FileContents) (words : AcceptArgs) (bytes : List ℕ) (jobs : List Job)
+pub record IsAcceptOutcome (contents : Option FileContents) (args : AcceptArgs) (bytes : List ℕ) (jobs : List Job)
     (judged : List (Option JobRun)) (told : AcceptSummary) : Type 0 where
-  pub path : told.list.path.now ≡ words.run.list.now
+  pub path : told.list.path.now ≡ args.run.list.now
   pub text : told.list.text.now ≡ bytes
   pub listed : told.list.jobs.now ≡ jobs
   -- runs that are accepted in `judged` may be skipped in the summary, but not the other way round
@@ -123,7 +123,7 @@ pub record IsAcceptOutcome (known : Option FileContents) (words : AcceptArgs) (b
   -- the text that each accepted or skipped run gives to each golden file of its job
   pub golden_texts : told.golden_texts.now ≡ golden_texts_of_runs 0 jobs told.runs.now
   -- the golden files of the accepted jobs, with their old contents
-  pub files : AreGoldenFiles known (optional_text words.run.root)
+  pub files : AreGoldenFiles contents (optional_text args.run.root)
       (fold (with_target told.runs.now told.golden_texts.now) [] told.golden_texts.now) told.files.now
   -- a new list is the old one with some edits
   pub edited : IfSome told.new.now.text (λ text. (edits : List Edit) × (text.items ≡ edited_rest 0 bytes edits))
@@ -165,45 +165,45 @@ pub record AreOutsideFilesReported (before after : CommandOutputs) : Type 0 wher
   pub told : IsOnlyErrorOutput outside before after
 
 -- `judged` has the run of each job with a row, accepted or skipped according to whether the job is chosen and to the current verdict on it
-pub record AreJudgedRuns (known : Option FileContents) (words : AcceptArgs) (jobs : List Job) (chosen : List Bool)
+pub record AreJudgedRuns (contents : Option FileContents) (args : AcceptArgs) (jobs : List Job) (chosen : List Bool)
     (rows : List (Option Row)) (judged : List (Option JobRun)) : Type 0 where
   pub candidates : List Candidate
-  pub stand : AreCandidates known (optional_text words.run.root) rows jobs chosen candidates
-  pub are : judged ≡ judged_runs (acceptance_of words.ends) jobs candidates rows
+  pub stand : AreCandidates contents (optional_text args.run.root) rows jobs chosen candidates
+  pub are : judged ≡ judged_runs (acceptance_of args.ends) jobs candidates rows
 
 -- `accept` reported the golden files outside of the directory, ran the chosen jobs and the jobs that these need, without their
 -- expectations, and wrote the summary of the runs
-pub record IsAcceptOfSelected (known : Option FileContents) (words : AcceptArgs) (bytes : List ℕ) (jobs : List Job)
+pub record IsAcceptOfSelected (contents : Option FileContents) (args : AcceptArgs) (bytes : List ℕ) (jobs : List Job)
     (chosen : List Bool) (status : ℕ) (before after : CommandOutputs) : Type 0 where
   pub first : CommandOutputs
   pub outside : AreOutsideFilesReported before first
   pub rows : List (Option Row)
   pub middle : CommandOutputs
-  pub ran : HaveSelectedRun known (optional_text words.run.root) (map without_expectations jobs)
+  pub ran : HaveSelectedRun contents (optional_text args.run.root) (map without_expectations jobs)
       (jobs_to_run jobs chosen) rows first middle
   pub judged : List (Option JobRun)
-  pub judging : AreJudgedRuns known words jobs chosen rows judged
+  pub judging : AreJudgedRuns contents args jobs chosen rows judged
   pub told : AcceptSummary
-  pub outcome : IsAcceptOutcome known words bytes jobs judged told
-  pub put : IsAcceptanceWritten words.check told status middle after
+  pub outcome : IsAcceptOutcome contents args bytes jobs judged told
+  pub put : IsAcceptanceWritten args.check told status middle after
 
 -- `accept` accepted the results of the chosen jobs; if no job is chosen (`None`), the status is 0 and nothing was output
 abbrev pub IsAcceptedOfChosen : Option FileContents → AcceptArgs → List ℕ → List Job → Option (List Bool) → ℕ
     → CommandOutputs → CommandOutputs → Type 0
-IsAcceptedOfChosen known words bytes jobs None status before after = (status ≡ 0) × (after ≡ before)
-IsAcceptedOfChosen known words bytes jobs (Some chosen) status before after =
-    IsAcceptOfSelected known words bytes jobs chosen status before after
+IsAcceptedOfChosen contents args bytes jobs None status before after = (status ≡ 0) × (after ≡ before)
+IsAcceptedOfChosen contents args bytes jobs (Some chosen) status before after =
+    IsAcceptOfSelected contents args bytes jobs chosen status before after
 
 -- `accept` read the list at the path in the arguments, wrote the notes about the choice to standard error, and accepted the chosen jobs
-pub record IsAcceptedAt (known : Option FileContents) (words : AcceptArgs) (status : ℕ) (before after : CommandOutputs)
+pub record IsAcceptedAt (contents : Option FileContents) (args : AcceptArgs) (status : ℕ) (before after : CommandOutputs)
     : Type 0 where
   pub bytes : List ℕ
-  pub read : IsTextAt known words.run.list.now bytes
+  pub read : IsTextAt contents args.run.list.now bytes
   pub jobs : List Job
   pub listed : job_list_of bytes ≡ Ok jobs
   pub chosen : Option (List Bool)
   pub notes : List ℕ
-  pub choice : IsChoice known words.run (failure_rule words.run.lenient) jobs chosen notes
+  pub choice : IsChoice contents args.run (failure_rule args.run.lenient) jobs chosen notes
   pub middle : CommandOutputs
   pub outputs_of : IsOnlyErrorOutput notes before middle
-  pub accepted : IsAcceptedOfChosen known words bytes jobs chosen status middle after
+  pub accepted : IsAcceptedOfChosen contents args bytes jobs chosen status middle after

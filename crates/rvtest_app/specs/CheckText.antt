@@ -49,16 +49,16 @@ job_prefix severity path lines place job =
 
 -- "refused" and the name of the refusal, followed by details if they are given
 abbrev pub refusal_text : Refusal → Option (List ℕ) → List ℕ
-refusal_text why reason = codes "refused " ++ refusal_name why ++ optional_reason_text reason
+refusal_text refusal reason = codes "refused " ++ refusal_name refusal ++ optional_reason_text reason
 
 -- the error line for a file that makes the job at index `place` refused, with the refusal and, if they are given, its details
 unfoldable pub refused_file_line : List ℕ → List ℕ → ℕ → Job → Refusal → Option (List ℕ) → List ℕ
-refused_file_line path lines place job why reason = line (job_prefix (codes ": error:") path lines place job ++ refusal_text why reason)
+refused_file_line path lines place job refusal reason = line (job_prefix (codes ": error:") path lines place job ++ refusal_text refusal reason)
 
 -- the error line for the job at index `place`, whose image makes it refused
 abbrev pub refused_image_line : List ℕ → List ℕ → PlanView → List UnreadablePath → ℕ → Job → Refusal → List ℕ
-refused_image_line path lines plan unread place job why =
-    refused_file_line path lines place job why (refusal_reason plan.answers unread job why)
+refused_image_line path lines plan unread place job refusal =
+    refused_file_line path lines place job refusal (refusal_reason plan.answers unread job refusal)
 
 -- the error line for the job at index `place` if its image makes it refused; otherwise empty
 abbrev pub refused_image_text : List ℕ → List ℕ → PlanView → List UnreadablePath → ℕ → Job → List ℕ

@@ -28,12 +28,12 @@ colors_unless_stdout_used uses_stdout args = if uses_stdout then colors.Plain el
 -- the colours of a request's results, given whether standard output is a terminal that supports them; only the results of `run`, `explain`,
 -- `diff` and `show` are ever coloured
 abbrev pub requested_colors : Request → Bool → Colors
-requested_colors (request.Run words) is_terminal =
-    colors_unless_stdout_used (uses_run_stdout words) (colors_of_value (optional_text words.color) is_terminal)
-requested_colors (request.Explain words) is_terminal = colors_of_value (optional_text words.color) is_terminal
-requested_colors (request.Diff words) is_terminal = colors_of_value (optional_text words.color) is_terminal
-requested_colors (request.Show words) is_terminal =
-    colors_unless_stdout_used (is_stdout_at (optional_text words.junit)) (colors_of_value (optional_text words.color) is_terminal)
+requested_colors (request.Run args) is_terminal =
+    colors_unless_stdout_used (uses_run_stdout args) (colors_of_value (optional_text args.color) is_terminal)
+requested_colors (request.Explain args) is_terminal = colors_of_value (optional_text args.color) is_terminal
+requested_colors (request.Diff args) is_terminal = colors_of_value (optional_text args.color) is_terminal
+requested_colors (request.Show args) is_terminal =
+    colors_unless_stdout_used (is_stdout_at (optional_text args.junit)) (colors_of_value (optional_text args.color) is_terminal)
 requested_colors _ is_terminal = colors.Plain
 
 -- the outputs `after` are the outputs `plain` with the results on standard output coloured, and nothing else changed

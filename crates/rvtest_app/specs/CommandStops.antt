@@ -19,7 +19,7 @@ use Rattle.rvtest_cli.specs.declared.requests.Request.TheVariants as request
 use Rattle.rv_command.specs.Stops.{IsListFaultStop, IsListUnreadStop, IsRejection, IsRequestedUnreadStop, IsUsageStop}
 use Rattle.rv_command.specs.Texts.{IsReportReadAt, IsTextAt, optional_text}
 use Rattle.rv_command.specs.declared.stop.Stop.{Stop}
-use Rattle.rv_command.specs.declared.stop.Stop.TheVariants as stop
+use Rattle.rv_command.specs.declared.stop.Stop.TheVariants as stops
 use Rattle.rv_gdb.specs.declared.conversation.SessionError.{SessionError}
 use Rattle.rv_rows.specs.JobList.{job_list_of}
 use Rattle.rv_rows.specs.declared_job.Job.{Job}
@@ -41,115 +41,115 @@ use Rattle.rvtest_app.specs.ReportedStops.{IsHelpRequested}
 
 -- why `check` stopped: the list could not be read, memory ran out, or the list has an error
 abbrev pub IsCheckStop : Option FileContents → CheckArgs → Stop → Type 0
-IsCheckStop known words why = IsListUnreadStop known words.list.now why
-    ⊎ ((text : List ℕ) × (IsTextAt known words.list.now text × IsListFaultStop words.list.now text why))
+IsCheckStop contents args stop = IsListUnreadStop contents args.list.now stop
+    ⊎ ((text : List ℕ) × (IsTextAt contents args.list.now text × IsListFaultStop args.list.now text stop))
 
 -- why a command stopped: the text is not a valid list, or none of its jobs has this name; messages name the path
 abbrev pub IsNoJobStop : List ℕ → List ℕ → List ℕ → Stop → Type 0
-IsNoJobStop path text name why = IsListFaultStop path text why
-    ⊎ ((jobs : List Job) × ((job_list_of text ≡ Ok jobs) × IsUnknownNameStop path jobs name why))
+IsNoJobStop path text name stop = IsListFaultStop path text stop
+    ⊎ ((jobs : List Job) × ((job_list_of text ≡ Ok jobs) × IsUnknownNameStop path jobs name stop))
 
 -- why `explain` stopped: the list could not be read, it has an error, or no job has the requested name
 abbrev pub IsExplainStop : Option FileContents → ExplainArgs → Stop → Type 0
-IsExplainStop known words why = IsListUnreadStop known words.list.now why
-    ⊎ ((text : List ℕ) × (IsTextAt known words.list.now text × IsNoJobStop words.list.now text words.name.now why))
+IsExplainStop contents args stop = IsListUnreadStop contents args.list.now stop
+    ⊎ ((text : List ℕ) × (IsTextAt contents args.list.now text × IsNoJobStop args.list.now text args.name.now stop))
 
 -- why `console` stopped: the list could not be read, it has an error, or no job has the requested name
 abbrev pub IsConsoleStop : Option FileContents → ConsoleArgs → Stop → Type 0
-IsConsoleStop known words why = IsListUnreadStop known words.list.now why
-    ⊎ ((text : List ℕ) × (IsTextAt known words.list.now text × IsNoJobStop words.list.now text words.name.now why))
+IsConsoleStop contents args stop = IsListUnreadStop contents args.list.now stop
+    ⊎ ((text : List ℕ) × (IsTextAt contents args.list.now text × IsNoJobStop args.list.now text args.name.now stop))
 
 -- why `gdb` could not open the job: the list could not be read or has an error, no job has the requested name, or the job is refused
 abbrev pub IsUnopenedSessionStop : Option FileContents → GdbArgs → Stop → Type 0
-IsUnopenedSessionStop known words why = IsListUnreadStop known words.list.now why
-    ⊎ ((text : List ℕ) × (IsTextAt known words.list.now text
-    × (IsNoJobStop words.list.now text words.name.now why ⊎ IsUnopenedJobOfTextStop known words text why)))
+IsUnopenedSessionStop contents args stop = IsListUnreadStop contents args.list.now stop
+    ⊎ ((text : List ℕ) × (IsTextAt contents args.list.now text
+    × (IsNoJobStop args.list.now text args.name.now stop ⊎ IsUnopenedJobOfTextStop contents args text stop)))
 
 -- why `gdb` did not start a session: standard output is a terminal, or the job could not be opened
 abbrev pub IsUnshownStop : Option FileContents → Bool → GdbArgs → Stop → Type 0
-IsUnshownStop known is_terminal words why = ((is_terminal ≡ true) × IsNoGdbStop why)
-    ⊎ ((is_terminal ≡ false) × IsUnopenedSessionStop known words why)
+IsUnshownStop contents is_terminal args stop = ((is_terminal ≡ true) × IsNoGdbStop stop)
+    ⊎ ((is_terminal ≡ false) × IsUnopenedSessionStop contents args stop)
 
 -- why `gdb` stopped: it did not start a session, or the session ended with an error
 abbrev pub IsGdbStop : Option FileContents → Bool → GdbArgs → Stop → Type 0
-IsGdbStop known is_terminal words why = IsUnshownStop known is_terminal words why
-    ⊎ ((is_terminal ≡ false) × ((broken : SessionError) × IsSessionErrorStop broken why))
+IsGdbStop contents is_terminal args stop = IsUnshownStop contents is_terminal args stop
+    ⊎ ((is_terminal ≡ false) × ((broken : SessionError) × IsSessionErrorStop broken stop))
 
 -- `gdb` stopped: either it started no session and output nothing, or its session ended with an error, and the number of failed writes rose
 -- by one if this error is a failed write, and did not change otherwise
 abbrev pub IsGdbStopped : Option FileContents → Bool → GdbArgs → Stop → CommandOutputs → CommandOutputs → ℕ → ℕ → Type 0
-IsGdbStopped known is_terminal words why before after failures_before failures_after =
-    (IsUnshownStop known is_terminal words why × (after ≡ before))
-    ⊎ ((is_terminal ≡ false) × ((broken : SessionError) × (IsSessionErrorStop broken why × IsFailureCounted broken failures_before failures_after)))
+IsGdbStopped contents is_terminal args stop before after failures_before failures_after =
+    (IsUnshownStop contents is_terminal args stop × (after ≡ before))
+    ⊎ ((is_terminal ≡ false) × ((broken : SessionError) × (IsSessionErrorStop broken stop × IsFailureCounted broken failures_before failures_after)))
 
 -- why a command stopped: the text is not a valid list, or its jobs could not be chosen as the arguments request
 abbrev pub IsNoChoiceStop : Option FileContents → RunArgs → List ℕ → Stop → Type 0
-IsNoChoiceStop known words text why = IsListFaultStop words.list.now text why
+IsNoChoiceStop contents args text stop = IsListFaultStop args.list.now text stop
     ⊎ ((jobs : List Job) × ((job_list_of text ≡ Ok jobs)
-    × IsChoiceStop known words (failure_rule words.lenient) jobs why))
+    × IsChoiceStop contents args (failure_rule args.lenient) jobs stop))
 
 -- why `list` stopped: the list could not be read, it has an error, or choosing its jobs stopped
 abbrev pub IsListStop : Option FileContents → RunArgs → Stop → Type 0
-IsListStop known words why = IsListUnreadStop known words.list.now why
-    ⊎ ((text : List ℕ) × (IsTextAt known words.list.now text × IsNoChoiceStop known words text why))
+IsListStop contents args stop = IsListUnreadStop contents args.list.now stop
+    ⊎ ((text : List ℕ) × (IsTextAt contents args.list.now text × IsNoChoiceStop contents args text stop))
 
 -- why `accept` stopped: the jobs could not be chosen, or accepting them stopped
 abbrev pub IsAcceptStop : Option FileContents → AcceptArgs → Stop → Type 0
-IsAcceptStop known words why = IsListStop known words.run why ⊎ IsUnacceptedStop known words why
+IsAcceptStop contents args stop = IsListStop contents args.run stop ⊎ IsUnacceptedStop contents args stop
 
 -- why `diff` stopped: the old report could not be read, or it could, but the new one could not
 abbrev pub IsDiffAtStop : Option FileContents → DiffArgs → Stop → Type 0
-IsDiffAtStop known words why = IsRequestedUnreadStop known words.partial words.old.now why
-    ⊎ ((found : PartialReport) × (IsReportReadAt known words.partial words.old.now found
-    × IsRequestedUnreadStop known words.partial words.new.now why))
+IsDiffAtStop contents args stop = IsRequestedUnreadStop contents args.partial args.old.now stop
+    ⊎ ((found : PartialReport) × (IsReportReadAt contents args.partial args.old.now found
+    × IsRequestedUnreadStop contents args.partial args.new.now stop))
 
 -- why `show` stopped: the JUnit file would overwrite the report, the report could not be read, or the output could not be written
 abbrev pub IsShowErrorStop : Option FileContents → ShowArgs → Stop → Type 0
-IsShowErrorStop known words why = IsShowOverwriteStop words why ⊎ (IsRequestedUnreadStop known words.partial words.report.now why
-    ⊎ ((found : PartialReport) × (IsReportReadAt known words.partial words.report.now found
-    × IsOutputStop None (optional_text words.junit) why)))
+IsShowErrorStop contents args stop = IsShowOverwriteStop args stop ⊎ (IsRequestedUnreadStop contents args.partial args.report.now stop
+    ⊎ ((found : PartialReport) × (IsReportReadAt contents args.partial args.report.now found
+    × IsOutputStop None (optional_text args.junit) stop)))
 
 -- why the requested command stopped; `explain`, `list` and other commands that only print a text stop for the reasons of their own
 -- definition, or because a write to standard output failed
 abbrev pub IsCommandStop : Option FileContents → Bool → Request → Stop → Type 0
-IsCommandStop known is_terminal (request.Explain words) why = (why ≡ stop.WriteFailed) ⊎ IsExplainStop known words why
-IsCommandStop known is_terminal (request.List words) why = (why ≡ stop.WriteFailed) ⊎ IsListStop known words why
-IsCommandStop known is_terminal (request.Console words) why = (why ≡ stop.WriteFailed) ⊎ IsConsoleStop known words why
-IsCommandStop known is_terminal (request.Gdb words) why = IsGdbStop known is_terminal words why
-IsCommandStop known is_terminal (request.Check words) why = (why ≡ stop.WriteFailed) ⊎ IsCheckStop known words why
-IsCommandStop known is_terminal (request.Diff words) why = (why ≡ stop.WriteFailed) ⊎ IsDiffAtStop known words why
-IsCommandStop known is_terminal (request.Help words) why = (why ≡ stop.WriteFailed) ⊎ IsNoTopicStop words.topic.now why
-IsCommandStop known is_terminal (request.Run words) why = IsRunStop known words why
-IsCommandStop known is_terminal (request.Accept words) why = IsAcceptStop known words why
-IsCommandStop known is_terminal (request.Merge words) why = IsMergeStop known words why
-IsCommandStop known is_terminal (request.Show words) why = IsShowErrorStop known words why
-IsCommandStop known is_terminal (request.Counts words) why = IsCountsStop known words why
-IsCommandStop known is_terminal (request.Cover words) why = (why ≡ stop.WriteFailed) ⊎ IsCoverStop known words why
-IsCommandStop known is_terminal (request.Profile words) why = (why ≡ stop.WriteFailed) ⊎ IsProfileStop known words why
+IsCommandStop contents is_terminal (request.Explain args) stop = (stop ≡ stops.WriteFailed) ⊎ IsExplainStop contents args stop
+IsCommandStop contents is_terminal (request.List args) stop = (stop ≡ stops.WriteFailed) ⊎ IsListStop contents args stop
+IsCommandStop contents is_terminal (request.Console args) stop = (stop ≡ stops.WriteFailed) ⊎ IsConsoleStop contents args stop
+IsCommandStop contents is_terminal (request.Gdb args) stop = IsGdbStop contents is_terminal args stop
+IsCommandStop contents is_terminal (request.Check args) stop = (stop ≡ stops.WriteFailed) ⊎ IsCheckStop contents args stop
+IsCommandStop contents is_terminal (request.Diff args) stop = (stop ≡ stops.WriteFailed) ⊎ IsDiffAtStop contents args stop
+IsCommandStop contents is_terminal (request.Help args) stop = (stop ≡ stops.WriteFailed) ⊎ IsNoTopicStop args.topic.now stop
+IsCommandStop contents is_terminal (request.Run args) stop = IsRunStop contents args stop
+IsCommandStop contents is_terminal (request.Accept args) stop = IsAcceptStop contents args stop
+IsCommandStop contents is_terminal (request.Merge args) stop = IsMergeStop contents args stop
+IsCommandStop contents is_terminal (request.Show args) stop = IsShowErrorStop contents args stop
+IsCommandStop contents is_terminal (request.Counts args) stop = IsCountsStop contents args stop
+IsCommandStop contents is_terminal (request.Cover args) stop = (stop ≡ stops.WriteFailed) ⊎ IsCoverStop contents args stop
+IsCommandStop contents is_terminal (request.Profile args) stop = (stop ≡ stops.WriteFailed) ⊎ IsProfileStop contents args stop
 
 -- the arguments have an error other than a request for the help or the version
 abbrev pub AreInvalidArgs : List (List ℕ) → Type 0
-AreInvalidArgs words = (kind : WordsFault) × (IsAmong kind (args_error_kinds words) × (IsHelpRequested kind → ⊥))
+AreInvalidArgs args = (kind : WordsFault) × (IsAmong kind (args_error_kinds args) × (IsHelpRequested kind → ⊥))
 
 -- the stop reports the misuse in the arguments, such as options that exclude each other, with its message; if there is no misuse, memory
 -- ran out
 abbrev pub IsMisuseStop : List (List ℕ) → Stop → Type 0
-IsMisuseStop words why =
-    MatchOption (args_misuse words) (why ≡ stop.OutOfMemory) (λ misuse. IsUsageStop (misuse_text misuse) why)
+IsMisuseStop args stop =
+    MatchOption (args_misuse args) (stop ≡ stops.OutOfMemory) (λ misuse. IsUsageStop (misuse_text misuse) stop)
 
 -- the arguments have an error, and the stop rejects them with status 2; if `clap` finds no error in them, the stop reports a misuse
-pub record IsInvalidArgsStop (words : List (List ℕ)) (why : Stop) : Type 0 where
-  pub faulty : AreInvalidArgs words
-  pub refused : IsRejection why
-  pub misused : args_errors words ≡ [] → IsMisuseStop words why
+pub record IsInvalidArgsStop (args : List (List ℕ)) (stop : Stop) : Type 0 where
+  pub faulty : AreInvalidArgs args
+  pub refused : IsRejection stop
+  pub misused : args_errors args ≡ [] → IsMisuseStop args stop
 
 -- the arguments stopped the program: memory ran out, the requested help could not be written, or the arguments are invalid
 abbrev pub IsArgsStop : List (List ℕ) → Stop → Type 0
-IsArgsStop words why = (why ≡ stop.OutOfMemory)
-    ⊎ ((RequestHelp words × (why ≡ stop.WriteFailed)) ⊎ IsInvalidArgsStop words why)
+IsArgsStop args stop = (stop ≡ stops.OutOfMemory)
+    ⊎ ((RequestHelp args × (stop ≡ stops.WriteFailed)) ⊎ IsInvalidArgsStop args stop)
 
 -- why the program stopped: the requested command stopped, or the arguments are invalid
 abbrev pub IsProgramStop : Option FileContents → Bool → List (List ℕ) → Stop → Type 0
-IsProgramStop known is_terminal words why =
-    ((args : Request) × ((request_of_args words ≡ Some (value_of_request args)) × IsCommandStop known is_terminal args why))
-    ⊎ IsArgsStop words why
+IsProgramStop contents is_terminal args stop =
+    ((request : Request) × ((request_of_args args ≡ Some (value_of_request request)) × IsCommandStop contents is_terminal request stop))
+    ⊎ IsArgsStop args stop

@@ -18,12 +18,12 @@ use Rattle.rvtest_app.specs.Reports.{HasEntryPerUnreadable, IsFirstJobNamed}
 use Rattle.rvtest_app.specs.CommandOutputs.{IsOnlyStandardOutput, IsOnlyErrorOutput, CommandOutputs}
 
 -- `console` is the text that the job at index `place` printed, `line` is the line that reports its row, and `status` is the exit status
-pub record IsJobConsole (known : Option FileContents) (jobs : List Job) (place : ℕ) (console line : List ℕ) (status : ℕ)
+pub record IsJobConsole (contents : Option FileContents) (jobs : List Job) (place : ℕ) (console line : List ℕ) (status : ℕ)
     : Type 0 where
   pub plan : PlanView
   pub listed : plan.jobs ≡ jobs
   pub paths : paths_of plan.answers ≡ paths_used (jobs_needed_for jobs (place ∷ []))
-  pub kept : AgreeWithContents known plan.answers
+  pub kept : AgreeWithContents contents plan.answers
   pub unread : List UnreadablePath
   pub noted : HasEntryPerUnreadable plan.answers unread
   pub written : (d : Job) → console ≡ (row_of plan (slice_index_or plan.jobs place d)).console
@@ -34,27 +34,27 @@ pub record IsJobConsole (known : Option FileContents) (jobs : List Job) (place :
 
 -- `console`, `line` and `status` are the console, the result line and the exit status of the first job named `name` in the list with the
 -- text `bytes`
-pub record IsConsoleOf (known : Option FileContents) (bytes name console line : List ℕ) (status : ℕ) : Type 0 where
+pub record IsConsoleOf (contents : Option FileContents) (bytes name console line : List ℕ) (status : ℕ) : Type 0 where
   pub jobs : List Job
   pub listed : job_list_of bytes ≡ Ok jobs
   pub place : ℕ
   pub first : IsFirstJobNamed jobs name place
-  pub of_job : IsJobConsole known jobs place console line status
+  pub of_job : IsJobConsole contents jobs place console line status
 
 -- `console`, `line` and `status` are the console, the result line and the exit status of the job that the arguments name, in the list at
 -- their path
-pub record IsConsoleAt (known : Option FileContents) (words : ConsoleArgs) (console line : List ℕ) (status : ℕ)
+pub record IsConsoleAt (contents : Option FileContents) (args : ConsoleArgs) (console line : List ℕ) (status : ℕ)
     : Type 0 where
   pub bytes : List ℕ
-  pub read : IsTextAt known words.list.now bytes
-  pub of_list : IsConsoleOf (contents_below (optional_text words.root) known) bytes words.name.now console line status
+  pub read : IsTextAt contents args.list.now bytes
+  pub of_list : IsConsoleOf (contents_below (optional_text args.root) contents) bytes args.name.now console line status
 
 -- the job's console was written to standard output, and then its result line to standard error
-pub record IsConsoleWritten (known : Option FileContents) (words : ConsoleArgs) (status : ℕ) (before after : CommandOutputs)
+pub record IsConsoleWritten (contents : Option FileContents) (args : ConsoleArgs) (status : ℕ) (before after : CommandOutputs)
     : Type 0 where
   pub console : List ℕ
   pub line : List ℕ
-  pub of : IsConsoleAt known words console line status
+  pub of : IsConsoleAt contents args console line status
   pub middle : CommandOutputs
   pub put : IsOnlyStandardOutput console before middle
   pub told : IsOnlyErrorOutput line middle after

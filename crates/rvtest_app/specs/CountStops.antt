@@ -7,7 +7,7 @@ use Rattle.rv_command.specs.Messages.{path_message, path_number_message}
 use Rattle.rv_command.specs.Stops.{IsStop, IsResultUnreadStop}
 use Rattle.rv_command.specs.Texts.{IsTextAt, optional_text}
 use Rattle.rv_command.specs.declared.stop.Stop.{Stop}
-use Rattle.rv_command.specs.declared.stop.Stop.TheVariants as stop
+use Rattle.rv_command.specs.declared.stop.Stop.TheVariants as stops
 use Rattle.rv_count_tables.specs.Read.{IsFirstError}
 use Rattle.rv_count_tables.specs.Sum.{HaveNoSum, no_counts}
 use Rattle.rv_count_tables.specs.Table.{IsValidTable}
@@ -25,10 +25,10 @@ use Rattle.rvtest_app.specs.WrittenTexts.{IsUnwrittenAtStop, written_path}
 
 -- the stop reports this error in reading the table of counts at the path: an invalid line, or that memory ran out
 abbrev pub IsReadErrorStop : List ℕ → ReadError → Stop → Type 0
-IsReadErrorStop path read.OutOfMemory why = why ≡ stop.OutOfMemory
-IsReadErrorStop path (read.Line line) why =
-    IsStop 2 (path_number_message path (codes ":") line (codes ": invalid line in a table of counts\n")) why
-IsReadErrorStop path read.Truncated why = IsStop 2 (path_message path (codes "the table is truncated")) why
+IsReadErrorStop path read.OutOfMemory stop = stop ≡ stops.OutOfMemory
+IsReadErrorStop path (read.Line line) stop =
+    IsStop 2 (path_number_message path (codes ":") line (codes ": invalid line in a table of counts\n")) stop
+IsReadErrorStop path read.Truncated stop = IsStop 2 (path_message path (codes "the table is truncated")) stop
 
 -- the message that a count at `address` no longer fits in 64 bits if the table at the path is added; `what` names the count
 abbrev pub count_overflow_message : List ℕ → List ℕ → ℕ → List ℕ
@@ -42,43 +42,43 @@ two_names_message path function = codes "rvtest: " ++ printable_text path ++ cod
 
 -- the stop reports why the table at the path cannot be added to the sum of the earlier tables: this error, or that memory ran out
 abbrev pub IsSumErrorStop : List ℕ → SumError → Stop → Type 0
-IsSumErrorStop path sum.OutOfMemory why = why ≡ stop.OutOfMemory
-IsSumErrorStop path (sum.Count address) why = IsStop 2 (count_overflow_message path (codes ": the count at ") address) why
-IsSumErrorStop path (sum.Spot function) why =
-    IsStop 2 (count_overflow_message path (codes ": a stack count of the function at ") function) why
-IsSumErrorStop path (sum.Names function) why = IsStop 2 (two_names_message path function) why
-IsSumErrorStop path sum.Runs why = IsStop 2 (path_message path (codes "the number of runs does not fit in 64 bits")) why
+IsSumErrorStop path sum.OutOfMemory stop = stop ≡ stops.OutOfMemory
+IsSumErrorStop path (sum.Count address) stop = IsStop 2 (count_overflow_message path (codes ": the count at ") address) stop
+IsSumErrorStop path (sum.Spot function) stop =
+    IsStop 2 (count_overflow_message path (codes ": a stack count of the function at ") function) stop
+IsSumErrorStop path (sum.Names function) stop = IsStop 2 (two_names_message path function) stop
+IsSumErrorStop path sum.Runs stop = IsStop 2 (path_message path (codes "the number of runs does not fit in 64 bits")) stop
 
 -- the stop reports the first error in `text`, which is not a valid table of counts, or that memory ran out; if `text` is a valid table,
 -- memory ran out
-pub record IsTableFaultStop (path text : List ℕ) (why : Stop) : Type 0 where
-  pub told : (error : ReadError) × (IsFirstError error text × IsReadErrorStop path error why)
-  pub whole : (table : CountTable) → IsValidTable table → table_text table ≡ text → why ≡ stop.OutOfMemory
+pub record IsTableFaultStop (path text : List ℕ) (stop : Stop) : Type 0 where
+  pub told : (error : ReadError) × (IsFirstError error text × IsReadErrorStop path error stop)
+  pub whole : (table : CountTable) → IsValidTable table → table_text table ≡ text → stop ≡ stops.OutOfMemory
 
 -- why a command stopped: the file at the path is a valid table of counts, but cannot be added to `before`, the sum of the earlier tables
 abbrev pub IsSumOverflowStop : Option FileContents → List ℕ → CountTable → Stop → Type 0
-IsSumOverflowStop known path before why = (table : CountTable) × (IsTableAt known path table
-    × ((error : SumError) × (HaveNoSum error before table × IsSumErrorStop path error why)))
+IsSumOverflowStop contents path before stop = (table : CountTable) × (IsTableAt contents path table
+    × ((error : SumError) × (HaveNoSum error before table × IsSumErrorStop path error stop)))
 
 -- why a command stopped: the table at the path could not be read, is invalid, or cannot be added to `before`, the sum of the earlier tables
 abbrev pub IsTableNotAddedStop : Option FileContents → List ℕ → CountTable → Stop → Type 0
-IsTableNotAddedStop known path before why = IsResultUnreadStop known path why
-    ⊎ (((text : List ℕ) × (IsTextAt known path text × IsTableFaultStop path text why))
-    ⊎ IsSumOverflowStop known path before why)
+IsTableNotAddedStop contents path before stop = IsResultUnreadStop contents path stop
+    ⊎ (((text : List ℕ) × (IsTextAt contents path text × IsTableFaultStop path text stop))
+    ⊎ IsSumOverflowStop contents path before stop)
 
 -- why a command stopped: the tables at the first paths were added up, but then the table at the next path could not be added
-pub record IsSumStop (known : Option FileContents) (paths : List (Bor (List ℕ))) (why : Stop) : Type 0 where
+pub record IsSumStop (contents : Option FileContents) (paths : List (Bor (List ℕ))) (stop : Stop) : Type 0 where
   pub before : List (Bor (List ℕ))
   pub path : Bor (List ℕ)
   -- the paths after `path`
   pub later_tables : List (Bor (List ℕ))
   pub sum : CountTable
   pub listed : paths ≡ before ++ path ∷ later_tables
-  pub added : AreTablesAdded known before no_counts sum
-  pub stopped : IsTableNotAddedStop known path.now sum why
+  pub added : AreTablesAdded contents before no_counts sum
+  pub stopped : IsTableNotAddedStop contents path.now sum stop
 
 -- why `counts` stopped: the sum would overwrite a table, memory ran out, a table could not be added, or the sum could not be written
 abbrev pub IsCountsStop : Option FileContents → CountsArgs → Stop → Type 0
-IsCountsStop known words why = IsSumOverwriteStop words why ⊎ ((why ≡ stop.OutOfMemory) ⊎ (IsSumStop known words.tables.items why
-    ⊎ ((sum : CountTable) × (AreTablesAdded known words.tables.items no_counts sum
-    × IsUnwrittenAtStop (written_path (optional_text words.out)) why))))
+IsCountsStop contents args stop = IsSumOverwriteStop args stop ⊎ ((stop ≡ stops.OutOfMemory) ⊎ (IsSumStop contents args.tables.items stop
+    ⊎ ((sum : CountTable) × (AreTablesAdded contents args.tables.items no_counts sum
+    × IsUnwrittenAtStop (written_path (optional_text args.out)) stop))))

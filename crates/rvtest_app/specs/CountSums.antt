@@ -16,17 +16,17 @@ use Rattle.rvtest_app.specs.WrittenTexts.{IsWrittenAt, written_path}
 
 -- the file at the path contains exactly the text of the valid table of counts `table`
 abbrev pub IsTableAt : Option FileContents → List ℕ → CountTable → Type 0
-IsTableAt known path table = IsValidTable table × IsTextAt known path (table_text table)
+IsTableAt contents path table = IsValidTable table × IsTextAt contents path (table_text table)
 
 -- the table `after` is the sum of the table `before` and the table of counts at the path
 abbrev pub IsTableAdded : Option FileContents → List ℕ → CountTable → CountTable → Type 0
-IsTableAdded known path before after = (table : CountTable) × (IsTableAt known path table × IsSumOfTables before table after)
+IsTableAdded contents path before after = (table : CountTable) × (IsTableAt contents path table × IsSumOfTables before table after)
 
 -- the table `after` is the sum of the table `before` and the tables of counts at the paths
 abbrev pub AreTablesAdded : Option FileContents → List (Bor (List ℕ)) → CountTable → CountTable → Type 0
-AreTablesAdded known [] before after = after ≡ before
-AreTablesAdded known (path ∷ paths) before after =
-    (next : CountTable) × (IsTableAdded known path.now before next × AreTablesAdded known paths next after)
+AreTablesAdded contents [] before after = after ≡ before
+AreTablesAdded contents (path ∷ paths) before after =
+    (next : CountTable) × (IsTableAdded contents path.now before next × AreTablesAdded contents paths next after)
 
 -- how many instructions were executed at these addresses
 abbrev pub executed_at_addresses : List AddressCounts → ℕ
@@ -72,10 +72,10 @@ sum_note table = decimal table.runs ++ run_word table.runs ++ decimal (length ta
     ++ instructions_text (capped_number (executed_in_images table.images))
 
 -- the sum of the tables was written to the path of `--out` or to standard output, and then the line that summarizes it to standard error
-pub record IsSumWritten (known : Option FileContents) (words : CountsArgs) (status : ℕ) (before after : CommandOutputs) : Type 0 where
+pub record IsSumWritten (contents : Option FileContents) (args : CountsArgs) (status : ℕ) (before after : CommandOutputs) : Type 0 where
   pub sum : CountTable
-  pub added : AreTablesAdded known words.tables.items no_counts sum
+  pub added : AreTablesAdded contents args.tables.items no_counts sum
   pub middle : CommandOutputs
-  pub put : IsWrittenAt (Some (written_path (optional_text words.out))) (table_text sum) before middle
+  pub put : IsWrittenAt (Some (written_path (optional_text args.out))) (table_text sum) before middle
   pub told : IsOnlyErrorOutput (sum_note sum) middle after
   pub done : status ≡ 0

@@ -8,4 +8,4 @@ use Rattle.rvtest_app.specs.declared.view.View.TheVariants as view
 
 -- why `cover` stopped: the requested jobs could not be found, or their coverage could not be written
 abbrev pub IsCoverStop : Option FileContents → CoverArgs → Stop → Type 0
-IsCoverStop known words why = IsViewStop known words.run (view.Cover words.csv) why
+IsCoverStop contents args stop = IsViewStop contents args.run (view.Cover args.csv) stop

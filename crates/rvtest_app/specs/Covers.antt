@@ -8,4 +8,4 @@ use Rattle.rvtest_app.specs.declared.view.View.TheVariants as view
 
 -- the notes about the choice went to standard error, and then the coverage of the requested jobs' images was written
 abbrev pub IsCoverageWritten : Option FileContents → CoverArgs → ℕ → CommandOutputs → CommandOutputs → Type 0
-IsCoverageWritten known words status before after = IsViewWritten known words.run (view.Cover words.csv) status before after
+IsCoverageWritten contents args status before after = IsViewWritten contents args.run (view.Cover args.csv) status before after

@@ -7,7 +7,7 @@ use Rattle.rv_accept.specs.Runs.{row_or_none}
 use Rattle.rv_accept.specs.declared.ends.Acceptance.TheVariants as acceptance
 use Rattle.rv_accept.specs.declared.current_verdict.Candidate.{Candidate}
 use Rattle.rv_accept.specs.declared.current_verdict.CurrentVerdict.{CurrentVerdict}
-use Rattle.rv_accept.specs.declared.current_verdict.CurrentVerdict.TheVariants as standing
+use Rattle.rv_accept.specs.declared.current_verdict.CurrentVerdict.TheVariants as current
 use Rattle.rv_files.specs.Files.{FileContents}
 use Rattle.rv_files.specs.Limits.{max_file_size}
 use Rattle.rv_expect.specs.Comparisons.{ComparisonView}
@@ -24,22 +24,22 @@ use Rattle.rv_rows.specs.Verdict.{did_run}
 
 -- there is no file at the path; holds for any path if the contents of files are not known
 abbrev pub IsMissingAt : Option FileContents → List ℕ → Type 0
-IsMissingAt known place = IfSome known (λ files. files place ≡ None)
+IsMissingAt contents place = IfSome contents (λ files. files place ≡ None)
 
 -- the file at the path is longer than `max_file_size`, the largest number of bytes that is read of a file; holds for any path if the
 -- contents of files are not known
 abbrev pub IsTooLongAt : Option FileContents → List ℕ → Type 0
-IsTooLongAt known place = IfSome known (λ files. IsSomeAnd (files place) (λ bytes. max_file_size < length bytes))
+IsTooLongAt contents place = IfSome contents (λ files. IsSomeAnd (files place) (λ bytes. max_file_size < length bytes))
 
 -- the `Option` is the whole contents of the file at the path, or `None` if there is no file or it is longer than `max_file_size`
 abbrev pub AreContentsUpToLimit : Option FileContents → List ℕ → Option (List ℕ) → Type 0
-AreContentsUpToLimit known place None = IsMissingAt known place ⊎ IsTooLongAt known place
-AreContentsUpToLimit known place (Some bytes) = (length bytes ≤ max_file_size) × IfSome known (λ files. files place ≡ Some bytes)
+AreContentsUpToLimit contents place None = IsMissingAt contents place ⊎ IsTooLongAt contents place
+AreContentsUpToLimit contents place (Some bytes) = (length bytes ≤ max_file_size) × IfSome contents (λ files. files place ≡ Some bytes)
 
 -- `text` is the whole contents of the golden file at the path, which is resolved against `root`; `None` if no path is given
 abbrev pub IsGoldenText : Option FileContents → Option (List ℕ) → Option (List ℕ) → Option (List ℕ) → Type 0
-IsGoldenText known root None text = text ≡ None
-IsGoldenText known root (Some path) text = AreContentsUpToLimit known (resolved_path root path) text
+IsGoldenText contents root None text = text ≡ None
+IsGoldenText contents root (Some path) text = AreContentsUpToLimit contents (resolved_path root path) text
 
 -- the path of a golden file, if its contents matter for the verdict; `None` if the job ended as expected, since it is accepted then
 abbrev pub path_to_read : Job → Row → Option (List ℕ) → Option (List ℕ)
@@ -59,8 +59,8 @@ are_all_met (one ∷ more) = false
 
 -- the verdict on a job: it passes if it ran and met all expectations; otherwise it differs if `same_as` is unmet, and fails if not
 abbrev pub verdict_by : Bool → List UnmetExpectation → CurrentVerdict
-verdict_by ran unmet = if ran && are_all_met unmet then standing.Passes
-    else if list_any is_same unmet then standing.Differs else standing.Fails
+verdict_by ran unmet = if ran && are_all_met unmet then current.Passes
+    else if list_any is_same unmet then current.Differs else current.Fails
 
 -- the verdict on the job in `sides`, from its row and the golden texts and the row that its row is compared with
 abbrev pub verdict_of_comparison : ComparisonView → CurrentVerdict
@@ -77,18 +77,18 @@ comparison_with rows job row console signature = record {
 }
 
 -- `stands` is the verdict on the job with this row, given the current contents of its golden files and the rows of all jobs
-pub record IsCurrentVerdict (known : Option FileContents) (root : Option (List ℕ)) (rows : List (Option Row)) (job : Job) (row : Row)
+pub record IsCurrentVerdict (contents : Option FileContents) (root : Option (List ℕ)) (rows : List (Option Row)) (job : Job) (row : Row)
     (stands : CurrentVerdict) : Type 0 where
   pub console : Option (List ℕ)
   pub signature : Option (List ℕ)
-  pub console_read : IsGoldenText known root (path_to_read job row (console_path job.expect_console)) console
-  pub signature_read : IsGoldenText known root (path_to_read job row job.expect_signature) signature
+  pub console_read : IsGoldenText contents root (path_to_read job row (console_path job.expect_console)) console
+  pub signature_read : IsGoldenText contents root (path_to_read job row job.expect_signature) signature
   pub is : stands ≡ verdict_of_comparison (comparison_with rows job row console signature)
 
 -- `stands` is the verdict on the job with this row; without a row the job did not run, and it fails
 abbrev pub IsCurrentVerdictIfRun : Option FileContents → Option (List ℕ) → List (Option Row) → Job → Option Row → CurrentVerdict → Type 0
-IsCurrentVerdictIfRun known root rows job None stands = stands ≡ standing.Fails
-IsCurrentVerdictIfRun known root rows job (Some row) stands = IsCurrentVerdict known root rows job row stands
+IsCurrentVerdictIfRun contents root rows job None stands = stands ≡ current.Fails
+IsCurrentVerdictIfRun contents root rows job (Some row) stands = IsCurrentVerdict contents root rows job row stands
 
 -- whether the `Option` has a value, and the value is true
 abbrev pub is_true : Option Bool → Bool
@@ -101,14 +101,14 @@ is_selected selection place = is_true (slice_get selection place)
 
 -- `candidate` says of the job at index `place` whether it is chosen, and what the verdict on it is
 abbrev pub IsCandidateAt : Option FileContents → Option (List ℕ) → List (Option Row) → List Bool → ℕ → Job → Candidate → Type 0
-IsCandidateAt known root rows chosen place job candidate = (candidate.is_chosen ≡ is_selected chosen place)
-    × IsCurrentVerdictIfRun known root rows job (row_or_none (slice_get rows place)) candidate.standing
+IsCandidateAt contents root rows chosen place job candidate = (candidate.is_chosen ≡ is_selected chosen place)
+    × IsCurrentVerdictIfRun contents root rows job (row_or_none (slice_get rows place)) candidate.verdict
 
 -- ---- all jobs
 
 -- `candidates` has a candidate for each job of the list, at the index of the job
-pub record AreCandidates (known : Option FileContents) (root : Option (List ℕ)) (rows : List (Option Row)) (jobs : List Job)
+pub record AreCandidates (contents : Option FileContents) (root : Option (List ℕ)) (rows : List (Option Row)) (jobs : List Job)
     (chosen : List Bool) (candidates : List Candidate) : Type 0 where
   pub counted : length candidates ≡ length jobs
   pub each : (place : ℕ) (job : Job) (candidate : Candidate) → slice_get jobs place ≡ Some job
-      → slice_get candidates place ≡ Some candidate → IsCandidateAt known root rows chosen place job candidate
+      → slice_get candidates place ≡ Some candidate → IsCandidateAt contents root rows chosen place job candidate

@@ -9,7 +9,7 @@ use Rattle.rv_command.specs.Messages.{path_message}
 use Rattle.rv_command.specs.Stops.{IsStop, IsSystemStop}
 use Rattle.rv_command.specs.Texts.{IsTextAt, optional_text}
 use Rattle.rv_command.specs.declared.stop.Stop.{Stop}
-use Rattle.rv_command.specs.declared.stop.Stop.TheVariants as stop
+use Rattle.rv_command.specs.declared.stop.Stop.TheVariants as stops
 use Rattle.rv_expect.specs.Judgement.{judge_by_rule}
 use Rattle.rv_expect.specs.declared.rule.Rule.TheVariants.{Strict}
 use Rattle.rv_files.specs.UnreadablePaths.{contents_below, resolved_path}
@@ -46,12 +46,12 @@ job_start_state plan place =
 
 -- `session` debugs the run of the job at index `place`, with the files that it needs read from the store and its image's path resolved
 -- against `root`; `end_text` is the text that `run` prints about the job
-pub record IsJobOpened (known : Option FileContents) (root : Option (List ℕ)) (jobs : List Job) (place : ℕ) (end_text : List ℕ)
+pub record IsJobOpened (contents : Option FileContents) (root : Option (List ℕ)) (jobs : List Job) (place : ℕ) (end_text : List ℕ)
     (session : Session) : Type 0 where
   pub plan : PlanView
   pub listed : plan.jobs ≡ jobs
   pub paths : paths_of plan.answers ≡ paths_used (jobs_needed_for jobs (place ∷ []))
-  pub kept : AgreeWithContents known plan.answers
+  pub kept : AgreeWithContents contents plan.answers
   pub unread : List UnreadablePath
   pub noted : HasEntryPerUnreadable plan.answers unread
   pub over : (d : Job) → IsSessionOf plan.answers (slice_index_or plan.jobs place d)
@@ -60,27 +60,27 @@ pub record IsJobOpened (known : Option FileContents) (root : Option (List ℕ)) 
 
 -- `session` debugs the first job of the requested name in the list with the text `bytes`, and `end_text` is the text that `run` prints
 -- about this job
-pub record IsSessionOpenedOf (known : Option FileContents) (words : GdbArgs) (bytes end_text : List ℕ) (session : Session) : Type 0 where
+pub record IsSessionOpenedOf (contents : Option FileContents) (args : GdbArgs) (bytes end_text : List ℕ) (session : Session) : Type 0 where
   pub jobs : List Job
   pub listed : job_list_of bytes ≡ Ok jobs
   pub place : ℕ
-  pub first : IsFirstJobNamed jobs words.name.now place
-  pub of_job : IsJobOpened (contents_below (optional_text words.root) known) (optional_text words.root) jobs place end_text session
+  pub first : IsFirstJobNamed jobs args.name.now place
+  pub of_job : IsJobOpened (contents_below (optional_text args.root) contents) (optional_text args.root) jobs place end_text session
 
 -- `session` debugs the job that the arguments name, in the list at their path, and `end_text` is the text that `run` prints about this job
-pub record IsSessionOpenedAt (known : Option FileContents) (words : GdbArgs) (end_text : List ℕ) (session : Session) : Type 0 where
+pub record IsSessionOpenedAt (contents : Option FileContents) (args : GdbArgs) (end_text : List ℕ) (session : Session) : Type 0 where
   pub bytes : List ℕ
-  pub read : IsTextAt known words.list.now bytes
-  pub of_list : IsSessionOpenedOf known words bytes end_text session
+  pub read : IsTextAt contents args.list.now bytes
+  pub of_list : IsSessionOpenedOf contents args bytes end_text session
 
 -- `gdb` read bytes of standard input until the session or the input ended, and wrote only the session's responses to standard output, which
 -- is not a terminal
-pub record IsGdbServed (known : Option FileContents) (is_terminal : Bool) (words : GdbArgs) (input rest : Option (List ℕ))
+pub record IsGdbServed (contents : Option FileContents) (is_terminal : Bool) (args : GdbArgs) (input rest : Option (List ℕ))
     (status : ℕ) (before after : CommandOutputs) : Type 0 where
   pub spoken : is_terminal ≡ false
   pub end_text : List ℕ
   pub first : Session
-  pub opened : IsSessionOpenedAt known words end_text first
+  pub opened : IsSessionOpenedAt contents args end_text first
   -- the bytes that were read
   pub received : List ℕ
   pub read : Consumes input rest received
@@ -102,38 +102,38 @@ pub record IsGdbServed (known : Option FileContents) (is_terminal : Bool) (words
 
 -- the stop reports that standard output is a terminal, and shows how gdb starts the command
 abbrev pub IsNoGdbStop : Stop → Type 0
-IsNoGdbStop why = IsStop 2 (path_message (codes "standard output")
-    (codes "expected gdb, found a terminal; run gdb-multiarch -ex 'target remote | rvtest gdb LIST NAME'")) why
+IsNoGdbStop stop = IsStop 2 (path_message (codes "standard output")
+    (codes "expected gdb, found a terminal; run gdb-multiarch -ex 'target remote | rvtest gdb LIST NAME'")) stop
 
 -- the stop reports that the job at index `place` is refused; its message is the job's result line
-pub record IsRefusedJobStop (known : Option FileContents) (jobs : List Job) (place : ℕ) (why : Stop) : Type 0 where
+pub record IsRefusedJobStop (contents : Option FileContents) (jobs : List Job) (place : ℕ) (stop : Stop) : Type 0 where
   pub plan : PlanView
   pub listed : plan.jobs ≡ jobs
   pub paths : paths_of plan.answers ≡ paths_used (jobs_needed_for jobs (place ∷ []))
-  pub kept : AgreeWithContents known plan.answers
+  pub kept : AgreeWithContents contents plan.answers
   pub unread : List UnreadablePath
   pub noted : HasEntryPerUnreadable plan.answers unread
   pub refused : (d : Job) → is_ok (start_state_in plan.answers (slice_index_or plan.jobs place d)) ≡ false
   pub told : (d : Job) → IsStop 2 (row_line plan unread (judge_by_rule Strict) (slice_index_or plan.jobs place d)
-      (row_of plan (slice_index_or plan.jobs place d))) why
+      (row_of plan (slice_index_or plan.jobs place d))) stop
 
 -- why a command stopped: memory ran out, or the job at index `place` is refused
 abbrev pub IsUnopenedJobStop : Option FileContents → List Job → ℕ → Stop → Type 0
-IsUnopenedJobStop known jobs place why = (why ≡ stop.OutOfMemory) ⊎ IsRefusedJobStop known jobs place why
+IsUnopenedJobStop contents jobs place stop = (stop ≡ stops.OutOfMemory) ⊎ IsRefusedJobStop contents jobs place stop
 
 -- why a command stopped: memory ran out, or the first job of the requested name in the list with the text `bytes` is refused
-pub record IsUnopenedJobOfTextStop (known : Option FileContents) (words : GdbArgs) (bytes : List ℕ) (why : Stop) : Type 0 where
+pub record IsUnopenedJobOfTextStop (contents : Option FileContents) (args : GdbArgs) (bytes : List ℕ) (stop : Stop) : Type 0 where
   pub jobs : List Job
   pub listed : job_list_of bytes ≡ Ok jobs
   pub place : ℕ
-  pub first : IsFirstJobNamed jobs words.name.now place
-  pub refused : IsRefusedJobStop (contents_below (optional_text words.root) known) jobs place why
+  pub first : IsFirstJobNamed jobs args.name.now place
+  pub refused : IsRefusedJobStop (contents_below (optional_text args.root) contents) jobs place stop
 
 -- the stop for an error of the session: memory ran out, standard input could not be read, or a write failed
 abbrev pub IsSessionErrorStop : SessionError → Stop → Type 0
-IsSessionErrorStop broken.OutOfMemory why = why ≡ stop.OutOfMemory
-IsSessionErrorStop (broken.ReadFailed reason) why = IsSystemStop (codes "standard input") reason why
-IsSessionErrorStop broken.ReplyWriteFailed why = why ≡ stop.WriteFailed
+IsSessionErrorStop broken.OutOfMemory stop = stop ≡ stops.OutOfMemory
+IsSessionErrorStop (broken.ReadFailed reason) stop = IsSystemStop (codes "standard input") reason stop
+IsSessionErrorStop broken.ReplyWriteFailed stop = stop ≡ stops.WriteFailed
 
 -- `before` and `after` count the failed writes: `after` is one more if a failed write ended the session, and equal to `before` if another
 -- error did

@@ -2,7 +2,7 @@
 use Rattle.std.specs.Prelude.{◌≡◌, ◌⊎◌, ◌++◌, ℕ, List, codes}
 use Rattle.rv_command.specs.Stops.{IsStop}
 use Rattle.rv_command.specs.declared.stop.Stop.{Stop}
-use Rattle.rv_command.specs.declared.stop.Stop.TheVariants as stop
+use Rattle.rv_command.specs.declared.stop.Stop.TheVariants as stops
 use Rattle.rv_job_text.specs.Printable.{printable_value}
 use Rattle.rvtest_app.specs.declared.list_keys.TheConstants.{LIST_KEYS}
 
@@ -21,5 +21,5 @@ no_topic_message topic = codes "rvtest: unknown help topic \"" ++ printable_valu
 
 -- why `help` stopped: memory ran out, or the topic is unknown and the message names it
 abbrev pub IsNoTopicStop : List ℕ → Stop → Type 0
-IsNoTopicStop topic why = (why ≡ stop.OutOfMemory)
-    ⊎ ((topic ≡ keys_topic → ⊥) × IsStop 2 (no_topic_message topic) why)
+IsNoTopicStop topic stop = (stop ≡ stops.OutOfMemory)
+    ⊎ ((topic ≡ keys_topic → ⊥) × IsStop 2 (no_topic_message topic) stop)

@@ -28,13 +28,13 @@ pub record IsWholeReport (jobs : List Job) (report : SavedReport) : Type 0 where
 
 -- `rows` are the rows of a report of the whole list, and this report is at the path
 abbrev pub IsWholeReportAt : Option FileContents → List ℕ → List Job → List Row → Type 0
-IsWholeReportAt known path jobs rows = (report : SavedReport) × (IsReportAt known path report
+IsWholeReportAt contents path jobs rows = (report : SavedReport) × (IsReportAt contents path report
     × (IsWholeReport jobs report × (rows ≡ report.rows)))
 
 -- `old` are the rows of the report of `--into`, which the run updates; none without `--into`
 abbrev pub AreOldRows : Option FileContents → RunArgs → List Job → Option (List Row) → Type 0
-AreOldRows known words jobs old = MatchOption words.into (old ≡ None)
-    (λ path. IsSomeAnd old (IsWholeReportAt known path.now jobs))
+AreOldRows contents args jobs old = MatchOption args.into (old ≡ None)
+    (λ path. IsSomeAnd old (IsWholeReportAt contents path.now jobs))
 
 -- ---- the updated report
 
@@ -66,9 +66,9 @@ run_report_rest None jobs places shard rows = chosen_last_line jobs places shard
 
 -- the path of the report to write: the path of `--into`, or else the path of `--report`
 abbrev pub run_report_path : RunArgs → Option (List ℕ)
-run_report_path words = option_or (optional_text words.into) (optional_text words.report)
+run_report_path args = option_or (optional_text args.into) (optional_text args.report)
 
 -- whether the report, the JUnit XML or the table of counts goes to standard output
 abbrev pub uses_run_stdout : RunArgs → Bool
-uses_run_stdout words = (is_stdout_at (run_report_path words) || is_stdout_at (optional_text words.junit))
-    || is_stdout_at (optional_text words.counts)
+uses_run_stdout args = (is_stdout_at (run_report_path args) || is_stdout_at (optional_text args.junit))
+    || is_stdout_at (optional_text args.counts)

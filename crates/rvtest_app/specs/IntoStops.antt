@@ -77,11 +77,11 @@ IsNotWholeBecause jobs report (other.Name name) = (report.extent ≡ extent.Whol
 
 -- why a command stopped: the report at `path` could not be read, or it is not a report of all jobs of the list at `list`
 abbrev pub IsNotWholeReportStop : Option FileContents → List ℕ → List ℕ → List Job → Stop → Type 0
-IsNotWholeReportStop known path list jobs why = IsReportReadStop known path why
-    ⊎ ((report : SavedReport) × (IsReportAt known path report
-    × ((other : NotWholeReason) × (IsNotWholeBecause jobs report other × IsStop 2 (not_whole_message path list other) why))))
+IsNotWholeReportStop contents path list jobs stop = IsReportReadStop contents path stop
+    ⊎ ((report : SavedReport) × (IsReportAt contents path report
+    × ((other : NotWholeReason) × (IsNotWholeBecause jobs report other × IsStop 2 (not_whole_message path list other) stop))))
 
 -- why a run with `--into` stopped: the report at its path could not be read, or is not a report of all jobs of the list
 abbrev pub IsIntoStop : Option FileContents → RunArgs → List Job → Stop → Type 0
-IsIntoStop known words jobs why =
-    IsSomeAnd words.into (λ path. IsNotWholeReportStop known path.now words.list.now jobs why)
+IsIntoStop contents args jobs stop =
+    IsSomeAnd args.into (λ path. IsNotWholeReportStop contents path.now args.list.now jobs stop)

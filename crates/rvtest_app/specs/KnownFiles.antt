@@ -13,16 +13,16 @@ use Rattle.rv_rows.specs.declared_job.Job.{Job}
 use Rattle.rv_job_text.specs.Printable.{printable_text, printable_value}
 
 -- `known` has the path of a file of known failures, and which of the jobs this file lists
-pub record IsKnownFile (files : Option FileContents) (path : List ℕ) (jobs : List Job) (known : KnownJobs) : Type 0 where
+pub record IsKnownFile (contents : Option FileContents) (path : List ℕ) (jobs : List Job) (known : KnownJobs) : Type 0 where
   pub bytes : List ℕ
-  pub read : IsTextAt files path bytes
+  pub read : IsTextAt contents path bytes
   pub named : known_jobs_of (names_of_jobs jobs) bytes ≡ Ok known.jobs
   pub named_by : known.path ≡ path
 
 -- `known` are the known failures that the file at the path of `--known` lists; `None` without a path
 abbrev pub IsKnownAt : Option FileContents → Option (List ℕ) → List Job → Option KnownJobs → Type 0
-IsKnownAt files None jobs known = known ≡ None
-IsKnownAt files (Some path) jobs known = IsSomeAnd known (IsKnownFile files path jobs)
+IsKnownAt contents None jobs known = known ≡ None
+IsKnownAt contents (Some path) jobs known = IsSomeAnd known (IsKnownFile contents path jobs)
 
 -- ---- errors in the file
 

@@ -27,24 +27,24 @@ chosen_name_lines jobs None = []
 chosen_name_lines jobs (Some selection) = name_lines jobs (selected_job_indices selection)
 
 -- `names` is the text that `list` prints for the list with the text `bytes`, and `notes` are the notes about the choice of jobs
-pub record IsListOutputOf (known : Option FileContents) (words : RunArgs) (bytes names notes : List ℕ) : Type 0 where
+pub record IsListOutputOf (contents : Option FileContents) (args : RunArgs) (bytes names notes : List ℕ) : Type 0 where
   pub jobs : List Job
   pub listed : job_list_of bytes ≡ Ok jobs
   pub selection : Option (List Bool)
-  pub chosen : IsChoice known words (failure_rule words.lenient) jobs selection notes
+  pub chosen : IsChoice contents args (failure_rule args.lenient) jobs selection notes
   pub named : names ≡ chosen_name_lines jobs selection
 
 -- `names` is the text that `list` prints for the list at the path in the arguments, and `notes` are the notes about the choice of jobs
-pub record IsListOutputAt (known : Option FileContents) (words : RunArgs) (names notes : List ℕ) : Type 0 where
+pub record IsListOutputAt (contents : Option FileContents) (args : RunArgs) (names notes : List ℕ) : Type 0 where
   pub bytes : List ℕ
-  pub read : IsTextAt known words.list.now bytes
-  pub of : IsListOutputOf known words bytes names notes
+  pub read : IsTextAt contents args.list.now bytes
+  pub of : IsListOutputOf contents args bytes names notes
 
 -- the notes about the choice went to standard error, and then the names to standard output; the status is 0
-pub record IsListWritten (known : Option FileContents) (words : RunArgs) (status : ℕ) (before after : CommandOutputs) : Type 0 where
+pub record IsListWritten (contents : Option FileContents) (args : RunArgs) (status : ℕ) (before after : CommandOutputs) : Type 0 where
   pub names : List ℕ
   pub notes : List ℕ
-  pub are : IsListOutputAt known words names notes
+  pub are : IsListOutputAt contents args names notes
   pub middle : CommandOutputs
   pub told : IsOnlyErrorOutput notes before middle
   pub put : IsOnlyStandardOutput names middle after

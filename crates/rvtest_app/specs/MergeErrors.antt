@@ -8,7 +8,7 @@ use Rattle.rv_command.specs.InvalidLines.{invalid_line_message}
 use Rattle.rv_command.specs.declared.invalid_line.ResultKind.TheVariants as expected
 use Rattle.rv_command.specs.Stops.{IsStop}
 use Rattle.rv_command.specs.declared.stop.Stop.{Stop}
-use Rattle.rv_command.specs.declared.stop.Stop.TheVariants as stop
+use Rattle.rv_command.specs.declared.stop.Stop.TheVariants as stops
 use Rattle.rv_merge.specs.Parts.{nth_text}
 use Rattle.rv_merge.specs.Refusals.{HasMergeError}
 use Rattle.rv_merge.specs.declared.error.Flaw.{Flaw}
@@ -47,14 +47,14 @@ flaw_message parts path text (flaw.RepeatedName number) =
 
 -- the stop reports this error of `merge`, or that memory ran out; `parts` are the paths and `texts` the contents of the parts
 abbrev pub IsMergeErrorStop : List (Bor (List ℕ)) → List (List ℕ) → MergeError → Stop → Type 0
-IsMergeErrorStop parts texts error.OutOfMemory why = why ≡ stop.OutOfMemory
-IsMergeErrorStop parts texts error.NoTexts why = IsStop 2 (codes "rvtest: expected at least one part\n") why
-IsMergeErrorStop parts texts (error.Text place flaw) why =
-    IsStop 2 (flaw_message parts (part_path parts place) (nth_text texts place) flaw) why
-IsMergeErrorStop parts texts (error.Missing number) why =
-    IsStop 2 (codes "rvtest: no part for shard " ++ decimal number ++ codes "\n") why
+IsMergeErrorStop parts texts error.OutOfMemory stop = stop ≡ stops.OutOfMemory
+IsMergeErrorStop parts texts error.NoTexts stop = IsStop 2 (codes "rvtest: expected at least one part\n") stop
+IsMergeErrorStop parts texts (error.Text place flaw) stop =
+    IsStop 2 (flaw_message parts (part_path parts place) (nth_text texts place) flaw) stop
+IsMergeErrorStop parts texts (error.Missing number) stop =
+    IsStop 2 (codes "rvtest: no part for shard " ++ decimal number ++ codes "\n") stop
 
 -- why `merge` stopped: memory ran out, or the texts are not the parts of one run, for a reason that the stop reports
 abbrev pub IsPartsErrorStop : List (Bor (List ℕ)) → List (List ℕ) → Stop → Type 0
-IsPartsErrorStop parts texts why = (why ≡ stop.OutOfMemory)
-    ⊎ ((error : MergeError) × HasMergeError texts error × IsMergeErrorStop parts texts error why)
+IsPartsErrorStop parts texts stop = (stop ≡ stops.OutOfMemory)
+    ⊎ ((error : MergeError) × HasMergeError texts error × IsMergeErrorStop parts texts error stop)

@@ -18,9 +18,9 @@ use Rattle.rvtest_app.specs.CommandOutputs.{CommandOutputs}
 
 -- the texts are the contents of the files at the paths, in order
 abbrev pub AreTextsAt : Option FileContents → List (Bor (List ℕ)) → List (List ℕ) → Type 0
-AreTextsAt known [] [] = ⊤
-AreTextsAt known (path ∷ paths) (text ∷ texts) = IsTextAt known path.now text × AreTextsAt known paths texts
-AreTextsAt known _ _ = ⊥
+AreTextsAt contents [] [] = ⊤
+AreTextsAt contents (path ∷ paths) (text ∷ texts) = IsTextAt contents path.now text × AreTextsAt contents paths texts
+AreTextsAt contents _ _ = ⊥
 
 -- the path of the merged report: the path of `--report`, or else `-` (standard output), or `None` if the JUnit XML goes to standard output
 abbrev pub merged_report_path : Option (List ℕ) → Option (List ℕ) → Option (List ℕ)
@@ -35,30 +35,30 @@ merged_suite suite None = unwrap_or suite (codes "merged")
 
 -- the JUnit document of the merged rows
 abbrev pub merged_junit : MergeArgs → List Row → List ℕ
-merged_junit words rows = failures_junit (merged_suite (optional_text words.suite) (optional_text words.report))
-    (report_judging words.lenient) rows
+merged_junit args rows = failures_junit (merged_suite (optional_text args.suite) (optional_text args.report))
+    (report_judging args.lenient) rows
 
 -- `merge` read the parts at the paths in the arguments, and wrote the summary line, the report and the JUnit XML of their rows
-pub record IsMergedAt (known : Option FileContents) (words : MergeArgs) (status : ℕ) (before after : CommandOutputs)
+pub record IsMergedAt (contents : Option FileContents) (args : MergeArgs) (status : ℕ) (before after : CommandOutputs)
     : Type 0 where
   pub texts : List (List ℕ)
-  pub read : AreTextsAt known words.parts.items texts
+  pub read : AreTextsAt contents args.parts.items texts
   pub rows : List Row
   pub parts : AreParts rows texts
-  pub judged : status ≡ rows_status (report_judging words.lenient) rows
-  pub put : IsOutputWritten (merged_report_path (optional_text words.report) (optional_text words.junit))
-      (optional_text words.junit) (totals_line (report_judging words.lenient) rows) (report_text rows)
-      (merged_junit words rows) before after
+  pub judged : status ≡ rows_status (report_judging args.lenient) rows
+  pub put : IsOutputWritten (merged_report_path (optional_text args.report) (optional_text args.junit))
+      (optional_text args.junit) (totals_line (report_judging args.lenient) rows) (report_text rows)
+      (merged_junit args rows) before after
 
 -- of the output files of `merge`, only the JUnit document was committed
-pub record IsMergedJunitAlone (known : Option FileContents) (words : MergeArgs) (before after : Option (List CommittedFile))
+pub record IsMergedJunitAlone (contents : Option FileContents) (args : MergeArgs) (before after : Option (List CommittedFile))
     : Type 0 where
   pub texts : List (List ℕ)
-  pub read : AreTextsAt known words.parts.items texts
+  pub read : AreTextsAt contents args.parts.items texts
   pub rows : List Row
   pub parts : AreParts rows texts
-  pub placed : AreFilesCommitted before after (Some (file_at (optional_text words.junit) (merged_junit words rows)))
+  pub placed : AreFilesCommitted before after (Some (file_at (optional_text args.junit) (merged_junit args rows)))
 
 -- after an error, `merge` has committed no file, or only the JUnit document
 abbrev pub IsAbortedMergeAt : Option FileContents → MergeArgs → Option (List CommittedFile) → Option (List CommittedFile) → Type 0
-IsAbortedMergeAt known words before after = (after ≡ before) ⊎ IsMergedJunitAlone known words before after
+IsAbortedMergeAt contents args before after = (after ≡ before) ⊎ IsMergedJunitAlone contents args before after

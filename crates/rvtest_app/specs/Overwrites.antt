@@ -14,7 +14,7 @@ use Rattle.rvtest_cli.specs.declared.show.ShowArgs.{ShowArgs}
 use Rattle.rv_command.specs.Stops.{IsStop}
 use Rattle.rv_command.specs.Texts.{IsTextAt, optional_text}
 use Rattle.rv_command.specs.declared.stop.Stop.{Stop}
-use Rattle.rv_command.specs.declared.stop.Stop.TheVariants as stop
+use Rattle.rv_command.specs.declared.stop.Stop.TheVariants as stops
 use Rattle.rv_files.specs.CommittedFiles.{CommittedFile}
 use Rattle.rv_files.specs.UnreadablePaths.{resolved_path}
 use Rattle.rv_rows.specs.JobList.{job_list_of}
@@ -82,15 +82,15 @@ overwrite_message option path role read = overwrite_prefix option path ++ role +
 
 -- the stop reports that `option`, with the path `path`, would overwrite some input, or that memory ran out
 abbrev pub IsOverwriteReported : List ℕ → List ℕ → Stop → Type 0
-IsOverwriteReported option path why = (role : List ℕ) × (read : List ℕ) × IsStop 2 (overwrite_message option path role read) why
+IsOverwriteReported option path stop = (role : List ℕ) × (read : List ℕ) × IsStop 2 (overwrite_message option path role read) stop
 
 -- why a command stopped: `option` would overwrite an input, or it could not be found out to which file its path leads
 abbrev pub IsOverwriteStop : List ℕ → List ℕ → Stop → Type 0
-IsOverwriteStop option path why = IsUnopenedJobStop path why ⊎ IsOverwriteReported option path why
+IsOverwriteStop option path stop = IsUnopenedJobStop path stop ⊎ IsOverwriteReported option path stop
 
 -- why a command stopped: the option names a file, and would overwrite an input, or it could not be found out to which file its path leads
 abbrev pub IsOptionOverwriteStop : List ℕ → Option (List ℕ) → Stop → Type 0
-IsOptionOverwriteStop option path why = IsSomeAnd (file_path_at path) (λ path. IsOverwriteStop option path why)
+IsOptionOverwriteStop option path stop = IsSomeAnd (file_path_at path) (λ path. IsOverwriteStop option path stop)
 
 -- ---- the files of a run
 
@@ -105,38 +105,38 @@ paths_of_job root job = resolved_path root job.image ∷ golden_paths_of_job roo
 
 -- the files that a run must not write: its list, the file of `--known`, and the files of all jobs of the list
 abbrev pub inputs_of_run : RunArgs → List Job → List (List ℕ)
-inputs_of_run words jobs = words.list.now ∷ option_to_list (optional_text words.known)
-    ++ flat_map (paths_of_job (optional_text words.root)) jobs
+inputs_of_run args jobs = args.list.now ∷ option_to_list (optional_text args.known)
+    ++ flat_map (paths_of_job (optional_text args.root)) jobs
 
 -- a list with the path of the report of `--failed`; empty if the option is not given
 abbrev pub failed_report_path : RunArgs → List (List ℕ)
-failed_report_path words = option_to_list (optional_text words.failed)
+failed_report_path args = option_to_list (optional_text args.failed)
 
 -- the paths of the reports that a run reads, of `--failed` and of `--into`
 abbrev pub report_paths_of_run : RunArgs → List (List ℕ)
-report_paths_of_run words = failed_report_path words ++ option_to_list (optional_text words.into)
+report_paths_of_run args = failed_report_path args ++ option_to_list (optional_text args.into)
 
 -- no output file of a run is a report that it reads, except that `--into` and `--failed` may name one report
-pub record AreReportsPreserved (words : RunArgs) : Type 0 where
-  pub report : IsNoInputIfFile (failed_report_path words) (optional_text words.report)
-  pub junit : IsNoInputIfFile (report_paths_of_run words) (optional_text words.junit)
-  pub counts : IsNoInputIfFile (report_paths_of_run words) (optional_text words.counts)
+pub record AreReportsPreserved (args : RunArgs) : Type 0 where
+  pub report : IsNoInputIfFile (failed_report_path args) (optional_text args.report)
+  pub junit : IsNoInputIfFile (report_paths_of_run args) (optional_text args.junit)
+  pub counts : IsNoInputIfFile (report_paths_of_run args) (optional_text args.counts)
 
 -- no output file of a run is one of its inputs
-pub record AreRunFilesNoInputs (words : RunArgs) (jobs : List Job) : Type 0 where
-  pub report : IsNoInputIfFile (inputs_of_run words jobs) (optional_text words.report)
-  pub junit : IsNoInputIfFile (inputs_of_run words jobs) (optional_text words.junit)
-  pub counts : IsNoInputIfFile (inputs_of_run words jobs) (optional_text words.counts)
-  pub into : IsNoInputIfFile (inputs_of_run words jobs) (optional_text words.into)
-  pub reports : AreReportsPreserved words
+pub record AreRunFilesNoInputs (args : RunArgs) (jobs : List Job) : Type 0 where
+  pub report : IsNoInputIfFile (inputs_of_run args jobs) (optional_text args.report)
+  pub junit : IsNoInputIfFile (inputs_of_run args jobs) (optional_text args.junit)
+  pub counts : IsNoInputIfFile (inputs_of_run args jobs) (optional_text args.counts)
+  pub into : IsNoInputIfFile (inputs_of_run args jobs) (optional_text args.into)
+  pub reports : AreReportsPreserved args
 
 -- why a command stopped: memory ran out, or an output file of a run would overwrite an input
 abbrev pub IsRunOverwriteStop : RunArgs → Stop → Type 0
-IsRunOverwriteStop words why = (why ≡ stop.OutOfMemory)
-    ⊎ (IsOptionOverwriteStop (codes "--report") (optional_text words.report) why
-    ⊎ (IsOptionOverwriteStop (codes "--junit") (optional_text words.junit) why
-    ⊎ (IsOptionOverwriteStop (codes "--counts") (optional_text words.counts) why
-    ⊎ IsOptionOverwriteStop (codes "--into") (optional_text words.into) why)))
+IsRunOverwriteStop args stop = (stop ≡ stops.OutOfMemory)
+    ⊎ (IsOptionOverwriteStop (codes "--report") (optional_text args.report) stop
+    ⊎ (IsOptionOverwriteStop (codes "--junit") (optional_text args.junit) stop
+    ⊎ (IsOptionOverwriteStop (codes "--counts") (optional_text args.counts) stop
+    ⊎ IsOptionOverwriteStop (codes "--into") (optional_text args.into) stop)))
 
 -- the statement `Apart` holds, unless no file was committed (`after` is `before`) or committed files are not reported
 abbrev pub HoldsIfCommitted : Type 0 → Option (List CommittedFile) → Option (List CommittedFile) → Type 0
@@ -144,9 +144,9 @@ HoldsIfCommitted Apart before after = (after ≡ before) ⊎ IfSome before (λ _
 
 -- a run committed no file, or its output files are not among its inputs
 abbrev pub AreRunInputsPreserved : Option FileContents → RunArgs → Option (List CommittedFile) → Option (List CommittedFile) → Type 0
-AreRunInputsPreserved known words before after = (after ≡ before)
-    ⊎ ((text : List ℕ) × (jobs : List Job) × (IsTextAt known words.list.now text × ((job_list_of text ≡ Ok jobs)
-    × IfSome before (λ _. AreRunFilesNoInputs words jobs))))
+AreRunInputsPreserved contents args before after = (after ≡ before)
+    ⊎ ((text : List ℕ) × (jobs : List Job) × (IsTextAt contents args.list.now text × ((job_list_of text ≡ Ok jobs)
+    × IfSome before (λ _. AreRunFilesNoInputs args jobs))))
 
 -- ---- the files of accept
 
@@ -156,7 +156,7 @@ image_paths root job = resolved_path root job.image ∷ []
 
 -- the files that `accept` must not write, apart from the list: the report of `--failed`, and the images of all jobs
 abbrev pub inputs_of_accept : AcceptArgs → List Job → List (List ℕ)
-inputs_of_accept words jobs = failed_report_path words.run ++ flat_map (image_paths (optional_text words.run.root)) jobs
+inputs_of_accept args jobs = failed_report_path args.run ++ flat_map (image_paths (optional_text args.run.root)) jobs
 
 -- the paths of the golden files of the selected jobs, resolved against `root`
 unfoldable pub golden_paths_of_selected : Option (List ℕ) → List Job → List Bool → List (List ℕ)
@@ -174,10 +174,10 @@ abbrev pub is_golden_input : List (List ℕ) → InputPath → Bool
 is_golden_input read golden = is_read read (path_buf_bytes golden.path)
 
 -- `accept` overwrites no input: the list is not another input, and no golden file of a selected job is the list or an input
-pub record AreAcceptFilesNoInputs (words : AcceptArgs) (jobs : List Job) (selection : List Bool) : Type 0 where
-  pub list : IsNoInput (inputs_of_accept words jobs) words.run.list.now
-  pub no_list : list_any (is_read (words.run.list.now ∷ [])) (golden_paths_of_selected (optional_text words.run.root) jobs selection) ≡ false
-  pub no_input : list_any (is_read (inputs_of_accept words jobs)) (golden_paths_of_selected (optional_text words.run.root) jobs selection) ≡ false
+pub record AreAcceptFilesNoInputs (args : AcceptArgs) (jobs : List Job) (selection : List Bool) : Type 0 where
+  pub list : IsNoInput (inputs_of_accept args jobs) args.run.list.now
+  pub no_list : list_any (is_read (args.run.list.now ∷ [])) (golden_paths_of_selected (optional_text args.run.root) jobs selection) ≡ false
+  pub no_input : list_any (is_read (inputs_of_accept args jobs)) (golden_paths_of_selected (optional_text args.run.root) jobs selection) ≡ false
 
 -- the beginning of a message about a golden file outside of the directory: `head`, and `role`, which describes the file
 abbrev pub outside_prefix : List ℕ → List ℕ → List ℕ
@@ -202,59 +202,59 @@ outside_message role path directory = outside_text (codes "rvtest: ") role path 
 
 -- the stop reports that the golden file at the path is outside of the directory, or that memory ran out
 abbrev pub IsOutsideStop : List ℕ → Stop → Type 0
-IsOutsideStop path why = (role : List ℕ) × (directory : List ℕ) × IsStop 2 (outside_message role path directory) why
+IsOutsideStop path stop = (role : List ℕ) × (directory : List ℕ) × IsStop 2 (outside_message role path directory) stop
 
 -- why a command stopped: memory ran out, or the file at the path, which `accept` would write, is an input, is outside of the directory, or
 -- could not be identified
 abbrev pub IsUnwritableStop : List ℕ → Stop → Type 0
-IsUnwritableStop path why = (why ≡ stop.OutOfMemory)
-    ⊎ (((role : List ℕ) × IsOverwriteStop role path why) ⊎ IsOutsideStop path why)
+IsUnwritableStop path stop = (stop ≡ stops.OutOfMemory)
+    ⊎ (((role : List ℕ) × IsOverwriteStop role path stop) ⊎ IsOutsideStop path stop)
 
 -- why a command stopped: memory ran out, or some file that `accept` would write is an input, is outside of the directory, or could not be
 -- identified
 abbrev pub IsAnyUnwritableStop : Stop → Type 0
-IsAnyUnwritableStop why = (path : List ℕ) × IsUnwritableStop path why
+IsAnyUnwritableStop stop = (path : List ℕ) × IsUnwritableStop path stop
 
 -- why a command stopped: memory ran out, or some file that `accept` would write is an input, is outside of the directory, or could not be
 -- identified
 abbrev pub IsAcceptOverwriteStop : Stop → Type 0
-IsAcceptOverwriteStop why = (why ≡ stop.OutOfMemory) ⊎ IsAnyUnwritableStop why
+IsAcceptOverwriteStop stop = (stop ≡ stops.OutOfMemory) ⊎ IsAnyUnwritableStop stop
 
 -- `accept` committed no file, or none of the files that it writes is among its inputs
 abbrev pub AreAcceptInputsPreserved : Option FileContents → AcceptArgs → Option (List CommittedFile) → Option (List CommittedFile) → Type 0
-AreAcceptInputsPreserved known words before after = (after ≡ before)
-    ⊎ ((text : List ℕ) × (jobs : List Job) × (chosen : List Bool) × (IsTextAt known words.run.list.now text
-    × ((job_list_of text ≡ Ok jobs) × IfSome before (λ _. AreAcceptFilesNoInputs words jobs (jobs_to_run jobs chosen)))))
+AreAcceptInputsPreserved contents args before after = (after ≡ before)
+    ⊎ ((text : List ℕ) × (jobs : List Job) × (chosen : List Bool) × (IsTextAt contents args.run.list.now text
+    × ((job_list_of text ≡ Ok jobs) × IfSome before (λ _. AreAcceptFilesNoInputs args jobs (jobs_to_run jobs chosen)))))
 
 -- ---- the files of the other commands
 
 -- the paths in the arguments, as a list
 abbrev pub paths_of_args : List (Bor (List ℕ)) → List (List ℕ)
-paths_of_args words = map (λ (word : Bor (List ℕ)). word.now) words
+paths_of_args args = map (λ (word : Bor (List ℕ)). word.now) args
 
 -- no output file of `merge` is one of its parts
 abbrev pub AreMergeFilesNoInputs : MergeArgs → Type 0
-AreMergeFilesNoInputs words = IsNoInputIfFile (paths_of_args words.parts.items) (optional_text words.report)
-    × IsNoInputIfFile (paths_of_args words.parts.items) (optional_text words.junit)
+AreMergeFilesNoInputs args = IsNoInputIfFile (paths_of_args args.parts.items) (optional_text args.report)
+    × IsNoInputIfFile (paths_of_args args.parts.items) (optional_text args.junit)
 
 -- why a command stopped: memory ran out, or an output file of `merge` would overwrite a part
 abbrev pub IsMergeOverwriteStop : MergeArgs → Stop → Type 0
-IsMergeOverwriteStop words why = (why ≡ stop.OutOfMemory)
-    ⊎ (IsOptionOverwriteStop (codes "--report") (optional_text words.report) why
-    ⊎ IsOptionOverwriteStop (codes "--junit") (optional_text words.junit) why)
+IsMergeOverwriteStop args stop = (stop ≡ stops.OutOfMemory)
+    ⊎ (IsOptionOverwriteStop (codes "--report") (optional_text args.report) stop
+    ⊎ IsOptionOverwriteStop (codes "--junit") (optional_text args.junit) stop)
 
 -- the JUnit file of `show` is not the report
 abbrev pub IsShowFileNoInput : ShowArgs → Type 0
-IsShowFileNoInput words = IsNoInputIfFile (words.report.now ∷ []) (optional_text words.junit)
+IsShowFileNoInput args = IsNoInputIfFile (args.report.now ∷ []) (optional_text args.junit)
 
 -- why a command stopped: memory ran out, or the JUnit file of `show` would overwrite the report
 abbrev pub IsShowOverwriteStop : ShowArgs → Stop → Type 0
-IsShowOverwriteStop words why = (why ≡ stop.OutOfMemory) ⊎ IsOptionOverwriteStop (codes "--junit") (optional_text words.junit) why
+IsShowOverwriteStop args stop = (stop ≡ stops.OutOfMemory) ⊎ IsOptionOverwriteStop (codes "--junit") (optional_text args.junit) stop
 
 -- the output file of `counts` is not one of its tables
 abbrev pub IsSumFileNoInput : CountsArgs → Type 0
-IsSumFileNoInput words = IsNoInputIfFile (paths_of_args words.tables.items) (optional_text words.out)
+IsSumFileNoInput args = IsNoInputIfFile (paths_of_args args.tables.items) (optional_text args.out)
 
 -- why a command stopped: memory ran out, or the output file of `counts` would overwrite a table
 abbrev pub IsSumOverwriteStop : CountsArgs → Stop → Type 0
-IsSumOverwriteStop words why = (why ≡ stop.OutOfMemory) ⊎ IsOptionOverwriteStop (codes "--out") (optional_text words.out) why
+IsSumOverwriteStop args stop = (stop ≡ stops.OutOfMemory) ⊎ IsOptionOverwriteStop (codes "--out") (optional_text args.out) stop

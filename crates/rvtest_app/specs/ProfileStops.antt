@@ -9,4 +9,4 @@ use Rattle.rvtest_app.specs.declared.view.View.TheVariants as view
 
 -- why `profile` stopped: the requested jobs could not be found, or their profile could not be written
 abbrev pub IsProfileStop : Option FileContents → ProfileArgs → Stop → Type 0
-IsProfileStop known words why = IsViewStop known words.run (view.Profile (profile_format words)) why
+IsProfileStop contents args stop = IsViewStop contents args.run (view.Profile (profile_format args)) stop

@@ -9,8 +9,8 @@ use Rattle.rvtest_app.specs.declared.view.View.TheVariants as view
 
 -- the format of a profile: whether it is CSV, and the largest number of functions of each image
 abbrev pub profile_format : ProfileArgs → ProfileFormat
-profile_format words = record { csv = words.csv; top = words.top }
+profile_format args = record { csv = args.csv; top = args.top }
 
 -- the notes about the choice went to standard error, and then the profile of the requested jobs was written
 abbrev pub IsProfileWritten : Option FileContents → ProfileArgs → ℕ → CommandOutputs → CommandOutputs → Type 0
-IsProfileWritten known words status before after = IsViewWritten known words.run (view.Profile (profile_format words)) status before after
+IsProfileWritten contents args status before after = IsViewWritten contents args.run (view.Profile (profile_format args)) status before after

@@ -24,5 +24,5 @@ refused_lines judging plan unread places = flat_map (invalid_line judging plan u
 
 -- the note about missing images, which may be empty, and then the result lines of the refused jobs among the jobs at these indices
 abbrev pub refused_note : RunArgs → PlanView → List UnreadablePath → List ℕ → List ℕ
-refused_note words plan unread places = missing_images_note plan.jobs unread (length places) (optional_text words.root)
-    ++ refused_lines (report_judging words.lenient) plan unread places
+refused_note args plan unread places = missing_images_note plan.jobs unread (length places) (optional_text args.root)
+    ++ refused_lines (report_judging args.lenient) plan unread places

@@ -5,7 +5,7 @@ use Rattle.std.specs.declared.alloc.Global.{Global}
 use Rattle.std.specs.declared.io.ErrorKind.{ErrorKind}
 use Rattle.std.specs.declared.io.ErrorKind.TheVariants as io
 use Rattle.clap.specs.declared.error.kind.ErrorKind.{ErrorKind as WordsFault}
-use Rattle.clap.specs.declared.error.kind.ErrorKind.TheVariants as words
+use Rattle.clap.specs.declared.error.kind.ErrorKind.TheVariants as args_fault
 use Rattle.rv_files.specs.Counts.{one_more}
 use Rattle.rvtest_cli.specs.declared.diff.DiffArgs.{DiffArgs}
 use Rattle.rv_command.specs.Messages.{end_message}
@@ -14,7 +14,7 @@ use Rattle.rvtest_cli.specs.declared.args_error.ArgsError.TheVariants as error
 use Rattle.rv_command.specs.Stops.{IsRejectedWith, IsRequestedFaultStop, end_status}
 use Rattle.rv_command.specs.Texts.{IsReportRead}
 use Rattle.rv_command.specs.declared.stop.Stop.{Stop}
-use Rattle.rv_command.specs.declared.stop.Stop.TheVariants as stop
+use Rattle.rv_command.specs.declared.stop.Stop.TheVariants as stops
 use Rattle.rv_rows.specs.declared_partial.PartialReport.{PartialReport}
 use Rattle.rvtest_app.specs.CommandOutputs.{IsOnlyErrorOutput, CommandOutputs}
 
@@ -23,8 +23,8 @@ use Rattle.rvtest_app.specs.CommandOutputs.{IsOnlyErrorOutput, CommandOutputs}
 -- the program ended with the status and the message of a stop that satisfies `ended`; `closed` says whether the reader of standard output
 -- had closed it
 abbrev pub IsStopReported : Bool → (Stop → Type 0) → ℕ → CommandOutputs → Type 0
-IsStopReported closed ended status after = (why : Stop) × ended why × (status ≡ end_status closed why)
-    × ((before : CommandOutputs) × IsOnlyErrorOutput (end_message closed why) before after)
+IsStopReported closed ended status after = (stop : Stop) × ended stop × (status ≡ end_status closed stop)
+    × ((before : CommandOutputs) × IsOnlyErrorOutput (end_message closed stop) before after)
 
 -- the exit status if the program cannot get its arguments for this reason: 3 if memory ran out, and otherwise 2
 abbrev pub unreadable_args_status : ErrorKind → ℕ
@@ -40,12 +40,12 @@ unreadable_args_message _ = codes "rvtest: an argument is not valid UTF-8\n"
 
 -- the error of `clap` is of the kind that requests the help or the version
 abbrev pub IsHelpRequested : WordsFault → Type 0
-IsHelpRequested fault = (fault ≡ words.DisplayHelp) ⊎ (fault ≡ words.DisplayVersion)
+IsHelpRequested fault = (fault ≡ args_fault.DisplayHelp) ⊎ (fault ≡ args_fault.DisplayVersion)
 
 -- why a command stopped: memory ran out, or writing the help failed, which raised the number of failed writes by one
 abbrev pub IsHelpStop : ℕ → ℕ → Stop → Type 0
-IsHelpStop failures_before failures_after why = (why ≡ stop.OutOfMemory)
-    ⊎ ((why ≡ stop.WriteFailed) × (failures_after ≡ one_more failures_before))
+IsHelpStop failures_before failures_after stop = (stop ≡ stops.OutOfMemory)
+    ⊎ ((stop ≡ stops.WriteFailed) × (failures_after ≡ one_more failures_before))
 
 -- the help or the version was requested, and its text was written to standard output
 abbrev pub IsHelpWritten : ArgsError → Option (List ℕ) → Option (List ℕ) → Type 0
@@ -55,19 +55,19 @@ IsHelpWritten (error.Message fault text) before after = IsHelpRequested fault ×
 -- why the program stopped, given an error of its arguments: memory ran out, the requested help could not be written, or the arguments are
 -- rejected with the error's message
 abbrev pub IsArgsErrorStop : ArgsError → ℕ → ℕ → Stop → Type 0
-IsArgsErrorStop error.OutOfMemory failures_before failures_after why = why ≡ stop.OutOfMemory
-IsArgsErrorStop (error.Message fault text) failures_before failures_after why =
-    (IsHelpRequested fault × IsHelpStop failures_before failures_after why)
-    ⊎ ((IsHelpRequested fault → ⊥) × IsRejectedWith (string_bytes text) why)
+IsArgsErrorStop error.OutOfMemory failures_before failures_after stop = stop ≡ stops.OutOfMemory
+IsArgsErrorStop (error.Message fault text) failures_before failures_after stop =
+    (IsHelpRequested fault × IsHelpStop failures_before failures_after stop)
+    ⊎ ((IsHelpRequested fault → ⊥) × IsRejectedWith (string_bytes text) stop)
 
 -- ---- diff
 
 -- why the new report could not be compared: its text is not a report, or the file could not be read, for the given reason
 abbrev pub IsNewReportStop : Bool → List ℕ → Result (Vec ℕ Global) Stop → Stop → Type 0
-IsNewReportStop partial path (Ok bytes) why = IsRequestedFaultStop partial path bytes.items why
-IsNewReportStop partial path (Err unread) why = why ≡ unread
+IsNewReportStop partial path (Ok bytes) stop = IsRequestedFaultStop partial path bytes.items stop
+IsNewReportStop partial path (Err unread) stop = stop ≡ unread
 
 -- why `diff` stopped: memory ran out, the text of the old report is invalid, or it is valid, but the new report could not be used
 abbrev pub IsDiffStop : DiffArgs → List ℕ → Result (Vec ℕ Global) Stop → Stop → Type 0
-IsDiffStop words old new why = (why ≡ stop.OutOfMemory) ⊎ (IsRequestedFaultStop words.partial words.old.now old why
-    ⊎ ((found : PartialReport) × IsReportRead words.partial old found × IsNewReportStop words.partial words.new.now new why))
+IsDiffStop args old new stop = (stop ≡ stops.OutOfMemory) ⊎ (IsRequestedFaultStop args.partial args.old.now old stop
+    ⊎ ((found : PartialReport) × IsReportRead args.partial old found × IsNewReportStop args.partial args.new.now new stop))

@@ -76,27 +76,27 @@ pub record IsDiffOfReports (compare : CompareMode) (before after : SavedReport) 
 
 -- `output`, `notes` and `status` are the output, the notes and the exit status of `diff` for the reports with the texts `old` and `new`; a
 -- note says how many rows a truncated report has
-pub record IsDiffOf (words : DiffArgs) (old new output notes : List ℕ) (status : ℕ) : Type 0 where
+pub record IsDiffOf (args : DiffArgs) (old new output notes : List ℕ) (status : ℕ) : Type 0 where
   pub before : PartialReport
-  pub before_is : IsReportRead words.partial old before
+  pub before_is : IsReportRead args.partial old before
   pub after : PartialReport
-  pub after_is : IsReportRead words.partial new after
-  pub diff : IsDiffOfReports (requested_comparison words.steps words.slower) before.report after.report output status
-  pub noted : notes ≡ truncation_note words.old.now before ++ truncation_note words.new.now after
+  pub after_is : IsReportRead args.partial new after
+  pub diff : IsDiffOfReports (requested_comparison args.steps args.slower) before.report after.report output status
+  pub noted : notes ≡ truncation_note args.old.now before ++ truncation_note args.new.now after
 
 -- `output`, `notes` and `status` are the output, the notes and the exit status of `diff` for the reports at the two paths in the arguments
-pub record IsDiffAt (known : Option FileContents) (words : DiffArgs) (output notes : List ℕ) (status : ℕ) : Type 0 where
+pub record IsDiffAt (contents : Option FileContents) (args : DiffArgs) (output notes : List ℕ) (status : ℕ) : Type 0 where
   pub old : List ℕ
-  pub old_read : IsTextAt known words.old.now old
+  pub old_read : IsTextAt contents args.old.now old
   pub new : List ℕ
-  pub new_read : IsTextAt known words.new.now new
-  pub diff : IsDiffOf words old new output notes status
+  pub new_read : IsTextAt contents args.new.now new
+  pub diff : IsDiffOf args old new output notes status
 
 -- the notes of `diff` went to standard error, and then its output to standard output
-pub record IsDiffWritten (known : Option FileContents) (words : DiffArgs) (status : ℕ) (before after : CommandOutputs) : Type 0 where
+pub record IsDiffWritten (contents : Option FileContents) (args : DiffArgs) (status : ℕ) (before after : CommandOutputs) : Type 0 where
   pub text : List ℕ
   pub notes : List ℕ
-  pub diff : IsDiffAt known words text notes status
+  pub diff : IsDiffAt contents args text notes status
   pub middle : CommandOutputs
   pub told : IsOnlyErrorOutput notes before middle
   pub put : IsOnlyStandardOutput text middle after
@@ -105,12 +105,12 @@ pub record IsDiffWritten (known : Option FileContents) (words : DiffArgs) (statu
 
 -- `output` and `status` are the output and the exit status of `check` for a list without errors, with all files of its jobs read from the
 -- store
-pub record IsPlanCheckOf (known : Option FileContents) (root : Option (List ℕ)) (path bytes output : List ℕ) (status : ℕ)
+pub record IsPlanCheckOf (contents : Option FileContents) (root : Option (List ℕ)) (path bytes output : List ℕ) (status : ℕ)
     : Type 0 where
   pub plan : PlanView
   pub listed : job_list_of bytes ≡ Ok plan.jobs
   pub paths : paths_of plan.answers ≡ paths_used plan.jobs
-  pub kept : AgreeWithContents known plan.answers
+  pub kept : AgreeWithContents contents plan.answers
   pub unread : List UnreadablePath
   pub noted : HasEntryPerUnreadable plan.answers unread
   pub text : output ≡ check_text path bytes root plan unread
@@ -120,16 +120,16 @@ pub record IsPlanCheckOf (known : Option FileContents) (root : Option (List ℕ)
 -- the output has at least one line for each invalid job, which begins with the list's path, a line and column, and the job's number and
 -- name
 abbrev pub IsCheckOutputOf : Option FileContents → Option (List ℕ) → List JobError → List ℕ → List ℕ → List ℕ → ℕ → Type 0
-IsCheckOutputOf known root [] path bytes output status = IsPlanCheckOf known root path bytes output status
-IsCheckOutputOf known root (fault ∷ faults) path bytes output status =
+IsCheckOutputOf contents root [] path bytes output status = IsPlanCheckOf contents root path bytes output status
+IsCheckOutputOf contents root (fault ∷ faults) path bytes output status =
     AppendsLinesOfEach (IsFaultMessage path bytes) (fault ∷ faults) [] output × (status ≡ 2)
 
 -- `output` and `status` are the output and the exit status of `check` for the list at the path in the arguments
-pub record IsCheckOutputAt (known : Option FileContents) (words : CheckArgs) (output : List ℕ) (status : ℕ) : Type 0 where
+pub record IsCheckOutputAt (contents : Option FileContents) (args : CheckArgs) (output : List ℕ) (status : ℕ) : Type 0 where
   pub bytes : List ℕ
-  pub read : IsTextAt known words.list.now bytes
-  pub check : IsCheckOutputOf (contents_below (optional_text words.root) known) (optional_text words.root) (list_faults bytes)
-      words.list.now bytes output status
+  pub read : IsTextAt contents args.list.now bytes
+  pub check : IsCheckOutputOf (contents_below (optional_text args.root) contents) (optional_text args.root) (list_faults bytes)
+      args.list.now bytes output status
 
 -- ---- explain
 
@@ -144,12 +144,12 @@ pub record IsTextExplaining (plan : PlanView) (unread : List UnreadablePath) (pl
 
 -- `output` and `status` are the output and the exit status of `explain` for the job at index `place`, with the files that its row needs
 -- read from the store
-pub record IsJobExplained (known : Option FileContents) (jobs : List Job) (place last : ℕ) (output : List ℕ)
+pub record IsJobExplained (contents : Option FileContents) (jobs : List Job) (place last : ℕ) (output : List ℕ)
     (status : ℕ) : Type 0 where
   pub plan : PlanView
   pub listed : plan.jobs ≡ jobs
   pub paths : paths_of plan.answers ≡ paths_used (jobs_needed_for jobs (place ∷ []))
-  pub kept : AgreeWithContents known plan.answers
+  pub kept : AgreeWithContents contents plan.answers
   pub unread : List UnreadablePath
   pub noted : HasEntryPerUnreadable plan.answers unread
   pub text : IsTextExplaining plan unread place last output
@@ -162,18 +162,18 @@ IsFirstJobNamed jobs name place = position (λ (job : Job). bytes_eq job.name na
 
 -- `output` and `status` are the output and the exit status of `explain` for the list with the text `bytes`; a requested budget applies to
 -- every job
-pub record IsExplanationOf (known : Option FileContents) (words : ExplainArgs) (bytes output : List ℕ) (status : ℕ)
+pub record IsExplanationOf (contents : Option FileContents) (args : ExplainArgs) (bytes output : List ℕ) (status : ℕ)
     : Type 0 where
   pub jobs : List Job
   pub listed : job_list_of bytes ≡ Ok jobs
   pub place : ℕ
-  pub first : IsFirstJobNamed jobs words.name.now place
-  pub explained : IsJobExplained (contents_below (optional_text words.root) known) (with_budget words.budget jobs) place
-      words.last output status
+  pub first : IsFirstJobNamed jobs args.name.now place
+  pub explained : IsJobExplained (contents_below (optional_text args.root) contents) (with_budget args.budget jobs) place
+      args.last output status
 
 -- `output` and `status` are the output and the exit status of `explain` for the list at the path in the arguments
-pub record IsExplanationAt (known : Option FileContents) (words : ExplainArgs) (output : List ℕ) (status : ℕ)
+pub record IsExplanationAt (contents : Option FileContents) (args : ExplainArgs) (output : List ℕ) (status : ℕ)
     : Type 0 where
   pub bytes : List ℕ
-  pub read : IsTextAt known words.list.now bytes
-  pub explained : IsExplanationOf known words bytes output status
+  pub read : IsTextAt contents args.list.now bytes
+  pub explained : IsExplanationOf contents args bytes output status

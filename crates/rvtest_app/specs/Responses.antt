@@ -22,62 +22,62 @@ use Rattle.rvtest_app.specs.CommandOutputs.{IsOnlyStandardOutput, CommandOutputs
 use Rattle.rvtest_app.specs.Shows.{IsShowWritten}
 
 -- a command did what the request asks for: `status` is its exit status, and `before` and `after` are the outputs before and after it.
--- `known` and `input` are the contents of files and of standard input, if they are known; `is_terminal` says whether standard output is a
+-- `contents` and `input` are the contents of files and of standard input, if they are known; `is_terminal` says whether standard output is a
 -- terminal
 abbrev pub IsCommandDone : Option FileContents → Option (List ℕ) → Bool → Request → ℕ → CommandOutputs → CommandOutputs → Type 0
-IsCommandDone known input is_terminal (request.Run words) status before after =
-    IsRunAt known words status before after
-IsCommandDone known input is_terminal (request.Explain words) status before after =
-    (text : List ℕ) × (IsExplanationAt known words text status
+IsCommandDone contents input is_terminal (request.Run args) status before after =
+    IsRunAt contents args status before after
+IsCommandDone contents input is_terminal (request.Explain args) status before after =
+    (text : List ℕ) × (IsExplanationAt contents args text status
     × IsOnlyStandardOutput text before after)
-IsCommandDone known input is_terminal (request.List words) status before after =
-    IsListWritten known words status before after
-IsCommandDone known input is_terminal (request.Console words) status before after =
-    IsConsoleWritten known words status before after
-IsCommandDone known input is_terminal (request.Gdb words) status before after =
-    (rest : Option (List ℕ)) × IsGdbServed known is_terminal words input rest status before after
-IsCommandDone known input is_terminal (request.Check words) status before after =
-    (text : List ℕ) × (IsCheckOutputAt known words text status
+IsCommandDone contents input is_terminal (request.List args) status before after =
+    IsListWritten contents args status before after
+IsCommandDone contents input is_terminal (request.Console args) status before after =
+    IsConsoleWritten contents args status before after
+IsCommandDone contents input is_terminal (request.Gdb args) status before after =
+    (rest : Option (List ℕ)) × IsGdbServed contents is_terminal args input rest status before after
+IsCommandDone contents input is_terminal (request.Check args) status before after =
+    (text : List ℕ) × (IsCheckOutputAt contents args text status
     × IsOnlyStandardOutput text before after)
-IsCommandDone known input is_terminal (request.Accept words) status before after =
-    IsAcceptedAt known words status before after
-IsCommandDone known input is_terminal (request.Merge words) status before after =
-    IsMergedAt known words status before after
-IsCommandDone known input is_terminal (request.Diff words) status before after =
-    IsDiffWritten known words status before after
-IsCommandDone known input is_terminal (request.Show words) status before after =
-    IsShowWritten known words status before after
-IsCommandDone known input is_terminal (request.Counts words) status before after =
-    IsSumWritten known words status before after
-IsCommandDone known input is_terminal (request.Cover words) status before after =
-    IsCoverageWritten known words status before after
-IsCommandDone known input is_terminal (request.Profile words) status before after =
-    IsProfileWritten known words status before after
-IsCommandDone known input is_terminal (request.Help words) status before after =
-    (text : List ℕ) × (IsTopicPrinted words.topic.now text status
+IsCommandDone contents input is_terminal (request.Accept args) status before after =
+    IsAcceptedAt contents args status before after
+IsCommandDone contents input is_terminal (request.Merge args) status before after =
+    IsMergedAt contents args status before after
+IsCommandDone contents input is_terminal (request.Diff args) status before after =
+    IsDiffWritten contents args status before after
+IsCommandDone contents input is_terminal (request.Show args) status before after =
+    IsShowWritten contents args status before after
+IsCommandDone contents input is_terminal (request.Counts args) status before after =
+    IsSumWritten contents args status before after
+IsCommandDone contents input is_terminal (request.Cover args) status before after =
+    IsCoverageWritten contents args status before after
+IsCommandDone contents input is_terminal (request.Profile args) status before after =
+    IsProfileWritten contents args status before after
+IsCommandDone contents input is_terminal (request.Help args) status before after =
+    (text : List ℕ) × (IsTopicPrinted args.topic.now text status
     × IsOnlyStandardOutput text before after)
 
 -- a command did what the request asks for, and its results on standard output are coloured as requested; `is_colored` says whether standard
 -- output is a terminal that supports colours
-pub record IsDoneInColors (known : Option FileContents) (input : Option (List ℕ)) (is_terminal is_colored : Bool) (args : Request)
+pub record IsDoneInColors (contents : Option FileContents) (input : Option (List ℕ)) (is_terminal is_colored : Bool) (request : Request)
     (status : ℕ) (before after : CommandOutputs) : Type 0 where
   pub plain : CommandOutputs
-  pub done : IsCommandDone known input is_terminal args status before plain
-  pub shown : IsColoredOutput (requested_colors args is_colored) before plain after
+  pub done : IsCommandDone contents input is_terminal request status before plain
+  pub shown : IsColoredOutput (requested_colors request is_colored) before plain after
 
 -- the arguments request the help or the version
 abbrev pub RequestHelp : List (List ℕ) → Type 0
-RequestHelp words = IsAmong DisplayHelp (args_error_kinds words) ⊎ IsAmong DisplayVersion (args_error_kinds words)
+RequestHelp args = IsAmong DisplayHelp (args_error_kinds args) ⊎ IsAmong DisplayVersion (args_error_kinds args)
 
 -- the program only prints a text: a usage error with status 2 if the arguments are not a request, or the help or the version with status 0
 abbrev pub IsOnlyUsageOrHelp : List (List ℕ) → ℕ → Type 0
-IsOnlyUsageOrHelp words status =
-    ((request_of_args words ≡ None) × (status ≡ 2)) ⊎ (RequestHelp words × (status ≡ 0))
+IsOnlyUsageOrHelp args status =
+    ((request_of_args args ≡ None) × (status ≡ 2)) ⊎ (RequestHelp args × (status ≡ 0))
 
 -- the program responded to its arguments: it did what they request, or it only printed the usage, the help or the version
 abbrev pub IsCarriedOut : Option FileContents → Option (List ℕ) → Bool → Bool → List (List ℕ) → ℕ → CommandOutputs → CommandOutputs → Type 0
-IsCarriedOut known input is_terminal is_colored words status before after =
-    ((args : Request) × ((request_of_args words ≡ Some (value_of_request args))
-    × IsDoneInColors known input is_terminal is_colored args status before after))
-    ⊎ (IsOnlyUsageOrHelp words status × (after.errors ≡ before.errors) × (after.failures ≡ before.failures)
+IsCarriedOut contents input is_terminal is_colored args status before after =
+    ((request : Request) × ((request_of_args args ≡ Some (value_of_request request))
+    × IsDoneInColors contents input is_terminal is_colored request status before after))
+    ⊎ (IsOnlyUsageOrHelp args status × (after.errors ≡ before.errors) × (after.failures ≡ before.failures)
     × (after.placed ≡ before.placed))

@@ -7,7 +7,7 @@ use Rattle.rvtest_cli.specs.declared.run.RunArgs.{RunArgs}
 use Rattle.rv_command.specs.Stops.{IsListFaultStop, IsListUnreadStop}
 use Rattle.rv_command.specs.Texts.{IsTextAt, optional_text}
 use Rattle.rv_command.specs.declared.stop.Stop.{Stop}
-use Rattle.rv_command.specs.declared.stop.Stop.TheVariants as stop
+use Rattle.rv_command.specs.declared.stop.Stop.TheVariants as stops
 use Rattle.rv_rows.specs.JobList.{job_list_of}
 use Rattle.rv_rows.specs.declared_job.Job.{Job}
 use Rattle.rv_rows.specs.declared_row.Row.{Row}
@@ -26,54 +26,54 @@ use Rattle.rvtest_app.specs.declared.run_output.ShowError.TheVariants as show
 
 -- why the jobs to run could not be selected: the shard in the arguments is invalid, or no shard is given and the jobs could not be chosen
 abbrev pub IsSelectionStop : Option FileContents → RunArgs → List Job → Stop → Type 0
-IsSelectionStop known words jobs why = IsShardStop words.shard words.stamp why
-    ⊎ ((is_some words.shard ≡ false) × IsChoiceStop known words (failure_rule words.lenient) jobs why)
+IsSelectionStop contents args jobs stop = IsShardStop args.shard args.stamp stop
+    ⊎ ((is_some args.shard ≡ false) × IsChoiceStop contents args (failure_rule args.lenient) jobs stop)
 
 -- why a command stopped: the text is not a valid list, the report of `--into` cannot be updated, or the requested jobs could not be found
 abbrev pub IsJobRequestOfTextStop : Option FileContents → RunArgs → List ℕ → Stop → Type 0
-IsJobRequestOfTextStop known words text why = IsListFaultStop words.list.now text why
+IsJobRequestOfTextStop contents args text stop = IsListFaultStop args.list.now text stop
     ⊎ ((jobs : List Job) × ((job_list_of text ≡ Ok jobs)
-    × (IsIntoStop known words jobs why ⊎ IsSelectionStop known words jobs why)))
+    × (IsIntoStop contents args jobs stop ⊎ IsSelectionStop contents args jobs stop)))
 
 -- why a command stopped: the list could not be read, or the requested jobs could not be found in it
 abbrev pub IsJobRequestStop : Option FileContents → RunArgs → Stop → Type 0
-IsJobRequestStop known words why = IsListUnreadStop known words.list.now why
-    ⊎ ((text : List ℕ) × (IsTextAt known words.list.now text × IsJobRequestOfTextStop known words text why))
+IsJobRequestStop contents args stop = IsListUnreadStop contents args.list.now stop
+    ⊎ ((text : List ℕ) × (IsTextAt contents args.list.now text × IsJobRequestOfTextStop contents args text stop))
 
 -- why a command stopped: the requested jobs were found, but the file of `--known` could not be used
-pub record IsKnownFailuresStop (known : Option FileContents) (words : RunArgs) (why : Stop) : Type 0 where
+pub record IsKnownFailuresStop (contents : Option FileContents) (args : RunArgs) (stop : Stop) : Type 0 where
   pub jobs : List Job
   pub selection : Option (List Bool)
   pub shard : Option Shard
   pub old : Option (List Row)
   pub notes : List ℕ
-  pub args : AreRequestedJobs known words jobs selection shard old notes
-  pub unknown : IsKnownStop known words jobs why
+  pub requested_jobs : AreRequestedJobs contents args jobs selection shard old notes
+  pub unknown : IsKnownStop contents args jobs stop
 
 -- why a command stopped: this error occurred while a run was shown; `path` is the path of the report
 abbrev pub IsShowErrorStop : Option (List ℕ) → ShowError → Stop → Type 0
-IsShowErrorStop path show.OutOfMemory why = why ≡ stop.OutOfMemory
-IsShowErrorStop path show.NoWorker why = why ≡ stop.NoWorker
-IsShowErrorStop path show.StreamFailed why = why ≡ stop.WriteFailed
-IsShowErrorStop path show.ReportFailed why = IsSomeAnd path (λ path. IsUnwrittenStop path why)
+IsShowErrorStop path show.OutOfMemory stop = stop ≡ stops.OutOfMemory
+IsShowErrorStop path show.NoWorker stop = stop ≡ stops.NoWorker
+IsShowErrorStop path show.StreamFailed stop = stop ≡ stops.WriteFailed
+IsShowErrorStop path show.ReportFailed stop = IsSomeAnd path (λ path. IsUnwrittenStop path stop)
 
 -- why a command stopped: no thread could be started, or the results, the report or the JUnit XML could not be written
 abbrev pub IsRowsWriteStop : RunArgs → Stop → Type 0
-IsRowsWriteStop words why = (why ≡ stop.NoWorker)
-    ⊎ IsOutputStop (run_report_path words) (optional_text words.junit) why
+IsRowsWriteStop args stop = (stop ≡ stops.NoWorker)
+    ⊎ IsOutputStop (run_report_path args) (optional_text args.junit) stop
 
 -- why a command stopped: the rows or the table of counts could not be written, or the requested call stacks could not be summed up
 abbrev pub IsRunWriteStop : RunArgs → Stop → Type 0
-IsRunWriteStop words why = IsRowsWriteStop words why
-    ⊎ (IsFileStop (file_path_at (optional_text words.counts)) why ⊎ IsStackSumStop words why)
+IsRunWriteStop args stop = IsRowsWriteStop args stop
+    ⊎ (IsFileStop (file_path_at (optional_text args.counts)) stop ⊎ IsStackSumStop args stop)
 
 -- why `run` stopped although it found jobs to run: no thread could be started, an output could not be written, or the call stacks could not
 -- be summed up
 abbrev pub IsRunUnfinishedStop : Option FileContents → RunArgs → Stop → Type 0
-IsRunUnfinishedStop known words why = AreJobsToRun known words × IsRunWriteStop words why
+IsRunUnfinishedStop contents args stop = AreJobsToRun contents args × IsRunWriteStop args stop
 
 -- why `run` stopped: an output file would overwrite an input, the requested jobs or the known failures could not be found, or the run
 -- itself stopped
 abbrev pub IsRunStop : Option FileContents → RunArgs → Stop → Type 0
-IsRunStop known words why = IsRunOverwriteStop words why ⊎ (IsJobRequestStop known words why
-    ⊎ (IsKnownFailuresStop known words why ⊎ IsRunUnfinishedStop known words why))
+IsRunStop contents args stop = IsRunOverwriteStop args stop ⊎ (IsJobRequestStop contents args stop
+    ⊎ (IsKnownFailuresStop contents args stop ⊎ IsRunUnfinishedStop contents args stop))

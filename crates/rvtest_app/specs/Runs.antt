@@ -47,60 +47,60 @@ selected_job_indices selection = selected_indices selection (length selection)
 -- choice
 abbrev pub IsRequestedSelection : Option FileContents → Option Shard → RunArgs → List Job → Option (List Bool) → List ℕ
     → Type 0
-IsRequestedSelection known (Some shard) words jobs selection notes =
+IsRequestedSelection contents (Some shard) args jobs selection notes =
     (selection ≡ Some (shard_selection shard.shards shard.number (length jobs))) × (notes ≡ [])
-IsRequestedSelection known None words jobs selection notes =
-    IsChoice known words (failure_rule words.lenient) jobs selection notes
+IsRequestedSelection contents None args jobs selection notes =
+    IsChoice contents args (failure_rule args.lenient) jobs selection notes
 
 -- the list at the path in the arguments has the jobs `jobs`; `selection` selects those to run, `shard` is their shard, `old` are the rows that
 -- the run updates, and `notes` are the notes about the choice
-pub record AreRequestedJobs (known : Option FileContents) (words : RunArgs) (jobs : List Job)
+pub record AreRequestedJobs (contents : Option FileContents) (args : RunArgs) (jobs : List Job)
     (selection : Option (List Bool)) (shard : Option Shard) (old : Option (List Row)) (notes : List ℕ) : Type 0 where
   pub bytes : List ℕ
-  pub read : IsTextAt known words.list.now bytes
+  pub read : IsTextAt contents args.list.now bytes
   pub listed : job_list_of bytes ≡ Ok jobs
-  pub sharded : IsShardOf words.shard shard
-  pub stamped : IfSome shard (λ shard. (shard.stamp ≡ stamp_for words.stamp bytes) × (shard.jobs ≡ length jobs))
-  pub marked : IsRequestedSelection known shard words jobs selection notes
-  pub into : AreOldRows known words jobs old
+  pub sharded : IsShardOf args.shard shard
+  pub stamped : IfSome shard (λ shard. (shard.stamp ≡ stamp_for args.stamp bytes) × (shard.jobs ≡ length jobs))
+  pub marked : IsRequestedSelection contents shard args jobs selection notes
+  pub into : AreOldRows contents args jobs old
 
 -- the requested jobs and the known failures were found, and at least one job is selected to run
-pub record AreJobsToRun (known : Option FileContents) (words : RunArgs) : Type 0 where
+pub record AreJobsToRun (contents : Option FileContents) (args : RunArgs) : Type 0 where
   pub jobs : List Job
   pub selection : List Bool
   pub shard : Option Shard
   pub old : Option (List Row)
   pub notes : List ℕ
-  pub args : AreRequestedJobs known words jobs (Some selection) shard old notes
+  pub requested_jobs : AreRequestedJobs contents args jobs (Some selection) shard old notes
   pub failures : Option KnownJobs
-  pub known_to_fail : IsKnownAt known (optional_text words.known) jobs failures
+  pub known_to_fail : IsKnownAt contents (optional_text args.known) jobs failures
 
 -- `plan` is a plan of the jobs with the files that the rows at these indices need, read from the store; `unread` has one entry for each
 -- path that could not be read
-pub record IsPlanFor (known : Option FileContents) (jobs : List Job) (places : List ℕ) (plan : PlanView)
+pub record IsPlanFor (contents : Option FileContents) (jobs : List Job) (places : List ℕ) (plan : PlanView)
     (unread : List UnreadablePath) : Type 0 where
   pub listed : plan.jobs ≡ jobs
   pub paths : paths_of plan.answers ≡ paths_used (jobs_needed_for jobs places)
-  pub kept : AgreeWithContents known plan.answers
+  pub kept : AgreeWithContents contents plan.answers
   pub noted : length unread ≡ after_increments 0 (unreadable_count plan.answers)
 
 -- the JUnit document of the rows of the jobs at these indices, in which each failed row has its lines
 abbrev pub run_junit : RunArgs → RowReporter → List ℕ → List Row → List ℕ
-run_junit words reporter places rows = junit_text (suite_name (optional_text words.suite) words.list.now) reporter.judging
+run_junit args reporter places rows = junit_text (suite_name (optional_text args.suite) args.list.now) reporter.judging
     (row_text_list (row_lines_at (record reporter { verbosity = Failures })) places rows) rows
 
 -- how the rows of a run are judged: by the rule in the arguments, and with the known failures
 abbrev pub run_judging : RunArgs → Option KnownJobs → JudgeView
-run_judging words failures = record { rule = failure_rule words.lenient; known = failures }
+run_judging args failures = record { rule = failure_rule args.lenient; known = failures }
 
 -- the reporter of a run's rows: which rows it shows and how it judges them, as the arguments and the known failures say
 abbrev pub run_reporter : RunArgs → Option KnownJobs → PlanView → List UnreadablePath → RowReporter
-run_reporter words failures plan unread = record {
+run_reporter args failures plan unread = record {
   plan = plan;
   unread = unread;
-  judging = run_judging words failures;
-  verbosity = requested_verbosity words.verbose words.quiet;
-  last = words.last;
+  judging = run_judging args failures;
+  verbosity = requested_verbosity args.verbose args.quiet;
+  last = args.last;
 }
 
 -- the rows of the jobs at these indices, in order; if `stop_after` is given, only up to the failure with this number
@@ -113,21 +113,21 @@ shown_indices places rows = take (length rows) places
 
 -- a list with the JUnit file of a run with these rows; empty if `--junit` names no file
 abbrev pub junit_file : RunArgs → RowReporter → List ℕ → List Row → List CommittedFile
-junit_file words reporter places rows =
-    file_at (optional_text words.junit) (run_junit words reporter (shown_indices places rows) rows)
+junit_file args reporter places rows =
+    file_at (optional_text args.junit) (run_junit args reporter (shown_indices places rows) rows)
 
 -- a list with the report file of a run with these rows; empty if no option names a report file
 abbrev pub report_file : RunArgs → RowReporter → List ℕ → Option Shard → Option (List Row) → List Row → List CommittedFile
-report_file words reporter places shard old rows = file_at (run_report_path words)
+report_file args reporter places shard old rows = file_at (run_report_path args)
     (run_report_text old (length reporter.plan.jobs) (shown_indices places rows) shard rows)
 
 -- a run of the jobs at these indices, with these rows, wrote its results, its report and its JUnit XML
 abbrev pub IsRunWritten : RunArgs → RowReporter → List ℕ → Option Shard → Option (List Row) → List Row → CommandOutputs → CommandOutputs → Type 0
-IsRunWritten words reporter places shard old rows before after =
-    IsOutputWrittenTo (uses_run_stdout words) (run_report_path words) (optional_text words.junit)
+IsRunWritten args reporter places shard old rows before after =
+    IsOutputWrittenTo (uses_run_stdout args) (run_report_path args) (optional_text args.junit)
     (run_output_text (row_lines_at reporter) reporter.judging reporter.plan places rows)
     (run_report_text old (length reporter.plan.jobs) (shown_indices places rows) shard rows)
-    (run_junit words reporter (shown_indices places rows) rows) before after
+    (run_junit args reporter (shown_indices places rows) rows) before after
 
 -- `table` has the counts of the runs of the jobs at these indices; it has call stacks if the Bool is true
 abbrev pub IsCountsTable : Bool → PlanView → List ℕ → CountTable → Type 0
@@ -147,81 +147,81 @@ AreCountsWritten stacks (Some path) plan places before after =
     (text : List ℕ) × (IsCountsText stacks plan places text × IsWrittenAt (Some path) text before after)
 
 -- a run wrote its results, its report and its JUnit XML, and then its table of counts
-pub record IsCountedRunWritten (words : RunArgs) (reporter : RowReporter) (places : List ℕ) (shard : Option Shard) (old : Option (List Row))
+pub record IsCountedRunWritten (args : RunArgs) (reporter : RowReporter) (places : List ℕ) (shard : Option Shard) (old : Option (List Row))
     (rows : List Row) (before after : CommandOutputs) : Type 0 where
   pub middle : CommandOutputs
-  pub put : IsRunWritten words reporter places shard old rows before middle
-  pub counted : AreCountsWritten words.stacks (optional_text words.counts) reporter.plan (shown_indices places rows) middle after
+  pub put : IsRunWritten args reporter places shard old rows before middle
+  pub counted : AreCountsWritten args.stacks (optional_text args.counts) reporter.plan (shown_indices places rows) middle after
 
 -- the jobs at these indices ran, with the requested budget: the note about missing images went to standard error, and then their rows and
 -- counts were written; the status follows from the rows
-pub record IsRunOfJobs (known : Option FileContents) (words : RunArgs) (failures : Option KnownJobs) (jobs : List Job) (places : List ℕ)
+pub record IsRunOfJobs (contents : Option FileContents) (args : RunArgs) (failures : Option KnownJobs) (jobs : List Job) (places : List ℕ)
     (shard : Option Shard) (old : Option (List Row)) (status : ℕ) (before after : CommandOutputs) : Type 0 where
   pub plan : PlanView
   pub unread : List UnreadablePath
-  pub planned : IsPlanFor (contents_below (optional_text words.root) known) (with_budget words.budget jobs) places plan
+  pub planned : IsPlanFor (contents_below (optional_text args.root) contents) (with_budget args.budget jobs) places plan
       unread
   pub rows : List Row
-  pub shown : rows ≡ run_rows words.stop_after (run_judging words failures) plan places
-  pub judged : status ≡ rows_status (run_judging words failures) rows
+  pub shown : rows ≡ run_rows args.stop_after (run_judging args failures) plan places
+  pub judged : status ≡ rows_status (run_judging args failures) rows
   pub middle : CommandOutputs
-  pub noted : IsOnlyErrorOutput (missing_images_note plan.jobs unread (length places) (optional_text words.root)) before middle
-  pub put : IsCountedRunWritten words (run_reporter words failures plan unread) places shard old rows middle after
+  pub noted : IsOnlyErrorOutput (missing_images_note plan.jobs unread (length places) (optional_text args.root)) before middle
+  pub put : IsCountedRunWritten args (run_reporter args failures plan unread) places shard old rows middle after
 
 -- the selected jobs ran and their outputs were written; if no job is selected (`None`), the status is 0 and nothing more was output
 abbrev pub IsRunOfSelected : Option FileContents → RunArgs → Option KnownJobs → List Job → Option (List Bool) → Option Shard
     → Option (List Row) → ℕ → CommandOutputs → CommandOutputs → Type 0
-IsRunOfSelected known words failures jobs None shard old status before after = (status ≡ 0) × (after ≡ before)
-IsRunOfSelected known words failures jobs (Some selection) shard old status before after =
-    IsRunOfJobs known words failures jobs (selected_job_indices selection) shard old status before after
+IsRunOfSelected contents args failures jobs None shard old status before after = (status ≡ 0) × (after ≡ before)
+IsRunOfSelected contents args failures jobs (Some selection) shard old status before after =
+    IsRunOfJobs contents args failures jobs (selected_job_indices selection) shard old status before after
 
 -- `run` wrote the notes about the choice to standard error, and then ran the requested jobs, with the known failures
-pub record IsRunAt (known : Option FileContents) (words : RunArgs) (status : ℕ) (before after : CommandOutputs) : Type 0 where
+pub record IsRunAt (contents : Option FileContents) (args : RunArgs) (status : ℕ) (before after : CommandOutputs) : Type 0 where
   pub jobs : List Job
   pub selection : Option (List Bool)
   pub shard : Option Shard
   pub old : Option (List Row)
   pub notes : List ℕ
-  pub args : AreRequestedJobs known words jobs selection shard old notes
+  pub requested_jobs : AreRequestedJobs contents args jobs selection shard old notes
   pub failures : Option KnownJobs
-  pub known_to_fail : IsKnownAt known (optional_text words.known) jobs failures
+  pub known_to_fail : IsKnownAt contents (optional_text args.known) jobs failures
   pub middle : CommandOutputs
   pub told : IsOnlyErrorOutput notes before middle
-  pub ran : IsRunOfSelected known words failures jobs selection shard old status middle after
+  pub ran : IsRunOfSelected contents args failures jobs selection shard old status middle after
 
 -- ---- runs that an error ended
 
 -- after an error, only some of a run's files were committed: the JUnit XML or, if counts are requested, the JUnit XML and the report
 abbrev pub AreRunFilesPartlyCommitted : RunArgs → RowReporter → List ℕ → Option Shard → Option (List Row) → List Row
     → Option (List CommittedFile) → Option (List CommittedFile) → Type 0
-AreRunFilesPartlyCommitted words reporter places shard old rows before after =
-    AreFilesCommitted before after (Some (junit_file words reporter places rows))
-    ⊎ ((is_some words.counts ≡ true) × AreFilesCommitted before after
-    (Some (junit_file words reporter places rows ++ report_file words reporter places shard old rows)))
+AreRunFilesPartlyCommitted args reporter places shard old rows before after =
+    AreFilesCommitted before after (Some (junit_file args reporter places rows))
+    ⊎ ((is_some args.counts ≡ true) × AreFilesCommitted before after
+    (Some (junit_file args reporter places rows ++ report_file args reporter places shard old rows)))
 
 -- the jobs at these indices ran, but only some of the requested output files were committed
-pub record IsRunPartlyCommitted (known : Option FileContents) (words : RunArgs) (failures : Option KnownJobs) (jobs : List Job) (places : List ℕ)
+pub record IsRunPartlyCommitted (contents : Option FileContents) (args : RunArgs) (failures : Option KnownJobs) (jobs : List Job) (places : List ℕ)
     (shard : Option Shard) (old : Option (List Row)) (before after : Option (List CommittedFile)) : Type 0 where
   pub plan : PlanView
   pub unread : List UnreadablePath
-  pub planned : IsPlanFor (contents_below (optional_text words.root) known) (with_budget words.budget jobs) places plan
+  pub planned : IsPlanFor (contents_below (optional_text args.root) contents) (with_budget args.budget jobs) places plan
       unread
   pub rows : List Row
-  pub shown : rows ≡ run_rows words.stop_after (run_judging words failures) plan places
-  pub placed : AreRunFilesPartlyCommitted words (run_reporter words failures plan unread) places shard old rows before after
+  pub shown : rows ≡ run_rows args.stop_after (run_judging args failures) plan places
+  pub placed : AreRunFilesPartlyCommitted args (run_reporter args failures plan unread) places shard old rows before after
 
 -- after an error, a run of the jobs at these indices has committed no file, or only some of the requested output files
 abbrev pub IsAbortedRunOfJobs : Option FileContents → RunArgs → Option KnownJobs → List Job → List ℕ → Option Shard
     → Option (List Row) → Option (List CommittedFile) → Option (List CommittedFile) → Type 0
-IsAbortedRunOfJobs known words failures jobs places shard old before after =
-    (after ≡ before) ⊎ IsRunPartlyCommitted known words failures jobs places shard old before after
+IsAbortedRunOfJobs contents args failures jobs places shard old before after =
+    (after ≡ before) ⊎ IsRunPartlyCommitted contents args failures jobs places shard old before after
 
 -- the requested jobs were found and ran, but only some of the requested output files were committed
-pub record IsRunPartlyCommittedAt (known : Option FileContents) (words : RunArgs) (before after : Option (List CommittedFile))
+pub record IsRunPartlyCommittedAt (contents : Option FileContents) (args : RunArgs) (before after : Option (List CommittedFile))
     : Type 0 where
-  pub found : AreJobsToRun known words
-  pub alone : IsRunPartlyCommitted known words found.failures found.jobs (selected_job_indices found.selection) found.shard found.old before after
+  pub found : AreJobsToRun contents args
+  pub alone : IsRunPartlyCommitted contents args found.failures found.jobs (selected_job_indices found.selection) found.shard found.old before after
 
 -- after an error, `run` has committed no file, or only some of the requested output files
 abbrev pub IsAbortedRunAt : Option FileContents → RunArgs → Option (List CommittedFile) → Option (List CommittedFile) → Type 0
-IsAbortedRunAt known words before after = (after ≡ before) ⊎ IsRunPartlyCommittedAt known words before after
+IsAbortedRunAt contents args before after = (after ≡ before) ⊎ IsRunPartlyCommittedAt contents args before after

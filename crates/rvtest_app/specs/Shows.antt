@@ -18,27 +18,27 @@ use Rattle.rvtest_app.specs.CommandOutputs.{IsOnlyErrorOutput, CommandOutputs}
 
 -- the JUnit document of the rows of a report
 abbrev pub shown_junit : ShowArgs → List Row → List ℕ
-shown_junit words rows =
-    failures_junit (suite_name (optional_text words.suite) words.report.now) (report_judging words.lenient) rows
+shown_junit args rows =
+    failures_junit (suite_name (optional_text args.suite) args.report.now) (report_judging args.lenient) rows
 
 -- `show` wrote the note about a truncated report to standard error, and then the summary and the JUnit XML of the report
-pub record IsShowWritten (known : Option FileContents) (words : ShowArgs) (status : ℕ) (before after : CommandOutputs)
+pub record IsShowWritten (contents : Option FileContents) (args : ShowArgs) (status : ℕ) (before after : CommandOutputs)
     : Type 0 where
   pub found : PartialReport
-  pub read : IsReportReadAt known words.partial words.report.now found
+  pub read : IsReportReadAt contents args.partial args.report.now found
   pub middle : CommandOutputs
-  pub noted : IsOnlyErrorOutput (truncation_note words.report.now found) before middle
-  pub judged : status ≡ rows_status (report_judging words.lenient) found.report.rows
-  pub put : IsOutputWritten None (optional_text words.junit) (summary_text (report_judging words.lenient) found.report.rows)
-      (report_text found.report.rows) (shown_junit words found.report.rows)
+  pub noted : IsOnlyErrorOutput (truncation_note args.report.now found) before middle
+  pub judged : status ≡ rows_status (report_judging args.lenient) found.report.rows
+  pub put : IsOutputWritten None (optional_text args.junit) (summary_text (report_judging args.lenient) found.report.rows)
+      (report_text found.report.rows) (shown_junit args found.report.rows)
       middle after
 
 -- `show` committed the JUnit document of the report at the path in the arguments, if one is requested
-pub record IsShownJunit (known : Option FileContents) (words : ShowArgs) (before after : Option (List CommittedFile)) : Type 0 where
+pub record IsShownJunit (contents : Option FileContents) (args : ShowArgs) (before after : Option (List CommittedFile)) : Type 0 where
   pub found : PartialReport
-  pub read : IsReportReadAt known words.partial words.report.now found
-  pub placed : AreFilesCommitted before after (Some (file_at (optional_text words.junit) (shown_junit words found.report.rows)))
+  pub read : IsReportReadAt contents args.partial args.report.now found
+  pub placed : AreFilesCommitted before after (Some (file_at (optional_text args.junit) (shown_junit args found.report.rows)))
 
 -- after an error, `show` has committed no file, or only the JUnit document
 abbrev pub IsAbortedShowAt : Option FileContents → ShowArgs → Option (List CommittedFile) → Option (List CommittedFile) → Type 0
-IsAbortedShowAt known words before after = (after ≡ before) ⊎ IsShownJunit known words before after
+IsAbortedShowAt contents args before after = (after ≡ before) ⊎ IsShownJunit contents args before after

@@ -6,7 +6,7 @@ use Rattle.rv_command.specs.Messages.{path_message}
 use Rattle.rv_command.specs.Stops.{IsStop, IsResultUnreadStop}
 use Rattle.rv_command.specs.Texts.{IsTextAt, optional_text}
 use Rattle.rv_command.specs.declared.stop.Stop.{Stop}
-use Rattle.rv_command.specs.declared.stop.Stop.TheVariants as stop
+use Rattle.rv_command.specs.declared.stop.Stop.TheVariants as stops
 use Rattle.rv_count_tables.specs.declared.sum.SumError.{SumError}
 use Rattle.rv_count_tables.specs.declared.table.CountTable.{CountTable}
 use Rattle.rv_profile.specs.ImageCounts.{other_image}
@@ -38,14 +38,14 @@ other_image_message table path = codes "rvtest: " ++ printable_text table ++ cod
 
 -- the stop reports that the table at the path counted an image that is not one of `images`, or that memory ran out
 abbrev pub IsOtherImageStop : Option FileContents → List ℕ → List ImageFileView → Stop → Type 0
-IsOtherImageStop known path images why = (table : CountTable) × (IsTableAt known path table
-    × ((other : List ℕ) × ((other_image table images ≡ Some other) × IsStop 2 (other_image_message path other) why)))
+IsOtherImageStop contents path images stop = (table : CountTable) × (IsTableAt contents path table
+    × ((other : List ℕ) × ((other_image table images ≡ Some other) × IsStop 2 (other_image_message path other) stop)))
 
 -- why a command stopped: the table at the path could not be read, is invalid, or counted an image that is not one of `images`
 abbrev pub IsNoTableStop : Option FileContents → List ℕ → List ImageFileView → Stop → Type 0
-IsNoTableStop known path images why = IsResultUnreadStop known path why
-    ⊎ (((text : List ℕ) × (IsTextAt known path text × IsTableFaultStop path text why))
-    ⊎ IsOtherImageStop known path images why)
+IsNoTableStop contents path images stop = IsResultUnreadStop contents path stop
+    ⊎ (((text : List ℕ) × (IsTextAt contents path text × IsTableFaultStop path text stop))
+    ⊎ IsOtherImageStop contents path images stop)
 
 -- the message that the table has no call stacks, and how to write a table with call stacks
 abbrev pub no_stacks_message : List ℕ → List ℕ
@@ -53,38 +53,38 @@ no_stacks_message table = path_message table (codes "the table has no stacks: wr
 
 -- the stop reports that the table at the path has no call stacks, which the view needs, or that memory ran out
 abbrev pub IsNoStacksStop : Option FileContents → View → List ℕ → Stop → Type 0
-IsNoStacksStop known shown path why = (table : CountTable) × (IsTableAt known path table
-    × ((has_counts_for shown table ≡ false) × IsStop 2 (no_stacks_message path) why))
+IsNoStacksStop contents shown path stop = (table : CountTable) × (IsTableAt contents path table
+    × ((has_counts_for shown table ≡ false) × IsStop 2 (no_stacks_message path) stop))
 
 -- why a command stopped: the table at the path cannot be used for these images, or it has no call stacks, which the view needs
 abbrev pub IsMismatchedTableStop : Option FileContents → View → List ℕ → List ImageFileView → Stop → Type 0
-IsMismatchedTableStop known shown path images why = IsNoTableStop known path images why ⊎ IsNoStacksStop known shown path why
+IsMismatchedTableStop contents shown path images stop = IsNoTableStop contents path images stop ⊎ IsNoStacksStop contents shown path stop
 
 -- ---- runs that cannot be counted
 
 -- why a command stopped: the call stacks of the jobs at these indices cannot be summed up; the message names `path`
 abbrev pub IsStackSumOfJobsStop : PlanView → List ℕ → List ℕ → Stop → Type 0
-IsStackSumOfJobsStop plan places path why =
-    (error : SumError) × (HaveNoTableWithStacks plan places error × IsSumErrorStop path error why)
+IsStackSumOfJobsStop plan places path stop =
+    (error : SumError) × (HaveNoTableWithStacks plan places error × IsSumErrorStop path error stop)
 
 -- why a command stopped: the runs of the jobs at these indices could not be counted: memory ran out, or the call stacks of a profile cannot
 -- be summed up
 abbrev pub IsUncountedStop : View → PlanView → List ℕ → List ℕ → Stop → Type 0
-IsUncountedStop (view.Cover csv) plan places path why = why ≡ stop.OutOfMemory
-IsUncountedStop (view.Profile format) plan places path why = IsStackSumOfJobsStop plan places path why
+IsUncountedStop (view.Cover csv) plan places path stop = stop ≡ stops.OutOfMemory
+IsUncountedStop (view.Profile format) plan places path stop = IsStackSumOfJobsStop plan places path stop
 
 -- why a command stopped: no table for the view was found: the table at the given path cannot be used, or no path is given and the runs
 -- could not be counted
 abbrev pub IsNoViewTableStop : Option FileContents → RunArgs → View → Option (List ℕ) → PlanView → List ℕ → Stop → Type 0
-IsNoViewTableStop known words shown None plan places why = IsUncountedStop shown plan places words.list.now why
-IsNoViewTableStop known words shown (Some path) plan places why =
-    IsMismatchedTableStop known shown path (images_of plan.answers (jobs_at plan places)) why
+IsNoViewTableStop contents args shown None plan places stop = IsUncountedStop shown plan places args.list.now stop
+IsNoViewTableStop contents args shown (Some path) plan places stop =
+    IsMismatchedTableStop contents shown path (images_of plan.answers (jobs_at plan places)) stop
 
 -- ---- too many steps
 
 -- the path that a message about counts names: the path of the table, or else the path of the list
 abbrev pub counts_source : RunArgs → List ℕ
-counts_source words = unwrap_or (optional_text words.counts) words.list.now
+counts_source args = unwrap_or (optional_text args.counts) args.list.now
 
 -- the message that the sum of an image's call stacks does not fit in 64 bits
 abbrev pub past_64_bits_message : List ℕ → List ℕ → List ℕ
@@ -93,53 +93,53 @@ past_64_bits_message source path = codes "rvtest: " ++ printable_text source ++ 
 
 -- the stop reports that the call stacks of an image have 2^64 or more steps or calls, or that memory ran out
 abbrev pub IsPast64BitsStop : CountTable → List ImageFileView → List ℕ → Stop → Type 0
-IsPast64BitsStop table images source why = (path : List ℕ)
-    × ((image_past_64_bits table images ≡ Some path) × IsStop 2 (past_64_bits_message source path) why)
+IsPast64BitsStop table images source stop = (path : List ℕ)
+    × ((image_past_64_bits table images ≡ Some path) × IsStop 2 (past_64_bits_message source path) stop)
 
 -- why a command stopped: the view of this table could not be written because memory ran out or, for a profile, because an image's call
 -- stacks have 2^64 or more steps or calls
 abbrev pub IsTableTextStop : View → CountTable → List ImageFileView → List ℕ → Stop → Type 0
-IsTableTextStop (view.Cover csv) table images source why = why ≡ stop.OutOfMemory
-IsTableTextStop (view.Profile format) table images source why = (why ≡ stop.OutOfMemory) ⊎ IsPast64BitsStop table images source why
+IsTableTextStop (view.Cover csv) table images source stop = stop ≡ stops.OutOfMemory
+IsTableTextStop (view.Profile format) table images source stop = (stop ≡ stops.OutOfMemory) ⊎ IsPast64BitsStop table images source stop
 
 -- why a command stopped: a table for the jobs at these indices was found, but its view could not be written because memory ran out or, for
 -- a profile, a sum does not fit in 64 bits
 abbrev pub IsViewTextStop : Option FileContents → RunArgs → View → PlanView → List ℕ → Stop → Type 0
-IsViewTextStop known words shown plan places why = (table : CountTable)
-    × (IsTableForView known shown (optional_text words.counts) plan places table
-    × IsTableTextStop shown table (images_of plan.answers (jobs_at plan places)) (counts_source words) why)
+IsViewTextStop contents args shown plan places stop = (table : CountTable)
+    × (IsTableForView contents shown (optional_text args.counts) plan places table
+    × IsTableTextStop shown table (images_of plan.answers (jobs_at plan places)) (counts_source args) stop)
 
 -- ---- the command
 
 -- why a command stopped: memory ran out, no table for the view was found, or its view could not be written
 abbrev pub IsUnshownStop : Option FileContents → RunArgs → View → PlanView → List ℕ → Stop → Type 0
-IsUnshownStop known words shown plan places why = (why ≡ stop.OutOfMemory)
-    ⊎ (IsNoViewTableStop known words shown (optional_text words.counts) plan places why
-    ⊎ IsViewTextStop known words shown plan places why)
+IsUnshownStop contents args shown plan places stop = (stop ≡ stops.OutOfMemory)
+    ⊎ (IsNoViewTableStop contents args shown (optional_text args.counts) plan places stop
+    ⊎ IsViewTextStop contents args shown plan places stop)
 
 -- why a command stopped: the files of the jobs at these indices were read, but the view could not be made
-pub record IsNoViewOfJobsStop (known : Option FileContents) (words : RunArgs) (shown : View) (jobs : List Job) (places : List ℕ)
-    (why : Stop) : Type 0 where
+pub record IsNoViewOfJobsStop (contents : Option FileContents) (args : RunArgs) (shown : View) (jobs : List Job) (places : List ℕ)
+    (stop : Stop) : Type 0 where
   pub plan : PlanView
   pub unread : List UnreadablePath
-  pub planned : IsPlanFor (contents_below (optional_text words.root) known) jobs places plan unread
-  pub unshown : IsUnshownStop known words shown plan places why
+  pub planned : IsPlanFor (contents_below (optional_text args.root) contents) jobs places plan unread
+  pub unshown : IsUnshownStop contents args shown plan places stop
 
 -- why a command stopped: memory ran out, a write to standard output failed, or the view of the jobs at these indices could not be made
 abbrev pub IsViewFailedStop : Option FileContents → RunArgs → View → List Job → List ℕ → Stop → Type 0
-IsViewFailedStop known words shown jobs places why = (why ≡ stop.OutOfMemory)
-    ⊎ ((why ≡ stop.WriteFailed) ⊎ IsNoViewOfJobsStop known words shown jobs places why)
+IsViewFailedStop contents args shown jobs places stop = (stop ≡ stops.OutOfMemory)
+    ⊎ ((stop ≡ stops.WriteFailed) ⊎ IsNoViewOfJobsStop contents args shown jobs places stop)
 
 -- why a command stopped: the requested jobs were found, but their view could not be written
-pub record IsViewFailedAtStop (known : Option FileContents) (words : RunArgs) (shown : View) (why : Stop) : Type 0 where
+pub record IsViewFailedAtStop (contents : Option FileContents) (args : RunArgs) (shown : View) (stop : Stop) : Type 0 where
   pub jobs : List Job
   pub selection : List Bool
   pub shard : Option Shard
   pub old : Option (List Row)
   pub notes : List ℕ
-  pub args : AreRequestedJobs known words jobs (Some selection) shard old notes
-  pub unviewed : IsViewFailedStop known words shown jobs (selected_job_indices selection) why
+  pub requested_jobs : AreRequestedJobs contents args jobs (Some selection) shard old notes
+  pub unviewed : IsViewFailedStop contents args shown jobs (selected_job_indices selection) stop
 
 -- why a command stopped: the requested jobs could not be found, or their view could not be written
 abbrev pub IsViewStop : Option FileContents → RunArgs → View → Stop → Type 0
-IsViewStop known words shown why = IsJobRequestStop known words why ⊎ IsViewFailedAtStop known words shown why
+IsViewStop contents args shown stop = IsJobRequestStop contents args stop ⊎ IsViewFailedAtStop contents args shown stop

@@ -44,52 +44,52 @@ IsViewText (view.Profile format) table images text = IsProfileText format table 
 -- ---- the table for a view
 
 -- `table` is the table at the path; it has the counts that the view needs, and only counts of `images`
-pub record IsMatchingTableAt (known : Option FileContents) (shown : View) (path : List ℕ) (images : List ImageFileView) (table : CountTable)
+pub record IsMatchingTableAt (contents : Option FileContents) (shown : View) (path : List ℕ) (images : List ImageFileView) (table : CountTable)
     : Type 0 where
-  pub at : IsTableAt known path table
+  pub at : IsTableAt contents path table
   pub of_images : other_image table images ≡ None
   pub fit : has_counts_for shown table ≡ true
 
 -- `table` is the table for the view: the table at the path, or without a path the counts of a run of the jobs at these indices
 abbrev pub IsTableForView : Option FileContents → View → Option (List ℕ) → PlanView → List ℕ → CountTable → Type 0
-IsTableForView known shown None plan places table = IsRunTableForView shown plan places table
-IsTableForView known shown (Some path) plan places table = IsMatchingTableAt known shown path (images_of plan.answers (jobs_at plan places)) table
+IsTableForView contents shown None plan places table = IsRunTableForView shown plan places table
+IsTableForView contents shown (Some path) plan places table = IsMatchingTableAt contents shown path (images_of plan.answers (jobs_at plan places)) table
 
 -- the text is the view of the images of the jobs at these indices of the plan
 abbrev pub IsViewOfPlan : Option FileContents → RunArgs → View → PlanView → List ℕ → List ℕ → Type 0
-IsViewOfPlan known words shown plan places text = (table : CountTable)
-    × (IsTableForView known shown (optional_text words.counts) plan places table
+IsViewOfPlan contents args shown plan places text = (table : CountTable)
+    × (IsTableForView contents shown (optional_text args.counts) plan places table
     × IsViewText shown table (images_of plan.answers (jobs_at plan places)) text)
 
 -- ---- the command
 
 -- the notes about missing images and refused jobs went to standard error, and then the view of the jobs at these indices was written
-pub record IsViewOfJobs (known : Option FileContents) (words : RunArgs) (shown : View) (jobs : List Job) (places : List ℕ)
+pub record IsViewOfJobs (contents : Option FileContents) (args : RunArgs) (shown : View) (jobs : List Job) (places : List ℕ)
     (before after : CommandOutputs) : Type 0 where
   pub plan : PlanView
   pub unread : List UnreadablePath
-  pub planned : IsPlanFor (contents_below (optional_text words.root) known) jobs places plan unread
+  pub planned : IsPlanFor (contents_below (optional_text args.root) contents) jobs places plan unread
   pub middle : CommandOutputs
-  pub told : IsOnlyErrorOutput (refused_note words plan unread places) before middle
+  pub told : IsOnlyErrorOutput (refused_note args plan unread places) before middle
   pub text : List ℕ
-  pub of_plan : IsViewOfPlan known words shown plan places text
+  pub of_plan : IsViewOfPlan contents args shown plan places text
   pub put : IsOnlyStandardOutput text middle after
 
 -- the view of the selected jobs was written; if no job is selected (`None`), nothing was written
 abbrev pub IsViewOfSelected : Option FileContents → RunArgs → View → List Job → Option (List Bool) → CommandOutputs → CommandOutputs → Type 0
-IsViewOfSelected known words shown jobs None before after = after ≡ before
-IsViewOfSelected known words shown jobs (Some selection) before after =
-    IsViewOfJobs known words shown jobs (selected_job_indices selection) before after
+IsViewOfSelected contents args shown jobs None before after = after ≡ before
+IsViewOfSelected contents args shown jobs (Some selection) before after =
+    IsViewOfJobs contents args shown jobs (selected_job_indices selection) before after
 
 -- the notes about the choice went to standard error, and then the view of the requested jobs was written; the status is 0
-pub record IsViewWritten (known : Option FileContents) (words : RunArgs) (shown : View) (status : ℕ) (before after : CommandOutputs) : Type 0 where
+pub record IsViewWritten (contents : Option FileContents) (args : RunArgs) (shown : View) (status : ℕ) (before after : CommandOutputs) : Type 0 where
   pub jobs : List Job
   pub selection : Option (List Bool)
   pub shard : Option Shard
   pub old : Option (List Row)
   pub notes : List ℕ
-  pub args : AreRequestedJobs known words jobs selection shard old notes
+  pub requested_jobs : AreRequestedJobs contents args jobs selection shard old notes
   pub middle : CommandOutputs
   pub told : IsOnlyErrorOutput notes before middle
-  pub viewed : IsViewOfSelected known words shown jobs selection middle after
+  pub viewed : IsViewOfSelected contents args shown jobs selection middle after
   pub done : status ≡ 0

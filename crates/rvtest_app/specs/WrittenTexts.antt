@@ -2,7 +2,7 @@
 use Rattle.std.specs.Prelude.{◌≡◌, ℕ, Bool, true, false, List, Option, Some, None, codes}
 use Rattle.std.specs.Io.KnownBytes.{Appends}
 use Rattle.rv_command.specs.declared.stop.Stop.{Stop}
-use Rattle.rv_command.specs.declared.stop.Stop.TheVariants as stop
+use Rattle.rv_command.specs.declared.stop.Stop.TheVariants as stops
 use Rattle.rvtest_app.specs.AcceptStops.{IsFileNotCreatedStop}
 use Rattle.rvtest_app.specs.Outlets.{AreFilesCommitted, file_at, is_stdout, stdout_at}
 use Rattle.rvtest_app.specs.CommandOutputs.{CommandOutputs}
@@ -22,9 +22,9 @@ pub record IsWrittenAt (path : Option (List ℕ)) (text : List ℕ) (before afte
 
 -- why a command stopped: if the Bool is true, a write to standard output failed, and otherwise the file for the path could not be created
 abbrev pub IsUnwrittenByStop : Bool → List ℕ → Stop → Type 0
-IsUnwrittenByStop true path why = why ≡ stop.WriteFailed
-IsUnwrittenByStop false path why = IsFileNotCreatedStop path why
+IsUnwrittenByStop true path stop = stop ≡ stops.WriteFailed
+IsUnwrittenByStop false path stop = IsFileNotCreatedStop path stop
 
 -- why a command stopped: the text could not be written to the file at the path, or to standard output if the path is `-`
 abbrev pub IsUnwrittenAtStop : List ℕ → Stop → Type 0
-IsUnwrittenAtStop path why = IsUnwrittenByStop (is_stdout path) path why
+IsUnwrittenAtStop path stop = IsUnwrittenByStop (is_stdout path) path stop

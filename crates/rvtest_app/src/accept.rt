@@ -88,12 +88,12 @@ pub(crate) fn accept_runs<
 >(host: &Host<'_, R, D>, args: &AcceptArgs<'_>, to: &mut Destinations<F, O, E>) -> Result<u8, Stop>
     ensures low { IfOk result (λ status. status ≤ 1) }
     ensures accepted { IfOk result (λ status. IsAcceptedAt (D.contents host.now.inputs.now) args.now status
-        (outputs_of F.placed O.accepted E.accepted E.failure_count to.old) (outputs_of F.placed O.accepted E.accepted E.failure_count to.new)) }
+        (outputs_of F.committed O.accepted E.accepted E.failure_count to.old) (outputs_of F.committed O.accepted E.accepted E.failure_count to.new)) }
     // A check opens no file for writing, whatever its result.
     ensures unwritten { args.now.check ≡ true → to.new.files ≡ to.old.files }
     ensures stopped { IfErr result (IsAcceptStop (D.contents host.now.inputs.now) args.now) }
     // No input is overwritten, except accepted files.
-    ensures kept { AreAcceptInputsPreserved (D.contents host.now.inputs.now) args.now (F.placed to.old.files) (F.placed to.new.files) }
+    ensures kept { AreAcceptInputsPreserved (D.contents host.now.inputs.now) args.now (F.committed to.old.files) (F.committed to.new.files) }
 {
     let list = chosen_list(host, args)?;
     write_message(&mut to.errors, list.notes.as_slice());
@@ -122,11 +122,11 @@ fn accept_chosen<
     ensures low { IfOk result (λ status. status ≤ 1) }
     ensures accepted { IfOk result (λ status. IsAcceptOfSelected (D.contents host.now.inputs.now) args.now
         list.now.text.items list.now.jobs chosen.now status
-        (outputs_of F.placed O.accepted E.accepted E.failure_count to.old) (outputs_of F.placed O.accepted E.accepted E.failure_count to.new)) }
+        (outputs_of F.committed O.accepted E.accepted E.failure_count to.old) (outputs_of F.committed O.accepted E.accepted E.failure_count to.new)) }
     ensures unwritten { args.now.check ≡ true → to.new.files ≡ to.old.files }
     ensures stopped { IfErr result
         (IsAcceptChosenStop (D.contents host.now.inputs.now) args.now list.now.jobs) }
-    ensures kept { (F.placed to.new.files ≡ F.placed to.old.files) ⊎ IfSome (F.placed to.old.files) (λ _. AreAcceptFilesNoInputs
+    ensures kept { (F.committed to.new.files ≡ F.committed to.old.files) ⊎ IfSome (F.committed to.old.files) (λ _. AreAcceptFilesNoInputs
         args.now list.now.jobs (jobs_to_run list.now.jobs chosen.now)) }
 {
     let marked = checked_jobs(host, args, list, chosen, to)?;
@@ -155,9 +155,9 @@ fn checked_jobs<R, D, F: Outputs + Drop, O: Sink + Drop, E: Sink + Drop>(
     ensures selection { IfOk result (λ marked. marked.selection.items
         ≡ jobs_to_run list.now.jobs chosen.now) }
     ensures files { to.new.files ≡ to.old.files }
-    ensures outside { OnOk result (AreOutsideFilesReported (outputs_of F.placed O.accepted E.accepted E.failure_count to.old)
-        (outputs_of F.placed O.accepted E.accepted E.failure_count to.new)) }
-    ensures apart { OnOk result (IfSome (F.placed to.old.files) (λ _. AreAcceptFilesNoInputs
+    ensures outside { OnOk result (AreOutsideFilesReported (outputs_of F.committed O.accepted E.accepted E.failure_count to.old)
+        (outputs_of F.committed O.accepted E.accepted E.failure_count to.new)) }
+    ensures apart { OnOk result (IfSome (F.committed to.old.files) (λ _. AreAcceptFilesNoInputs
         args.now list.now.jobs (jobs_to_run list.now.jobs chosen.now))) }
     ensures stopped { IfErr result IsAcceptOverwriteStop }
 {
@@ -244,7 +244,7 @@ fn selected_jobs(
     ensures jobs { IfOk result (λ marked. marked.jobs ≡ map without_expectations list.now.jobs) }
     ensures selection { IfOk result (λ marked. marked.selection.items
         ≡ jobs_to_run list.now.jobs chosen.now) }
-    ensures memory { IfErr result (λ why. why ≡ Stop.OutOfMemory) }
+    ensures memory { IfErr result (λ stop. stop ≡ Stop.OutOfMemory) }
 {
     let listed = parse_list(alloc, args.run.list, list.text.as_slice())?;
     let jobs = listed.without_expectations();
@@ -268,8 +268,8 @@ fn run_selected<
     ensures files { to.new.files ≡ to.old.files }
     ensures rows { IfOk result (λ rows. HaveSelectedRun (D.contents host.now.inputs.now)
         (optional_text args.now.run.root) marked.jobs marked.selection.items rows.items
-        (outputs_of F.placed O.accepted E.accepted E.failure_count to.old) (outputs_of F.placed O.accepted E.accepted E.failure_count to.new)) }
-    ensures stopped { IfErr result (λ why. (why ≡ Stop.OutOfMemory) ⊎ (why ≡ Stop.NoWorker)) }
+        (outputs_of F.committed O.accepted E.accepted E.failure_count to.old) (outputs_of F.committed O.accepted E.accepted E.failure_count to.new)) }
+    ensures stopped { IfErr result (λ stop. (stop ≡ Stop.OutOfMemory) ⊎ (stop ≡ Stop.NoWorker)) }
 {
     let BareJobs {
         jobs,
@@ -347,7 +347,7 @@ fn write_accepted<'x, R, D: Inputs, F: Outputs + Drop, O: Sink + Drop, E: Sink +
     ensures unwritten { args.now.check ≡ true → to.new.files ≡ to.old.files }
     ensures put { IfOk result (λ status. IsOutcomeWritten args.now.check list.now outcomes.now.new.runs.items
         outcomes.now.golden_texts.items outcomes.now.files.items outcomes.now.new status
-        (outputs_of F.placed O.accepted E.accepted E.failure_count to.old) (outputs_of F.placed O.accepted E.accepted E.failure_count to.new)) }
+        (outputs_of F.committed O.accepted E.accepted E.failure_count to.old) (outputs_of F.committed O.accepted E.accepted E.failure_count to.new)) }
     ensures stopped { IfErr result (IsAcceptanceWriteStop (D.contents host.now.inputs.now) args.now.check
         list.now.path.now outcomes.now.files.items) }
 {
@@ -377,7 +377,7 @@ fn write_lines<O: Sink>(
     out: &mut O,
 ) -> Result<(), Stop>
     ensures put { OnOk result (Appends (O.accepted out.old) (O.accepted out.new) (accept_lines accepting.now)) }
-    ensures stopped { IfErr result (λ why. (why ≡ Stop.OutOfMemory) ⊎ (why ≡ Stop.WriteFailed)) }
+    ensures stopped { IfErr result (λ stop. (stop ≡ Stop.OutOfMemory) ⊎ (stop ≡ Stop.WriteFailed)) }
 {
     let mut lines = Vec::new(alloc);
     accepting.push_lines(alloc, &mut lines)?;
@@ -393,7 +393,7 @@ fn write_count_line<O: Sink>(
 ) -> Result<(), Stop>
     ensures put { OnOk result (Appends (O.accepted out.old) (O.accepted out.new)
         (count_line writing (changed_count accepting.now) (skipped_count accepting.now))) }
-    ensures stopped { IfErr result (λ why. (why ≡ Stop.OutOfMemory) ⊎ (why ≡ Stop.WriteFailed)) }
+    ensures stopped { IfErr result (λ stop. (stop ≡ Stop.OutOfMemory) ⊎ (stop ≡ Stop.WriteFailed)) }
 {
     let mut line = Vec::new(alloc);
     accepting.push_count_line(&mut line, writing)?;

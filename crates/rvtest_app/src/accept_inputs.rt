@@ -41,8 +41,8 @@ pub(crate) fn reject_accept_overwrites<F: Outputs>(
     jobs: &[Job],
     selection: &[bool],
 ) -> Result<Vec<u8>, Stop>
-    ensures apart { OnOk result (IfSome (F.placed files.now) (λ _. AreAcceptFilesNoInputs args.now jobs.now selection.now)) }
-    ensures inside { IfOk result (λ notes. IfSome (F.placed files.now) (λ _. notes.items ≡ [])) }
+    ensures apart { OnOk result (IfSome (F.committed files.now) (λ _. AreAcceptFilesNoInputs args.now jobs.now selection.now)) }
+    ensures inside { IfOk result (λ notes. IfSome (F.committed files.now) (λ _. notes.items ≡ [])) }
     ensures stopped { IfErr result IsAcceptOverwriteStop }
 {
     let root = args.run.root;
@@ -61,8 +61,8 @@ fn input_files<'a, F: Outputs>(
     args: &AcceptArgs<'_>,
     jobs: &'a [Job],
 ) -> Result<AcceptReads<'a>, AllocError>
-    ensures list { IfOk result (λ reads. AreFilesOf (F.placed files.now) (args.now.run.list.now ∷ []) reads.list) }
-    ensures inputs { IfOk result (λ reads. AreFilesOf (F.placed files.now) (inputs_of_accept args.now jobs.now) reads.inputs) }
+    ensures list { IfOk result (λ reads. AreFilesOf (F.committed files.now) (args.now.run.list.now ∷ []) reads.list) }
+    ensures inputs { IfOk result (λ reads. AreFilesOf (F.committed files.now) (inputs_of_accept args.now jobs.now) reads.inputs) }
 {
     let list = inputs_of_args(alloc, &[args.run.list], "the job list")?;
     let inputs = inputs_of_accept(alloc, args, jobs)?;
@@ -135,8 +135,8 @@ fn reject_list_overwrite<F: Outputs>(
     list: &str,
     reads: &AcceptReads<'_>,
 ) -> Result<(), Stop>
-    ensures apart { (paths : List (List ℕ)) → AreFilesOf (F.placed files.now) paths reads.now.inputs
-        → OnOk result (IfSome (F.placed files.now) (λ _. IsNoInput paths list.now)) }
+    ensures apart { (paths : List (List ℕ)) → AreFilesOf (F.committed files.now) paths reads.now.inputs
+        → OnOk result (IfSome (F.committed files.now) (λ _. IsNoInput paths list.now)) }
     ensures stopped { IfErr result (IsOverwriteStop (codes "the updated list") list.now) }
 {
     reject_file_overwrite(files, alloc, "the updated list", list, &reads.inputs)?;
@@ -150,8 +150,8 @@ fn reject_golden_overwrites<F: Outputs>(
     golden: &[InputPath<'_>],
     reads: &AcceptReads<'_>,
 ) -> Result<(), Stop>
-    ensures no_list { OnOk result (IfSome (F.placed files.now) (λ _. list_any (is_golden_input reads.now.list.identities.items) golden.now ≡ false)) }
-    ensures no_input { OnOk result (IfSome (F.placed files.now) (λ _. list_any (is_golden_input reads.now.inputs.identities.items) golden.now ≡ false)) }
+    ensures no_list { OnOk result (IfSome (F.committed files.now) (λ _. list_any (is_golden_input reads.now.list.identities.items) golden.now ≡ false)) }
+    ensures no_input { OnOk result (IfSome (F.committed files.now) (λ _. list_any (is_golden_input reads.now.inputs.identities.items) golden.now ≡ false)) }
     ensures stopped { IfErr result IsAcceptOverwriteStop }
 {
     for at in 0..golden.len() {
@@ -167,8 +167,8 @@ fn reject_golden_overwrite<F: Outputs>(
     golden: &InputPath<'_>,
     reads: &AcceptReads<'_>,
 ) -> Result<(), Stop>
-    ensures no_list { OnOk result (IfSome (F.placed files.now) (λ _. is_golden_input reads.now.list.identities.items golden.now ≡ false)) }
-    ensures no_input { OnOk result (IfSome (F.placed files.now) (λ _. is_golden_input reads.now.inputs.identities.items golden.now ≡ false)) }
+    ensures no_list { OnOk result (IfSome (F.committed files.now) (λ _. is_golden_input reads.now.list.identities.items golden.now ≡ false)) }
+    ensures no_input { OnOk result (IfSome (F.committed files.now) (λ _. is_golden_input reads.now.inputs.identities.items golden.now ≡ false)) }
     ensures stopped { IfErr result IsAcceptOverwriteStop }
 {
     let path = golden.path.as_str();
@@ -262,7 +262,7 @@ fn outside_notes<F: Outputs>(
     args: &AcceptArgs<'_>,
     golden: &[InputPath<'_>],
 ) -> Result<Vec<u8>, Stop>
-    ensures inside { IfOk result (λ notes. IfSome (F.placed files.now) (λ _. notes.items ≡ [])) }
+    ensures inside { IfOk result (λ notes. IfSome (F.committed files.now) (λ _. notes.items ≡ [])) }
     ensures stopped { IfErr result IsAcceptOverwriteStop }
 {
     let bounds = Bounds {
@@ -293,7 +293,7 @@ fn push_outside_notes<F: Outputs>(
     golden: &[InputPath<'_>],
     notes: &mut Vec<u8>,
 ) -> Result<(), Stop>
-    ensures inside { OnOk result (IfSome (F.placed files.now) (λ _. notes.new.items ≡ notes.old.items)) }
+    ensures inside { OnOk result (IfSome (F.committed files.now) (λ _. notes.new.items ≡ notes.old.items)) }
     ensures stopped { IfErr result IsAcceptOverwriteStop }
 {
     match golden {
@@ -313,7 +313,7 @@ fn check_inside_directory<F: Outputs>(
     golden: &InputPath<'_>,
     notes: &mut Vec<u8>,
 ) -> Result<(), Stop>
-    ensures inside { OnOk result (IfSome (F.placed files.now) (λ _. notes.new.items ≡ notes.old.items)) }
+    ensures inside { OnOk result (IfSome (F.committed files.now) (λ _. notes.new.items ≡ notes.old.items)) }
     ensures stopped { IfErr result IsAcceptOverwriteStop }
 {
     if files.is_below(alloc, bounds.directory, golden.path.as_str())? {

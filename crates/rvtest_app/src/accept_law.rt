@@ -16,13 +16,13 @@ ghost use Rattle.rvtest_app.specs.CommandOutputs.{CommandOutputs};
 /// expectations. This holds if no golden file of the job was skipped, the job has no `same_as`, golden files whose paths lead to one file
 /// get the same text, and the run can read the job's files.
 pub fn accepted_jobs_pass()
-    ensures { (words : Words) (before after : FileContents) (bytes : List ℕ) (jobs : List Job) (chosen : List Bool)
+    ensures { (args : Words) (before after : FileContents) (bytes : List ℕ) (jobs : List Job) (chosen : List Bool)
         (status : ℕ) (from to : CommandOutputs) (place : ℕ) (job : Job) (row : Row)
-        → IsTextAt (Some before) words.run.list.now bytes → job_list_of bytes ≡ Ok jobs
-        → (accepted : IsAcceptOfSelected (Some before) words bytes jobs chosen status from to)
+        → IsTextAt (Some before) args.run.list.now bytes → job_list_of bytes ≡ Ok jobs
+        → (accepted : IsAcceptOfSelected (Some before) args bytes jobs chosen status from to)
         → (store : IsStoreAfter (written_files accepted.told) before after)
         → HaveOneTextPerFile store.leads accepted.told.files.now
         → IsFullyAccepted accepted.told place job
-        → IsRowOfRun after words.run place row
+        → IsRowOfRun after args.run place row
         → IsTrue (is_pass_or_none row.verdict) }
 {}

@@ -160,7 +160,7 @@ pub(crate) fn write_accepted_files<F: Outputs>(
     alloc: Global,
     accepting: &AcceptSummary<'_>,
 ) -> Result<(), Stop>
-    ensures placed { OnOk result (AreFilesCommitted (F.placed files.old) (F.placed files.new) (Some (written_files accepting.now))) }
+    ensures placed { OnOk result (AreFilesCommitted (F.committed files.old) (F.committed files.new) (Some (written_files accepting.now))) }
     ensures stopped { IfErr result
         (IsStopForSomeFile IsFileNotCreatedStop accepting.now.list.path.now accepting.now.files.now) }
 {

@@ -124,10 +124,10 @@ impl<'a> CheckedList<'a> {
             (slice_index_or self.now.plan.now.jobs place d)) }
     {
         match image_refusal_at(alloc, self.plan, place)? {
-            Some(why) => {
-                let ending = RowEnd::Refused(why);
+            Some(refusal) => {
+                let ending = RowEnd::Refused(refusal);
                 let reason = ending_reason(alloc, self.plan, self.unread, place, ending)?;
-                self.push_refused_file(text, place, why, reason)
+                self.push_refused_file(text, place, refusal, reason)
             }
             None => Ok(()),
         }
@@ -166,16 +166,16 @@ impl<'a> CheckedList<'a> {
         &self,
         text: &mut Vec<u8>,
         place: usize,
-        why: Refusal,
+        refusal: Refusal,
         reason: Option<Vec<u8>>,
     ) -> Result<(), AllocError>
         requires { place < length self.now.plan.now.jobs }
         ensures { OnOk result ((d : AJob) → text.new.items ≡ text.old.items ++ refused_file_line
-            self.now.path.now self.now.lines.now place (slice_index_or self.now.plan.now.jobs place d) why
+            self.now.path.now self.now.lines.now place (slice_index_or self.now.plan.now.jobs place d) refusal
             (option_map (λ text. text.items) reason)) }
     {
         self.push_job_prefix(text, ": error:", place, self.plan.job(place))?;
-        push_refusal(text, why, reason)?;
+        push_refusal(text, refusal, reason)?;
         push_text(text, "\n")
     }
 
@@ -273,12 +273,12 @@ impl<'a> CheckedList<'a> {
 }
 
 // Appends "refused" and the name of the refusal, and then details if they are given.
-fn push_refusal(text: &mut Vec<u8>, why: Refusal, reason: Option<Vec<u8>>) -> Result<(), AllocError>
+fn push_refusal(text: &mut Vec<u8>, refusal: Refusal, reason: Option<Vec<u8>>) -> Result<(), AllocError>
     ensures { OnOk result (text.new.items ≡ text.old.items
-        ++ refusal_text why (option_map (λ text. text.items) reason)) }
+        ++ refusal_text refusal (option_map (λ text. text.items) reason)) }
 {
     let refused = Span::Text("refused ");
-    let name = Span::Text(why.name());
+    let name = Span::Text(refusal.name());
     match reason {
         Some(reason) => push_spans(
             text,

@@ -34,13 +34,13 @@ pub(crate) fn commit_outlets<F: Outputs>(
 ) -> Result<(), Stop>
     requires report { has_no_failure F.File.failure_count outlets.report }
     requires junit { has_no_failure F.File.failure_count outlets.junit }
-    ensures placed { OnOk result (AreFilesCommitted (F.placed files.old) (F.placed files.new)
+    ensures placed { OnOk result (AreFilesCommitted (F.committed files.old) (F.committed files.new)
         (joined_files (files_of F.pending_path F.File.accepted outlets.entry.junit)
         (files_of F.pending_path F.File.accepted outlets.entry.report))) }
-    ensures part { OnErr result (AreFilesPartlyCommitted (F.placed files.old) (F.placed files.new)
+    ensures part { OnErr result (AreFilesPartlyCommitted (F.committed files.old) (F.committed files.new)
         (files_of F.pending_path F.File.accepted outlets.entry.junit)) }
-    ensures stopped { IfErr result (λ why. IsUncommittedStop (outlet_path outlets.entry.report) why
-        ⊎ IsUncommittedStop (outlet_path outlets.entry.junit) why) }
+    ensures stopped { IfErr result (λ stop. IsUncommittedStop (outlet_path outlets.entry.report) stop
+        ⊎ IsUncommittedStop (outlet_path outlets.entry.junit) stop) }
 {
     let SyncedFiles { junit, report } = sync_outlets(files, alloc, outlets)?;
     commit_both(files, alloc, junit, report)
@@ -54,15 +54,15 @@ fn sync_outlets<'a, F: Outputs>(
 ) -> Result<SyncedFiles<'a, F::Place, F::Synced>, Stop>
     requires report { has_no_failure F.File.failure_count outlets.report }
     requires junit { has_no_failure F.File.failure_count outlets.junit }
-    ensures same { F.placed files.new ≡ F.placed files.old }
+    ensures same { F.committed files.new ≡ F.committed files.old }
     ensures junit { IfOk result (λ synced. synced_files F.pending_path F.synced_bytes synced.junit
         ≡ files_of F.pending_path F.File.accepted outlets.entry.junit) }
     ensures report { IfOk result (λ synced. synced_files F.pending_path F.synced_bytes synced.report
         ≡ files_of F.pending_path F.File.accepted outlets.entry.report) }
     ensures junit_path { IfOk result (λ synced. synced_path synced.junit ≡ outlet_path outlets.entry.junit) }
     ensures report_path { IfOk result (λ synced. synced_path synced.report ≡ outlet_path outlets.entry.report) }
-    ensures stopped { IfErr result (λ why. IsUncommittedStop (outlet_path outlets.entry.report) why
-        ⊎ IsUncommittedStop (outlet_path outlets.entry.junit) why) }
+    ensures stopped { IfErr result (λ stop. IsUncommittedStop (outlet_path outlets.entry.report) stop
+        ⊎ IsUncommittedStop (outlet_path outlets.entry.junit) stop) }
 {
     let Outlets { report, junit } = outlets;
     let junit = match sync_outlet(files, alloc, junit) {
@@ -88,7 +88,7 @@ fn sync_outlet<'a, F: Outputs>(
     outlet: Outlet<'a, F::Place, F::File>,
 ) -> Result<Option<SyncedFile<'a, F::Place, F::Synced>>, Stop>
     requires { has_no_failure F.File.failure_count outlet }
-    ensures same { F.placed files.new ≡ F.placed files.old }
+    ensures same { F.committed files.new ≡ F.committed files.old }
     ensures synced { IfOk result (λ synced. synced_files F.pending_path F.synced_bytes synced
         ≡ files_of F.pending_path F.File.accepted outlet.entry) }
     ensures path { IfOk result (λ synced. synced_path synced ≡ outlet_path outlet.entry) }
@@ -109,7 +109,7 @@ fn sync_outlet<'a, F: Outputs>(
 
 // Abandons a synced file, if there is one, so that it is not created.
 fn abandon_synced<F: Outputs>(files: &mut F, synced: Option<SyncedFile<'_, F::Place, F::Synced>>)
-    ensures { F.placed files.new ≡ F.placed files.old }
+    ensures { F.committed files.new ≡ F.committed files.old }
 {
     if let Some(synced) = synced {
         files.abandon(synced.place);
@@ -123,13 +123,13 @@ fn commit_both<F: Outputs>(
     first: Option<SyncedFile<'_, F::Place, F::Synced>>,
     second: Option<SyncedFile<'_, F::Place, F::Synced>>,
 ) -> Result<(), Stop>
-    ensures placed { OnOk result (AreFilesCommitted (F.placed files.old) (F.placed files.new)
+    ensures placed { OnOk result (AreFilesCommitted (F.committed files.old) (F.committed files.new)
         (joined_files (synced_files F.pending_path F.synced_bytes first.entry)
         (synced_files F.pending_path F.synced_bytes second.entry))) }
-    ensures part { OnErr result (AreFilesPartlyCommitted (F.placed files.old) (F.placed files.new)
+    ensures part { OnErr result (AreFilesPartlyCommitted (F.committed files.old) (F.committed files.new)
         (synced_files F.pending_path F.synced_bytes first.entry)) }
     ensures stopped { IfErr result
-        (λ why. IsUncommittedStop (synced_path second.entry) why ⊎ IsUncommittedStop (synced_path first.entry) why) }
+        (λ stop. IsUncommittedStop (synced_path second.entry) stop ⊎ IsUncommittedStop (synced_path first.entry) stop) }
 {
     match commit_synced(files, alloc, first) {
         Ok(()) => commit_synced(files, alloc, second),
@@ -146,9 +146,9 @@ fn commit_synced<F: Outputs>(
     alloc: Global,
     synced: Option<SyncedFile<'_, F::Place, F::Synced>>,
 ) -> Result<(), Stop>
-    ensures placed { OnOk result (AreFilesCommitted (F.placed files.old) (F.placed files.new)
+    ensures placed { OnOk result (AreFilesCommitted (F.committed files.old) (F.committed files.new)
         (synced_files F.pending_path F.synced_bytes synced.entry)) }
-    ensures same { OnErr result (F.placed files.new ≡ F.placed files.old) }
+    ensures same { OnErr result (F.committed files.new ≡ F.committed files.old) }
     ensures stopped { IfErr result (IsUncommittedStop (synced_path synced.entry)) }
 {
     let Some(synced) = synced else {

@@ -42,10 +42,10 @@ pub(crate) fn put_job_console<D: Inputs, F: Outputs + Drop, O: Sink + Drop, E: S
     to: &mut Destinations<F, O, E>,
 ) -> Result<u8, Stop>
     ensures put { IfOk result (λ status. IsConsoleWritten (D.contents inputs.now) args.entry status
-        (outputs_of F.placed O.accepted E.accepted E.failure_count to.old) (outputs_of F.placed O.accepted E.accepted E.failure_count to.new)) }
+        (outputs_of F.committed O.accepted E.accepted E.failure_count to.old) (outputs_of F.committed O.accepted E.accepted E.failure_count to.new)) }
     ensures low { IfOk result (λ status. status ≤ 1) }
-    ensures stopped { IfErr result (λ why. (why ≡ Stop.WriteFailed)
-        ⊎ IsConsoleStop (D.contents inputs.now) args.entry why) }
+    ensures stopped { IfErr result (λ stop. (stop ≡ Stop.WriteFailed)
+        ⊎ IsConsoleStop (D.contents inputs.now) args.entry stop) }
 {
     let ReportedRow { row, line, status } = run_named_job(inputs, alloc, args)?;
     write_results(&mut to.out, row.console.as_slice())?;

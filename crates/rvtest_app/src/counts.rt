@@ -33,14 +33,14 @@ pub(crate) fn put_sum_of_tables<D: Inputs, F: Outputs + Drop, O: Sink + Drop, E:
     to: &mut Destinations<F, O, E>,
 ) -> Result<u8, Stop>
     ensures put { IfOk result (λ status. IsSumWritten (D.contents inputs.now) args.now status
-        (outputs_of F.placed O.accepted E.accepted E.failure_count to.old) (outputs_of F.placed O.accepted E.accepted E.failure_count to.new)) }
+        (outputs_of F.committed O.accepted E.accepted E.failure_count to.old) (outputs_of F.committed O.accepted E.accepted E.failure_count to.new)) }
     ensures low { IfOk result (λ status. status ≤ 1) }
-    ensures undone { OnErr result (F.placed to.new.files ≡ F.placed to.old.files) }
+    ensures undone { OnErr result (F.committed to.new.files ≡ F.committed to.old.files) }
     // Only the sum may go to standard output.
     ensures untouched { (is_stdout (written_path (optional_text args.now.out)) ≡ true) ⊎ (to.new.out ≡ to.old.out) }
     ensures stopped { IfErr result (IsCountsStop (D.contents inputs.now) args.now) }
     // The tables are not overwritten.
-    ensures kept { HoldsIfCommitted (IsSumFileNoInput args.now) (F.placed to.old.files) (F.placed to.new.files) }
+    ensures kept { HoldsIfCommitted (IsSumFileNoInput args.now) (F.committed to.old.files) (F.committed to.new.files) }
 {
     reject_sum_overwrite(&to.files, alloc, args)?;
     let sum = sum_of_paths(inputs, alloc, args.tables.as_slice())?;
@@ -57,7 +57,7 @@ fn reject_sum_overwrite<F: Outputs>(
     alloc: Global,
     args: &CountsArgs<'_>,
 ) -> Result<(), Stop>
-    ensures apart { OnOk result (IfSome (F.placed files.now) (λ _. IsSumFileNoInput args.now)) }
+    ensures apart { OnOk result (IfSome (F.committed files.now) (λ _. IsSumFileNoInput args.now)) }
     ensures stopped { IfErr result (IsSumOverwriteStop args.now) }
 {
     let read = identified_files(

@@ -63,21 +63,21 @@ impl<'x, D: Inputs> CurrentFiles<'x, D> {
         let is_chosen = is_selected(chosen, place);
         match self.row_at(place) {
             Some(row) => {
-                let standing = self.standing(job, row)?;
+                let verdict = self.current_verdict(job, row)?;
                 Ok(Candidate {
                     is_chosen,
-                    standing,
+                    verdict,
                 })
             }
             None => Ok(Candidate {
                 is_chosen,
-                standing: CurrentVerdict::Fails,
+                verdict: CurrentVerdict::Fails,
             }),
         }
     }
 
     // Returns the verdict on a job with this row, given its golden files as they are now.
-    fn standing(&self, job: &Job, row: &Row) -> Result<CurrentVerdict, AllocError>
+    fn current_verdict(&self, job: &Job, row: &Row) -> Result<CurrentVerdict, AllocError>
         ensures { IfOk result (IsCurrentVerdict (D.contents self.now.inputs.now) (optional_text self.now.folder)
             self.now.rows.now job.now row.now) }
     {
@@ -94,7 +94,7 @@ impl<'x, D: Inputs> CurrentFiles<'x, D> {
         console: Option<&'r [u8]>,
         signature: Option<&'r [u8]>,
     ) -> Result<CurrentVerdict, AllocError>
-        ensures { IfOk result (λ standing. standing ≡ verdict_of_comparison (comparison_with self.now.rows.now job.now row.now
+        ensures { IfOk result (λ verdict. verdict ≡ verdict_of_comparison (comparison_with self.now.rows.now job.now row.now
             (option_map (λ bytes. bytes.now) console.entry) (option_map (λ bytes. bytes.now) signature.entry))) }
     {
         let comparison = Comparison {

@@ -39,10 +39,10 @@ pub(crate) fn diff_reports<D: Inputs, F: Outputs + Drop, O: Sink + Drop, E: Sink
     to: &mut Destinations<F, O, E>,
 ) -> Result<u8, Stop>
     ensures put { IfOk result (λ status. IsDiffWritten (D.contents inputs.now) args.entry status
-        (outputs_of F.placed O.accepted E.accepted E.failure_count to.old) (outputs_of F.placed O.accepted E.accepted E.failure_count to.new)) }
+        (outputs_of F.committed O.accepted E.accepted E.failure_count to.old) (outputs_of F.committed O.accepted E.accepted E.failure_count to.new)) }
     ensures low { IfOk result (λ status. status ≤ 1) }
-    ensures stopped { IfErr result (λ why. (why ≡ WriteFailed)
-        ⊎ IsDiffAtStop (D.contents inputs.now) args.entry why) }
+    ensures stopped { IfErr result (λ stop. (stop ≡ WriteFailed)
+        ⊎ IsDiffAtStop (D.contents inputs.now) args.entry stop) }
 {
     let NotedDiff { found, notes } = diff_of_files(inputs, alloc, args)?;
     write_message(&mut to.errors, notes.as_slice());
@@ -140,7 +140,7 @@ fn diff_saved_reports(
     let compared = ComparedReports {
         old: old.as_slice(),
         new: new.as_slice(),
-        left_out: all - old.len() - new.len(),
+        not_compared: all - old.len() - new.len(),
     };
     diff_rows(alloc, compare, compared)
 }
@@ -202,7 +202,7 @@ fn diff_rows(
     requires new { length compared.new.now < 2 ^ 32 }
     ensures low { IfOk result (λ found. found.status ≤ 1) }
     ensures text { IfOk result (λ found. found.text.items
-        ≡ diff_text compare compared.entry.old.now compared.entry.new.now compared.entry.left_out) }
+        ≡ diff_text compare compared.entry.old.now compared.entry.new.now compared.entry.not_compared) }
     ensures judged { IfOk result (λ found. found.status
         ≡ diff_status (difference_counts compare compared.entry.old.now compared.entry.new.now)) }
     ensures memory { IfErr result (λ stop. stop ≡ OutOfMemory) }

@@ -60,10 +60,10 @@ pub(crate) fn show_job_to_gdb<
 ) -> Result<u8, Stop>
     ensures answered { IfOk result (λ status. IsGdbServed (D.contents host.now.inputs.now) is_terminal args.entry
         (I.remaining input.old) (I.remaining input.new) status
-        (outputs_of F.placed O.accepted E.accepted E.failure_count to.old) (outputs_of F.placed O.accepted E.accepted E.failure_count to.new)) }
+        (outputs_of F.committed O.accepted E.accepted E.failure_count to.old) (outputs_of F.committed O.accepted E.accepted E.failure_count to.new)) }
     ensures done { IfOk result (λ status. status ≡ 0) }
-    ensures stopped { IfErr result (λ why. IsGdbStopped (D.contents host.now.inputs.now) is_terminal args.entry why
-        (outputs_of F.placed O.accepted E.accepted E.failure_count to.old) (outputs_of F.placed O.accepted E.accepted E.failure_count to.new)
+    ensures stopped { IfErr result (λ stop. IsGdbStopped (D.contents host.now.inputs.now) is_terminal args.entry stop
+        (outputs_of F.committed O.accepted E.accepted E.failure_count to.old) (outputs_of F.committed O.accepted E.accepted E.failure_count to.new)
         (O.failure_count to.old.out) (O.failure_count to.new.out)) }
 {
     let alloc = host.alloc;
@@ -138,8 +138,8 @@ fn session_of_text<D: Inputs>(
 ) -> Result<JobSession, Stop>
     ensures opened { IfOk result (λ opened. IsSessionOpenedOf (D.contents inputs.now) args.entry text.now
         (job_end_text opened.job.plan opened.job.unread.items opened.job.place) opened.session) }
-    ensures stopped { IfErr result (λ why. IsNoJobStop args.entry.list.now text.now args.entry.name.now why
-        ⊎ IsUnopenedJobOfTextStop (D.contents inputs.now) args.entry text.now why) }
+    ensures stopped { IfErr result (λ stop. IsNoJobStop args.entry.list.now text.now args.entry.name.now stop
+        ⊎ IsUnopenedJobOfTextStop (D.contents inputs.now) args.entry text.now stop) }
 {
     let named = find_named_job(alloc, args.list, args.name, text)?;
     session_of_job(inputs, alloc, args, named)

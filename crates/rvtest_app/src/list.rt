@@ -33,10 +33,10 @@ pub(crate) fn list_chosen_jobs<D: Inputs, F: Outputs + Drop, O: Sink + Drop, E: 
     to: &mut Destinations<F, O, E>,
 ) -> Result<u8, Stop>
     ensures put { IfOk result (λ status. IsListWritten (D.contents inputs.now) args.now status
-        (outputs_of F.placed O.accepted E.accepted E.failure_count to.old) (outputs_of F.placed O.accepted E.accepted E.failure_count to.new)) }
+        (outputs_of F.committed O.accepted E.accepted E.failure_count to.old) (outputs_of F.committed O.accepted E.accepted E.failure_count to.new)) }
     ensures low { IfOk result (λ status. status ≤ 1) }
-    ensures stopped { IfErr result (λ why. (why ≡ Stop.WriteFailed)
-        ⊎ IsListStop (D.contents inputs.now) args.now why) }
+    ensures stopped { IfErr result (λ stop. (stop ≡ Stop.WriteFailed)
+        ⊎ IsListStop (D.contents inputs.now) args.now stop) }
 {
     let ListedJobs { names, notes } = chosen_jobs(inputs, alloc, args)?;
     write_message(&mut to.errors, notes.as_slice());

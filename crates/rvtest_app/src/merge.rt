@@ -53,12 +53,12 @@ pub(crate) fn merge_reports<D: Inputs, F: Outputs + Drop, O: Sink + Drop, E: Sin
 ) -> Result<u8, Stop>
     ensures low { IfOk result (λ status. status ≤ 1) }
     ensures merged { IfOk result (λ status. IsMergedAt (D.contents inputs.now) args.now status
-        (outputs_of F.placed O.accepted E.accepted E.failure_count to.old) (outputs_of F.placed O.accepted E.accepted E.failure_count to.new)) }
+        (outputs_of F.committed O.accepted E.accepted E.failure_count to.old) (outputs_of F.committed O.accepted E.accepted E.failure_count to.new)) }
     ensures undone { OnErr result (IsAbortedMergeAt (D.contents inputs.now) args.now
-        (F.placed to.old.files) (F.placed to.new.files)) }
+        (F.committed to.old.files) (F.committed to.new.files)) }
     ensures stopped { IfErr result (IsMergeStop (D.contents inputs.now) args.now) }
     // The shards are not overwritten.
-    ensures kept { HoldsIfCommitted (AreMergeFilesNoInputs args.now) (F.placed to.old.files) (F.placed to.new.files) }
+    ensures kept { HoldsIfCommitted (AreMergeFilesNoInputs args.now) (F.committed to.old.files) (F.committed to.new.files) }
 {
     reject_merge_overwrites(&to.files, alloc, args)?;
     let texts = read_part_texts(inputs, alloc, args)?;
@@ -74,7 +74,7 @@ fn reject_merge_overwrites<F: Outputs>(
     alloc: Global,
     args: &MergeArgs<'_>,
 ) -> Result<(), Stop>
-    ensures apart { OnOk result (IfSome (F.placed files.now) (λ _. AreMergeFilesNoInputs args.now)) }
+    ensures apart { OnOk result (IfSome (F.committed files.now) (λ _. AreMergeFilesNoInputs args.now)) }
     ensures stopped { IfErr result (IsMergeOverwriteStop args.now) }
 {
     let read = identified_files(
@@ -179,8 +179,8 @@ fn write_merged<F: Outputs + Drop, O: Sink + Drop, E: Sink + Drop>(
         (merged_report_path (optional_text args.now.report) (optional_text args.now.junit))
         (optional_text args.now.junit) merged.line.items (report_text merged.rows)
         (merged_junit args.now merged.rows)
-        (outputs_of F.placed O.accepted E.accepted E.failure_count to.old) (outputs_of F.placed O.accepted E.accepted E.failure_count to.new)) }
-    ensures part { OnErr result (AreFilesPartlyCommitted (F.placed to.old.files) (F.placed to.new.files)
+        (outputs_of F.committed O.accepted E.accepted E.failure_count to.old) (outputs_of F.committed O.accepted E.accepted E.failure_count to.new)) }
+    ensures part { OnErr result (AreFilesPartlyCommitted (F.committed to.old.files) (F.committed to.new.files)
         (Some (file_at (optional_text args.now.junit) (merged_junit args.now merged.rows)))) }
     ensures stopped { IfErr result (IsMergeWriteStop args.now) }
 {

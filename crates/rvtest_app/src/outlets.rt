@@ -54,12 +54,12 @@ pub(crate) fn open_outlets<'a, F: Outputs>(
     report: Option<&'a str>,
     junit: Option<&'a str>,
 ) -> Result<Outlets<'a, F::Place, F::File>, Stop>
-    ensures same { F.placed files.new ≡ F.placed files.old }
+    ensures same { F.committed files.new ≡ F.committed files.old }
     ensures report { IfOk result (λ outlets. HasReceived F.pending_path F.File.accepted F.File.failure_count
-        (F.placed files.old) (optional_text report.entry) [] outlets.report) }
+        (F.committed files.old) (optional_text report.entry) [] outlets.report) }
     ensures junit { IfOk result (λ outlets. HasReceived F.pending_path F.File.accepted F.File.failure_count
-        (F.placed files.old) (optional_text junit.entry) [] outlets.junit) }
-    ensures unfailed { IfOk result (λ outlets. has_no_failure F.File.failure_count outlets.report
+        (F.committed files.old) (optional_text junit.entry) [] outlets.junit) }
+    ensures no_failures { IfOk result (λ outlets. has_no_failure F.File.failure_count outlets.report
         × has_no_failure F.File.failure_count outlets.junit) }
     ensures stopped { IfErr result (IsEitherFileStop (file_path_at (optional_text report.entry))
         (file_path_at (optional_text junit.entry))) }
@@ -80,11 +80,11 @@ pub(crate) fn open_outlet<'a, F: Outputs>(
     alloc: Global,
     path: Option<&'a str>,
 ) -> Result<Outlet<'a, F::Place, F::File>, Stop>
-    ensures same { F.placed files.new ≡ F.placed files.old }
+    ensures same { F.committed files.new ≡ F.committed files.old }
     ensures open { IfOk result (HasReceived F.pending_path F.File.accepted F.File.failure_count
-        (F.placed files.old) (optional_text path.entry) []) }
-    ensures stopped { IfErr result (λ why. IsSomeAnd (file_path_at (optional_text path.entry))
-        (λ path. IsUnopenedJobStop path why)) }
+        (F.committed files.old) (optional_text path.entry) []) }
+    ensures stopped { IfErr result (λ stop. IsSomeAnd (file_path_at (optional_text path.entry))
+        (λ path. IsUnopenedJobStop path stop)) }
 {
     match path {
         None => Ok(Outlet::Nowhere),
@@ -117,9 +117,9 @@ fn open_file<'a, F: Outputs>(
     path: &'a str,
 ) -> Result<Outlet<'a, F::Place, F::File>, Stop>
     requires { is_stdout path.now ≡ false }
-    ensures same { F.placed files.new ≡ F.placed files.old }
+    ensures same { F.committed files.new ≡ F.committed files.old }
     ensures open { IfOk result (HasReceived F.pending_path F.File.accepted F.File.failure_count
-        (F.placed files.old) (Some path.now) []) }
+        (F.committed files.old) (Some path.now) []) }
     ensures stopped { IfErr result (IsUnopenedJobStop path.now) }
 {
     match files.create(alloc, path) {
@@ -251,7 +251,7 @@ impl<'a, P: Drop, W: Sink + LastError + Drop> Outlet<'a, P, W> {
 // Returns the result of writing a text to standard output, with the error as a stop.
 fn stdout_result(written: Result<(), WriteError>) -> Result<(), Stop>
     ensures went { MatchResult written (λ _. IsOk result) (λ _. IsErr result) }
-    ensures stopped { IfErr result (λ why. MatchResult written (λ _. ⊥) (λ error. why ≡ stop_of_write_error error)) }
+    ensures stopped { IfErr result (λ stop. MatchResult written (λ _. ⊥) (λ error. stop ≡ stop_of_write_error error)) }
 {
     match written {
         Ok(()) => Ok(()),
@@ -269,7 +269,7 @@ fn file_result(
 ) -> Result<(), Stop>
     ensures went { MatchResult written (λ _. IsOk result) (λ _. IsErr result) }
     ensures stopped { IfErr result
-        (λ why. MatchResult written (λ _. ⊥) (λ error. IsWriteErrorStop path.now error why)) }
+        (λ stop. MatchResult written (λ _. ⊥) (λ error. IsWriteErrorStop path.now error stop)) }
 {
     match written {
         Ok(()) => Ok(()),
@@ -294,7 +294,7 @@ fn write_stop(alloc: Global, path: &str, reason: ErrorKind) -> Stop
 
 /// Abandons the files of both outlets, so that neither is created.
 pub(crate) fn abandon_outlets<F: Outputs>(files: &mut F, outlets: Outlets<'_, F::Place, F::File>)
-    ensures { F.placed files.new ≡ F.placed files.old }
+    ensures { F.committed files.new ≡ F.committed files.old }
 {
     let Outlets { report, junit } = outlets;
     abandon_outlet(files, junit);
@@ -303,7 +303,7 @@ pub(crate) fn abandon_outlets<F: Outputs>(files: &mut F, outlets: Outlets<'_, F:
 
 /// Abandons the file of an outlet, if it has one, so that it is not created.
 pub(crate) fn abandon_outlet<F: Outputs>(files: &mut F, outlet: Outlet<'_, F::Place, F::File>)
-    ensures { F.placed files.new ≡ F.placed files.old }
+    ensures { F.committed files.new ≡ F.committed files.old }
 {
     if let Outlet::File(file) = outlet {
         files.abandon(file.place);

@@ -28,8 +28,8 @@ pub(crate) fn write_shown<F: Outputs + Drop, O: Sink + Drop, E: Sink + Drop>(
 ) -> Result<(), Stop>
     ensures files { to.new.files ≡ to.old.files }
     ensures shown { OnOk result (IsWrittenToErrorsIf is_beside text.now
-        (outputs_of F.placed O.accepted E.accepted E.failure_count to.old) (outputs_of F.placed O.accepted E.accepted E.failure_count to.new)) }
-    ensures stopped { IfErr result (λ why. why ≡ Stop.WriteFailed) }
+        (outputs_of F.committed O.accepted E.accepted E.failure_count to.old) (outputs_of F.committed O.accepted E.accepted E.failure_count to.new)) }
+    ensures stopped { IfErr result (λ stop. stop ≡ Stop.WriteFailed) }
 {
     if is_beside {
         write_message(&mut to.errors, text);
@@ -51,19 +51,19 @@ pub(crate) fn put_files<F: Outputs + Drop, O: Sink + Drop, E: Sink + Drop, T: Ro
     requires junit { has_no_failure F.File.failure_count outlets.junit }
     ensures errors { to.new.errors ≡ to.old.errors }
     ensures put { (had : List ℕ) (report_path junit_path : Option (List ℕ))
-        → HasReceived F.pending_path F.File.accepted F.File.failure_count (F.placed to.old.files) report_path had outlets.entry.report
-        → HasReceived F.pending_path F.File.accepted F.File.failure_count (F.placed to.old.files) junit_path [] outlets.entry.junit
+        → HasReceived F.pending_path F.File.accepted F.File.failure_count (F.committed to.old.files) report_path had outlets.entry.report
+        → HasReceived F.pending_path F.File.accepted F.File.failure_count (F.committed to.old.files) junit_path [] outlets.entry.junit
         → OnOk result (Appends (O.accepted to.old.out) (O.accepted to.new.out)
         (stdout_at junit_path (junit_of_report T.line texts.entry) ++ stdout_at report_path (report_text_of texts.entry.report))) }
     ensures placed { (had : List ℕ) (report_path junit_path : Option (List ℕ))
-        → HasReceived F.pending_path F.File.accepted F.File.failure_count (F.placed to.old.files) report_path had outlets.entry.report
-        → HasReceived F.pending_path F.File.accepted F.File.failure_count (F.placed to.old.files) junit_path [] outlets.entry.junit
-        → OnOk result (AreFilesCommitted (F.placed to.old.files) (F.placed to.new.files)
+        → HasReceived F.pending_path F.File.accepted F.File.failure_count (F.committed to.old.files) report_path had outlets.entry.report
+        → HasReceived F.pending_path F.File.accepted F.File.failure_count (F.committed to.old.files) junit_path [] outlets.entry.junit
+        → OnOk result (AreFilesCommitted (F.committed to.old.files) (F.committed to.new.files)
         (Some (file_at junit_path (junit_of_report T.line texts.entry)
         ++ file_at report_path (had ++ report_rest_of texts.entry.report)))) }
     ensures part { (junit_path : Option (List ℕ))
-        → HasReceived F.pending_path F.File.accepted F.File.failure_count (F.placed to.old.files) junit_path [] outlets.entry.junit
-        → OnErr result (AreFilesPartlyCommitted (F.placed to.old.files) (F.placed to.new.files)
+        → HasReceived F.pending_path F.File.accepted F.File.failure_count (F.committed to.old.files) junit_path [] outlets.entry.junit
+        → OnErr result (AreFilesPartlyCommitted (F.committed to.old.files) (F.committed to.new.files)
         (Some (file_at junit_path (junit_of_report T.line texts.entry)))) }
     ensures stopped { IfErr result
         (IsOutputWriteStop (outlet_path outlets.entry.report) (outlet_path outlets.entry.junit)) }

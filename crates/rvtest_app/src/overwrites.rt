@@ -21,7 +21,7 @@ pub(crate) fn identified_files<'a, F: Outputs>(
     alloc: Global,
     paths: Vec<InputPath<'a>>,
 ) -> Result<InputFiles<'a>, AllocError>
-    ensures { IfOk result (λ read. AreFilesOf (F.placed files.now) (input_paths paths.entry.items) read) }
+    ensures { IfOk result (λ read. AreFilesOf (F.committed files.now) (input_paths paths.entry.items) read) }
 {
     let identities = file_identities(files, alloc, paths.as_slice())?;
     Ok(InputFiles { paths, identities })
@@ -34,7 +34,7 @@ fn file_identities<F: Outputs>(
     paths: &[InputPath<'_>],
 ) -> Result<Vec<Text>, AllocError>
     ensures counted { IfOk result (λ found. length found.items ≡ length paths.now) }
-    ensures told { IfOk result (λ found. IfSome (F.placed files.now) (λ _. found.items ≡ input_paths paths.now)) }
+    ensures told { IfOk result (λ found. IfSome (F.committed files.now) (λ _. found.items ≡ input_paths paths.now)) }
 {
     let mut found = Vec::new(alloc);
     for at in 0..paths.len() {
@@ -51,8 +51,8 @@ pub(crate) fn reject_option_overwrite<F: Outputs>(
     path: Option<&str>,
     read: &InputFiles<'_>,
 ) -> Result<(), Stop>
-    ensures apart { (paths : List (List ℕ)) → AreFilesOf (F.placed files.now) paths read.now
-        → OnOk result (IfSome (F.placed files.now) (λ _. IsNoInputIfFile paths (optional_text path.entry))) }
+    ensures apart { (paths : List (List ℕ)) → AreFilesOf (F.committed files.now) paths read.now
+        → OnOk result (IfSome (F.committed files.now) (λ _. IsNoInputIfFile paths (optional_text path.entry))) }
     ensures stopped { IfErr result (IsOptionOverwriteStop option.now (optional_text path.entry)) }
 {
     match path {
@@ -69,8 +69,8 @@ pub(crate) fn reject_file_overwrite<F: Outputs>(
     path: &str,
     read: &InputFiles<'_>,
 ) -> Result<(), Stop>
-    ensures apart { (paths : List (List ℕ)) → AreFilesOf (F.placed files.now) paths read.now
-        → OnOk result (IfSome (F.placed files.now) (λ _. IsNoInput paths path.now)) }
+    ensures apart { (paths : List (List ℕ)) → AreFilesOf (F.committed files.now) paths read.now
+        → OnOk result (IfSome (F.committed files.now) (λ _. IsNoInput paths path.now)) }
     ensures stopped { IfErr result (IsOverwriteStop option.now path.now) }
 {
     let replaced = match files.replaced_files(alloc, path) {

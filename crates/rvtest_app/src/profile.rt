@@ -25,10 +25,10 @@ pub(crate) fn profile_requested_jobs<
     E: Sink + Drop,
 >(host: &Host<'_, R, D>, args: &ProfileArgs<'_>, to: &mut Destinations<F, O, E>) -> Result<u8, Stop>
     ensures put { IfOk result (λ status. IsProfileWritten (D.contents host.now.inputs.now) args.now status
-        (outputs_of F.placed O.accepted E.accepted E.failure_count to.old) (outputs_of F.placed O.accepted E.accepted E.failure_count to.new)) }
+        (outputs_of F.committed O.accepted E.accepted E.failure_count to.old) (outputs_of F.committed O.accepted E.accepted E.failure_count to.new)) }
     ensures low { IfOk result (λ status. status ≤ 1) }
-    ensures stopped { IfErr result (λ why. (why ≡ Stop.WriteFailed)
-        ⊎ IsProfileStop (D.contents host.now.inputs.now) args.now why) }
+    ensures stopped { IfErr result (λ stop. (stop ≡ Stop.WriteFailed)
+        ⊎ IsProfileStop (D.contents host.now.inputs.now) args.now stop) }
 {
     let view = JobsView {
         host,

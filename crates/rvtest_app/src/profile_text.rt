@@ -23,8 +23,8 @@ pub(crate) fn text_of_profile(
 ) -> Result<Vec<u8>, Stop>
     requires { IsValidTable table.now }
     ensures shown { IfOk result (λ text. IsProfileText format table.now (images_of_files images.now) text.items) }
-    ensures stopped { IfErr result (λ why. (why ≡ Stop.OutOfMemory)
-        ⊎ IsPast64BitsStop table.now (images_of_files images.now) source.now why) }
+    ensures stopped { IfErr result (λ stop. (stop ≡ Stop.OutOfMemory)
+        ⊎ IsPast64BitsStop table.now (images_of_files images.now) source.now stop) }
 {
     match image_past_64_bits(table, images) {
         Some(path) => Err(Stop::rejection(past_64_bits_message(alloc, source, path))),

@@ -54,7 +54,7 @@ pub fn run_rvtest<
     I: Read + Send,
 >(
     host: &Host<'_, R, D>,
-    words: &'a [T],
+    args: &'a [T],
     to: Destinations<F, O, E>,
     terminals: Terminals<P>,
     input: &mut I,
@@ -64,18 +64,18 @@ where
     ensures low { O.closed result.0.out ≡ false → result.1 ≤ 3 }
     // A status of 0 or 1 means that everything was written, to standard output in the requested colours.
     ensures answered { result.1 ≤ 1 → IsCarriedOut (D.contents host.now.inputs.now) (I.remaining input.old)
-        terminals.is_out_terminal terminals.is_out_colored (map T.text words.entry.now) result.1
-        (outputs_of F.placed O.accepted E.accepted E.failure_count to) (outputs_of F.placed O.accepted E.accepted E.failure_count result.0) }
+        terminals.is_out_terminal terminals.is_out_colored (map T.text args.entry.now) result.1
+        (outputs_of F.committed O.accepted E.accepted E.failure_count to) (outputs_of F.committed O.accepted E.accepted E.failure_count result.0) }
     // Any other status means that the command stopped before its work was done and that its last output says so, except when the reader
     // closed standard output.
     ensures ended { IsCarriedOut (D.contents host.now.inputs.now) (I.remaining input.old)
-        terminals.is_out_terminal terminals.is_out_colored (map T.text words.entry.now) result.1
-        (outputs_of F.placed O.accepted E.accepted E.failure_count to) (outputs_of F.placed O.accepted E.accepted E.failure_count result.0)
+        terminals.is_out_terminal terminals.is_out_colored (map T.text args.entry.now) result.1
+        (outputs_of F.committed O.accepted E.accepted E.failure_count to) (outputs_of F.committed O.accepted E.accepted E.failure_count result.0)
         ⊎ IsStopReported (O.closed result.0.out)
-        (IsProgramStop (D.contents host.now.inputs.now) terminals.is_out_terminal (map T.text words.entry.now))
-        result.1 (outputs_of F.placed O.accepted E.accepted E.failure_count result.0) }
+        (IsProgramStop (D.contents host.now.inputs.now) terminals.is_out_terminal (map T.text args.entry.now))
+        result.1 (outputs_of F.committed O.accepted E.accepted E.failure_count result.0) }
 {
-    let (mut to, answer) = match read_words(host.alloc, words) {
+    let (mut to, answer) = match read_words(host.alloc, args) {
         Ok(Some(request)) => {
             run_in_colors::<Brand, R, D, F, O, E, P, I>(host, request, to, terminals, input)
         }
@@ -120,7 +120,7 @@ where
     ensures low { IfOk result.1 (λ status. status ≤ 2) }
     ensures done { IfOk result.1 (λ status. IsDoneInColors (D.contents host.now.inputs.now) (I.remaining input.old)
         terminals.is_out_terminal terminals.is_out_colored request.entry status
-        (outputs_of F.placed O.accepted E.accepted E.failure_count to) (outputs_of F.placed O.accepted E.accepted E.failure_count result.0)) }
+        (outputs_of F.committed O.accepted E.accepted E.failure_count to) (outputs_of F.committed O.accepted E.accepted E.failure_count result.0)) }
     ensures stopped { IfErr result.1 (IsCommandStop (D.contents host.now.inputs.now) terminals.is_out_terminal request.entry) }
     // Whatever the result, standard output received coloured results, followed at most by the first bytes of an escape sequence.
     ensures shown { (plain : Option (List ℕ)) × IsPartlyColoredAs (requested_colors request.entry terminals.is_out_colored)
@@ -170,7 +170,7 @@ where
     ensures low { IfOk result.1 (λ status. status ≤ 2) }
     ensures done { IfOk result.1 (λ status. IsCommandDone (D.contents host.now.inputs.now) (I.remaining input.old)
         terminals.is_out_terminal request.entry status
-        (outputs_of F.placed O.accepted E.accepted E.failure_count to) (outputs_of F.placed O.accepted E.accepted E.failure_count result.0)) }
+        (outputs_of F.committed O.accepted E.accepted E.failure_count to) (outputs_of F.committed O.accepted E.accepted E.failure_count result.0)) }
     // A command that a failed write could not have stopped wrote nothing.
     ensures untouched { IfOk result.1 (λ _.
         IsCommandStop (D.contents host.now.inputs.now) terminals.is_out_terminal request.entry Stop.WriteFailed

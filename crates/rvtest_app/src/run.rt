@@ -56,15 +56,15 @@ pub(crate) fn run_requested_jobs<
 where
     F::File: Send,
     ensures run { IfOk result.1 (λ status. IsRunAt (D.contents host.now.inputs.now) args.now status
-        (outputs_of F.placed O.accepted E.accepted E.failure_count to) (outputs_of F.placed O.accepted E.accepted E.failure_count result.0)) }
+        (outputs_of F.committed O.accepted E.accepted E.failure_count to) (outputs_of F.committed O.accepted E.accepted E.failure_count result.0)) }
     ensures undone { OnErr result.1 (IsAbortedRunAt (D.contents host.now.inputs.now) args.now
-        (F.placed to.files) (F.placed result.0.files)) }
+        (F.committed to.files) (F.committed result.0.files)) }
     ensures low { IfOk result.1 (λ status. status ≤ 1) }
     ensures untouched { IfOk result.1 (λ _. AreJobsToRun (D.contents host.now.inputs.now) args.now
         ⊎ (result.0.out ≡ to.out)) }
     ensures stopped { IfErr result.1 (IsRunStop (D.contents host.now.inputs.now) args.now) }
     // The inputs of the run are not overwritten.
-    ensures kept { AreRunInputsPreserved (D.contents host.now.inputs.now) args.now (F.placed to.files) (F.placed result.0.files) }
+    ensures kept { AreRunInputsPreserved (D.contents host.now.inputs.now) args.now (F.committed to.files) (F.committed result.0.files) }
 {
     let run = ListRun {
         host,
@@ -122,10 +122,10 @@ impl<'x, R: Threads + Wait + Sync + Clock, D: Inputs> ListRun<'x, R, D> {
         requires { self.now.rule ≡ failure_rule self.now.args.now.lenient }
         ensures run { IfOk result.1 (λ status. IsRunOfSelected (D.contents self.now.host.now.inputs.now) self.now.args.now
             marked.known marked.jobs (Some marked.selection.items) marked.frame.shard marked.frame.old status
-            (outputs_of F.placed O.accepted E.accepted E.failure_count to) (outputs_of F.placed O.accepted E.accepted E.failure_count result.0)) }
+            (outputs_of F.committed O.accepted E.accepted E.failure_count to) (outputs_of F.committed O.accepted E.accepted E.failure_count result.0)) }
         ensures undone { OnErr result.1 (IsAbortedRunOfJobs (D.contents self.now.host.now.inputs.now) self.now.args.now
             marked.known marked.jobs (selected_job_indices marked.selection.items) marked.frame.shard marked.frame.old
-            (F.placed to.files) (F.placed result.0.files)) }
+            (F.committed to.files) (F.committed result.0.files)) }
         ensures stopped { IfErr result.1 (IsRunWriteStop self.now.args.now) }
     {
         let SelectedJobs {

@@ -41,12 +41,12 @@ impl<'x, R: Threads + Wait + Sync + Clock, D: Inputs> ListRun<'x, R, D> {
         ensures counted { (path : Option (List ℕ)) (earlier : Option (List CommittedFile))
             → HasReceived F.pending_path F.File.accepted F.File.failure_count earlier path [] outlet.entry
             → OnOk result (AreCountsWritten self.now.args.now.stacks path plan.now places.now
-            (with_committed_if_reported earlier (outputs_of F.placed O.accepted E.accepted E.failure_count to.old))
-            (outputs_of F.placed O.accepted E.accepted E.failure_count to.new)) }
+            (with_committed_if_reported earlier (outputs_of F.committed O.accepted E.accepted E.failure_count to.old))
+            (outputs_of F.committed O.accepted E.accepted E.failure_count to.new)) }
         ensures requested { (path : Option (List ℕ)) (earlier : Option (List CommittedFile))
             → HasReceived F.pending_path F.File.accepted F.File.failure_count earlier path [] outlet.entry
             → OnErr result (is_some path ≡ true) }
-        ensures same { OnErr result (F.placed to.new.files ≡ F.placed to.old.files) }
+        ensures same { OnErr result (F.committed to.new.files ≡ F.committed to.old.files) }
         ensures stopped { IfErr result (IsCountsWriteStop self.now.args.now (outlet_path outlet.entry)) }
     {
         if let Outlet::Nowhere = outlet {

@@ -71,12 +71,12 @@ impl<'x, R: Threads + Wait + Sync + Clock, D: Inputs> ListRun<'x, R, D> {
         ensures outputs_of { OnOk result.1 (IsCountedRunWritten self.now.args.now (reporter_of planned.now.reporter.now)
             planned.now.places.now frame.shard frame.old (run_rows self.now.args.now.stop_after
             (judge_view planned.now.reporter.now.judge) planned.now.reporter.now.plan.now planned.now.places.now)
-            (outputs_of F.placed O.accepted E.accepted E.failure_count to) (outputs_of F.placed O.accepted E.accepted E.failure_count result.0)) }
+            (outputs_of F.committed O.accepted E.accepted E.failure_count to) (outputs_of F.committed O.accepted E.accepted E.failure_count result.0)) }
         ensures part { (rows : List ARow) → rows ≡ run_rows self.now.args.now.stop_after
             (judge_view planned.now.reporter.now.judge) planned.now.reporter.now.plan.now planned.now.places.now
-            → OnErr result.1 ((F.placed result.0.files ≡ F.placed to.files)
+            → OnErr result.1 ((F.committed result.0.files ≡ F.committed to.files)
             ⊎ AreRunFilesPartlyCommitted self.now.args.now (reporter_of planned.now.reporter.now) planned.now.places.now frame.shard
-            frame.old rows (F.placed to.files) (F.placed result.0.files)) }
+            frame.old rows (F.committed to.files) (F.committed result.0.files)) }
         ensures stopped { IfErr result.1 (IsRunWriteStop self.now.args.now) }
     {
         let (alloc, args) = (self.host.alloc, self.args);
@@ -144,7 +144,7 @@ impl<'x, R: Threads + Wait + Sync + Clock, D: Inputs> ListRun<'x, R, D> {
         requires failed { IfErr run.ran (λ error. error ≡ ReportFailed → is_some (outlet_path outlets.report) ≡ true) }
         requires whole { ForSome frame.old (λ rows. length rows ≡ length planned.now.reporter.now.plan.now.jobs) }
         requires path { outlet_path outlets.report ≡ file_path_at (run_report_path self.now.args.now) }
-        requires taken { IfOk run.ran (λ rows. HaveRunOutletsReceived F.pending_path F.File.accepted F.File.failure_count (F.placed to.files)
+        requires taken { IfOk run.ran (λ rows. HaveRunOutletsReceived F.pending_path F.File.accepted F.File.failure_count (F.committed to.files)
             self.now.args.now (streamed_rows frame.old (shown_indices planned.now.places.now rows) rows) outlets) }
         ensures status { IfOk result.1 (λ status. status ≡ rows_status (judge_view planned.now.reporter.now.judge) (run_rows
             self.now.args.now.stop_after (judge_view planned.now.reporter.now.judge) planned.now.reporter.now.plan.now
@@ -153,15 +153,15 @@ impl<'x, R: Threads + Wait + Sync + Clock, D: Inputs> ListRun<'x, R, D> {
             (row_lines_at (reporter_of planned.now.reporter.now)) (judge_view planned.now.reporter.now.judge)
             planned.now.reporter.now.plan.now planned.now.places.now (run_rows self.now.args.now.stop_after
             (judge_view planned.now.reporter.now.judge) planned.now.reporter.now.plan.now planned.now.places.now))
-            before (outputs_of F.placed O.accepted E.accepted E.failure_count to))
+            before (outputs_of F.committed O.accepted E.accepted E.failure_count to))
             → OnOk result.1 (IsCountedRunWritten self.now.args.now (reporter_of planned.now.reporter.now) planned.now.places.now
             frame.shard frame.old (run_rows self.now.args.now.stop_after (judge_view planned.now.reporter.now.judge)
             planned.now.reporter.now.plan.now planned.now.places.now) before
-            (outputs_of F.placed O.accepted E.accepted E.failure_count result.0)) }
-        ensures part { OnErr result.1 ((F.placed result.0.files ≡ F.placed to.files)
+            (outputs_of F.committed O.accepted E.accepted E.failure_count result.0)) }
+        ensures part { OnErr result.1 ((F.committed result.0.files ≡ F.committed to.files)
             ⊎ AreRunFilesPartlyCommitted self.now.args.now (reporter_of planned.now.reporter.now) planned.now.places.now frame.shard
             frame.old (run_rows self.now.args.now.stop_after (judge_view planned.now.reporter.now.judge)
-            planned.now.reporter.now.plan.now planned.now.places.now) (F.placed to.files) (F.placed result.0.files)) }
+            planned.now.reporter.now.plan.now planned.now.places.now) (F.committed to.files) (F.committed result.0.files)) }
         ensures stopped { IfErr result.1 (IsRunWriteStop self.now.args.now) }
     {
         let ShownRun { texts, ran } = run;
@@ -194,18 +194,18 @@ impl<'x, R: Threads + Wait + Sync + Clock, D: Inputs> ListRun<'x, R, D> {
         requires few { length rows ≤ length planned.now.places.now }
         requires texts { AreLinesOf (failure_lines (reporter_of planned.now.reporter.now)) planned.now.places.now rows texts.items }
         requires whole { ForSome frame.old (λ rows. length rows ≡ length planned.now.reporter.now.plan.now.jobs) }
-        requires taken { HaveRunOutletsReceived F.pending_path F.File.accepted F.File.failure_count (F.placed to.old.files) self.now.args.now
+        requires taken { HaveRunOutletsReceived F.pending_path F.File.accepted F.File.failure_count (F.committed to.old.files) self.now.args.now
             (streamed_rows frame.old (shown_indices planned.now.places.now rows) rows) outlets }
         ensures status { IfOk result (λ status. status ≡ rows_status (judge_view planned.now.reporter.now.judge) rows) }
         ensures outputs_of { (before : CommandOutputs) → IsWrittenToErrorsIf (uses_run_stdout self.now.args.now) (run_output_text
             (row_lines_at (reporter_of planned.now.reporter.now)) (judge_view planned.now.reporter.now.judge)
             planned.now.reporter.now.plan.now planned.now.places.now rows)
-            before (outputs_of F.placed O.accepted E.accepted E.failure_count to.old)
+            before (outputs_of F.committed O.accepted E.accepted E.failure_count to.old)
             → OnOk result (IsCountedRunWritten self.now.args.now (reporter_of planned.now.reporter.now) planned.now.places.now
-            frame.shard frame.old rows before (outputs_of F.placed O.accepted E.accepted E.failure_count to.new)) }
-        ensures part { OnErr result ((F.placed to.new.files ≡ F.placed to.old.files)
+            frame.shard frame.old rows before (outputs_of F.committed O.accepted E.accepted E.failure_count to.new)) }
+        ensures part { OnErr result ((F.committed to.new.files ≡ F.committed to.old.files)
             ⊎ AreRunFilesPartlyCommitted self.now.args.now (reporter_of planned.now.reporter.now) planned.now.places.now frame.shard
-            frame.old rows (F.placed to.old.files) (F.placed to.new.files)) }
+            frame.old rows (F.committed to.old.files) (F.committed to.new.files)) }
         ensures stopped { IfErr result (IsRunWriteStop self.now.args.now) }
     {
         let RunOutlets {
@@ -245,24 +245,24 @@ impl<'x, R: Threads + Wait + Sync + Clock, D: Inputs> ListRun<'x, R, D> {
         ensures status { IfOk result (λ status. status ≡ rows_status (judge_view planned.now.reporter.now.judge) rows) }
         ensures errors { to.new.errors ≡ to.old.errors }
         ensures put { (report_path junit_path : Option (List ℕ))
-            → HasReceived F.pending_path F.File.accepted F.File.failure_count (F.placed to.old.files) report_path
+            → HasReceived F.pending_path F.File.accepted F.File.failure_count (F.committed to.old.files) report_path
             (streamed_rows frame.old planned.now.places.now rows) outlets.entry.report
-            → HasReceived F.pending_path F.File.accepted F.File.failure_count (F.placed to.old.files) junit_path [] outlets.entry.junit
+            → HasReceived F.pending_path F.File.accepted F.File.failure_count (F.committed to.old.files) junit_path [] outlets.entry.junit
             → OnOk result (Appends (O.accepted to.old.out) (O.accepted to.new.out)
             (stdout_at junit_path (run_junit self.now.args.now (reporter_of planned.now.reporter.now)
             planned.now.places.now rows) ++ stdout_at report_path (run_report_text frame.old
             (length planned.now.reporter.now.plan.now.jobs) planned.now.places.now frame.shard rows))) }
         ensures placed { (report_path junit_path : Option (List ℕ))
-            → HasReceived F.pending_path F.File.accepted F.File.failure_count (F.placed to.old.files) report_path
+            → HasReceived F.pending_path F.File.accepted F.File.failure_count (F.committed to.old.files) report_path
             (streamed_rows frame.old planned.now.places.now rows) outlets.entry.report
-            → HasReceived F.pending_path F.File.accepted F.File.failure_count (F.placed to.old.files) junit_path [] outlets.entry.junit
-            → OnOk result (AreFilesCommitted (F.placed to.old.files) (F.placed to.new.files)
+            → HasReceived F.pending_path F.File.accepted F.File.failure_count (F.committed to.old.files) junit_path [] outlets.entry.junit
+            → OnOk result (AreFilesCommitted (F.committed to.old.files) (F.committed to.new.files)
             (Some (file_at junit_path (run_junit self.now.args.now (reporter_of planned.now.reporter.now)
             planned.now.places.now rows) ++ file_at report_path (run_report_text frame.old
             (length planned.now.reporter.now.plan.now.jobs) planned.now.places.now frame.shard rows)))) }
         ensures part { (junit_path : Option (List ℕ))
-            → HasReceived F.pending_path F.File.accepted F.File.failure_count (F.placed to.old.files) junit_path [] outlets.entry.junit
-            → OnErr result (AreFilesPartlyCommitted (F.placed to.old.files) (F.placed to.new.files)
+            → HasReceived F.pending_path F.File.accepted F.File.failure_count (F.committed to.old.files) junit_path [] outlets.entry.junit
+            → OnErr result (AreFilesPartlyCommitted (F.committed to.old.files) (F.committed to.new.files)
             (Some (file_at junit_path (run_junit self.now.args.now (reporter_of planned.now.reporter.now)
             planned.now.places.now rows)))) }
         ensures stopped { IfErr result

@@ -25,8 +25,8 @@ pub(crate) fn open_run_outlets<'a, F: Outputs>(
     alloc: Global,
     args: &RunArgs<'a>,
 ) -> Result<RunOutlets<'a, F::Place, F::File>, Stop>
-    ensures same { F.placed files.new ≡ F.placed files.old }
-    ensures open { IfOk result (HaveRunOutletsReceived F.pending_path F.File.accepted F.File.failure_count (F.placed files.old) args.now []) }
+    ensures same { F.committed files.new ≡ F.committed files.old }
+    ensures open { IfOk result (HaveRunOutletsReceived F.pending_path F.File.accepted F.File.failure_count (F.committed files.old) args.now []) }
     ensures stopped { IfErr result (IsRunWriteStop args.now) }
 {
     let counts = open_outlet(files, alloc, args.counts)?;
@@ -46,7 +46,7 @@ pub(crate) fn open_run_outlets<'a, F: Outputs>(
 impl<'a, P: Drop, W: Drop> RunOutlets<'a, P, W> {
     /// Abandons the files, so that none is created.
     pub(crate) fn abandon<F: Outputs<Place = P, File = W>>(self, files: &mut F)
-        ensures { F.placed files.new ≡ F.placed files.old }
+        ensures { F.committed files.new ≡ F.committed files.old }
     {
         let RunOutlets {
             report,

@@ -48,12 +48,12 @@ pub(crate) fn show_report<D: Inputs, F: Outputs + Drop, O: Sink + Drop, E: Sink 
 ) -> Result<u8, Stop>
     ensures low { IfOk result (λ status. status ≤ 1) }
     ensures shown { IfOk result (λ status. IsShowWritten (D.contents inputs.now) args.entry status
-        (outputs_of F.placed O.accepted E.accepted E.failure_count to.old) (outputs_of F.placed O.accepted E.accepted E.failure_count to.new)) }
+        (outputs_of F.committed O.accepted E.accepted E.failure_count to.old) (outputs_of F.committed O.accepted E.accepted E.failure_count to.new)) }
     ensures undone { OnErr result (IsAbortedShowAt (D.contents inputs.now) args.entry
-        (F.placed to.old.files) (F.placed to.new.files)) }
+        (F.committed to.old.files) (F.committed to.new.files)) }
     ensures stopped { IfErr result (IsShowErrorStop (D.contents inputs.now) args.entry) }
     // The report is not overwritten.
-    ensures kept { HoldsIfCommitted (IsShowFileNoInput args.entry) (F.placed to.old.files) (F.placed to.new.files) }
+    ensures kept { HoldsIfCommitted (IsShowFileNoInput args.entry) (F.committed to.old.files) (F.committed to.new.files) }
 {
     reject_show_overwrite(&to.files, alloc, &args)?;
     let requested = RequestedReport {
@@ -75,7 +75,7 @@ fn reject_show_overwrite<F: Outputs>(
     alloc: Global,
     args: &ShowArgs<'_>,
 ) -> Result<(), Stop>
-    ensures apart { OnOk result (IfSome (F.placed files.now) (λ _. IsShowFileNoInput args.now)) }
+    ensures apart { OnOk result (IfSome (F.committed files.now) (λ _. IsShowFileNoInput args.now)) }
     ensures stopped { IfErr result (IsShowOverwriteStop args.now) }
 {
     let read = identified_files(
@@ -120,8 +120,8 @@ fn write_summarized_report<F: Outputs + Drop, O: Sink + Drop, E: Sink + Drop>(
     ensures put { OnOk result (IsOutputWritten None (optional_text args.entry.junit) summarized.summary.items
         (report_text summarized.report.rows)
         (shown_junit args.entry summarized.report.rows)
-        (outputs_of F.placed O.accepted E.accepted E.failure_count to.old) (outputs_of F.placed O.accepted E.accepted E.failure_count to.new)) }
-    ensures part { OnErr result (AreFilesPartlyCommitted (F.placed to.old.files) (F.placed to.new.files)
+        (outputs_of F.committed O.accepted E.accepted E.failure_count to.old) (outputs_of F.committed O.accepted E.accepted E.failure_count to.new)) }
+    ensures part { OnErr result (AreFilesPartlyCommitted (F.committed to.old.files) (F.committed to.new.files)
         (Some (file_at (optional_text args.entry.junit) (shown_junit args.entry summarized.report.rows)))) }
     ensures stopped { IfErr result (IsOutputStop None (optional_text args.entry.junit)) }
 {

@@ -64,7 +64,7 @@ impl<'x, R: Threads + Wait + Sync + Clock, D: Inputs> ListRun<'x, R, D> {
         sink: Option<V>,
         terminals: Terminals<P>,
     ) -> (W, Option<V>, ShownRun)
-        requires there { is_some sink ≡ K.sends }
+        requires there { is_some sink ≡ K.has_sink }
         requires sink { IfSome sink (λ sink. (K.before ≡ V.accepted sink) × (K.failures ≡ V.failure_count sink)) }
         requires line { report_row_text rows.now.is_streaming ≡ K.line }
         requires judging { judge_view planned.now.reporter.now.judge ≡ K.judging }

@@ -56,10 +56,10 @@ impl<'x, R: Threads + Wait + Sync, D: Inputs> JobsView<'x, R, D> {
     ) -> Result<u8, Stop>
         ensures put { IfOk result (λ status. IsViewWritten (D.contents self.now.host.now.inputs.now) self.now.args.now
             self.now.view status
-            (outputs_of F.placed O.accepted E.accepted E.failure_count to.old) (outputs_of F.placed O.accepted E.accepted E.failure_count to.new)) }
+            (outputs_of F.committed O.accepted E.accepted E.failure_count to.old) (outputs_of F.committed O.accepted E.accepted E.failure_count to.new)) }
         ensures low { IfOk result (λ status. status ≤ 1) }
-        ensures stopped { IfErr result (λ why. (why ≡ Stop.WriteFailed)
-            ⊎ IsViewStop (D.contents self.now.host.now.inputs.now) self.now.args.now self.now.view why) }
+        ensures stopped { IfErr result (λ stop. (stop ≡ Stop.WriteFailed)
+            ⊎ IsViewStop (D.contents self.now.host.now.inputs.now) self.now.args.now self.now.view stop) }
     {
         let run = ListRun {
             host: self.host,
@@ -89,7 +89,7 @@ impl<'x, R: Threads + Wait + Sync, D: Inputs> JobsView<'x, R, D> {
         requires { length selection.now ≡ length jobs }
         ensures put { IfOk result (λ status. (status ≡ 0) × IsViewOfJobs (D.contents self.now.host.now.inputs.now)
             self.now.args.now self.now.view jobs (selected_job_indices selection.now)
-            (outputs_of F.placed O.accepted E.accepted E.failure_count to.old) (outputs_of F.placed O.accepted E.accepted E.failure_count to.new)) }
+            (outputs_of F.committed O.accepted E.accepted E.failure_count to.old) (outputs_of F.committed O.accepted E.accepted E.failure_count to.new)) }
         ensures stopped { IfErr result (IsViewFailedStop (D.contents self.now.host.now.inputs.now) self.now.args.now
             self.now.view jobs (selected_job_indices selection.now)) }
     {

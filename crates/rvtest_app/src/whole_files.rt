@@ -32,20 +32,20 @@ pub(crate) fn write_whole_files<F: Outputs + Drop, O: Sink + Drop, E: Sink + Dro
     requires junit { has_no_failure F.File.failure_count outlets.junit }
     ensures errors { to.new.errors ≡ to.old.errors }
     ensures put { (report_path junit_path : Option (List ℕ))
-        → HasReceived F.pending_path F.File.accepted F.File.failure_count (F.placed to.old.files) report_path [] outlets.entry.report
-        → HasReceived F.pending_path F.File.accepted F.File.failure_count (F.placed to.old.files) junit_path [] outlets.entry.junit
+        → HasReceived F.pending_path F.File.accepted F.File.failure_count (F.committed to.old.files) report_path [] outlets.entry.report
+        → HasReceived F.pending_path F.File.accepted F.File.failure_count (F.committed to.old.files) junit_path [] outlets.entry.junit
         → OnOk result (Appends (O.accepted to.old.out) (O.accepted to.new.out)
         (stdout_at junit_path (failures_junit suite.entry.name.now (judge_view suite.entry.judge) rows)
         ++ stdout_at report_path (report_text rows))) }
     ensures placed { (report_path junit_path : Option (List ℕ))
-        → HasReceived F.pending_path F.File.accepted F.File.failure_count (F.placed to.old.files) report_path [] outlets.entry.report
-        → HasReceived F.pending_path F.File.accepted F.File.failure_count (F.placed to.old.files) junit_path [] outlets.entry.junit
-        → OnOk result (AreFilesCommitted (F.placed to.old.files) (F.placed to.new.files)
+        → HasReceived F.pending_path F.File.accepted F.File.failure_count (F.committed to.old.files) report_path [] outlets.entry.report
+        → HasReceived F.pending_path F.File.accepted F.File.failure_count (F.committed to.old.files) junit_path [] outlets.entry.junit
+        → OnOk result (AreFilesCommitted (F.committed to.old.files) (F.committed to.new.files)
         (Some (file_at junit_path (failures_junit suite.entry.name.now (judge_view suite.entry.judge) rows)
         ++ file_at report_path (report_text rows)))) }
     ensures part { (junit_path : Option (List ℕ))
-        → HasReceived F.pending_path F.File.accepted F.File.failure_count (F.placed to.old.files) junit_path [] outlets.entry.junit
-        → OnErr result (AreFilesPartlyCommitted (F.placed to.old.files) (F.placed to.new.files)
+        → HasReceived F.pending_path F.File.accepted F.File.failure_count (F.committed to.old.files) junit_path [] outlets.entry.junit
+        → OnErr result (AreFilesPartlyCommitted (F.committed to.old.files) (F.committed to.new.files)
         (Some (file_at junit_path (failures_junit suite.entry.name.now (judge_view suite.entry.judge) rows)))) }
     ensures stopped { IfErr result
         (IsOutputWriteStop (outlet_path outlets.entry.report) (outlet_path outlets.entry.junit)) }

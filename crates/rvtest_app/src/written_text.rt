@@ -23,10 +23,10 @@ pub(crate) fn write_text<F: Outputs + Drop, O: Sink + Drop, E: Sink + Drop>(
     bytes: &[u8],
 ) -> Result<(), Stop>
     ensures written { OnOk result (IsWrittenAt (Some (written_path (optional_text path.entry))) bytes.now
-        (outputs_of F.placed O.accepted E.accepted E.failure_count to.old) (outputs_of F.placed O.accepted E.accepted E.failure_count to.new)) }
+        (outputs_of F.committed O.accepted E.accepted E.failure_count to.old) (outputs_of F.committed O.accepted E.accepted E.failure_count to.new)) }
     ensures errors { to.new.errors ≡ to.old.errors }
     ensures untouched { (is_stdout (written_path (optional_text path.entry)) ≡ true) ⊎ (to.new.out ≡ to.old.out) }
-    ensures same { OnErr result (F.placed to.new.files ≡ F.placed to.old.files) }
+    ensures same { OnErr result (F.committed to.new.files ≡ F.committed to.old.files) }
     ensures stopped { IfErr result (IsUnwrittenAtStop (written_path (optional_text path.entry))) }
 {
     write_text_at(alloc, to, path.unwrap_or("-"), bytes)
@@ -40,10 +40,10 @@ fn write_text_at<F: Outputs + Drop, O: Sink + Drop, E: Sink + Drop>(
     bytes: &[u8],
 ) -> Result<(), Stop>
     ensures written { OnOk result (IsWrittenAt (Some path.now) bytes.now
-        (outputs_of F.placed O.accepted E.accepted E.failure_count to.old) (outputs_of F.placed O.accepted E.accepted E.failure_count to.new)) }
+        (outputs_of F.committed O.accepted E.accepted E.failure_count to.old) (outputs_of F.committed O.accepted E.accepted E.failure_count to.new)) }
     ensures errors { to.new.errors ≡ to.old.errors }
     ensures untouched { (is_stdout path.now ≡ true) ⊎ (to.new.out ≡ to.old.out) }
-    ensures same { OnErr result (F.placed to.new.files ≡ F.placed to.old.files) }
+    ensures same { OnErr result (F.committed to.new.files ≡ F.committed to.old.files) }
     ensures stopped { IfErr result (IsUnwrittenAtStop path.now) }
 {
     if is_stdout(path) {
@@ -60,9 +60,9 @@ pub(crate) fn write_file<F: Outputs>(
     path: &str,
     bytes: &[u8],
 ) -> Result<(), Stop>
-    ensures placed { OnOk result (AreFilesCommitted (F.placed files.old) (F.placed files.new)
+    ensures placed { OnOk result (AreFilesCommitted (F.committed files.old) (F.committed files.new)
         (Some (committed_file path.now bytes.now ∷ []))) }
-    ensures same { OnErr result (F.placed files.new ≡ F.placed files.old) }
+    ensures same { OnErr result (F.committed files.new ≡ F.committed files.old) }
     ensures stopped { IfErr result (IsFileNotCreatedStop path.now) }
 {
     match files.create(alloc, path) {
@@ -78,12 +78,12 @@ pub(crate) fn finish_file<F: Outputs>(
     file: OpenFile<'_, F::Place, F::File>,
     bytes: &[u8],
 ) -> Result<(), Stop>
-    requires unfailed { F.File.failure_count file.sink ≡ 0 }
+    requires no_failures { F.File.failure_count file.sink ≡ 0 }
     requires named { file.path.now ≡ F.pending_path file.place }
-    ensures placed { IfSome (F.placed files.old) (λ _. F.File.accepted file.entry.sink ≡ Some [])
-        → OnOk result (AreFilesCommitted (F.placed files.old) (F.placed files.new)
+    ensures placed { IfSome (F.committed files.old) (λ _. F.File.accepted file.entry.sink ≡ Some [])
+        → OnOk result (AreFilesCommitted (F.committed files.old) (F.committed files.new)
         (Some (committed_file file.entry.path.now bytes.now ∷ []))) }
-    ensures same { OnErr result (F.placed files.new ≡ F.placed files.old) }
+    ensures same { OnErr result (F.committed files.new ≡ F.committed files.old) }
     ensures stopped { IfErr result (IsFileNotCreatedStop file.entry.path.now) }
 {
     let OpenFile {
@@ -119,11 +119,11 @@ pub(crate) fn write_to_outlet<F: Outputs + Drop, O: Sink + Drop, E: Sink + Drop>
     requires { (path : Option (List ℕ)) × HasReceived F.pending_path F.File.accepted F.File.failure_count None path [] outlet }
     ensures written { (path : Option (List ℕ)) (earlier : Option (List CommittedFile))
         → HasReceived F.pending_path F.File.accepted F.File.failure_count earlier path [] outlet.entry → OnOk result (IsWrittenAt path bytes.now
-        (with_committed_if_reported earlier (outputs_of F.placed O.accepted E.accepted E.failure_count to.old))
-        (outputs_of F.placed O.accepted E.accepted E.failure_count to.new)) }
+        (with_committed_if_reported earlier (outputs_of F.committed O.accepted E.accepted E.failure_count to.old))
+        (outputs_of F.committed O.accepted E.accepted E.failure_count to.new)) }
     ensures errors { to.new.errors ≡ to.old.errors }
-    ensures same { OnErr result (F.placed to.new.files ≡ F.placed to.old.files) }
-    ensures stopped { IfErr result (λ why. (why ≡ Stop.WriteFailed) ⊎ IsFileStop (outlet_path outlet.entry) why) }
+    ensures same { OnErr result (F.committed to.new.files ≡ F.committed to.old.files) }
+    ensures stopped { IfErr result (λ stop. (stop ≡ Stop.WriteFailed) ⊎ IsFileStop (outlet_path outlet.entry) stop) }
 {
     match outlet {
         Outlet::Nowhere => Ok(()),

@@ -6,4 +6,4 @@ use Rattle.rv_call_tree.proofs.subtree.subtrees_of.Given as goal
 
 abbrev pub invariant-loop-count : goal.invariant-loop-count
 invariant-loop-count l =
-    reverse l.subtrees.items ≡ subtrees_from (length l.spots - l.count) (drop (length l.spots - l.count) l.spots)
+    reverse l.subtrees.items ≡ subtrees_from (length l.nodes - l.count) (drop (length l.nodes - l.count) l.nodes)

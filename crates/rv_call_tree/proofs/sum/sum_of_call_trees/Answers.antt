@@ -6,7 +6,7 @@ use Rattle.rv_call_tree.specs.declared.call_node.CallNode.{CallNode}
 use Rattle.rv_call_tree.specs.declared.sum.NextNode.{NextNode}
 use Rattle.std.specs.List.{AllByRecursion}
 use Rattle.rv_call_tree.specs.Sums.{next_of, FitsFields, IsSumOfCallTrees}
-use Rattle.rv_call_tree.proofs.Merged.{all_added, each_push, few_of, more_added, none_added, too_great, Added, FewOf}
+use Rattle.rv_call_tree.proofs.Merged.{all_added, each_push, few_of, more_added, none_added, overflow, Added, FewOf}
 use Rattle.rv_call_tree.proofs.sum.sum_of_call_trees.Goals as goal
 use Rattle.rv_call_tree.proofs.sum.sum_of_call_trees.Goals.{then-from_a-a, else-from_a-a+then-from_b-b}
 
@@ -35,12 +35,12 @@ loop-from_a-preserved c =
     ] in
     let is : next ≡ next_of (drop i a) (drop j b) = simp take_rest at c.in_ok-next.ensures.value in
     let few = subst (λ (n : NextNode). FewOf (drop i a) (drop j b) n) (sym is) (few_of (drop i a) (drop j b) some) in record {
-      within_a = (let m = few.of_a in let w = inv.within_a in omega (arith, m, w, rest_a));
-      within_b = (let m = few.of_b in let w = inv.within_b in omega (arith, m, w, rest_b));
-      added = subst (λ (sums : List CallNode). Added a b (i + next.of_a) (j + next.of_b) sums) (sym c.in_ok-push_node.ensures)
+      within_a = (let m = few.count_in_a in let w = inv.within_a in omega (arith, m, w, rest_a));
+      within_b = (let m = few.count_in_b in let w = inv.within_b in omega (arith, m, w, rest_b));
+      added = subst (λ (sums : List CallNode). Added a b (i + next.count_in_a) (j + next.count_in_b) sums) (sym c.in_ok-push_node.ensures)
           (more_added a b c.loop-from_a.sums.items i j next inv.added some is);
       fits = subst (λ (sums : List CallNode). AllByRecursion FitsFields sums) (sym c.in_ok-push_node.ensures)
-          (each_push FitsFields c.loop-from_a.sums.items next.spot inv.fits c.in_ok-next.ensures.fits);
+          (each_push FitsFields c.loop-from_a.sums.items next.node inv.fits c.in_ok-next.ensures.fits);
     }
 
 pub returns-in_err-next-clause-refused : goal.returns-in_err-next-clause-refused
@@ -48,7 +48,7 @@ returns-in_err-next-clause-refused c =
     let error = err_from_is_err_and c.from_residual.result c.from_residual.ensures.1 in
     let refused = simp take_rest at c.in_err-next.ensures.refused in
     rw (error.1, error.2)
-    (too_great c.args.a.now c.args.b.now c.loop-from_a.sums.items c.loop-from_a.from_a c.loop-from_a.from_b _
+    (overflow c.args.a.now c.args.b.now c.loop-from_a.sums.items c.loop-from_a.from_a c.loop-from_a.from_b _
     c.loop-from_a.invariant.added refused)
 
 pub returns-clause-value : goal.returns-clause-value

@@ -9,7 +9,7 @@ use Rattle.rv_choice.proofs.selection.remaining_selection.Goals as goal
 
 pub loop-index-init : goal.loop-index-init
 unfolding remaining_selection
-loop-index-init c = record { left = c.new-left.ensures.items; matcher = c.in_ok-matcher.ensures.pattern }
+loop-index-init c = record { remaining = c.new-remaining.ensures.items; matcher = c.in_ok-matcher.ensures.pattern }
 
 pub loop-index-preserved : goal.loop-index-preserved
 loop-index-preserved c =
@@ -23,8 +23,8 @@ loop-index-preserved c =
     ∙ (ap (λ (name : List ℕ). is_some (find_str pattern name 0)) c.as_str.ensures
     ∙ ap (λ (j : Job). is_some (find_str pattern j.name 0)) (sym c.index-jobs-index.is))) in
     record {
-      left = c.in_ok-push.ensures.items
-          ∙ (ap (λ (left : List Bool). left ++ c.stays_selected.result ∷ []) c.loop-index.invariant.left
+      remaining = c.in_ok-push.ensures.items
+          ∙ (ap (λ (remaining : List Bool). remaining ++ c.stays_selected.result ∷ []) c.loop-index.invariant.remaining
           ∙ (ap (λ (m : Bool). remaining_selection pattern (take index jobs) (take index selection) ++ m ∷ [])
           (c.stays_selected.ensures ∙ ap (stays_selected _) found)
           ∙ sym (left_more pattern jobs selection index job _ c.requires (omega arith) (sym c.index-jobs-index.is)
@@ -36,7 +36,7 @@ pub returns : goal.returns
 returns c =
     let pattern = regex_pattern c.args.excluded.now in
     let index = c.loop-index.index in
-    c.loop-index.invariant.left
+    c.loop-index.invariant.remaining
     ∙ (ap (λ (jobs : List Job). remaining_selection pattern jobs (take index c.args.selection.now))
     (take_all index c.args.jobs.now (omega arith))
     ∙ ap (remaining_selection pattern c.args.jobs.now) (take_all index c.args.selection.now (omega (arith, c.requires))))

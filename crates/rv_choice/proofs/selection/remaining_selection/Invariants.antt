@@ -5,6 +5,6 @@ use Rattle.rv_choice.proofs.selection.remaining_selection.Given as goal
 
 abbrev pub invariant-loop-index : goal.invariant-loop-index
 invariant-loop-index l = record {
-  left : l.left.items ≡ remaining_selection (regex_pattern l.excluded) (take l.index l.jobs) (take l.index l.selection);
+  remaining : l.remaining.items ≡ remaining_selection (regex_pattern l.excluded) (take l.index l.jobs) (take l.index l.selection);
   matcher : matcher_pattern l.matcher ≡ regex_pattern l.excluded;
 }

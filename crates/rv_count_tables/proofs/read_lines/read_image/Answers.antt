@@ -24,7 +24,7 @@ returns-clause-found c =
     let text = c.args.text.now in
     let image = c.in_ok-image.image in
     let lines = c.in_ok-lines.lines in
-    let spots = c.in_ok-spots.spots in
+    let nodes = c.in_ok-nodes.nodes in
     let w = c.whole_line-line.ensures in
     let line = c.whole_line-line.result.now in
     let same : line ≡ image_line image = (bytes_decides line (image_line image)).0
@@ -32,7 +32,7 @@ returns-clause-found c =
     let d = c.as_slice.ensures in
     let both = and_parts (length c.as_slice.result.now == 32) (is_greater_than_last (last_digest None c.args.earlier.now) c.as_slice.result.now)
     (sym c.can_follow.ensures.value ∙ c.if-not-can_follow.false) in
-    one_image (last_digest None c.args.earlier.now) text image lines spots
+    one_image (last_digest None c.args.earlier.now) text image lines nodes
     _ (sym w ∙ same)
     (ap (λ (s : List ℕ). length s) (sym d) ∙ eqb-true (length c.as_slice.result.now) 32 both.0)
     (ap (is_greater_than_last (last_digest None c.args.earlier.now)) (sym d) ∙ both.1)
@@ -40,7 +40,7 @@ returns-clause-found c =
     (record {
       addresses = subst (λ (t : List ℕ). AreParsedAddresses t lines)
           (c.tail_from.ensures ∙ ap (λ (s : List ℕ). drop (length s) text) w) c.in_ok-lines.ensures;
-      stacks = subst (λ (t : List ℕ). AreParsedNodes t spots)
-          (c.tail_from-2.ensures ∙ ap (λ (s : List ℕ). drop (length s + lines.length) text) w) c.in_ok-spots.ensures;
-      end = ap (λ (s : List ℕ). length s + lines.length + spots.length) w;
+      stacks = subst (λ (t : List ℕ). AreParsedNodes t nodes)
+          (c.tail_from-2.ensures ∙ ap (λ (s : List ℕ). drop (length s + lines.length) text) w) c.in_ok-nodes.ensures;
+      end = ap (λ (s : List ℕ). length s + lines.length + nodes.length) w;
     })

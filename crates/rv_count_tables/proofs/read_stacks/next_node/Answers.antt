@@ -5,12 +5,12 @@ use Rattle.rv_count_tables.specs.Text.{node_line}
 use Rattle.rv_count_tables.proofs.ReadingStacks.{plain_name}
 use Rattle.rv_count_tables.proofs.read_stacks.next_node.Goals as goal
 
-pub returns-then-branch-clause-spot : goal.returns-then-branch-clause-spot
-returns-then-branch-clause-spot c text w =
+pub returns-then-branch-clause-node : goal.returns-then-branch-clause-node
+returns-then-branch-clause-node c text w =
     let read = c.in_ok-read.read in
     let same : c.args.line.now ≡ node_line read = (bytes_decides c.args.line.now (node_line read)).0
     (sym c.in_ok-has_node_line.ensures ∙ c.if-branch.true) in record {
-      spot = (c.can_come_next.ensures.0 c.if-can_come_next.true).0;
+      node = (c.can_come_next.ensures.0 c.if-can_come_next.true).0;
       name = plain_name text read (sym w ∙ same);
       text = c.in_ok-read.ensures.text;
     }

@@ -11,7 +11,7 @@ use Rattle.rv_call_tree.specs.declared.call_node.CallNode.{CallNode}
 use Rattle.rv_call_tree.specs.Trees.{path_after, FollowsInPreorder}
 
 pub lines-init : goal.lines-init
-lines-init c = subst (λ (ss : List CallNode). SpotsSoFar c.args.text.now ss c.new-names.result c.new-front.result.items 0) (sym c.new-spots.ensures.items)
+lines-init c = subst (λ (ss : List CallNode). SpotsSoFar c.args.text.now ss c.new-names.result c.new-front.result.items 0) (sym c.new-nodes.ensures.items)
     (subst (λ (ns : List FunctionName). SpotsSoFar c.args.text.now [] ns c.new-front.result.items 0) (sym c.new-names.ensures)
     (subst (λ (path : List ℕ). SpotsSoFar c.args.text.now [] [] path 0) (sym c.new-front.ensures.items)
     (no_spots_so_far c.args.text.now)))
@@ -32,28 +32,28 @@ lines-preserved c =
     let names = c.lines.names in
     let read = c.in-Some.read in
     let w = c.whole_line-line.ensures ∙ ap whole_line c.tail_from.ensures in
-    let fits = rw c.in-Some.is at c.in_ok-read.ensures.spot (drop c.lines.length text) w in
-    let stands = subst (λ (path : List ℕ). FollowsInPreorder path read.spot) c.as_slice.ensures.value
+    let fits = rw c.in-Some.is at c.in_ok-read.ensures.node (drop c.lines.length text) w in
+    let stands = subst (λ (path : List ℕ). FollowsInPreorder path read.node) c.as_slice.ensures.value
     (rw c.in-Some.is at c.in_ok-read.ensures.stands) in
-    let agrees : AgreesWithName read.name (name_of read.spot.function names) = rw c.in-Some.is at c.in_ok-read.ensures.agrees in
+    let agrees : AgreesWithName read.name (name_of read.node.function names) = rw c.in-Some.is at c.in_ok-read.ensures.agrees in
     let line = rw c.in-Some.is at c.in_ok-read.ensures.line in
     let m = c.lines.length + length c.whole_line-line.result.now in
-    let more = one_spot text c.lines.spots.items names front c.lines.length m read c.lines.invariant fits stands agrees
+    let more = one_spot text c.lines.nodes.items names front c.lines.length m read c.lines.invariant fits stands agrees
     (sym w ∙ line) (ap (λ (s : List ℕ). c.lines.length + length s) w) in
-    let path : c.push_item.new.items.items ≡ path_after front read.spot = c.in_ok-push_item-in-Some.ensures
-    ∙ ap (λ (p : List ℕ). p ++ read.spot.function ∷ []) c.truncate.ensures.items in
+    let path : c.push_item.new.items.items ≡ path_after front read.node = c.in_ok-push_item-in-Some.ensures
+    ∙ ap (λ (p : List ℕ). p ++ read.node.function ∷ []) c.truncate.ensures.items in
     let known : c.add.new.self ≡ with_name (function_name read) names = c.in_ok-add-in-Some.ensures
     ∙ ap (λ (n : FunctionName). with_name n names) c.function_name.ensures in
     subst (λ (ss : List CallNode). SpotsSoFar text ss c.add.new.self c.push_item.new.items.items m)
     (sym c.in_ok-push_item-in-Some-2.ensures)
-    (subst (λ (ns : List FunctionName). SpotsSoFar text (c.lines.spots.items ++ read.spot ∷ []) ns c.push_item.new.items.items m)
+    (subst (λ (ns : List FunctionName). SpotsSoFar text (c.lines.nodes.items ++ read.node ∷ []) ns c.push_item.new.items.items m)
     (sym known)
-    (subst (λ (p : List ℕ). SpotsSoFar text (c.lines.spots.items ++ read.spot ∷ []) (with_name (function_name read) names) p m)
+    (subst (λ (p : List ℕ). SpotsSoFar text (c.lines.nodes.items ++ read.node ∷ []) (with_name (function_name read) names) p m)
     (sym path) more))
 
 pub returns-in-None : goal.returns-in-None
 returns-in-None c =
     let w = c.whole_line-line.ensures ∙ ap whole_line c.tail_from.ensures in
-    all_spots c.args.text.now c.as_slice.result.now c.lines.front.items c.whole_line-line.result.now c.lines.spots.items c.lines.names _
+    all_spots c.args.text.now c.as_slice.result.now c.lines.front.items c.whole_line-line.result.now c.lines.nodes.items c.lines.names _
     c.lines.invariant c.new.ensures c.in_ok-into_names-in-None.ensures c.as_slice.ensures.value w
     (rw c.in-None.is at c.in_ok-read.ensures.none)

@@ -60,4 +60,4 @@ returns-clause-value c =
     let ensures = c.in_ok-image.ensures in
     image_of_both _ _ _ _ _ c.requires.a c.requires.b some other c.index-a-0-2.is c.index-b-0-2.is
     (sym c.if-has_lower_digest.ensures) (sym c.if-has_lower_digest-2.ensures) ensures.digest ensures.path ensures.counts
-    ensures.names ensures.of_spots ensures.tree ensures.spots
+    ensures.names ensures.names_of_nodes ensures.tree ensures.nodes

@@ -11,22 +11,22 @@ use Rattle.rv_call_tree.specs.Sums.{IsSumOfCallTrees}
 
 pub returns-clause-tree : goal.returns-clause-tree
 returns-clause-tree c =
-    are_spots _ _ _ _ _ c.requires.a.spots c.requires.b.spots c.as_slice-6.ensures c.as_slice-7.ensures
-    c.in_ok-spots.ensures.value c.in_ok-spots.ensures.fits
+    are_spots _ _ _ _ _ c.requires.a.nodes c.requires.b.nodes c.as_slice-6.ensures c.as_slice-7.ensures
+    c.in_ok-nodes.ensures.value c.in_ok-nodes.ensures.fits
 
-pub returns-clause-of_spots : goal.returns-clause-of_spots
-returns-clause-of_spots c =
+pub returns-clause-names_of_nodes : goal.returns-clause-names_of_nodes
+returns-clause-names_of_nodes c =
     let a = c.args.a.now in
     let b = c.args.b.now in
     let functions = c.in_ok-functions.functions in
-    let spots = c.in_ok-spots.spots in
-    names_of_sum a b functions spots c.requires.a c.requires.b
+    let nodes = c.in_ok-nodes.nodes in
+    names_of_sum a b functions nodes c.requires.a c.requires.b
     (subst (λ (ns : List FunctionName). IsSumOfNames a.functions ns functions) c.as_slice-5.ensures
     (subst (λ (ns : List FunctionName). IsSumOfNames ns c.as_slice-5.result.now functions) c.as_slice-4.ensures
     c.in_ok-functions.ensures.value))
-    (subst (λ (ss : List CallNode). IsSumOfCallTrees a.spots ss spots) c.as_slice-7.ensures
-    (subst (λ (ss : List CallNode). IsSumOfCallTrees ss c.as_slice-7.result.now spots) c.as_slice-6.ensures
-    c.in_ok-spots.ensures.value))
+    (subst (λ (ss : List CallNode). IsSumOfCallTrees a.nodes ss nodes) c.as_slice-7.ensures
+    (subst (λ (ss : List CallNode). IsSumOfCallTrees ss c.as_slice-7.result.now nodes) c.as_slice-6.ensures
+    c.in_ok-nodes.ensures.value))
 
 pub returns-in_err-functions-clause-refused : goal.returns-in_err-functions-clause-refused
 returns-in_err-functions-clause-refused c =

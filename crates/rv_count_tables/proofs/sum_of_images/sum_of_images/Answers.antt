@@ -18,16 +18,16 @@ loop-from_a-preserved c =
     let is : IsNextImage (drop i a) (drop j b) next = simp take_rest at c.in_ok-next.ensures.value in
     let rest_a = length-drop i a in
     let rest_b = length-drop j b in record {
-      within_a = (let m = is.of_a in let w = inv.within_a in omega (arith, m, w, rest_a));
-      within_b = (let m = is.of_b in let w = inv.within_b in omega (arith, m, w, rest_b));
+      within_a = (let m = is.count_in_a in let w = inv.within_a in omega (arith, m, w, rest_a));
+      within_b = (let m = is.count_in_b in let w = inv.within_b in omega (arith, m, w, rest_b));
       ahead = λ others h.
           subst (λ (s : List ImageCounts). ImagesAddUp a b s)
           (sym (append_assoc c.loop-from_a.sums.items (next.image ∷ []) others)
           ∙ ap (λ (s : List ImageCounts). s ++ others) (sym c.in_ok-push_item.ensures))
           (inv.ahead (next.image ∷ others)
           (is.ahead others
-          (subst (λ (s : List ImageCounts). ImagesAddUp s (drop next.of_b (drop j b)) others) (sym (drop-drop next.of_a i a))
-          (subst (λ (s : List ImageCounts). ImagesAddUp (drop (i + next.of_a) a) s others) (sym (drop-drop next.of_b j b)) h))));
+          (subst (λ (s : List ImageCounts). ImagesAddUp s (drop next.count_in_b (drop j b)) others) (sym (drop-drop next.count_in_a i a))
+          (subst (λ (s : List ImageCounts). ImagesAddUp (drop (i + next.count_in_a) a) s others) (sym (drop-drop next.count_in_b j b)) h))));
     }
 
 pub returns-in_err-next-clause-refused : goal.returns-in_err-next-clause-refused

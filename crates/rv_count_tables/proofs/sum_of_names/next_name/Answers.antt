@@ -61,4 +61,4 @@ returns-clause-value c =
     let m = c.if-second-first.false in
     name_of_both _ _ c.index-a-0-2.result c.index-b-0-2.result c.requires.a some other c.index-a-0-2.is c.index-b-0-2.is
     (omega (arith, n, m)) (c.have_equal_names.ensures.0 c.if-not-have_equal_names.false) _
-    (λ i. record { name = c.in_ok-name.ensures i; of_a = 1; of_b = 1 })
+    (λ i. record { name = c.in_ok-name.ensures i; count_in_a = 1; count_in_b = 1 })

@@ -9,9 +9,9 @@ use Rattle.rv_call_tree.specs.declared.call_node.CallNode.{CallNode}
 
 pub returns : goal.returns
 returns c =
-    let spots = c.args.spots.now in
+    let nodes = c.args.nodes.now in
     let index = c.in_ok-index.index in
     let old = string_bytes c.args.text.now in
-    c.loop-spot.invariant
-    ∙ ap (λ (ss : List CallNode). old ++ flat_map (line_by_index index) ss) (take_all c.loop-spot.spot-index spots c.loop-spot-test.false)
-    ∙ ap (λ (lines : List ℕ). old ++ lines) (lines_are index c.args.names.now spots c.in_ok-index.ensures)
+    c.loop-node.invariant
+    ∙ ap (λ (ss : List CallNode). old ++ flat_map (line_by_index index) ss) (take_all c.loop-node.node-index nodes c.loop-node-test.false)
+    ∙ ap (λ (lines : List ℕ). old ++ lines) (lines_are index c.args.names.now nodes c.in_ok-index.ensures)

@@ -14,7 +14,7 @@ returns-clause-value c =
     let shown : c.in_ok-path.path ≡ printable_text c.args.path.now = c.in_ok-path.ensures.value ∙ ap printable_text c.as_bytes.ensures.value in
     let digest : c.in_ok-digest.digest ≡ sha256 c.args.bytes.now = c.in_ok-digest.ensures.value in
     let functions : c.new-2.result ≡ [] = c.new-2.ensures ∙ c.new.ensures.items in
-    let spots : c.new-4.result ≡ [] = c.new-4.ensures ∙ c.new-3.ensures.items in (
+    let nodes : c.new-4.result ≡ [] = c.new-4.ensures ∙ c.new-3.ensures.items in (
       c.into_addresses-addresses.result,
       c.into_addresses-addresses.ensures,
       (λ i. record { images = c.in_ok-images.ensures i; runs = c.args.counter.runs })
@@ -24,7 +24,7 @@ returns-clause-value c =
               path = shown i;
               addresses = c.into_addresses-addresses.result;
               functions = functions i;
-              spots = spots i;
+              nodes = nodes i;
             } ∷ [];
             runs = c.args.counter.runs;
           }),
@@ -38,7 +38,7 @@ returns-clause-table c =
       path = c.in_ok-path.path;
       addresses = c.into_addresses-addresses.result;
       functions = c.new-2.result;
-      spots = c.new-4.result;
+      nodes = c.new-4.result;
     })
     c.args.counter.runs
     (record { images = c.in_ok-images.images; runs = c.args.counter.runs })
@@ -51,7 +51,7 @@ returns-clause-table c =
       text = c.in_ok-path.ensures.text;
       counts = all_even c.into_addresses-addresses.result sorted.consistent (λ at odd. sorted.executed at ∙ c.requires.even at odd);
       names = subst (λ (ns : List FunctionName). AreValidNames ns) (sym (c.new-2.ensures ∙ c.new.ensures.items)) no_names;
-      spots = subst (λ (ss : List CallNode). AreValidNodes ss) (sym (c.new-4.ensures ∙ c.new-3.ensures.items)) no_spots;
-      of_spots = subst (λ (ss : List CallNode). AreNamesOf ss c.new-2.result) (sym (c.new-4.ensures ∙ c.new-3.ensures.items))
+      nodes = subst (λ (ss : List CallNode). AreValidNodes ss) (sym (c.new-4.ensures ∙ c.new-3.ensures.items)) no_spots;
+      names_of_nodes = subst (λ (ss : List CallNode). AreNamesOf ss c.new-2.result) (sym (c.new-4.ensures ∙ c.new-3.ensures.items))
           (subst (λ (ns : List FunctionName). AreNamesOf [] ns) (sym (c.new-2.ensures ∙ c.new.ensures.items)) no_owners);
     })

@@ -11,7 +11,7 @@ returns-clause-text c =
     let begun = c.args.text.now.items in
     let old = c.args.compared.old.now in
     let new = c.args.compared.new.now in
-    let left_out = c.args.compared.left_out in
+    let not_compared = c.args.compared.not_compared in
     let compare = c.args.mode in
     let gone = flat_map (λ row. gone_line (row_named new row.name) row) old in
     let others = flat_map (λ row. changes_of_row compare (row_named old row.name) row) new in
@@ -20,12 +20,12 @@ returns-clause-text c =
     let added = c.in_ok-added.ensures.added in
     let changed = c.in_ok-added.ensures.changed in
     more begun c.push_added_and_changed_lines.new.text.items c.push_count_line.new.text.items (gone ++ others)
-    (count_line (length new + counts.gone) counts left_out (step_sums compare old new))
+    (count_line (length new + counts.gone) counts not_compared (step_sums compare old new))
     (more begun c.push_gone_lines.new.text.items c.push_added_and_changed_lines.new.text.items gone others c.in_ok-gone.ensures.text
     c.in_ok-added.ensures.text)
     (c.in_ok-push_count_line.ensures
     ∙ (λ i. c.push_added_and_changed_lines.new.text.items
-    ++ count_line (length new + counted i) (record { gone = counted i; added = added i; changed = changed i }) left_out
+    ++ count_line (length new + counted i) (record { gone = counted i; added = added i; changed = changed i }) not_compared
     (c.step_sums-sums.ensures i)))
 
 pub returns-clause-counts : goal.returns-clause-counts

@@ -6,8 +6,8 @@ pub returns-clause-value : goal.returns-clause-value
 returns-clause-value c =
     rw (header_passed c.args.isa c.args.file.now c.in_ok-check_header.ensures.value) c.read_image_after_header.ensures
 
-pub returns-clause-of_bytes : goal.returns-clause-of_bytes
-returns-clause-of_bytes c = read_is c.args.isa c.args.file.now c.read_image_after_header.result
+pub returns-clause-image : goal.returns-clause-image
+returns-clause-image c = read_is c.args.isa c.args.file.now c.read_image_after_header.result
     (header_passed c.args.isa c.args.file.now c.in_ok-check_header.ensures.value) c.read_image_after_header.ensures
 
 pub returns-clause-even : goal.returns-clause-even

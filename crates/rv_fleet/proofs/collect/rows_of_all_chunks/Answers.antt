@@ -21,5 +21,5 @@ loop-slot-preserved g c = (
 
 pub returns : goal.returns
 returns g c = c.new.ensures ∙ (c.loop-slot.invariant.0
-    ∙ pieces_all (batch_rows c.args.pieces.now.batch) _ c.loop-slot.number c.args.pieces.now.group_few.0
+    ∙ pieces_all (batch_rows c.args.pieces.now.batch) _ c.loop-slot.number c.args.pieces.now.group_in_range.0
     (omega (arith, c.loop-slot.invariant.1, c.in-None.ensures.steps.0)))

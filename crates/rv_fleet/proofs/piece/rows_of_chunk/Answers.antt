@@ -11,7 +11,7 @@ use Rattle.rv_fleet.proofs.piece.rows_of_chunk.Goals as goal
 pub overflow_mul-start : goal.overflow_mul-start
 overflow_mul-start c = omega (
   arith,
-  chunk_inside _ _ _ c.args.pieces.now.group_few.0 c.requires.number,
+  chunk_inside _ _ _ c.args.pieces.now.group_in_range.0 c.requires.number,
   rows_count c.args.pieces.now.batch.plan.now c.args.pieces.now.batch.places.now,
   c.args.pieces.now.batch.few,
 )
@@ -19,14 +19,14 @@ overflow_mul-start c = omega (
 pub overflow_sub-jobs : goal.overflow_sub-jobs
 overflow_sub-jobs c = omega (
   arith,
-  chunk_inside _ _ _ c.args.pieces.now.group_few.0 c.requires.number,
+  chunk_inside _ _ _ c.args.pieces.now.group_in_range.0 c.requires.number,
   rows_count c.args.pieces.now.batch.plan.now c.args.pieces.now.batch.places.now,
 )
 
 pub overflow_add-end : goal.overflow_add-end
 overflow_add-end c = omega (
   arith,
-  chunk_inside _ _ _ c.args.pieces.now.group_few.0 c.requires.number,
+  chunk_inside _ _ _ c.args.pieces.now.group_in_range.0 c.requires.number,
   rows_count c.args.pieces.now.batch.plan.now c.args.pieces.now.batch.places.now,
   c.args.pieces.now.batch.few,
   c.min.ensures,
@@ -39,7 +39,7 @@ loop-i-preserved c =
     let row : ℕ → Row = λ i. row_of c.args.pieces.now.batch.plan.now (slice_index_or c.args.pieces.now.batch.plan.now.jobs i any) in
     let inside : c.args.number * c.args.pieces.now.group < length c.args.pieces.now.batch.places.now = omega (
       arith,
-      chunk_inside _ _ _ c.args.pieces.now.group_few.0 c.requires.number,
+      chunk_inside _ _ _ c.args.pieces.now.group_in_range.0 c.requires.number,
       rows_count c.args.pieces.now.batch.plan.now c.args.pieces.now.batch.places.now,
     ) in
     record {
@@ -53,7 +53,7 @@ pub returns-clause-rows : goal.returns-clause-rows
 returns-clause-rows c =
     let inside : c.args.number * c.args.pieces.now.group < length c.args.pieces.now.batch.places.now = omega (
       arith,
-      chunk_inside _ _ _ c.args.pieces.now.group_few.0 c.requires.number,
+      chunk_inside _ _ _ c.args.pieces.now.group_in_range.0 c.requires.number,
       rows_count c.args.pieces.now.batch.plan.now c.args.pieces.now.batch.places.now,
     ) in
     let stop : c.loop-i.i ≡ c.args.number * c.args.pieces.now.group + min c.args.pieces.now.group

@@ -12,4 +12,4 @@ returns-clause-no_break c = λ j low.
     let put = c.invalidate_breakpoints.new.machine in
     let pc = (run_of j (state_of put)).state.pc in
     ap (λ (s : State). is_break stops (run_of j s).state.pc) (sym c.invalidate_breakpoints.ensures.state)
-    ∙ begins_at_none stops put.kept pc (c.invalidate_breakpoints.ensures.invalidated pc) (c.run_cached.ensures.awake j low)
+    ∙ begins_at_none stops put.kept pc (c.invalidate_breakpoints.ensures.invalidated pc) (c.run_cached.ensures.valid j low)

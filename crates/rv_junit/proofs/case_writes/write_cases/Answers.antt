@@ -23,7 +23,7 @@ loop-i-init g c =
     let places = c.args.cases.now.places.now in
     let rows = c.args.cases.now.rows.now in
     record {
-      under_way = nothing_under_way (g.W.Sink.accepted c.args.out.now) text (text ++ joined_row_texts line places (take 0 rows))
+      partly_written = nothing_under_way (g.W.Sink.accepted c.args.out.now) text (text ++ joined_row_texts line places (take 0 rows))
           (told_none line text places rows);
       counted = refl;
     }
@@ -38,7 +38,7 @@ returns-in_err-push_case-clause-part g c =
     let i = c.loop-i.i in
     rw error.1 (stopped_under_way (g.W.Sink.accepted c.args.out.now) (g.W.Sink.accepted c.loop-i.out) c.loop-i.text.items
     (text ++ joined_row_texts line places (take i rows)) (concat (drop i (row_text_list line places rows)))
-    (text ++ joined_row_texts line places rows) c.loop-i.invariant.under_way (told_rest line text places rows i))
+    (text ++ joined_row_texts line places rows) c.loop-i.invariant.partly_written (told_rest line text places rows i))
 
 pub returns-in_err-write_if_large-clause-part : goal.returns-in_err-write_if_large-clause-part
 returns-in_err-write_if_large-clause-part g c =
@@ -58,7 +58,7 @@ returns-in_err-write_if_large-clause-part g c =
     rw error.1 (beginning_of_longer before after longer (concat (drop (i + 1) (row_text_list line places rows)))
     (text ++ joined_row_texts line places rows)
     (failed_under_way before (g.W.Sink.accepted c.loop-i.out) after c.loop-i.text.items (line (get_or places i 0) row)
-    c.push_case.new.text.items told_so_far longer c.loop-i.invariant.under_way
+    c.push_case.new.text.items told_so_far longer c.loop-i.invariant.partly_written
     (c.in_ok-push_case.ensures any) c.in_err-write_if_large.ensures.part
     (told_behind line text places rows i 0 row (omega arith) (omega arith) (get_or_default rows i any row (omega arith))))
     (told_rest line text places rows (i + 1)))
@@ -73,19 +73,19 @@ loop-i-preserved g c =
     let any = some_row rows i (omega arith) in
     let row = get_or rows i any in
     record {
-      under_way = more_under_way (g.W.Sink.accepted c.args.out.now) (g.W.Sink.accepted c.loop-i.out)
+      partly_written = more_under_way (g.W.Sink.accepted c.args.out.now) (g.W.Sink.accepted c.loop-i.out)
           (g.W.Sink.accepted c.write_if_large.new.out) c.loop-i.text.items (line (get_or places i 0) row)
           c.push_case.new.text.items c.write_if_large.new.text.items (text ++ joined_row_texts line places (take i rows))
-          (text ++ joined_row_texts line places (take (i + 1) rows)) c.loop-i.invariant.under_way (c.in_ok-push_case.ensures any)
-          c.in_ok-write_if_large.ensures.under_way
+          (text ++ joined_row_texts line places (take (i + 1) rows)) c.loop-i.invariant.partly_written (c.in_ok-push_case.ensures any)
+          c.in_ok-write_if_large.ensures.partly_written
           (told_behind line text places rows i 0 row (omega arith) (omega arith) (get_or_default rows i any row (omega arith)));
       counted = c.in_ok-write_if_large.ensures.counted ∙ c.loop-i.invariant.counted;
     }
 
-pub returns-clause-under_way : goal.returns-clause-under_way
-returns-clause-under_way g c =
+pub returns-clause-partly_written : goal.returns-clause-partly_written
+returns-clause-partly_written g c =
     let line = case_text c.args.suite.now.name.now (judge_view c.args.suite.now.judge) (g.T.RowReporter.line c.args.cases.now.reporter.now) in
     let text = c.args.text.now.items in
     subst (λ (rows : List Row). IsPartlyWritten (g.W.Sink.accepted c.args.out.now) (g.W.Sink.accepted c.loop-i.out)
     c.loop-i.text.items (text ++ joined_row_texts line c.args.cases.now.places.now rows))
-    (take_all c.loop-i.i c.args.cases.now.rows.now (omega arith)) c.loop-i.invariant.under_way
+    (take_all c.loop-i.i c.args.cases.now.rows.now (omega arith)) c.loop-i.invariant.partly_written

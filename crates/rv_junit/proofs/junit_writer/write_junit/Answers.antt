@@ -33,7 +33,7 @@ returns-in_err-push_text-clause-part g c =
     ∙ ap (λ xs. xs ++ suite_begin_text class judging rows) c.new-begin.ensures.bytes in
     let error = err_from_is_err_and c.from_residual-in_err-push_text.result
     c.from_residual-in_err-push_text.ensures.1 in
-    rw error.1 (stopped_under_way _ _ _ _ suite_end_text _ c.in_ok-write_cases.ensures.under_way
+    rw error.1 (stopped_under_way _ _ _ _ suite_end_text _ c.in_ok-write_cases.ensures.partly_written
     (junit_begun class judging (g.T.RowReporter.line c.args.cases.now.reporter.now) c.args.cases.now.places.now rows
     c.into_bytes-text.result.items begun))
 
@@ -46,7 +46,7 @@ returns-in_err-put_all-clause-part g c =
     ∙ ap (λ xs. xs ++ suite_begin_text class judging rows) c.new-begin.ensures.bytes in
     let error = err_from_is_err_and c.from_residual-in_err-put_all.result
     c.from_residual-in_err-put_all.ensures.1 in
-    rw error.1 (failed_under_way _ _ _ _ suite_end_text _ _ _ c.in_ok-write_cases.ensures.under_way
+    rw error.1 (failed_under_way _ _ _ _ suite_end_text _ _ _ c.in_ok-write_cases.ensures.partly_written
     c.in_ok-push_text.ensures (rw c.as_slice.ensures.value at c.in_err-put_all.ensures.part)
     (junit_begun class judging (g.T.RowReporter.line c.args.cases.now.reporter.now) c.args.cases.now.places.now rows
     c.into_bytes-text.result.items begun))
@@ -60,5 +60,5 @@ returns-clause-appended g c =
     ∙ ap (λ xs. xs ++ suite_begin_text class judging rows) c.new-begin.ensures.bytes in
     rw (junit_begun class judging (g.T.RowReporter.line c.args.cases.now.reporter.now) c.args.cases.now.places.now rows
     c.into_bytes-text.result.items begun)
-    (ended_under_way _ _ _ _ suite_end_text _ _ c.in_ok-write_cases.ensures.under_way
+    (ended_under_way _ _ _ _ suite_end_text _ _ c.in_ok-write_cases.ensures.partly_written
     c.in_ok-push_text.ensures (rw c.as_slice.ensures.value at c.in_ok-put_all.ensures.appended))

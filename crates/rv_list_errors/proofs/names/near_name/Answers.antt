@@ -9,7 +9,7 @@ use Rattle.rv_list_errors.proofs.names.near_name.Goals.{then-distance-least, els
 pub loop-name-init : goal.loop-name-init
 loop-name-init c = record {
   near = unless_refused_first _ _ (none_so_far _ _);
-  unwritten = refl;
+  unchanged = refl;
 }
 
 pub loop-name-preserved : goal.loop-name-preserved
@@ -23,7 +23,7 @@ loop-name-preserved c = record {
         (λ so is. no_nearer _ _ _ _ _ so _ _ (borrowed_at c.args.names.now c.loop-name.name-index) is
         w.if-distance-least.false))
   ];
-  unwritten = c.name_distance-distance.ensures.unwritten ∙ c.loop-name.invariant.unwritten;
+  unchanged = c.name_distance-distance.ensures.unchanged ∙ c.loop-name.invariant.unchanged;
 }
 
 pub returns-in-Some-clause-near : goal.returns-in-Some-clause-near

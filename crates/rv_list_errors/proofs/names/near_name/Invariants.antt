@@ -7,5 +7,5 @@ abbrev pub invariant-loop-name : goal.invariant-loop-name
 invariant-loop-name l = record {
   near : OnOk l.message.grown (IsOk l.initial.message.grown
       × IsNearestSoFar (borrowed_names l.names) l.text l.name-index (borrowed_name l.nearest) l.least);
-  unwritten : l.message.bytes ≡ l.initial.message.bytes;
+  unchanged : l.message.bytes ≡ l.initial.message.bytes;
 }

@@ -13,7 +13,7 @@ returns-in-Some c =
     let name = c.in-Some.name.now in
     look_then c.args.message.now c.near_name.new.message c.push_quoted.new.self (IsNearName names wanted (Some name))
     (IsJobNameSuggestion names wanted) (codes "; a similar name exists: " ++ quoted name) (rw c.in-Some.is at c.near_name.ensures.near)
-    c.near_name.ensures.unwritten (adds_then c.near_name.new.message c.push.new.self c.push_quoted.new.self
+    c.near_name.ensures.unchanged (adds_then c.near_name.new.message c.push.new.self c.push_quoted.new.self
     (codes "; a similar name exists: ") (quoted name) c.push.ensures c.push_quoted.ensures) (λ near. (Some name, near, refl))
 
 pub returns-in-None : goal.returns-in-None
@@ -22,7 +22,7 @@ returns-in-None c =
     let wanted = c.args.wanted.now in
     look_then c.args.message.now c.near_name.new.message c.push_names.new.message (IsNearName names wanted None)
     (IsJobNameSuggestion names wanted) (codes "; the earlier jobs are " ++ names_text (present names))
-    (rw c.in-None.is at c.near_name.ensures.near) c.near_name.ensures.unwritten
+    (rw c.in-None.is at c.near_name.ensures.near) c.near_name.ensures.unchanged
     (adds_then c.near_name.new.message c.push-in-None.new.self c.push_names.new.message
     (codes "; the earlier jobs are ") (names_text (present names)) c.push-in-None.ensures c.push_names.ensures)
     (λ near. (None, near, refl))

@@ -12,9 +12,9 @@ use Rattle.rv_profile.proofs.Found.{found_is}
 use Rattle.rv_profile.proofs.Owned.{are_functions, function_of, own_of_profile}
 use Rattle.rv_profile.proofs.law.own_steps_sum_to_all_steps.Goals as goal
 
-record HaveNames (spots : List CallNode) (names : List FunctionName) : Type 0 where
+record HaveNames (nodes : List CallNode) (names : List FunctionName) : Type 0 where
   rising : functions_increase_from 0 names ≡ true
-  named : AreNamesOf spots names
+  named : AreNamesOf nodes names
 
 none_named : HaveNames [] []
 unfolding functions_increase_from
@@ -25,11 +25,11 @@ named : (table : CountTable) (bytes : List ℕ) → IsValidTable table → HaveN
 named table bytes is = go (entry_of_image table bytes) refl
   where
     go : (found : Option ImageCounts) → found ≡ entry_of_image table bytes
-        → HaveNames (option_map_or (λ counted. counted.spots) found []) (option_map_or (λ counted. counted.functions) found [])
+        → HaveNames (option_map_or (λ counted. counted.nodes) found []) (option_map_or (λ counted. counted.functions) found [])
     go None there = none_named
     go (Some counted) there =
         let image = found_is IsValidImage (is_of_digest (sha256 bytes)) table.images counted is.images there in
-        record { rising = image.names.rising; named = image.of_spots }
+        record { rising = image.names.rising; named = image.names_of_nodes }
 
 pub returns : goal.returns
 returns c = λ table bytes found is profile.

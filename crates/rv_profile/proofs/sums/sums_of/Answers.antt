@@ -10,14 +10,14 @@ no_spot = record { depth = 0; function = 0; calls = 0; steps = 0 }
 pub returns-in_err-sums : goal.returns-in_err-sums
 returns-in_err-sums c =
     c.from_residual.ensures
-    ∙ none_of_all c.args.spots.now c.loop-spot.spot-index no_spot c.loop-spot.sums c.loop-spot-test.true c.loop-spot.invariant.is
+    ∙ none_of_all c.args.nodes.now c.loop-node.node-index no_spot c.loop-node.sums c.loop-node-test.true c.loop-node.invariant.is
     (sym c.in_err-sums.was ∙ c.with_node.ensures)
 
-pub loop-spot-preserved : goal.loop-spot-preserved
-loop-spot-preserved c =
-    let more = one_more c.args.spots.now c.loop-spot.spot-index no_spot c.loop-spot.sums c.in_ok-sums.sums c.loop-spot-test.true
-    c.loop-spot.invariant.is (sym c.in_ok-sums.was ∙ c.with_node.ensures) in
+pub loop-node-preserved : goal.loop-node-preserved
+loop-node-preserved c =
+    let more = one_more c.args.nodes.now c.loop-node.node-index no_spot c.loop-node.sums c.in_ok-sums.sums c.loop-node-test.true
+    c.loop-node.invariant.is (sym c.in_ok-sums.was ∙ c.with_node.ensures) in
     record { is = more.0; few = more.1 }
 
 pub returns : goal.returns
-returns c = all_fit c.args.spots.now c.loop-spot.spot-index c.loop-spot.sums (omega arith) c.loop-spot.invariant.is c.loop-spot.invariant.few
+returns c = all_fit c.args.nodes.now c.loop-node.node-index c.loop-node.sums (omega arith) c.loop-node.invariant.is c.loop-node.invariant.few

@@ -15,19 +15,19 @@ unfolding report_text
 returns-in_err-push_done_line-clause-part g c =
     let error = err_from_is_err_and c.from_residual-in_err-push_done_line.result
     c.from_residual-in_err-push_done_line.ensures.1 in
-    rw (error.1, ← c.as_slice-rows.ensures) (stopped_under_way _ _ _ _ _ _ c.in_ok-write_rows.ensures.under_way refl)
+    rw (error.1, ← c.as_slice-rows.ensures) (stopped_under_way _ _ _ _ _ _ c.in_ok-write_rows.ensures.partly_written refl)
 
 pub returns-in_err-flush_text-clause-part : goal.returns-in_err-flush_text-clause-part
 unfolding report_text
 returns-in_err-flush_text-clause-part g c =
     let error = err_from_is_err_and c.from_residual-in_err-flush_text.result c.from_residual-in_err-flush_text.ensures.1 in
     rw (error.1, ← c.as_slice-rows.ensures)
-    (failed_under_way _ _ _ _ _ _ _ _ c.in_ok-write_rows.ensures.under_way c.in_ok-push_done_line.ensures
+    (failed_under_way _ _ _ _ _ _ _ _ c.in_ok-write_rows.ensures.partly_written c.in_ok-push_done_line.ensures
     c.in_err-flush_text.ensures.part refl)
 
 pub returns-clause-appended : goal.returns-clause-appended
 unfolding report_text
 returns-clause-appended g c =
     rw (← c.as_slice-rows.ensures)
-    (ended_under_way _ _ _ _ _ _ _ c.in_ok-write_rows.ensures.under_way c.in_ok-push_done_line.ensures
+    (ended_under_way _ _ _ _ _ _ _ c.in_ok-write_rows.ensures.partly_written c.in_ok-push_done_line.ensures
     c.in_ok-flush_text.ensures.appended)

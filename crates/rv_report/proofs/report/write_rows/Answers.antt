@@ -9,12 +9,12 @@ use Rattle.rv_report.proofs.report.write_rows.Goals as goal
 
 pub loop-place-init : goal.loop-place-init
 unfolding rows_text
-loop-place-init g c = record { under_way = nothing_under_way _ _ _ c.requires; counted = refl }
+loop-place-init g c = record { partly_written = nothing_under_way _ _ _ c.requires; counted = refl }
 
 pub returns-in_err-push_row-clause-part : goal.returns-in_err-push_row-clause-part
 returns-in_err-push_row-clause-part g c =
     let error = err_from_is_err_and c.from_residual.result c.from_residual.ensures.1 in
-    rw error.1 (stopped_under_way _ _ _ _ _ _ c.loop-place.invariant.under_way
+    rw error.1 (stopped_under_way _ _ _ _ _ _ c.loop-place.invariant.partly_written
     (rows_split 0 c.args.rows.now c.loop-place.place c.loop-place.place (omega arith)))
 
 pub returns-in_err-write_text_if_large-clause-part : goal.returns-in_err-write_text_if_large-clause-part
@@ -24,7 +24,7 @@ returns-in_err-write_text_if_large-clause-part g c =
     let error = err_from_is_err_and c.from_residual-in_err-write_text_if_large.result
     c.from_residual-in_err-write_text_if_large.ensures.1 in
     rw error.1 (beginning_of_longer _ _ _ _ _
-    (failed_under_way _ _ _ _ (row_text place c.index-rows-place.result) _ _ _ c.loop-place.invariant.under_way
+    (failed_under_way _ _ _ _ (row_text place c.index-rows-place.result) _ _ _ c.loop-place.invariant.partly_written
     c.in_ok-push_row.ensures c.in_err-write_text_if_large.ensures.part
     (rw (← c.index-rows-place.is) at
     (rows_more 0 rows place place c.index-rows-place.result (omega arith) (omega arith))))
@@ -33,8 +33,8 @@ returns-in_err-write_text_if_large-clause-part g c =
 pub loop-place-preserved : goal.loop-place-preserved
 loop-place-preserved g c =
     let place = c.loop-place.place in record {
-      under_way = rw add-one (more_under_way _ _ _ _ (row_text place c.index-rows-place.result) _ _ _ _
-          c.loop-place.invariant.under_way c.in_ok-push_row.ensures c.in_ok-write_text_if_large.ensures.under_way
+      partly_written = rw add-one (more_under_way _ _ _ _ (row_text place c.index-rows-place.result) _ _ _ _
+          c.loop-place.invariant.partly_written c.in_ok-push_row.ensures c.in_ok-write_text_if_large.ensures.partly_written
           (rw (← c.index-rows-place.is) at
           (rows_more 0 c.args.rows.now place place c.index-rows-place.result (omega arith) (omega arith))));
       counted = c.in_ok-write_text_if_large.ensures.counted ∙ c.loop-place.invariant.counted;

@@ -5,7 +5,7 @@ use Rattle.rv_report.proofs.report.write_rows.Given as goal
 
 abbrev pub invariant-loop-place : goal.invariant-loop-place
 invariant-loop-place g l = record {
-  under_way : IsPartlyWritten (g.W.Sink.accepted l.initial.out) (g.W.Sink.accepted l.out) (string_bytes l.text)
+  partly_written : IsPartlyWritten (g.W.Sink.accepted l.initial.out) (g.W.Sink.accepted l.out) (string_bytes l.text)
       (rows_text 0 (take l.place l.rows));
   counted : g.W.Sink.failure_count l.out ≡ g.W.Sink.failure_count l.initial.out;
 }

@@ -10,7 +10,7 @@ use Rattle.rv_report.proofs.saved_writer.write_numbered_rows.Goals as goal
 
 pub loop-at-init : goal.loop-at-init
 unfolding numbered_rows_text
-loop-at-init g c = record { under_way = nothing_under_way _ _ _ c.requires.empty; counted = refl }
+loop-at-init g c = record { partly_written = nothing_under_way _ _ _ c.requires.empty; counted = refl }
 
 pub overflow_sub-numbers : goal.overflow_sub-numbers
 overflow_sub-numbers g c =
@@ -20,7 +20,7 @@ overflow_sub-numbers g c =
 pub returns-in_err-push_row-clause-part : goal.returns-in_err-push_row-clause-part
 returns-in_err-push_row-clause-part g c =
     let error = err_from_is_err_and c.from_residual.result c.from_residual.ensures.1 in
-    rw error.1 (stopped_under_way _ _ _ _ _ _ c.loop-at.invariant.under_way
+    rw error.1 (stopped_under_way _ _ _ _ _ _ c.loop-at.invariant.partly_written
     (numbered_split c.args.numbers.now c.args.rows.now c.loop-at.at c.requires.counted))
 
 pub returns-in_err-write_text_if_large-clause-part : goal.returns-in_err-write_text_if_large-clause-part
@@ -32,7 +32,7 @@ returns-in_err-write_text_if_large-clause-part g c =
     let error = err_from_is_err_and c.from_residual-in_err-write_text_if_large.result
     c.from_residual-in_err-write_text_if_large.ensures.1 in
     rw error.1 (beginning_of_longer _ _ _ _ _
-    (failed_under_way _ _ _ _ (row_text (n - 1) c.index-rows-at.result) _ _ _ c.loop-at.invariant.under_way
+    (failed_under_way _ _ _ _ (row_text (n - 1) c.index-rows-at.result) _ _ _ c.loop-at.invariant.partly_written
     c.in_ok-push_row.ensures c.in_err-write_text_if_large.ensures.part
     (rw (← c.index-rows-at.is) at
     (numbered_more numbers rows at n (n - 1) c.index-rows-at.result (omega arith) c.requires.counted refl refl)))
@@ -43,8 +43,8 @@ loop-at-preserved g c =
     let numbers = c.args.numbers.now in
     let at = c.loop-at.at in
     let n = get_or numbers at 0 in record {
-      under_way = rw add-one (more_under_way _ _ _ _ (row_text (n - 1) c.index-rows-at.result) _ _ _ _
-          c.loop-at.invariant.under_way c.in_ok-push_row.ensures c.in_ok-write_text_if_large.ensures.under_way
+      partly_written = rw add-one (more_under_way _ _ _ _ (row_text (n - 1) c.index-rows-at.result) _ _ _ _
+          c.loop-at.invariant.partly_written c.in_ok-push_row.ensures c.in_ok-write_text_if_large.ensures.partly_written
           (rw (← c.index-rows-at.is) at
           (numbered_more numbers c.args.rows.now at n (n - 1) c.index-rows-at.result (omega arith) c.requires.counted
           refl refl)));

@@ -6,19 +6,19 @@ use Rattle.std.specs.List.Sorted.{IsPermutation}
 use Rattle.rv_count_tables.specs.declared_spot.CallNode.{CallNode}
 use Rattle.rv_stacks.proofs.names.by_function.Goals as goal
 
-pub loop-spot-preserved : goal.loop-spot-preserved
-loop-spot-preserved c =
-    let spots = c.args.spots.now in
-    let i = c.loop-spot.spot-index in
+pub loop-node-preserved : goal.loop-node-preserved
+loop-node-preserved c =
+    let nodes = c.args.nodes.now in
+    let i = c.loop-node.node-index in
     let nothing : CallNode = record { depth = 0; function = 0; calls = 0; steps = 0 } in
     c.in_ok-push.ensures.items
-    ∙ ap (λ (ss : List CallNode). ss ++ get_or spots i nothing ∷ []) c.loop-spot.invariant
-    ∙ sym (take_more spots i nothing c.loop-spot-test.true)
+    ∙ ap (λ (ss : List CallNode). ss ++ get_or nodes i nothing ∷ []) c.loop-node.invariant
+    ∙ sym (take_more nodes i nothing c.loop-node-test.true)
 
 pub returns-clause-same : goal.returns-clause-same
 returns-clause-same c =
-    let over = c.loop-spot-test.false in
-    let all = c.loop-spot.invariant ∙ take_all c.loop-spot.spot-index c.args.spots.now (omega (arith, over)) in
+    let over = c.loop-node-test.false in
+    let all = c.loop-node.invariant ∙ take_all c.loop-node.node-index c.args.nodes.now (omega (arith, over)) in
     subst (λ (ss : List CallNode). IsPermutation ss c.sort_unstable_by_key.new.self.items) all c.sort_unstable_by_key.ensures.permutation
 
 pub returns-clause-rising : goal.returns-clause-rising

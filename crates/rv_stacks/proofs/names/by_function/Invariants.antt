@@ -2,5 +2,5 @@
 use Rattle.std.proofs.Common.{◌≡◌, take}
 use Rattle.rv_stacks.proofs.names.by_function.Given as goal
 
-abbrev pub invariant-loop-spot : goal.invariant-loop-spot
-invariant-loop-spot l = l.sorted.items ≡ take l.spot-index l.spots
+abbrev pub invariant-loop-node : goal.invariant-loop-node
+invariant-loop-node l = l.sorted.items ≡ take l.node-index l.nodes

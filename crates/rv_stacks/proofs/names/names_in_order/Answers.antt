@@ -10,8 +10,8 @@ use Rattle.rv_stacks.proofs.NamedSpots.{each_push, none_named}
 use Rattle.rv_stacks.proofs.RisingNames.{none_named_yet}
 use Rattle.rv_stacks.proofs.names.names_in_order.Goals as goal
 
-pub loop-spot-init : goal.loop-spot-init
-loop-spot-init c =
+pub loop-node-init : goal.loop-node-init
+loop-node-init c =
     let name = name_of_function c.args.symbols.now.image.now c.args.symbols.now.bytes.now in record {
       named = subst (λ (ns : List FunctionName). AreNamesBy name [] ns) (sym c.new-names.ensures.items) (none_named name);
       up_to = subst (λ (ns : List FunctionName). AreNamedUpTo name [] 0 ns) (sym c.new-names.ensures.items) (none_named_yet name);
@@ -19,22 +19,22 @@ loop-spot-init c =
       fits = tt;
     }
 
-pub loop-spot-preserved : goal.loop-spot-preserved
-loop-spot-preserved c =
+pub loop-node-preserved : goal.loop-node-preserved
+loop-node-preserved c =
     let name = name_of_function c.args.symbols.now.image.now c.args.symbols.now.bytes.now in
-    let spots = c.args.spots.now in
-    let i = c.loop-spot.spot-index in
+    let nodes = c.args.nodes.now in
+    let i = c.loop-node.node-index in
     let nothing : CallNode = record { depth = 0; function = 0; calls = 0; steps = 0 } in
-    let spot = get_or spots i nothing in
-    let under = c.loop-spot-test.true in
-    let more : take (i + 1) spots ≡ take i spots ++ spot ∷ [] = take_more spots i nothing under in
-    let up_to = subst (λ (ss : List CallNode). AreNamedUpTo name ss (spot.function + 1) c.name_function_of.new.names.items) (sym more)
-    (c.in_ok-name_function_of.ensures.names (take i spots) c.loop-spot.invariant.up_to
-    (c.loop-spot.invariant.rising i (omega arith) under)) in record {
+    let node = get_or nodes i nothing in
+    let under = c.loop-node-test.true in
+    let more : take (i + 1) nodes ≡ take i nodes ++ node ∷ [] = take_more nodes i nothing under in
+    let up_to = subst (λ (ss : List CallNode). AreNamedUpTo name ss (node.function + 1) c.name_function_of.new.names.items) (sym more)
+    (c.in_ok-name_function_of.ensures.names (take i nodes) c.loop-node.invariant.up_to
+    (c.loop-node.invariant.rising i (omega arith) under)) in record {
       named = up_to.named;
       up_to = up_to;
       rising = λ k low within.
           let r = c.requires i k nothing (omega (arith, low)) within in omega (arith, r);
       fits = subst (λ (ss : List CallNode). AllByRecursion FitsFields ss) (sym more)
-          (each_push FitsFields (take i spots) spot c.loop-spot.invariant.fits c.in_ok-name_function_of.ensures.fits);
+          (each_push FitsFields (take i nodes) node c.loop-node.invariant.fits c.in_ok-name_function_of.ensures.fits);
     }

@@ -13,12 +13,12 @@ names_in_order-requires c =
 
 pub returns-clause-names : goal.returns-clause-names
 returns-clause-names c =
-    let same = subst (λ (ss : List CallNode). IsPermutation c.args.spots.now ss) (sym c.as_slice.ensures.value) c.in_ok-sorted.ensures.same in
+    let same = subst (λ (ss : List CallNode). IsPermutation c.args.nodes.now ss) (sym c.as_slice.ensures.value) c.in_ok-sorted.ensures.same in
     IfOk-weaker c.names_in_order.result _ _
     (λ names h. named_in_order (name_of_function c.args.symbols.now.image.now c.args.symbols.now.bytes.now) _ _ _ same h)
     c.names_in_order.ensures.names
 
 pub returns-clause-fits : goal.returns-clause-fits
 returns-clause-fits c =
-    let same = subst (λ (ss : List CallNode). IsPermutation c.args.spots.now ss) (sym c.as_slice.ensures.value) c.in_ok-sorted.ensures.same in
+    let same = subst (λ (ss : List CallNode). IsPermutation c.args.nodes.now ss) (sym c.as_slice.ensures.value) c.in_ok-sorted.ensures.same in
     IfOk-weaker c.names_in_order.result _ _ (λ names h. fit_in_order _ _ same h) c.names_in_order.ensures.fits

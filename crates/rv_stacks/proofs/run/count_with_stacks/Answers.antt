@@ -13,4 +13,4 @@ returns-clause-counts c = c.into_addresses.ensures c.args.budget (state_of c.arg
 
 pub returns-clause-stacks : goal.returns-clause-stacks
 returns-clause-stacks c = stacks_of_nodes (function_at c.args.symbols.now.image.now c.args.symbols.now.bytes.now) c.args.budget
-    (state_of c.args.machine) c.in_ok-counter.stacks.walk.nodes.items c.in_ok-spots.spots c.in_ok-counter.ensures.stacks c.in_ok-spots.ensures
+    (state_of c.args.machine) c.in_ok-counter.stacks.walk.nodes.items c.in_ok-nodes.nodes c.in_ok-counter.ensures.stacks c.in_ok-nodes.ensures

@@ -62,14 +62,14 @@ returns-in-Some-3 c =
     let file = c.in-Some.bytes.now in
     let image = c.in-Some-2.image in
     let addresses = c.in-Some-3.addresses in
-    let spots = c.in-Some-3.spots in
+    let nodes = c.in-Some-3.nodes in
     let symbols = c.in_ok-symbols.symbols in
     let its_image = c.in_ok-symbols.ensures.image in
     let its_bytes = c.in_ok-symbols.ensures.bytes in
     let d = single_job [] 0 [] in
     let job = job_at plan c.args.index d in
     IfOk-weaker c.table_of_run.result
-    (IsTableOfRun (name_of_function symbols.image.now symbols.bytes.now) c.as_str.result.now symbols.bytes.now addresses spots)
+    (IsTableOfRun (name_of_function symbols.image.now symbols.bytes.now) c.as_str.result.now symbols.bytes.now addresses nodes)
     (IsTableWithStacks plan (c.args.index ∷ []))
     (λ t is.
     let same = get_or_read plan.jobs c.args.index c.job-job.result.now c.requires c.job-job.ensures.value d in
@@ -77,17 +77,17 @@ returns-in-Some-3 c =
     let bytes = sym (c.in-Some.ensures d) in
     let read = ap (image_if_read job.isa) bytes ∙ ap (λ (j : Job). image_if_read j.isa (Some file)) (sym same)
     ∙ sym c.in_ok-image.ensures.value ∙ c.in-Some-2.is in
-    let of_image = subst (λ (i : Image). IsTableOfRun (name_of_function i symbols.bytes.now) c.as_str.result.now symbols.bytes.now addresses spots t)
+    let of_image = subst (λ (i : Image). IsTableOfRun (name_of_function i symbols.bytes.now) c.as_str.result.now symbols.bytes.now addresses nodes t)
     its_image is in
-    let of_file = subst (λ (b : List ℕ). IsTableOfRun (name_of_function image b) c.as_str.result.now b addresses spots t) its_bytes of_image in
+    let of_file = subst (λ (b : List ℕ). IsTableOfRun (name_of_function image b) c.as_str.result.now b addresses nodes t) its_bytes of_image in
     let both = subst (λ (o : Option (List AddressCounts × List CallNode)). AreCountsAndStacksOfJob (function_at symbols.image.now symbols.bytes.now) job.budget
     (start_state_in plan.answers job) o) c.in-Some-3.is (c.in_ok-addresses.ensures.both d) in
-    let by_image = subst (λ (i : Image). AreCountsAndStacksOfJob (function_at i symbols.bytes.now) job.budget (start_state_in plan.answers job) (Some (addresses, spots)))
+    let by_image = subst (λ (i : Image). AreCountsAndStacksOfJob (function_at i symbols.bytes.now) job.budget (start_state_in plan.answers job) (Some (addresses, nodes)))
     its_image both in
     counts_and_stacks plan (c.args.index ∷ []) t
-    (ran plan.answers job file image bytes read addresses spots t
-    (subst (λ (p : List ℕ). IsTableOfRun (name_of_function image file) p file addresses spots t) path of_file)
-    (subst (λ (b : List ℕ). AreCountsAndStacksOfJob (function_at image b) job.budget (start_state_in plan.answers job) (Some (addresses, spots))) its_bytes by_image)
+    (ran plan.answers job file image bytes read addresses nodes t
+    (subst (λ (p : List ℕ). IsTableOfRun (name_of_function image file) p file addresses nodes t) path of_file)
+    (subst (λ (b : List ℕ). AreCountsAndStacksOfJob (function_at image b) job.budget (start_state_in plan.answers job) (Some (addresses, nodes))) its_bytes by_image)
     (c.in_ok-addresses.ensures.budget d)))
     c.table_of_run.ensures
 

@@ -37,7 +37,7 @@ returns-in-Ok-clause-rows g c =
     let before = g.J.StreamSpec.before in
     let taken = g.W.Sink.accepted c.finish-out.result.0 in
     let received : List ReportedRow → Type 0 = λ told.
-    IsSent before (g.W.Sink.accepted box.out) g.J.StreamSpec.failures (g.W.Sink.failure_count box.out) box.failed box.unsent.items
+    IsSent before (g.W.Sink.accepted box.out) g.J.StreamSpec.failures (g.W.Sink.failure_count box.out) box.failed box.buffered.items
     (concat (texts_of_reported told))
     × (g.B.Observer.has_seen observer told
     × ((judge_view kept.judge ≡ judging)
@@ -52,7 +52,7 @@ returns-in-Ok-clause-rows g c =
     λ there ok over. has_ended_well line batch most judging kept.left kept.refused kept.rows.items received stops (λ told h. h.1.1.1)
     c.run_jobs-received.result.1 c.run_jobs-received.ensures ok there over in
     if_each c.rows_of_run.result _ _ _ _ _
-    (λ rows is there ok over. is ∙ (ended there ok over).kept_all ∙ same) c.rows_of_run.ensures.rows c.rows_of_run.ensures.kept c.rows_of_run.ensures.ran c.rows_of_run.ensures.ended
+    (λ rows is there ok over. is ∙ (ended there ok over).collected_all ∙ same) c.rows_of_run.ensures.rows c.rows_of_run.ensures.kept c.rows_of_run.ensures.ran c.rows_of_run.ensures.ended
 
 pub returns-in-Ok-clause-few : goal.returns-in-Ok-clause-few
 returns-in-Ok-clause-few g c =
@@ -68,7 +68,7 @@ returns-in-Ok-clause-few g c =
     let before = g.J.StreamSpec.before in
     let taken = g.W.Sink.accepted c.finish-out.result.0 in
     let received : List ReportedRow → Type 0 = λ told.
-    IsSent before (g.W.Sink.accepted box.out) g.J.StreamSpec.failures (g.W.Sink.failure_count box.out) box.failed box.unsent.items
+    IsSent before (g.W.Sink.accepted box.out) g.J.StreamSpec.failures (g.W.Sink.failure_count box.out) box.failed box.buffered.items
     (concat (texts_of_reported told))
     × (g.B.Observer.has_seen observer told
     × ((judge_view kept.judge ≡ judging)
@@ -85,7 +85,7 @@ returns-in-Ok-clause-few g c =
     if_each c.rows_of_run.result _ _ _ _ _
     (λ rows is there ok over.
     let e = ended there ok over in
-    let n = ap length (is ∙ e.kept_all ∙ sym e.seen.rows_are) in
+    let n = ap length (is ∙ e.collected_all ∙ sym e.seen.same_rows) in
     let count = length-map e.seen.reported (λ (t : ReportedRow). t.row) in
     let few = e.seen.few in
     omega (arith, n, count, few)) c.rows_of_run.ensures.rows c.rows_of_run.ensures.kept c.rows_of_run.ensures.ran c.rows_of_run.ensures.ended
@@ -104,7 +104,7 @@ returns-in-Ok-clause-all g c =
     let before = g.J.StreamSpec.before in
     let taken = g.W.Sink.accepted c.finish-out.result.0 in
     let received : List ReportedRow → Type 0 = λ told.
-    IsSent before (g.W.Sink.accepted box.out) g.J.StreamSpec.failures (g.W.Sink.failure_count box.out) box.failed box.unsent.items
+    IsSent before (g.W.Sink.accepted box.out) g.J.StreamSpec.failures (g.W.Sink.failure_count box.out) box.failed box.buffered.items
     (concat (texts_of_reported told))
     × (g.B.Observer.has_seen observer told
     × ((judge_view kept.judge ≡ judging)
@@ -139,7 +139,7 @@ returns-in-Ok-clause-counted g c =
     let before = g.J.StreamSpec.before in
     let taken = g.W.Sink.accepted c.finish-out.result.0 in
     let received : List ReportedRow → Type 0 = λ told.
-    IsSent before (g.W.Sink.accepted box.out) g.J.StreamSpec.failures (g.W.Sink.failure_count box.out) box.failed box.unsent.items
+    IsSent before (g.W.Sink.accepted box.out) g.J.StreamSpec.failures (g.W.Sink.failure_count box.out) box.failed box.buffered.items
     (concat (texts_of_reported told))
     × (g.B.Observer.has_seen observer told
     × ((judge_view kept.judge ≡ judging)
@@ -173,7 +173,7 @@ returns-in-Ok-clause-part g c =
     let before = g.J.StreamSpec.before in
     let taken = g.W.Sink.accepted c.finish-out.result.0 in
     let received : List ReportedRow → Type 0 = λ told.
-    IsSent before (g.W.Sink.accepted box.out) g.J.StreamSpec.failures (g.W.Sink.failure_count box.out) box.failed box.unsent.items
+    IsSent before (g.W.Sink.accepted box.out) g.J.StreamSpec.failures (g.W.Sink.failure_count box.out) box.failed box.buffered.items
     (concat (texts_of_reported told))
     × (g.B.Observer.has_seen observer told
     × ((judge_view kept.judge ≡ judging)
@@ -207,7 +207,7 @@ returns-in-Err-clause-part g c =
     let before = g.J.StreamSpec.before in
     let taken = g.W.Sink.accepted c.finish-out.result.0 in
     let received : List ReportedRow → Type 0 = λ told.
-    IsSent before (g.W.Sink.accepted box.out) g.J.StreamSpec.failures (g.W.Sink.failure_count box.out) box.failed box.unsent.items
+    IsSent before (g.W.Sink.accepted box.out) g.J.StreamSpec.failures (g.W.Sink.failure_count box.out) box.failed box.buffered.items
     (concat (texts_of_reported told))
     × (g.B.Observer.has_seen observer told
     × ((judge_view kept.judge ≡ judging)
@@ -241,7 +241,7 @@ returns-in-Ok-clause-seen g c =
     let before = g.J.StreamSpec.before in
     let taken = g.W.Sink.accepted c.finish-out.result.0 in
     let received : List ReportedRow → Type 0 = λ told.
-    IsSent before (g.W.Sink.accepted box.out) g.J.StreamSpec.failures (g.W.Sink.failure_count box.out) box.failed box.unsent.items
+    IsSent before (g.W.Sink.accepted box.out) g.J.StreamSpec.failures (g.W.Sink.failure_count box.out) box.failed box.buffered.items
     (concat (texts_of_reported told))
     × (g.B.Observer.has_seen observer told
     × ((judge_view kept.judge ≡ judging)
@@ -275,7 +275,7 @@ returns-in-Ok-clause-seen_some g c =
     let before = g.J.StreamSpec.before in
     let taken = g.W.Sink.accepted c.finish-out.result.0 in
     let received : List ReportedRow → Type 0 = λ told.
-    IsSent before (g.W.Sink.accepted box.out) g.J.StreamSpec.failures (g.W.Sink.failure_count box.out) box.failed box.unsent.items
+    IsSent before (g.W.Sink.accepted box.out) g.J.StreamSpec.failures (g.W.Sink.failure_count box.out) box.failed box.buffered.items
     (concat (texts_of_reported told))
     × (g.B.Observer.has_seen observer told
     × ((judge_view kept.judge ≡ judging)
@@ -305,7 +305,7 @@ returns-in-Err-clause-seen_some g c =
     let before = g.J.StreamSpec.before in
     let taken = g.W.Sink.accepted c.finish-out.result.0 in
     let received : List ReportedRow → Type 0 = λ told.
-    IsSent before (g.W.Sink.accepted box.out) g.J.StreamSpec.failures (g.W.Sink.failure_count box.out) box.failed box.unsent.items
+    IsSent before (g.W.Sink.accepted box.out) g.J.StreamSpec.failures (g.W.Sink.failure_count box.out) box.failed box.buffered.items
     (concat (texts_of_reported told))
     × (g.B.Observer.has_seen observer told
     × ((judge_view kept.judge ≡ judging)

@@ -16,20 +16,20 @@ returns-in_err-outcomes-clause-stopped g c =
 
 pub returns-clause-accepted : goal.returns-clause-accepted
 returns-clause-accepted g c =
-    let known = g.D.Inputs.contents c.args.host.now.inputs.now in
+    let contents = g.D.Inputs.contents c.args.host.now.inputs.now in
     let outcomes = c.in_ok-outcomes.outcomes in
     IfOk-map c.write_accepted.result _ _
     (λ status put. record {
-      first = outputs_of g.F.Outputs.placed g.O.Sink.accepted g.E.Sink.accepted g.E.Sink.failure_count c.checked_jobs.new.to;
+      first = outputs_of g.F.Outputs.committed g.O.Sink.accepted g.E.Sink.accepted g.E.Sink.failure_count c.checked_jobs.new.to;
       outside = c.in_ok-marked.ensures.outside;
       rows = c.in_ok-rows.rows.items;
-      middle = outputs_of g.F.Outputs.placed g.O.Sink.accepted g.E.Sink.accepted g.E.Sink.failure_count c.run_selected.new.to;
+      middle = outputs_of g.F.Outputs.committed g.O.Sink.accepted g.E.Sink.accepted g.E.Sink.failure_count c.run_selected.new.to;
       ran = rw (c.in_ok-marked.ensures.jobs, c.in_ok-marked.ensures.selection) at c.in_ok-rows.ensures.rows;
       judged = c.in_ok-runs.runs.items;
       judging = rw c.as_slice-2.ensures.value at c.in_ok-runs.ensures;
       told = put.told;
       outcome = rw (c.as_slice.ensures.value, c.as_slice-2.ensures.value)
-          at (outcome_told known c.args.args.now _ _ outcomes.golden_texts.items outcomes.files.items outcomes.new put.told refl
+          at (outcome_told contents c.args.args.now _ _ outcomes.golden_texts.items outcomes.files.items outcomes.new put.told refl
           c.in_ok-outcomes.ensures.runs c.in_ok-outcomes.ensures.golden_texts
           c.in_ok-outcomes.ensures.files c.in_ok-outcomes.ensures.edited c.in_ok-outcomes.ensures.meant
           c.in_ok-outcomes.ensures.unchanged put.of);
@@ -41,8 +41,8 @@ pub returns-clause-stopped : goal.returns-clause-stopped
 returns-clause-stopped g c =
     let outcomes = c.in_ok-outcomes.outcomes in
     IfErr-map c.write_accepted.result _ _
-    (λ why is. inr (files_unput (g.D.Inputs.contents c.args.host.now.inputs.now) c.args.args.now c.args.list.now.jobs _
-    outcomes.new.runs.items outcomes.golden_texts.items outcomes.files.items why refl
+    (λ stop is. inr (files_unput (g.D.Inputs.contents c.args.host.now.inputs.now) c.args.args.now c.args.list.now.jobs _
+    outcomes.new.runs.items outcomes.golden_texts.items outcomes.files.items stop refl
     (rw c.as_slice-2.ensures.value at c.in_ok-outcomes.ensures.golden_texts)
     c.in_ok-outcomes.ensures.files is))
     c.write_accepted.ensures.stopped

@@ -21,7 +21,7 @@ returns-in-Some-clause-accepted g c =
       chosen = Some c.in-Some.chosen.items;
       notes = c.in_ok-list.list.notes.items;
       choice = rw c.in-Some.is at c.in_ok-list.ensures.chosen;
-      middle = outputs_of g.F.Outputs.placed g.O.Sink.accepted g.E.Sink.accepted g.E.Sink.failure_count
+      middle = outputs_of g.F.Outputs.committed g.O.Sink.accepted g.E.Sink.accepted g.E.Sink.failure_count
           (record c.args.to.now { errors = c.write_message.new.errors });
       outputs_of = (refl, rw c.as_slice.ensures.value at c.write_message.ensures, refl);
       accepted = accepted;
@@ -31,7 +31,7 @@ returns-in-Some-clause-accepted g c =
 pub returns-in-Some-clause-stopped : goal.returns-in-Some-clause-stopped
 returns-in-Some-clause-stopped g c =
     IfErr-map c.accept_chosen.result _ _
-    (λ why is. inr (
+    (λ stop is. inr (
       c.in_ok-list.list.text.items,
       (c.in_ok-list.ensures.read, (c.in_ok-list.list.jobs, (c.in_ok-list.ensures.listed, is))),
     ))
@@ -46,7 +46,7 @@ returns-clause-accepted g c = record {
   chosen = None;
   notes = c.in_ok-list.list.notes.items;
   choice = rw c.in-None.is at c.in_ok-list.ensures.chosen;
-  middle = outputs_of g.F.Outputs.placed g.O.Sink.accepted g.E.Sink.accepted g.E.Sink.failure_count
+  middle = outputs_of g.F.Outputs.committed g.O.Sink.accepted g.E.Sink.accepted g.E.Sink.failure_count
       (record c.args.to.now { errors = c.write_message.new.errors });
   outputs_of = (refl, rw c.as_slice.ensures.value at c.write_message.ensures, refl);
   accepted = (refl, refl);

@@ -23,7 +23,7 @@ returns-in_err-reject_if_found-2-clause-stopped g c =
 
 pub returns-clause-stopped : goal.returns-clause-stopped
 returns-clause-stopped g c =
-    IfErr-map c.reject_if_found-3.result _ _ (λ why told. inr (
+    IfErr-map c.reject_if_found-3.result _ _ (λ stop told. inr (
       path_buf_bytes c.args.golden.now.path,
       inr (inl (output_role_text c.args.golden.now.role, inr told)),
     ))

@@ -5,8 +5,8 @@ use Rattle.rvtest_app.proofs.accept_inputs.reject_golden_overwrites.Given as goa
 
 abbrev pub invariant-loop-at : goal.invariant-loop-at
 invariant-loop-at g l = record {
-  no_list : IfSome (g.F.Outputs.placed l.files)
+  no_list : IfSome (g.F.Outputs.committed l.files)
       (λ _. list_any (is_golden_input l.reads.list.identities.items) (take l.at l.golden) ≡ false);
-  no_input : IfSome (g.F.Outputs.placed l.files)
+  no_input : IfSome (g.F.Outputs.committed l.files)
       (λ _. list_any (is_golden_input l.reads.inputs.identities.items) (take l.at l.golden) ≡ false);
 }

@@ -6,11 +6,11 @@ use Rattle.rvtest_app.proofs.accepted_files.read_golden_files.Goals as goal
 
 pub loop-target-preserved : goal.loop-target-preserved
 loop-target-preserved g c =
-    let known = g.D.Inputs.contents c.args.inputs.now in
+    let contents = g.D.Inputs.contents c.args.inputs.now in
     let root = optional_text c.args.folder in
     let rest = c.in-Some.ensures.steps.0 in
     record {
-      goes = one_more_file known root c.args.targets.items (into_iter_items c.loop-target.target-iterator)
+      goes = one_more_file contents root c.args.targets.items (into_iter_items c.loop-target.target-iterator)
           (into_iter_items c.next.new.self) c.in-Some.target c.loop-target.files.items c.push_file.new.files.items _
           c.loop-target.invariant.goes rest
           (record {
@@ -19,7 +19,7 @@ loop-target-preserved g c =
             old_contents = rw c.as_str-in-loop-target.ensures at c.in_ok-old.ensures.old;
           })
           c.in_ok-push_file.ensures;
-      last = one_target_less known root c.args.targets.items (into_iter_items c.loop-target.target-iterator)
+      last = one_target_less contents root c.args.targets.items (into_iter_items c.loop-target.target-iterator)
           (into_iter_items c.next.new.self) c.in-Some.target c.loop-target.invariant.last rest;
       counted = omega (arith, c.in-Some.ensures.steps.1, c.loop-target.invariant.counted, ap length rest);
     }

@@ -6,5 +6,5 @@ use Rattle.rvtest_app.specs.Outlets.{AreFilesCommitted}
 use Rattle.rvtest_app.proofs.accepted_files.write_accepted_files.Given as goal
 
 abbrev pub invariant-loop-file : goal.invariant-loop-file
-invariant-loop-file g l = AreFilesCommitted (g.F.Outputs.placed l.fn.files) (g.F.Outputs.placed l.files)
+invariant-loop-file g l = AreFilesCommitted (g.F.Outputs.committed l.fn.files) (g.F.Outputs.committed l.files)
     (Some (flat_map (λ file. file_if_text file.resolved_path (new_text l.accepting.list file)) (take l.file-index l.accepting.files.now)))

@@ -19,4 +19,4 @@ returns-clause-plan g c =
     }) c.check_plan.ensures.text c.check_plan.ensures.judged
 
 pub returns-clause-stopped : goal.returns-clause-stopped
-returns-clause-stopped g c = IfErr-map c.check_plan.result _ _ (λ why is. inl is) c.check_plan.ensures.memory
+returns-clause-stopped g c = IfErr-map c.check_plan.result _ _ (λ stop is. inl is) c.check_plan.ensures.memory

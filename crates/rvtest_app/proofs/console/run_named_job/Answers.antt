@@ -5,5 +5,5 @@ use Rattle.rvtest_app.proofs.console.run_named_job.Goals as goal
 pub returns-clause-stopped : goal.returns-clause-stopped
 returns-clause-stopped g c =
     IfErr-map c.run_job_of_text.result _ _
-    (λ why is. inr (c.in_ok-text.text.items, (c.in_ok-text.ensures.read, is)))
+    (λ stop is. inr (c.in_ok-text.text.items, (c.in_ok-text.ensures.read, is)))
     (rw c.as_slice.ensures.value at c.run_job_of_text.ensures.stopped)

@@ -8,12 +8,12 @@ use Rattle.rv_count_tables.specs.declared.table.CountTable.{CountTable}
 use Rattle.rvtest_app.specs.CountStops.{IsReadErrorStop, IsTableFaultStop}
 use Rattle.rvtest_app.proofs.counts.table_of_text.Goals as goal
 
-refused_table : (path text : List ℕ) (error : ReadError) (why : Stop) → IsFirstError error text
+refused_table : (path text : List ℕ) (error : ReadError) (stop : Stop) → IsFirstError error text
     → ((table : CountTable) → IsValidTable table → table_text table ≡ text → IsOkOrOutOfMemory table (Err error))
-    → IsReadErrorStop path error why → IsTableFaultStop path text why
-refused_table path text error why least only is = record {
+    → IsReadErrorStop path error stop → IsTableFaultStop path text stop
+refused_table path text error stop least only is = record {
   told = (error, (least, is));
-  whole = λ table can same. subst (λ e. IsReadErrorStop path e why) (only table can same) is;
+  whole = λ table can same. subst (λ e. IsReadErrorStop path e stop) (only table can same) is;
 }
 
 pub returns-in-Err-clause-stopped : goal.returns-in-Err-clause-stopped

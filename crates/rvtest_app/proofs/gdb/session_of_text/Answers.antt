@@ -11,7 +11,7 @@ returns-in_err-named-clause-stopped g c =
 pub returns-clause-stopped : goal.returns-clause-stopped
 returns-clause-stopped g c =
     IfErr-map c.session_of_job.result _ _
-    (λ why. ⊎_elim (λ memory. inl (inl (inl memory)))
+    (λ stop. ⊎_elim (λ memory. inl (inl (inl memory)))
     (λ refused. inr (record {
       jobs = c.in_ok-named.named.jobs;
       listed = c.in_ok-named.ensures.listed;

@@ -44,7 +44,7 @@ returns-clause-stopped g c = inr (
     c.in-Err.broken,
     (
       c.session_error_stop.ensures,
-      (rw c.in-Err.is at c.serve.ensures.failed, rw c.in-Err.is at c.serve.ensures.unfailed),
+      (rw c.in-Err.is at c.serve.ensures.failed, rw c.in-Err.is at c.serve.ensures.no_failures),
     ),
   ),
 )

@@ -17,7 +17,7 @@ returns-in-Ok-clause-put g c =
     let report_path = merged_report_path (optional_text c.args.args.now.report) junit_path in
     let report = rw c.merged_report_path.ensures at c.in_ok-outlets.ensures.report in
     let junit = c.in_ok-outlets.ensures.junit in
-    let same = ap g.F.Outputs.placed c.in-Ok.ensures.files ∙ c.in_ok-outlets.ensures.same in
+    let same = ap g.F.Outputs.committed c.in-Ok.ensures.files ∙ c.in_ok-outlets.ensures.same in
     let seen = rw (
       c.use_stdout.ensures,
       out_told path taken failed _ _ outlets.report _ report,
@@ -32,7 +32,7 @@ returns-in-Ok-clause-put g c =
     let errors = c.write_whole_files.ensures.errors in
     OnOk-both c.write_whole_files.result _ _ _
     (λ p q. record {
-      middle = outputs_of g.F.Outputs.placed g.O.Sink.accepted g.E.Sink.accepted g.E.Sink.failure_count c.write_shown.new.to;
+      middle = outputs_of g.F.Outputs.committed g.O.Sink.accepted g.E.Sink.accepted g.E.Sink.failure_count c.write_shown.new.to;
       seen = seen;
       out = p;
       quiet = (ap g.E.Sink.accepted errors, ap g.E.Sink.failure_count errors);
@@ -42,7 +42,7 @@ returns-in-Ok-clause-put g c =
 
 pub returns-in-Ok-clause-part : goal.returns-in-Ok-clause-part
 returns-in-Ok-clause-part g c =
-    let same = ap g.F.Outputs.placed c.in-Ok.ensures.files ∙ c.in_ok-outlets.ensures.same in
+    let same = ap g.F.Outputs.committed c.in-Ok.ensures.files ∙ c.in_ok-outlets.ensures.same in
     rw same at (rw (c.as_bytes.ensures.value, c.merged_suite.ensures, c.report_judge.ensures)
     at (c.write_whole_files.ensures.part (optional_text c.args.args.now.junit) (rw same c.in_ok-outlets.ensures.junit)))
 

@@ -4,7 +4,7 @@ use Rattle.rv_terminal.specs.ColorSinks.{first_state, has_failed}
 use Rattle.rv_terminal.specs.declared.colors.Colors.{Colors}
 use Rattle.rv_terminal.specs.declared.colors.Colors.TheVariants as colors
 use Rattle.rv_command.specs.declared.stop.Stop.{Stop}
-use Rattle.rv_command.specs.declared.stop.Stop.TheVariants as stop
+use Rattle.rv_command.specs.declared.stop.Stop.TheVariants as stops
 use Rattle.rvtest_app.proofs.program.run_in_colors.Goals as goal
 
 -- results are not cut off where nothing was put
@@ -16,13 +16,13 @@ begins_whole colors.Colored = refl
 stop_of_whole : {W E : Type 0} (answer : Result ℕ Stop) (whole : Result W E) (result : Result ℕ Stop) (Untouched : Type 0)
     (Stops : Stop → Type 0) → (Untouched → is_err whole ≡ false)
     → MatchResult answer
-    (λ status. MatchResult whole (λ _. result ≡ Ok status) (λ _. result ≡ Err stop.WriteFailed))
+    (λ status. MatchResult whole (λ _. result ≡ Ok status) (λ _. result ≡ Err stops.WriteFailed))
     (λ stop. result ≡ Err stop)
-    → IfOk answer (λ _. Stops stop.WriteFailed ⊎ Untouched) → IfErr answer Stops → IfErr result Stops
+    → IfOk answer (λ _. Stops stops.WriteFailed ⊎ Untouched) → IfErr answer Stops → IfErr result Stops
 stop_of_whole (Ok status) (Ok w) result Untouched Stops is_whole is done stopped = rw is tt
 stop_of_whole (Ok status) (Err e) result Untouched Stops is_whole is done stopped =
     rw is (⊎_elim (λ stops. stops) (λ same. let no : true ≡ false = is_whole same in absurd cc) done)
-stop_of_whole (Err why) whole result Untouched Stops is_whole is done stopped = rw is stopped
+stop_of_whole (Err stop) whole result Untouched Stops is_whole is done stopped = rw is stopped
 
 pub returns-clause-stopped : goal.returns-clause-stopped
 returns-clause-stopped g c =

@@ -13,17 +13,17 @@ use Rattle.rvtest_app.proofs.program.run_rvtest.Goals.{in-Ok-Some, in-Ok-None, i
 answered : (g : Over) (c : goal.Joined-drop g) → IsCarriedOut (g.D.Inputs.contents c.args.host.now.inputs.now)
     (g.I.Read.remaining c.args.input.now) c.args.terminals.is_out_terminal c.args.terminals.is_out_colored
     (map g.T.AsStr.text c.args.words.now) c.in-Ok.status
-    (outputs_of g.F.Outputs.placed g.O.Sink.accepted g.E.Sink.accepted g.E.Sink.failure_count c.args.to)
-    (outputs_of g.F.Outputs.placed g.O.Sink.accepted g.E.Sink.accepted g.E.Sink.failure_count c.match-read_words.to.0)
+    (outputs_of g.F.Outputs.committed g.O.Sink.accepted g.E.Sink.accepted g.E.Sink.failure_count c.args.to)
+    (outputs_of g.F.Outputs.committed g.O.Sink.accepted g.E.Sink.accepted g.E.Sink.failure_count c.match-read_words.to.0)
 answered g c =
-    let known = g.D.Inputs.contents c.args.host.now.inputs.now in
+    let contents = g.D.Inputs.contents c.args.host.now.inputs.now in
     let rest = g.I.Read.remaining c.args.input.now in
     let is_terminal = c.args.terminals.is_out_terminal in
     let is_colored = c.args.terminals.is_out_colored in
-    let words = map g.T.AsStr.text c.args.words.now in
-    let before = outputs_of g.F.Outputs.placed g.O.Sink.accepted g.E.Sink.accepted g.E.Sink.failure_count c.args.to in
-    let after = outputs_of g.F.Outputs.placed g.O.Sink.accepted g.E.Sink.accepted g.E.Sink.failure_count c.match-read_words.to.0 in
-    let all : IfOk c.match-read_words.to.1 (λ status. IsCarriedOut known rest is_terminal is_colored words status before after) =
+    let args = map g.T.AsStr.text c.args.words.now in
+    let before = outputs_of g.F.Outputs.committed g.O.Sink.accepted g.E.Sink.accepted g.E.Sink.failure_count c.args.to in
+    let after = outputs_of g.F.Outputs.committed g.O.Sink.accepted g.E.Sink.accepted g.E.Sink.failure_count c.match-read_words.to.0 in
+    let all : IfOk c.match-read_words.to.1 (λ status. IsCarriedOut contents rest is_terminal is_colored args status before after) =
     elim c.match-read_words.branch [
       | in-Ok-Some w ↦
           (let request = rw w.in-Ok-Some.field-0-is at w.in-Ok-Some.ensures.value in
@@ -33,7 +33,7 @@ answered g c =
           (let request = rw w.in-Ok-None.field-0-is at w.in-Ok-None.ensures.value in
           rw w.to-is (inr (inl (sym request, refl), refl, refl, refl)))
       | in-Err w ↦
-          rw w.to-is (words_answered known rest is_terminal is_colored words w.in-Err.error w.respond_to_args_error-answer.result before _
+          rw w.to-is (words_answered contents rest is_terminal is_colored args w.in-Err.error w.respond_to_args_error-answer.result before _
           w.in-Err.ensures.kinds w.respond_to_args_error-answer.ensures.done w.respond_to_args_error-answer.ensures.helped (refl, refl, refl))
     ] in
     rw c.in-Ok.is at all
@@ -46,20 +46,20 @@ returns-in-Ok-clause-ended g c = inl (answered g c)
 
 pub returns-clause-ended : goal.returns-clause-ended
 returns-clause-ended g c =
-    let known = g.D.Inputs.contents c.args.host.now.inputs.now in
+    let contents = g.D.Inputs.contents c.args.host.now.inputs.now in
     let is_terminal = c.args.terminals.is_out_terminal in
-    let words = map g.T.AsStr.text c.args.words.now in
-    let stopped : IfErr c.match-read_words.to.1 (IsProgramStop known is_terminal words) = elim c.match-read_words.branch [
+    let args = map g.T.AsStr.text c.args.words.now in
+    let stopped : IfErr c.match-read_words.to.1 (IsProgramStop contents is_terminal args) = elim c.match-read_words.branch [
       | in-Ok-Some w ↦
           (let request = rw w.in-Ok-Some.field-0-is at w.in-Ok-Some.ensures.value in
-          rw w.to-is (IfErr-map w.run_in_colors.result.1 _ _ (λ why is. inl (w.in-Ok-Some.request, (sym request, is)))
+          rw w.to-is (IfErr-map w.run_in_colors.result.1 _ _ (λ stop is. inl (w.in-Ok-Some.request, (sym request, is)))
           w.run_in_colors.ensures.stopped))
       | in-Ok-None w ↦ rw w.to-is tt
       | in-Err w ↦
-          rw w.to-is (words_stop known is_terminal words _ _ _ _ w.in-Err.ensures.kinds w.in-Err.ensures.misused
+          rw w.to-is (words_stop contents is_terminal args _ _ _ _ w.in-Err.ensures.kinds w.in-Err.ensures.misused
           w.respond_to_args_error-answer.ensures.stopped)
     ] in
-    let before = outputs_of g.F.Outputs.placed g.O.Sink.accepted g.E.Sink.accepted g.E.Sink.failure_count c.match-read_words.to.0 in
+    let before = outputs_of g.F.Outputs.committed g.O.Sink.accepted g.E.Sink.accepted g.E.Sink.failure_count c.match-read_words.to.0 in
     inr (
       c.in-Err-answer.stop,
       rw c.in-Err-answer.is at stopped,

@@ -15,7 +15,7 @@ returns-in-Some-clause-undone g c =
       shard = c.in-Ok.requested.frame.shard;
       old = c.in-Ok.requested.frame.old;
       notes = c.in-Ok.requested.notes.items;
-      args = rw c.in-Some.is at c.in-Ok.ensures.requested;
+      requested_jobs = rw c.in-Some.is at c.in-Ok.ensures.requested;
       failures = c.in-Ok-requested_known_jobs.known;
       known_to_fail = rw c.as_slice.ensures.value at c.in-Ok-requested_known_jobs.ensures.known;
     } in
@@ -30,8 +30,8 @@ returns-in-Some-clause-stopped g c =
       shard = c.in-Ok.requested.frame.shard;
       old = c.in-Ok.requested.frame.old;
       notes = c.in-Ok.requested.notes.items;
-      args = rw c.in-Some.is at c.in-Ok.ensures.requested;
+      requested_jobs = rw c.in-Some.is at c.in-Ok.ensures.requested;
       failures = c.in-Ok-requested_known_jobs.known;
       known_to_fail = rw c.as_slice.ensures.value at c.in-Ok-requested_known_jobs.ensures.known;
     } in
-    IfErr-map c.run_selected_jobs.result.1 _ _ (λ why put. inr (inr (inr (found, put)))) c.run_selected_jobs.ensures.stopped
+    IfErr-map c.run_selected_jobs.result.1 _ _ (λ stop put. inr (inr (inr (found, put)))) c.run_selected_jobs.ensures.stopped

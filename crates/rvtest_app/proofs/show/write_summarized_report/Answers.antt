@@ -16,7 +16,7 @@ returns-in-Ok-clause-put g c =
     let report_path = None in
     let report = c.in_ok-outlets.ensures.report in
     let junit = c.in_ok-outlets.ensures.junit in
-    let same = ap g.F.Outputs.placed c.in-Ok.ensures.files ∙ c.in_ok-outlets.ensures.same in
+    let same = ap g.F.Outputs.committed c.in-Ok.ensures.files ∙ c.in_ok-outlets.ensures.same in
     let seen = rw (
       c.use_stdout.ensures,
       out_told path taken failed _ _ outlets.report _ report,
@@ -31,7 +31,7 @@ returns-in-Ok-clause-put g c =
     let errors = c.write_whole_files.ensures.errors in
     OnOk-both c.write_whole_files.result _ _ _
     (λ p q. record {
-      middle = outputs_of g.F.Outputs.placed g.O.Sink.accepted g.E.Sink.accepted g.E.Sink.failure_count c.write_shown.new.to;
+      middle = outputs_of g.F.Outputs.committed g.O.Sink.accepted g.E.Sink.accepted g.E.Sink.failure_count c.write_shown.new.to;
       seen = seen;
       out = p;
       quiet = (ap g.E.Sink.accepted errors, ap g.E.Sink.failure_count errors);
@@ -41,7 +41,7 @@ returns-in-Ok-clause-put g c =
 
 pub returns-in-Ok-clause-part : goal.returns-in-Ok-clause-part
 returns-in-Ok-clause-part g c =
-    let same = ap g.F.Outputs.placed c.in-Ok.ensures.files ∙ c.in_ok-outlets.ensures.same in
+    let same = ap g.F.Outputs.committed c.in-Ok.ensures.files ∙ c.in_ok-outlets.ensures.same in
     rw same at (rw (c.as_bytes.ensures.value, c.suite_name.ensures, c.report_judge.ensures)
     at (c.write_whole_files.ensures.part (optional_text c.args.args.junit) (rw same c.in_ok-outlets.ensures.junit)))
 

@@ -11,8 +11,8 @@ invariant_of-result c =
     let keys = always_returns_same _ (λ a r. r ≡ key_of a.0.now) _ (λ a r f' k. search rules) in
     record {
       tree = c.requires.tree;
-      few_steps = c.requires.steps;
-      few_arrivals = c.requires.calls;
+      steps_fit = c.requires.steps;
+      calls_fit = c.requires.calls;
       rising = IsNonDecreasingBy-from_sort_by_key key_of _ c.in_ok-sort_by_key.ensures.sorted (λ a r q k. search rules);
       each = λ f. each_stays _ _ (c.in_ok-sort_by_key.ensures.stable key_of keys) f
           ∙ ap (with_root_function f) c.in_ok-subtrees.ensures;

@@ -14,45 +14,45 @@ pub loop-subtree-init : goal.loop-subtree-init
 loop-subtree-init c =
     let f = c.args.function in
     let self = c.args.self.now in
-    let spots = self.spots.now in record {
-      own = (let told = told_of_each f 0 steps_of (λ (t : Subtree). t.own) (λ k s ss. refl) spots in omega (arith, told));
-      inclusive = (let told = inclusive_told f spots self.tree in omega (arith, told));
-      calls = (let told = told_of_each f 0 calls_of_node (λ (t : Subtree). t.calls) (λ k s ss. refl) spots in omega (arith, told));
+    let nodes = self.nodes.now in record {
+      own = (let told = told_of_each f 0 steps_of (λ (t : Subtree). t.own) (λ k s ss. refl) nodes in omega (arith, told));
+      inclusive = (let told = inclusive_told f nodes self.tree in omega (arith, told));
+      calls = (let told = told_of_each f 0 calls_of_node (λ (t : Subtree). t.calls) (λ k s ss. refl) nodes in omega (arith, told));
     }
 
 pub overflow_add-found : goal.overflow_add-found
 overflow_add-found c =
     let f = c.args.function in
     let self = c.args.self.now in
-    let spots = self.spots.now in
-    let step = sum_step (λ (t : Subtree). t.own) c.subtrees_of_function-subtree-items.result.now (subtrees_of_function f spots)
+    let nodes = self.nodes.now in
+    let step = sum_step (λ (t : Subtree). t.own) c.subtrees_of_function-subtree-items.result.now (subtrees_of_function f nodes)
     c.loop-subtree.subtree-index none c.subtrees_of_function-subtree-items.ensures c.loop-subtree-test.true in
     let so_far = c.loop-subtree.invariant.own in
-    let fits = own_fits f steps_of spots in
-    let few = self.few_steps in
+    let fits = own_fits f steps_of nodes in
+    let few = self.steps_fit in
     omega (arith, step, so_far, fits, few)
 
 pub overflow_add-found-in-loop-subtree : goal.overflow_add-found-in-loop-subtree
 overflow_add-found-in-loop-subtree c =
     let f = c.args.function in
     let self = c.args.self.now in
-    let spots = self.spots.now in
-    let step = sum_step (λ (t : Subtree). t.calls) c.subtrees_of_function-subtree-items.result.now (subtrees_of_function f spots)
+    let nodes = self.nodes.now in
+    let step = sum_step (λ (t : Subtree). t.calls) c.subtrees_of_function-subtree-items.result.now (subtrees_of_function f nodes)
     c.loop-subtree.subtree-index none c.subtrees_of_function-subtree-items.ensures c.loop-subtree-test.true in
     let so_far = c.loop-subtree.invariant.calls in
-    let fits = own_fits f calls_of_node spots in
-    let few = self.few_arrivals in
+    let fits = own_fits f calls_of_node nodes in
+    let few = self.calls_fit in
     omega (arith, step, so_far, fits, few)
 
 pub overflow_add-found-then-end-subtree : goal.overflow_add-found-then-end-subtree
 overflow_add-found-then-end-subtree c =
     let f = c.args.function in
     let self = c.args.self.now in
-    let spots = self.spots.now in
-    let step = inclusive_step c.subtrees_of_function-subtree-items.result.now (subtrees_of_function f spots)
+    let nodes = self.nodes.now in
+    let step = inclusive_step c.subtrees_of_function-subtree-items.result.now (subtrees_of_function f nodes)
     c.loop-subtree.subtree-index c.loop-subtree.end none c.subtrees_of_function-subtree-items.ensures c.loop-subtree-test.true
     c.if-end-subtree.true in
     let so_far = c.loop-subtree.invariant.inclusive in
-    let fits = inclusive_fits f [] spots in
-    let few = self.few_steps in
+    let fits = inclusive_fits f [] nodes in
+    let few = self.steps_fit in
     omega (arith, step, so_far, fits, few)

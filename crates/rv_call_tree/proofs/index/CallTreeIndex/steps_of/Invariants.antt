@@ -9,10 +9,10 @@ use Rattle.rv_call_tree.proofs.index.CallTreeIndex.steps_of.Given as goal
 
 abbrev pub invariant-loop-subtree : goal.invariant-loop-subtree
 invariant-loop-subtree l = record {
-  own : l.found.own + sum_by (λ s. s.own) (drop l.subtree-index (subtrees_of_function l.function l.self.spots.now))
-      ≡ own_steps_of l.function l.self.spots.now;
-  inclusive : l.found.inclusive + inclusive_from l.end (drop l.subtree-index (subtrees_of_function l.function l.self.spots.now))
-      ≡ inclusive_steps_after l.function [] l.self.spots.now;
-  calls : l.found.calls + sum_by (λ s. s.calls) (drop l.subtree-index (subtrees_of_function l.function l.self.spots.now))
-      ≡ calls_of_function l.function l.self.spots.now;
+  own : l.found.own + sum_by (λ s. s.own) (drop l.subtree-index (subtrees_of_function l.function l.self.nodes.now))
+      ≡ own_steps_of l.function l.self.nodes.now;
+  inclusive : l.found.inclusive + inclusive_from l.end (drop l.subtree-index (subtrees_of_function l.function l.self.nodes.now))
+      ≡ inclusive_steps_after l.function [] l.self.nodes.now;
+  calls : l.found.calls + sum_by (λ s. s.calls) (drop l.subtree-index (subtrees_of_function l.function l.self.nodes.now))
+      ≡ calls_of_function l.function l.self.nodes.now;
 }

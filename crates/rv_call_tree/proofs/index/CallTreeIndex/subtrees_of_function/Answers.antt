@@ -16,7 +16,7 @@ returns c =
     let rest = take (length xs - start) (drop start xs) in
     let same = sym c.as_slice-subtrees.ensures.value in
     let rising = subst (λ (l : List Subtree). IsNonDecreasingBy key_of l) same self.rising in
-    let each = subst (λ (l : List Subtree). AreSubtreesByFunction self.spots.now l) same self.each in
+    let each = subst (λ (l : List Subtree). AreSubtreesByFunction self.nodes.now l) same self.each in
     let first = IsPartitionPoint-from_clause (λ (s : Subtree). ltb s.function f) xs start c.partition_point-start.ensures.partitioned
     (IsPartitionedBy-ltb key_of xs f rising) (λ a r q k. search rules) in
     let last = IsPartitionPoint-from_clause (λ (s : Subtree). leb s.function f) rest c.partition_point.result

@@ -65,7 +65,7 @@ returns-clause-history c =
     let v = c.second.inside.seat.me.0 in
     let w = c.split_seat-note.result.me.0 in (
       t.history,
-      t.numbered,
+      t.is_history,
       subst (λ (h : PassView). Within h.draws t.history) c.first.view_is
           (λ e i. subst (λ (m : SeatState). Within m.0.noted t.history) me t.noted e
           (in_right v.noted w.noted e (subst (λ (m : SeatState). IsIn e m.0.noted) (sym note) i))),

@@ -19,10 +19,10 @@ returns-then-above-eq0 c =
     let above = c.partition_point-above.result in
     let same = sym c.as_slice-symbols.ensures.value in
     let rising = subst (λ (l : List CodeSymbol). IsNonDecreasingBy (λ s. s.value) l) same self.rising in
-    let finds = subst (λ (l : List CodeSymbol). AgreeWithSymbolAt self.image.now self.bytes.now self.strings.now l) same self.finds in
+    let agree_with_symbol_at = subst (λ (l : List CodeSymbol). AgreeWithSymbolAt self.image.now self.bytes.now self.strings.now l) same self.agree_with_symbol_at in
     let point = IsPartitionPoint-from_clause (λ s. leb s.value c.args.addr) xs above c.partition_point-above.ensures.partitioned
     (IsPartitionedBy-leb (λ s. s.value) xs c.args.addr rising) (λ a r q k. search rules) in
-    nothing_below self.image.now self.bytes.now self.strings.now xs finds c.args.addr above none
+    nothing_below self.image.now self.bytes.now self.strings.now xs agree_with_symbol_at c.args.addr above none
     c.partition_point-above.ensures.bound point c.if-above-eq0.true
 
 pub returns-then-not-are_in_one_segment : goal.returns-then-not-are_in_one_segment
@@ -32,12 +32,12 @@ returns-then-not-are_in_one_segment c =
     let above = c.partition_point-above.result in
     let same = sym c.as_slice-symbols.ensures.value in
     let rising = subst (λ (l : List CodeSymbol). IsNonDecreasingBy (λ s. s.value) l) same self.rising in
-    let finds = subst (λ (l : List CodeSymbol). AgreeWithSymbolAt self.image.now self.bytes.now self.strings.now l) same self.finds in
+    let agree_with_symbol_at = subst (λ (l : List CodeSymbol). AgreeWithSymbolAt self.image.now self.bytes.now self.strings.now l) same self.agree_with_symbol_at in
     let point = IsPartitionPoint-from_clause (λ s. leb s.value c.args.addr) xs above c.partition_point-above.ensures.partitioned
     (IsPartitionedBy-leb (λ s. s.value) xs c.args.addr rising) (λ a r q k. search rules) in
     let some : 0 < above = let other = c.if-above-eq0.false in omega (arith, other) in
     let s = get_or xs (above - 1) none in
-    in_other_segment self.image.now self.bytes.now self.strings.now xs finds c.args.addr above none
+    in_other_segment self.image.now self.bytes.now self.strings.now xs agree_with_symbol_at c.args.addr above none
     c.partition_point-above.ensures.bound point some s refl
     (ap (λ (ss : List Segment). are_in_one_segment ss s.value c.args.addr) (sym c.as_slice.ensures)
     ∙ sym c.are_in_one_segment.ensures ∙ c.if-not-are_in_one_segment.true)
@@ -50,12 +50,12 @@ returns c =
     let same = sym c.as_slice-symbols.ensures.value in
     let rising = subst (λ (l : List CodeSymbol). IsNonDecreasingBy (λ s. s.value) l) same self.rising in
     let named = subst (λ (l : List CodeSymbol). HaveNames self.strings.now l) same self.named in
-    let finds = subst (λ (l : List CodeSymbol). AgreeWithSymbolAt self.image.now self.bytes.now self.strings.now l) same self.finds in
+    let agree_with_symbol_at = subst (λ (l : List CodeSymbol). AgreeWithSymbolAt self.image.now self.bytes.now self.strings.now l) same self.agree_with_symbol_at in
     let point = IsPartitionPoint-from_clause (λ s. leb s.value c.args.addr) xs above c.partition_point-above.ensures.partitioned
     (IsPartitionedBy-leb (λ s. s.value) xs c.args.addr rising) (λ a r q k. search rules) in
     let some : 0 < above = let other = c.if-above-eq0.false in omega (arith, other) in
     let s = get_or xs (above - 1) none in
-    in_this_segment self.image.now self.bytes.now self.strings.now xs finds c.args.addr above none
+    in_this_segment self.image.now self.bytes.now self.strings.now xs agree_with_symbol_at c.args.addr above none
     c.partition_point-above.ensures.bound point some s refl
     (ap (λ (ss : List Segment). are_in_one_segment ss s.value c.args.addr) (sym c.as_slice.ensures)
     ∙ sym c.are_in_one_segment.ensures ∙ c.if-not-are_in_one_segment.false) named

@@ -14,7 +14,7 @@ invariant_of-result c =
     record {
       rising = λ i j d le lt. absurd (omega (arith, lt, long));
       named = λ k d lt. absurd (omega (arith, lt, long));
-      finds = find_nothing c.args.image.now c.args.bytes.now [] c.new.result.items c.in_default.field-0
+      agree_with_symbol_at = find_nothing c.args.image.now c.args.bytes.now [] c.new.result.items c.in_default.field-0
           c.in_default.ensures.checked c.new.ensures.items;
     }
 
@@ -28,6 +28,6 @@ invariant_of-result-2 c =
     record {
       rising = values_in_order table strings (symbol_count table) symbols are rising;
       named = all_named table strings (symbol_count table) symbols are;
-      finds = find_sorted c.args.image.now c.args.bytes.now strings symbols table c.in-Ok.ensures.checked c.in-Ok.ensures.there
+      agree_with_symbol_at = find_sorted c.args.image.now c.args.bytes.now strings symbols table c.in-Ok.ensures.checked c.in-Ok.ensures.there
           are rising c.in-Ok.ensures.few;
     }

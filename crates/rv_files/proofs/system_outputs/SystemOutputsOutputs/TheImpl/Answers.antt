@@ -8,5 +8,5 @@ create-tells g _ _ _ c = record {
   path = c.ensures.path;
   empty = IfOk-weaker c.result _ _ (λ _ _. tt) c.ensures.path;
   told = IfOk-weaker c.result _ _ (λ _ _. tt) c.ensures.path;
-  unfailed = c.ensures.unfailed;
+  no_failures = c.ensures.no_failures;
 }

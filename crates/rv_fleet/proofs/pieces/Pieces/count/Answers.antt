@@ -5,7 +5,7 @@ use Rattle.rv_fleet.proofs.pieces.Pieces.count.Goals as goal
 pub returns-clause-few : goal.returns-clause-few
 returns-clause-few c = omega (
   arith,
-  chunks_few (length c.args.self.now.batch.places.now) c.args.self.now.group c.args.self.now.group_few.0,
+  chunks_few (length c.args.self.now.batch.places.now) c.args.self.now.group c.args.self.now.group_in_range.0,
   c.args.self.now.batch.few,
   c.div_ceil.ensures,
 )

@@ -6,7 +6,7 @@ abbrev pub ghosts-stream_rows : goal.ghosts-stream_rows
 ghosts-stream_rows g a = record {
   before = None;
   failures = a.to.out.failures;
-  sends = false;
+  has_sink = false;
   keeps = false;
   most = a.limit.now.failures;
   judging = judge_view a.limit.now.judge;

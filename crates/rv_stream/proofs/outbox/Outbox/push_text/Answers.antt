@@ -7,7 +7,7 @@ returns-in-Ok-clause-sent g c = λ text sent.
     let s = c.args.self.now in
     let made = c.args.made.now in
     one_waits g.J.StreamSpec.before (g.W.Sink.accepted s.out) g.J.StreamSpec.failures (g.W.Sink.failure_count s.out)
-    s.unsent.items text s.failed (g.T.RowReporter.line c.args.reporter.now made.index made.row) c.push_row_text.new.text.items
+    s.buffered.items text s.failed (g.T.RowReporter.line c.args.reporter.now made.index made.row) c.push_row_text.new.text.items
     c.requires c.in-Ok.ensures sent
 
 pub returns-in-Err-clause-sent : goal.returns-in-Err-clause-sent
@@ -15,5 +15,5 @@ returns-in-Err-clause-sent g c = λ text sent.
     let s = c.args.self.now in
     let made = c.args.made.now in
     one_lacks g.J.StreamSpec.before (g.W.Sink.accepted s.out) g.J.StreamSpec.failures (g.W.Sink.failure_count s.out)
-    s.unsent.items text s.failed (g.T.RowReporter.line c.args.reporter.now made.index made.row) c.push_row_text.new.text.items
+    s.buffered.items text s.failed (g.T.RowReporter.line c.args.reporter.now made.index made.row) c.push_row_text.new.text.items
     c.requires sent

@@ -11,7 +11,7 @@ returns-in-Some-clause-seen g c = λ results sent.
     let line = g.J.StreamSpec.line in
     let box = c.push_text.new.self in
     subst (λ (text : List ℕ). IsSent g.J.StreamSpec.before (g.W.Sink.accepted box.out) g.J.StreamSpec.failures (g.W.Sink.failure_count box.out)
-    box.failed box.unsent.items text)
+    box.failed box.buffered.items text)
     (ap (λ (own : ℕ → Row → List ℕ). text_by_index line results ++ own made.index made.row) c.args.self.now.line
     ∙ reports_more line results made)
     (c.push_text.ensures.sent (text_by_index line results) (rw c.in-Some.is at sent))

@@ -21,7 +21,7 @@ returns-clause-stopped g c =
     let listed = rw c.as_slice.ensures.value at c.in_ok-jobs.ensures.jobs in
     let none = rw c.in-None.is at c.in_ok-shard.ensures.requested in
     IfErr-map c.jobs_of_choice.result _ _
-    (λ why is. inr (
+    (λ stop is. inr (
       c.in_ok-text.text.items,
       (
         c.in_ok-text.ensures.read,

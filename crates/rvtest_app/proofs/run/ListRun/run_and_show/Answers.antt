@@ -84,7 +84,7 @@ returns-clause-report g c =
     c.requires.sink (c.finish-sink.ensures.there ∙ sym c.requires.there))
     (c.finish-sink.ensures.all text
     (subst (λ (text : List ℕ). IfSome sender.outbox (λ box. IsSent g.K.StreamSpec.before (g.V.Sink.accepted box.out)
-    g.K.StreamSpec.failures (g.V.Sink.failure_count box.out) box.failed box.unsent.items text))
+    g.K.StreamSpec.failures (g.V.Sink.failure_count box.out) box.failed box.buffered.items text))
     (ap (λ (line : ℕ → Row → List ℕ). text_by_index line seen.reported) (sym c.requires.line) ∙ reported_texts _ _ places all seen line)
     seen.seen.0))))
 

@@ -38,7 +38,7 @@ returns-clause-run g c =
       rows = _;
       shown = refl;
       judged = judged;
-      middle = outputs_of g.F.Outputs.placed g.O.Sink.accepted g.E.Sink.accepted g.E.Sink.failure_count
+      middle = outputs_of g.F.Outputs.committed g.O.Sink.accepted g.E.Sink.accepted g.E.Sink.failure_count
           (record c.args.to { errors = c.write_message.new.errors });
       noted = (refl, noted, refl);
       put = put;
@@ -91,7 +91,7 @@ returns-clause-undone g c =
       rows = rows;
       shown = refl;
       placed = same_part args told (run_reporter args failures plan unread) c.as_slice-4.result.now places
-          c.args.marked.frame.shard c.args.marked.frame.old rows (g.F.Outputs.placed c.args.to.files)
-          (g.F.Outputs.placed c.run_into_files.result.0.files) told_is places_are part;
+          c.args.marked.frame.shard c.args.marked.frame.old rows (g.F.Outputs.committed c.args.to.files)
+          (g.F.Outputs.committed c.run_into_files.result.0.files) told_is places_are part;
     })))
     (c.run_into_files.ensures.part rows rows_are)

@@ -37,7 +37,7 @@ pub write_counts-requires-clause-open : goal.write_counts-requires-clause-open
 write_counts-requires-clause-open g c κs within =
     let path = optional_text c.args.self.now.args.now.counts in (
       path,
-      untold g.F.Outputs.pending_path g.F.File.Sink.accepted g.F.File.Sink.failure_count (g.F.Outputs.placed c.args.to.now.files) path
+      untold g.F.Outputs.pending_path g.F.File.Sink.accepted g.F.File.Sink.failure_count (g.F.Outputs.committed c.args.to.now.files) path
           c.args.outlets.counts [] c.requires.taken.counts,
     )
 
@@ -52,10 +52,10 @@ returns-in_ok-write_counts-in-Ok-clause-outputs_of g c = λ before shown.
     c.first_jobs-first.ensures.places ∙ ap (λ (rows : List Row). take (length rows) places) c.as_slice.ensures in
     let told = c.first_jobs-first.ensures.reporter in
     let files = c.in-Ok.ensures in
-    let start = outputs_of g.F.Outputs.placed g.O.Sink.accepted g.E.Sink.accepted g.E.Sink.failure_count c.args.to.now in
-    let after = outputs_of g.F.Outputs.placed g.O.Sink.accepted g.E.Sink.accepted g.E.Sink.failure_count c.write_run_files.new.to in
+    let start = outputs_of g.F.Outputs.committed g.O.Sink.accepted g.E.Sink.accepted g.E.Sink.failure_count c.args.to.now in
+    let after = outputs_of g.F.Outputs.committed g.O.Sink.accepted g.E.Sink.accepted g.E.Sink.failure_count c.write_run_files.new.to in
     let report = subst (λ (ps : List ℕ). HasReceived g.F.Outputs.pending_path g.F.File.Sink.accepted g.F.File.Sink.failure_count
-    (g.F.Outputs.placed c.args.to.now.files) report_path (streamed_rows c.args.frame.old ps c.args.rows) c.args.outlets.report)
+    (g.F.Outputs.committed c.args.to.now.files) report_path (streamed_rows c.args.frame.old ps c.args.rows) c.args.outlets.report)
     (sym firsts) c.requires.taken.report in
     let same = placed_of_shown _ _ before start shown in
     record {
@@ -81,13 +81,13 @@ returns-in_err-write_counts-in-Ok-clause-part g c =
     let firsts : c.first_jobs-first.result.places.now ≡ shown_indices places c.args.rows =
     c.first_jobs-first.ensures.places ∙ ap (λ (rows : List Row). take (length rows) places) c.as_slice.ensures in
     let report = subst (λ (ps : List ℕ). HasReceived g.F.Outputs.pending_path g.F.File.Sink.accepted g.F.File.Sink.failure_count
-    (g.F.Outputs.placed c.args.to.now.files) report_path (streamed_rows c.args.frame.old ps c.args.rows) c.args.outlets.report)
+    (g.F.Outputs.committed c.args.to.now.files) report_path (streamed_rows c.args.frame.old ps c.args.rows) c.args.outlets.report)
     (sym firsts) c.requires.taken.report in
     let files = rw (c.first_jobs-first.ensures.reporter, firsts)
     at (c.in-Ok.ensures.placed report_path junit_path report c.requires.taken.junit) in
     OnErr-from c.from_residual.result _
     (part_of_counts args (reporter_of c.args.planned.now.reporter.now) places c.args.frame.shard c.args.frame.old c.args.rows _ _ _
-    (c.in_err-write_counts-in-Ok.ensures.requested (optional_text args.counts) (g.F.Outputs.placed c.args.to.now.files) c.requires.taken.counts)
+    (c.in_err-write_counts-in-Ok.ensures.requested (optional_text args.counts) (g.F.Outputs.committed c.args.to.now.files) c.requires.taken.counts)
     files c.in_err-write_counts-in-Ok.ensures.same)
 
 pub returns-in_err-write_counts-in-Ok-clause-stopped : goal.returns-in_err-write_counts-in-Ok-clause-stopped

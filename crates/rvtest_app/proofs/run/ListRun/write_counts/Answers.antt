@@ -31,7 +31,7 @@ returns-in-Err-clause-requested g c = λ path earlier has.
 
 pub returns-in-Ok-clause-stopped : goal.returns-in-Ok-clause-stopped
 returns-in-Ok-clause-stopped g c =
-    IfErr-map c.write_to_outlet.result _ _ (λ why. ⊎_elim (λ failed. inr (inl failed)) (λ file. inr (inr (inl file))))
+    IfErr-map c.write_to_outlet.result _ _ (λ stop. ⊎_elim (λ failed. inr (inl failed)) (λ file. inr (inr (inl file))))
     c.write_to_outlet.ensures.stopped
 
 pub returns-in-Err-clause-stopped : goal.returns-in-Err-clause-stopped

@@ -19,8 +19,8 @@ returns-in-Some-clause-put g c =
       shard = c.in_ok-requested.requested.frame.shard;
       old = c.in_ok-requested.requested.frame.old;
       notes = c.in_ok-requested.requested.notes.items;
-      args = rw c.in-Some.is at c.in_ok-requested.ensures.requested;
-      middle = outputs_of g.F.Outputs.placed g.O.Sink.accepted g.E.Sink.accepted g.E.Sink.failure_count
+      requested_jobs = rw c.in-Some.is at c.in_ok-requested.ensures.requested;
+      middle = outputs_of g.F.Outputs.committed g.O.Sink.accepted g.E.Sink.accepted g.E.Sink.failure_count
           (record c.args.to.now { errors = c.write_message.new.errors });
       told = (refl, rw c.as_slice.ensures.value at c.write_message.ensures, refl);
       viewed = put.1;
@@ -35,13 +35,13 @@ returns-in-Some-clause-low g c =
 pub returns-in-Some-clause-stopped : goal.returns-in-Some-clause-stopped
 returns-in-Some-clause-stopped g c =
     IfErr-map c.write_selected.result _ _
-    (λ why is. inr (inr (record {
+    (λ stop is. inr (inr (record {
       jobs = c.in_ok-requested.requested.jobs;
       selection = c.in-Some.selection.items;
       shard = c.in_ok-requested.requested.frame.shard;
       old = c.in_ok-requested.requested.frame.old;
       notes = c.in_ok-requested.requested.notes.items;
-      args = rw c.in-Some.is at c.in_ok-requested.ensures.requested;
+      requested_jobs = rw c.in-Some.is at c.in_ok-requested.ensures.requested;
       unviewed = is;
     })))
     (rw c.as_slice-in-Some.ensures.value at c.write_selected.ensures.stopped)
@@ -53,8 +53,8 @@ returns-clause-put g c = record {
   shard = c.in_ok-requested.requested.frame.shard;
   old = c.in_ok-requested.requested.frame.old;
   notes = c.in_ok-requested.requested.notes.items;
-  args = rw c.in-None.is at c.in_ok-requested.ensures.requested;
-  middle = outputs_of g.F.Outputs.placed g.O.Sink.accepted g.E.Sink.accepted g.E.Sink.failure_count
+  requested_jobs = rw c.in-None.is at c.in_ok-requested.ensures.requested;
+  middle = outputs_of g.F.Outputs.committed g.O.Sink.accepted g.E.Sink.accepted g.E.Sink.failure_count
       (record c.args.to.now { errors = c.write_message.new.errors });
   told = (refl, rw c.as_slice.ensures.value at c.write_message.ensures, refl);
   viewed = refl;

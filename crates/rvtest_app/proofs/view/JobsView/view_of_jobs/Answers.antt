@@ -35,11 +35,11 @@ returns-clause-shown g c =
 pub returns-clause-stopped : goal.returns-clause-stopped
 returns-clause-stopped g c =
     IfErr-map c.view_of_table.result _ _
-    (λ why textless. inr (inr (
+    (λ stop textless. inr (inr (
       c.in_ok-table.table,
       (
         c.in_ok-table.ensures.table,
-        subst (λ (images : List ImageFileView). IsTableTextStop c.args.self.now.view c.in_ok-table.table images (counts_source c.args.self.now.args.now) why)
+        subst (λ (images : List ImageFileView). IsTableTextStop c.args.self.now.view c.in_ok-table.table images (counts_source c.args.self.now.args.now) stop)
             (ap images_of_files c.as_slice-images.ensures.value ∙ c.in_ok-files.ensures) textless,
       ),
     )))

@@ -37,7 +37,7 @@ returns-clause-put g c =
           kept = rw (c.new-store.ensures.inputs, c.new-store.ensures.folder) at found.kept;
           noted = ap length c.unreadable_paths.ensures ∙ rw c.new-store.ensures.nothing at found.faults;
         };
-        middle = outputs_of g.F.Outputs.placed g.O.Sink.accepted g.E.Sink.accepted g.E.Sink.failure_count
+        middle = outputs_of g.F.Outputs.committed g.O.Sink.accepted g.E.Sink.accepted g.E.Sink.failure_count
             (record c.args.to.now { errors = c.write_message.new.errors });
         told = (
           refl,

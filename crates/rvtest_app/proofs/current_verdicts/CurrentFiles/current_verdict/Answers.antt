@@ -1,6 +1,6 @@
 use Rattle.std.proofs.Common.{option_map}
 use Rattle.rvtest_app.proofs.Results.{IfOk-map}
-use Rattle.rvtest_app.proofs.current_verdicts.CurrentFiles.standing.Goals as goal
+use Rattle.rvtest_app.proofs.current_verdicts.CurrentFiles.current_verdict.Goals as goal
 
 pub returns : goal.returns
 returns g c = IfOk-map c.verdict_with_golden_files.result _ _
