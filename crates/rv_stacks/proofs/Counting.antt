@@ -192,9 +192,9 @@ used_up function n i start s frames walk h over = record {
 }
 
 -- the nodes of a run as spots
-pub stacks_of_nodes : (function : ℕ → ℕ) (n : ℕ) (s : State) (nodes : List WalkNode) (nodes : List CallNode)
-    → AreNodesOf function n s nodes → ArePreorderOf nodes nodes → AreStacksOf function n s nodes
-stacks_of_nodes function n s nodes nodes h k = record {
+pub stacks_of_nodes : (function : ℕ → ℕ) (n : ℕ) (s : State) (nodes : List WalkNode) (spots : List CallNode)
+    → AreNodesOf function n s nodes → ArePreorderOf nodes spots → AreStacksOf function n s spots
+stacks_of_nodes function n s nodes spots h k = record {
   tree = k.tree;
   some = k.some;
   steps = λ path. k.steps path ∙ h.steps path;

@@ -6,7 +6,7 @@ use Rattle.std.specs.List.{list_all}
 use Rattle.std.specs.Str.{bytes_eq}
 use Rattle.rv_count_tables.specs.declared_spot.CallNode.{CallNode}
 use Rattle.rv_count_tables.specs.Trees.{calls_of_node, sum_over_path, sum_over_nodes, last_path, path_after, steps_if, steps_of, HasCalls, IsTree, FollowsInPreorder}
-use Rattle.rv_count_tables.specs.Trees as nodes
+use Rattle.rv_count_tables.specs.Trees as spots
 use Rattle.rv_count_tables.proofs.Public.{last_parts, stand_of_parts}
 use Rattle.rv_stacks.specs.declared.preorder.PreorderBuilder.{PreorderBuilder}
 use Rattle.rv_stacks.specs.declared.node.WalkNode.{WalkNode}
@@ -51,7 +51,7 @@ module _ (nodes : List WalkNode) (old new : PreorderBuilder) (number : ℕ) (nod
   abbrev parent : ℕ
   parent = get_or old.trail.items (length old.path.items) 0
 
-  abbrev node : CallNode
+  abbrev spot : CallNode
   node = record { depth = depth; function = node.function; calls = node.calls; steps = node.steps }
 
   abbrev emptied : WalkNode
@@ -80,19 +80,19 @@ module _ (nodes : List WalkNode) (old new : PreorderBuilder) (number : ℕ) (nod
       ∙ ap (λ (p : List ℕ). p ++ (get_or nodes (number - 1) node).function ∷ []) of_parent
       ∙ ap (λ (x : WalkNode). old.path.items ++ x.function ∷ []) (sym is)
 
-  of_spot : path_after front node ≡ old.path.items ++ node.function ∷ []
+  of_spot : path_after front spot ≡ old.path.items ++ node.function ∷ []
   of_spot =
       ap (λ (k : ℕ). take k front ++ node.function ∷ []) deep
       ∙ ap (λ (p : List ℕ). p ++ node.function ∷ []) (sym h.front)
 
-  of_both : path_after front node ≡ path_of number nodes
+  of_both : path_after front spot ≡ path_of number nodes
   of_both = of_spot ∙ sym of_number
 
   of_last : last_path [] new.nodes.items ≡ new.path.items
   of_last =
-      ap (last_path []) spot_is ∙ last_parts [] old.nodes.items (node ∷ []) ∙ of_spot ∙ sym path
+      ap (last_path []) spot_is ∙ last_parts [] old.nodes.items (spot ∷ []) ∙ of_spot ∙ sym path
 
-  stands : FollowsInPreorder front node
+  stands : FollowsInPreorder front spot
   stands =
       let within = h.within in record {
         within = omega (arith, deep, within);
@@ -104,7 +104,7 @@ module _ (nodes : List WalkNode) (old new : PreorderBuilder) (number : ℕ) (nod
             omega (arith, below, at, over, own);
       }
 
-  arrives : 0 < node.calls
+  arrives : 0 < spot.calls
   arrives =
       let there = next.some (number - 1) node one in
       let own = ap (λ (x : WalkNode). x.calls) is in
@@ -113,8 +113,8 @@ module _ (nodes : List WalkNode) (old new : PreorderBuilder) (number : ℕ) (nod
   is_preorder : IsPreorderBuilder (set nodes (number - 1) emptied) new
   builder =
       let last = ap length of_last in record {
-        tree = subst (λ (ss : List CallNode). IsTree ss) (sym spot_is) (stand_of_parts [] old.nodes.items (node ∷ []) h.tree (stands, tt));
-        some = subst (λ (ss : List CallNode). HasCalls ss) (sym spot_is) (some_more old.nodes.items node h.some arrives);
+        tree = subst (λ (ss : List CallNode). IsTree ss) (sym spot_is) (stand_of_parts [] old.nodes.items (spot ∷ []) h.tree (stands, tt));
+        some = subst (λ (ss : List CallNode). HasCalls ss) (sym spot_is) (some_more old.nodes.items spot h.some arrives);
         trail = subst (λ (p : List ℕ). IsTrail (set nodes (number - 1) emptied) p new.trail.items) (sym path)
             (subst (λ (t : List ℕ). IsTrail (set nodes (number - 1) emptied) (old.path.items ++ node.function ∷ []) t) (sym trail)
             (trail_stays nodes (set nodes (number - 1) emptied) (old.path.items ++ node.function ∷ []) (old.trail.items ++ number ∷ [])
@@ -142,24 +142,24 @@ module _ (nodes : List WalkNode) (old new : PreorderBuilder) (number : ℕ) (nod
   moved = record {
     is_preorder = is_preorder;
     calls = λ at.
-        let extended_block = ap (nodes.calls_at at) spot_is ∙ counted_more calls_of_node at [] old.nodes.items node in
-        let kept = moved_weight (λ p n. cond (bytes_eq p at) n.calls 0) (nodes.calls_at at old.nodes.items)
-        (cond (bytes_eq (path_after front node) at) node.calls 0)
+        let extended_block = ap (spots.calls_at at) spot_is ∙ counted_more calls_of_node at [] old.nodes.items spot in
+        let kept = moved_weight (λ p n. cond (bytes_eq p at) n.calls 0) (spots.calls_at at old.nodes.items)
+        (cond (bytes_eq (path_after front spot) at) spot.calls 0)
         (ap (λ (p : List ℕ). cond (bytes_eq p at) node.calls 0) of_both) (no_weight (bytes_eq (path_of number nodes) at)) in
         omega (arith, extended_block, kept);
     steps = λ at.
-        let extended_block = ap (nodes.steps_at at) spot_is ∙ counted_more steps_of at [] old.nodes.items node in
-        let kept = moved_weight (λ p n. cond (bytes_eq p at) n.steps 0) (nodes.steps_at at old.nodes.items)
-        (cond (bytes_eq (path_after front node) at) node.steps 0)
+        let extended_block = ap (spots.steps_at at) spot_is ∙ counted_more steps_of at [] old.nodes.items spot in
+        let kept = moved_weight (λ p n. cond (bytes_eq p at) n.steps 0) (spots.steps_at at old.nodes.items)
+        (cond (bytes_eq (path_after front spot) at) spot.steps 0)
         (ap (λ (p : List ℕ). cond (bytes_eq p at) node.steps 0) of_both) (no_weight (bytes_eq (path_of number nodes) at)) in
         omega (arith, extended_block, kept);
     own = λ f.
-        let extended_block = ap (nodes.own_steps_of f) spot_is ∙ sum_more (λ s. steps_if (s.function == f) s.steps) old.nodes.items node in
-        let kept = moved_weight (λ p n. steps_if (n.function == f) n.steps) (nodes.own_steps_of f old.nodes.items)
+        let extended_block = ap (spots.own_steps_of f) spot_is ∙ sum_more (λ s. steps_if (s.function == f) s.steps) old.nodes.items spot in
+        let kept = moved_weight (λ p n. steps_if (n.function == f) n.steps) (spots.own_steps_of f old.nodes.items)
         (steps_if (node.function == f) node.steps) refl (no_weight (node.function == f)) in
         omega (arith, extended_block, kept);
-    all_steps = (let extended_block = ap nodes.all_steps spot_is ∙ sum_more steps_of old.nodes.items node in
-        let kept = moved_weight (λ p n. n.steps) (nodes.all_steps old.nodes.items) node.steps refl refl in
+    all_steps = (let extended_block = ap spots.all_steps spot_is ∙ sum_more steps_of old.nodes.items spot in
+        let kept = moved_weight (λ p n. n.steps) (spots.all_steps old.nodes.items) node.steps refl refl in
         omega (arith, extended_block, kept));
   }
 
@@ -167,10 +167,10 @@ module _ (nodes : List WalkNode) (old new : PreorderBuilder) (number : ℕ) (nod
 pub went_back : (nodes : List WalkNode) (old new : PreorderBuilder) → ReturnsToParent nodes old new → MovesCounts nodes old nodes new
 went_back nodes old new h = record {
   is_preorder = h.is_preorder;
-  calls = λ path. ap (λ (ss : List CallNode). nodes.calls_at path ss + calls_at path nodes) h.nodes;
-  steps = λ path. ap (λ (ss : List CallNode). nodes.steps_at path ss + steps_at path nodes) h.nodes;
-  own = λ f. ap (λ (ss : List CallNode). nodes.own_steps_of f ss + own_steps_of f nodes) h.nodes;
-  all_steps = ap (λ (ss : List CallNode). nodes.all_steps ss + all_steps nodes) h.nodes;
+  calls = λ path. ap (λ (ss : List CallNode). spots.calls_at path ss + calls_at path nodes) h.nodes;
+  steps = λ path. ap (λ (ss : List CallNode). spots.steps_at path ss + steps_at path nodes) h.nodes;
+  own = λ f. ap (λ (ss : List CallNode). spots.own_steps_of f ss + own_steps_of f nodes) h.nodes;
+  all_steps = ap (λ (ss : List CallNode). spots.all_steps ss + all_steps nodes) h.nodes;
 }
 
 -- ---- from the first on
@@ -201,18 +201,18 @@ no_spot nodes builder path trail spots_are =
 -- what is left of nodes, and what is in spots, is what was counted
 pub record Conserves (start remaining : List WalkNode) (builder : PreorderBuilder) : Type 0 where
   pub standing : IsPreorderBuilder remaining builder
-  pub calls : (path : List ℕ) → nodes.calls_at path builder.nodes.items + calls_at path remaining ≡ calls_at path start
-  pub steps : (path : List ℕ) → nodes.steps_at path builder.nodes.items + steps_at path remaining ≡ steps_at path start
-  pub own : (f : ℕ) → nodes.own_steps_of f builder.nodes.items + own_steps_of f remaining ≡ own_steps_of f start
-  pub all_steps : nodes.all_steps builder.nodes.items + all_steps remaining ≡ all_steps start
+  pub calls : (path : List ℕ) → spots.calls_at path builder.nodes.items + calls_at path remaining ≡ calls_at path start
+  pub steps : (path : List ℕ) → spots.steps_at path builder.nodes.items + steps_at path remaining ≡ steps_at path start
+  pub own : (f : ℕ) → spots.own_steps_of f builder.nodes.items + own_steps_of f remaining ≡ own_steps_of f start
+  pub all_steps : spots.all_steps builder.nodes.items + all_steps remaining ≡ all_steps start
 
 pub none_moved : (nodes : List WalkNode) (builder : PreorderBuilder) → IsPreorderBuilder nodes builder → builder.nodes.items ≡ [] → Conserves nodes nodes builder
 none_moved nodes builder h none = record {
   standing = h;
-  calls = λ path. let e = ap (λ (ss : List CallNode). nodes.calls_at path ss) none in omega (arith, e);
-  steps = λ path. let e = ap (λ (ss : List CallNode). nodes.steps_at path ss) none in omega (arith, e);
-  own = λ f. let e = ap (λ (ss : List CallNode). nodes.own_steps_of f ss) none in omega (arith, e);
-  all_steps = (let e = ap (λ (ss : List CallNode). nodes.all_steps ss) none in omega (arith, e));
+  calls = λ path. let e = ap (λ (ss : List CallNode). spots.calls_at path ss) none in omega (arith, e);
+  steps = λ path. let e = ap (λ (ss : List CallNode). spots.steps_at path ss) none in omega (arith, e);
+  own = λ f. let e = ap (λ (ss : List CallNode). spots.own_steps_of f ss) none in omega (arith, e);
+  all_steps = (let e = ap (λ (ss : List CallNode). spots.all_steps ss) none in omega (arith, e));
 }
 
 pub one_moved : (start before after : List WalkNode) (old new : PreorderBuilder) → Conserves start before old → MovesCounts before old after new

@@ -2,7 +2,7 @@
 use Rattle.std.specs.Prelude.{◌≡◌, ◌+◌, ◌<◌, ◌≤◌, ℕ, List, [], length, take, slice_index_or}
 use Rattle.std.specs.Str.{bytes_eq}
 use Rattle.rv_count_tables.specs.declared_spot.CallNode.{CallNode}
-use Rattle.rv_count_tables.specs.Trees as nodes
+use Rattle.rv_count_tables.specs.Trees as spots
 use Rattle.rv_count_tables.specs.Trees.{ends_with, last_path, address_if, HasCalls, IsTree}
 use Rattle.rv_stacks.specs.declared.preorder.PreorderBuilder.{PreorderBuilder}
 use Rattle.rv_stacks.specs.declared.node.WalkNode.{WalkNode}
@@ -53,10 +53,10 @@ pub record CountsSteps (n : ℕ) (old new : Walk) : Type 0 where
 pub record ArePreorderOf (nodes : List WalkNode) (ss : List CallNode) : Type 0 where
   pub tree : IsTree ss
   pub some : HasCalls ss
-  pub calls : (path : List ℕ) → nodes.calls_at path ss ≡ calls_at path nodes
-  pub steps : (path : List ℕ) → nodes.steps_at path ss ≡ steps_at path nodes
-  pub own : (f : ℕ) → nodes.own_steps_of f ss ≡ own_steps_of f nodes
-  pub all_steps : nodes.all_steps ss ≡ all_steps nodes
+  pub calls : (path : List ℕ) → spots.calls_at path ss ≡ calls_at path nodes
+  pub steps : (path : List ℕ) → spots.steps_at path ss ≡ steps_at path nodes
+  pub own : (f : ℕ) → spots.own_steps_of f ss ≡ own_steps_of f nodes
+  pub all_steps : spots.all_steps ss ≡ all_steps nodes
 
 -- the node `number` is a child of the node `parent` that a run entered, and its function is not below `from`
 pub record IsNextChild (parent from number : ℕ) (nodes : List WalkNode) : Type 0 where
@@ -81,14 +81,14 @@ pub record IsPreorderBuilder (nodes : List WalkNode) (builder : PreorderBuilder)
 -- of the nodes `before`
 pub record MovesCounts (before : List WalkNode) (old : PreorderBuilder) (after : List WalkNode) (new : PreorderBuilder) : Type 0 where
   pub is_preorder : IsPreorderBuilder after new
-  pub calls : (path : List ℕ) → nodes.calls_at path new.nodes.items + calls_at path after
-      ≡ nodes.calls_at path old.nodes.items + calls_at path before
-  pub steps : (path : List ℕ) → nodes.steps_at path new.nodes.items + steps_at path after
-      ≡ nodes.steps_at path old.nodes.items + steps_at path before
-  pub own : (f : ℕ) → nodes.own_steps_of f new.nodes.items + own_steps_of f after ≡ nodes.own_steps_of f old.nodes.items + own_steps_of f before
-  pub all_steps : nodes.all_steps new.nodes.items + all_steps after ≡ nodes.all_steps old.nodes.items + all_steps before
+  pub calls : (path : List ℕ) → spots.calls_at path new.nodes.items + calls_at path after
+      ≡ spots.calls_at path old.nodes.items + calls_at path before
+  pub steps : (path : List ℕ) → spots.steps_at path new.nodes.items + steps_at path after
+      ≡ spots.steps_at path old.nodes.items + steps_at path before
+  pub own : (f : ℕ) → spots.own_steps_of f new.nodes.items + own_steps_of f after ≡ spots.own_steps_of f old.nodes.items + own_steps_of f before
+  pub all_steps : spots.all_steps new.nodes.items + all_steps after ≡ spots.all_steps old.nodes.items + all_steps before
 
 -- no counts were moved: `new` has the preorder nodes of `old`, and its path and its trail agree with the nodes
 pub record ReturnsToParent (nodes : List WalkNode) (old new : PreorderBuilder) : Type 0 where
   pub is_preorder : IsPreorderBuilder nodes new
-  pub nodes : new.nodes.items ≡ old.nodes.items
+  pub spots : new.nodes.items ≡ old.nodes.items
