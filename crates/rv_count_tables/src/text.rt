@@ -231,5 +231,5 @@ fn push_number(text: &mut String, number: u64) -> Result<(), AllocError>
 pub(crate) fn push_last_line(text: &mut String, image_count: usize, run_count: u64) -> Result<(), AllocError>
     ensures { OnOk result (string_bytes text.new ≡ string_bytes text.old ++ last_line image_count run_count) }
 {
-    write!(text, "done {images} {runs}\n")
+    write!(text, "done {image_count} {run_count}\n")
 }

@@ -52,7 +52,7 @@ module _ (nodes : List WalkNode) (old new : PreorderBuilder) (number : ℕ) (nod
   parent = get_or old.trail.items (length old.path.items) 0
 
   abbrev spot : CallNode
-  node = record { depth = depth; function = node.function; calls = node.calls; steps = node.steps }
+  spot = record { depth = depth; function = node.function; calls = node.calls; steps = node.steps }
 
   abbrev emptied : WalkNode
   emptied = record { parent = node.parent; function = node.function; calls = 0; steps = 0 }

@@ -91,4 +91,4 @@ pub record MovesCounts (before : List WalkNode) (old : PreorderBuilder) (after :
 -- no counts were moved: `new` has the preorder nodes of `old`, and its path and its trail agree with the nodes
 pub record ReturnsToParent (nodes : List WalkNode) (old new : PreorderBuilder) : Type 0 where
   pub is_preorder : IsPreorderBuilder nodes new
-  pub spots : new.nodes.items ≡ old.nodes.items
+  pub nodes : new.nodes.items ≡ old.nodes.items

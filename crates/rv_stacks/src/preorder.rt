@@ -18,7 +18,7 @@ pub struct PreorderBuilder {
     pub path: Vec<u32>,
     /// 0, followed by the number of the node for each prefix of the path.
     pub trail: Vec<usize>,
-    pub spots: Vec<CallNode>,
+    pub nodes: Vec<CallNode>,
     /// The lowest function that the next child can have.
     pub from: u64,
 }
@@ -68,7 +68,7 @@ impl PreorderBuilder {
         Ok(PreorderBuilder {
             path: Vec::new(alloc),
             trail,
-            spots: Vec::new(alloc),
+            nodes: Vec::new(alloc),
             from: 0,
         })
     }

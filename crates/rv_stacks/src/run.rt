@@ -25,8 +25,8 @@ pub fn count_with_stacks(
         (state_of machine) both.1) }
 {
     let (counter, stacks) = follow_run(alloc, machine, budget, symbols)?;
-    let spots = stacks.walk.into_preorder(alloc)?;
-    Ok((counter.into_addresses(), spots))
+    let nodes = stacks.walk.into_preorder(alloc)?;
+    Ok((counter.into_addresses(), nodes))
 }
 
 // Runs the machine, and returns its counts and its call tree. A block within one function is executed as a unit, and every other
