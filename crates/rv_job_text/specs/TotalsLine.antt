@@ -97,5 +97,5 @@ hidden_text count = if count == 0 then [] else codes "; " ++ decimal count ++ jo
 
 -- the last line of a run of the jobs at these indices: it has these rows, and `hidden` jobs have none
 abbrev pub run_totals_line : JudgeView → PlanView → List ℕ → List Row → ℕ → List ℕ
-run_totals_line judging plan places rows hidden =
-    line (totals_text judging (failures_in_plan judging plan places rows) rows ++ hidden_text hidden)
+run_totals_line judging plan indices rows hidden =
+    line (totals_text judging (failures_in_plan judging plan indices rows) rows ++ hidden_text hidden)

@@ -30,7 +30,7 @@ pub fn push_totals_line(
 #[derive(Clone, Copy)]
 pub struct RunRows<'a> {
     pub plan: &'a Plan,
-    pub places: &'a [usize],
+    pub indices: &'a [usize],
     pub rows: &'a [Row],
 }
 
@@ -43,11 +43,11 @@ pub fn push_run_totals_line(
     hidden: usize,
 ) -> Result<(), AllocError>
     requires few { length run.now.rows.now < 2 ^ 32 }
-    requires placed { length run.now.rows.now ≤ length run.now.places.now }
+    requires placed { length run.now.rows.now ≤ length run.now.indices.now }
     ensures { OnOk result (bytes.new.items ≡ bytes.old.items
-        ++ run_totals_line (judge_view judge.now) run.now.plan.now run.now.places.now run.now.rows.now hidden) }
+        ++ run_totals_line (judge_view judge.now) run.now.plan.now run.now.indices.now run.now.rows.now hidden) }
 {
-    let failures = failures_in_plan(*bytes.allocator(), judge, run.plan, run.places, run.rows)?;
+    let failures = failures_in_plan(*bytes.allocator(), judge, run.plan, run.indices, run.rows)?;
     push_totals_text(bytes, judge, failures.as_slice(), run.rows)?;
     push_hidden_count(bytes, hidden)?;
     push_text(bytes, "\n")

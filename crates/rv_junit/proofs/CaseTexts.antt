@@ -68,20 +68,20 @@ nothing_out a text = record { part = []; rest = text; whole = refl; appended = A
 module _ (class : List ℕ) (judging : JudgeView) (line : ℕ → Row → List ℕ) where
   -- what is told of rows where each is told as its case
   abbrev pub told_cases : List ℕ → List Row → List ℕ
-  told_cases places rows = joined_row_texts (case_text class judging line) places rows
+  told_cases indices rows = joined_row_texts (case_text class judging line) indices rows
 
-  cases_told : (places : List ℕ) (rows : List Row) →
-      test_cases_text class judging (row_text_list line places rows) rows ≡ told_cases places rows
+  cases_told : (indices : List ℕ) (rows : List Row) →
+      test_cases_text class judging (row_text_list line indices rows) rows ≡ told_cases indices rows
   unfolding test_cases_text
   cases_told [] rows = refl
-  cases_told (place ∷ places) [] = refl
-  cases_told (place ∷ places) (row ∷ rows) =
-      ap (λ xs. test_case_text class judging row (line place row) ++ xs) (cases_told places rows)
+  cases_told (index ∷ indices) [] = refl
+  cases_told (index ∷ indices) (row ∷ rows) =
+      ap (λ xs. test_case_text class judging row (line index row) ++ xs) (cases_told indices rows)
 
   -- the document, once what stands before the cases is gathered
-  pub junit_begun : (places : List ℕ) (rows : List Row) (text : List ℕ) → text ≡ suite_begin_text class judging rows →
-      junit_text class judging (row_text_list line places rows) rows ≡ text ++ told_cases places rows ++ suite_end_text
+  pub junit_begun : (indices : List ℕ) (rows : List Row) (text : List ℕ) → text ≡ suite_begin_text class judging rows →
+      junit_text class judging (row_text_list line indices rows) rows ≡ text ++ told_cases indices rows ++ suite_end_text
   unfolding junit_text
-  junit_begun places rows text is =
-      ap (λ xs. suite_begin_text class judging rows ++ xs ++ suite_end_text) (cases_told places rows)
-      ∙ ap (λ xs. xs ++ told_cases places rows ++ suite_end_text) (sym is)
+  junit_begun indices rows text is =
+      ap (λ xs. suite_begin_text class judging rows ++ xs ++ suite_end_text) (cases_told indices rows)
+      ∙ ap (λ xs. xs ++ told_cases indices rows ++ suite_end_text) (sym is)

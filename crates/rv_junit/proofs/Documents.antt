@@ -33,8 +33,8 @@ bytes_take (suc n) (byte ∷ rest) are = λ i. elim i as (λ k. get_or (byte ∷
   | suc k ↦ bytes_take n rest (λ j. are (suc j)) k
 ]
 
-bytes_up_to : (place : Option ℕ) (text : List ℕ) → IsBytes text → IsBytes (text_up_to place text)
-bytes_up_to (Some place) text are = bytes_take place text are
+bytes_up_to : (index : Option ℕ) (text : List ℕ) → IsBytes text → IsBytes (text_up_to index text)
+bytes_up_to (Some index) text are = bytes_take index text are
 bytes_up_to None text are = are
 
 xml_either : (here : Bool) (xs ys : List ℕ) → IsXmlCharacters xs → IsXmlCharacters ys →

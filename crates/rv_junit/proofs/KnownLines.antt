@@ -50,7 +50,7 @@ one_more judging texts text reported made is are =
     }
 
 lines_at : (line lines : ℕ → Row → List ℕ) (judging : JudgeView) (index : ℕ) (row : Row) (reported : ReportedRow) (text : Option (Vec ℕ Global))
-    → ((place : ℕ) (row : Row) → fails judging row ≡ true → line place row ≡ lines place row) → IsReportAt line index reported
+    → ((index : ℕ) (row : Row) → fails judging row ≡ true → line index row ≡ lines index row) → IsReportAt line index reported
     → row ≡ reported.row → IfSome text (λ text. IsFailureText judging reported text.items)
     → IfSome text (λ text. text.items ≡ lines index row)
 lines_at line lines judging index row reported None same report is kept = tt
@@ -60,35 +60,35 @@ lines_at line lines judging index row reported (Some text) same report is kept =
 
 -- the texts of failures that were kept are the lines of their rows
 lines_known : (has_seen : List ReportedRow → Type 0) (line lines : ℕ → Row → List ℕ) (judging : JudgeView) (is_closed : Bool)
-    (texts : List (Option (Vec ℕ Global))) (places : List ℕ) (rows : List Row) (seen : HasSeenRows has_seen line places rows)
-    → ((place : ℕ) (row : Row) → fails judging row ≡ true → line place row ≡ lines place row)
-    → AreFailureTexts judging is_closed texts seen.reported → AreLinesOf lines places rows texts
-lines_known has_seen line lines judging is_closed texts places rows seen same are = λ k any lt.
+    (texts : List (Option (Vec ℕ Global))) (indices : List ℕ) (rows : List Row) (seen : HasSeenRows has_seen line indices rows)
+    → ((index : ℕ) (row : Row) → fails judging row ≡ true → line index row ≡ lines index row)
+    → AreFailureTexts judging is_closed texts seen.reported → AreLinesOf lines indices rows texts
+lines_known has_seen line lines judging is_closed texts indices rows seen same are = λ k any lt.
     let count = length-map seen.reported (λ (r : ReportedRow). r.row) in
     let long = ap length seen.rows_are in
     let low : k < length seen.reported = omega (arith, lt, count, long) in
     of seen.reported refl k any low lt
   where
     of : (reported : List ReportedRow) → reported ≡ seen.reported → (k : ℕ) (any : Row) → k < length seen.reported → k < length rows
-        → IfSome (get_or texts k None) (λ text. text.items ≡ lines (get_or places k 0) (get_or rows k any))
+        → IfSome (get_or texts k None) (λ text. text.items ≡ lines (get_or indices k 0) (get_or rows k any))
     of [] is k any low lt = absurd (omega (arith, low, ap length is))
     of (first ∷ reported) is k any low lt =
-        lines_at line lines judging (get_or places k 0) (get_or rows k any) (get_or seen.reported k first) (get_or texts k None) same
+        lines_at line lines judging (get_or indices k 0) (get_or rows k any) (get_or seen.reported k first) (get_or texts k None) same
         (seen.each k first low)
         (ap (λ (all : List Row). get_or all k any) (sym seen.rows_are) ∙ get_or-map (λ (r : ReportedRow). r.row) seen.reported k first any low)
         (are.each k first low)
 
 -- nothing is known
-none_known : (lines : ℕ → Row → List ℕ) (places : List ℕ) (rows : List Row) → AreLinesOf lines places rows []
-none_known lines places rows = λ k any lt. tt
+none_known : (lines : ℕ → Row → List ℕ) (indices : List ℕ) (rows : List Row) → AreLinesOf lines indices rows []
+none_known lines indices rows = λ k any lt. tt
 
 -- the kept texts are the lines of their rows, if texts are kept only while the two reporters report failures alike
 pub kept_known : (has_seen : List ReportedRow → Type 0) (line lines : ℕ → Row → List ℕ) (judging : JudgeView) (is_closed keeps : Bool)
-    (texts : List (Option (Vec ℕ Global))) (places : List ℕ) (rows : List Row) (seen : HasSeenRows has_seen line places rows)
+    (texts : List (Option (Vec ℕ Global))) (indices : List ℕ) (rows : List Row) (seen : HasSeenRows has_seen line indices rows)
     → (is_closed ≡ false → keeps ≡ true)
-    → (keeps ≡ true → (place : ℕ) (row : Row) → fails judging row ≡ true → line place row ≡ lines place row)
-    → AreFailureTexts judging is_closed texts seen.reported → AreLinesOf lines places rows texts
-kept_known has_seen line lines judging true keeps texts places rows seen needed same are =
-    subst (AreLinesOf lines places rows) (sym (are.none refl)) (none_known lines places rows)
-kept_known has_seen line lines judging false keeps texts places rows seen needed same are =
-    lines_known has_seen line lines judging false texts places rows seen (same (needed refl)) are
+    → (keeps ≡ true → (index : ℕ) (row : Row) → fails judging row ≡ true → line index row ≡ lines index row)
+    → AreFailureTexts judging is_closed texts seen.reported → AreLinesOf lines indices rows texts
+kept_known has_seen line lines judging true keeps texts indices rows seen needed same are =
+    subst (AreLinesOf lines indices rows) (sym (are.none refl)) (none_known lines indices rows)
+kept_known has_seen line lines judging false keeps texts indices rows seen needed same are =
+    lines_known has_seen line lines judging false texts indices rows seen (same (needed refl)) are

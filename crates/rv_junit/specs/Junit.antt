@@ -19,7 +19,7 @@ use Rattle.rv_junit.specs.XmlPieces.{attribute, number_attribute}
 
 -- the text before this offset, or the whole text if there is no offset
 abbrev pub text_up_to : Option ℕ → List ℕ → List ℕ
-text_up_to (Some place) text = take place text
+text_up_to (Some offset) text = take offset text
 text_up_to None text = text
 
 -- the first line of a text, without its line feed

@@ -23,20 +23,20 @@ const FLUSH_SIZE: usize = 32_768;
 #[derive(Drop)]
 pub struct Cases<'a, T: RowReporter> {
     pub reporter: &'a T,
-    pub places: &'a [usize],
+    pub indices: &'a [usize],
     pub rows: &'a [Row],
     /// For each row, the lines about it if they are known, so that the reporter does not make them again. May be shorter than `rows`.
     pub texts: &'a [Option<Vec<u8>>],
-    pub ghost placed: { length rows.now ≤ length places.now },
+    pub ghost placed: { length rows.now ≤ length indices.now },
 }
 
 impl<T: RowReporter> Cases<'_, T> {
     // Returns the lines about the row with this number, counted from 0, or `None` if they are not known.
     fn known_lines(&self, number: usize) -> Option<&[u8]>
         requires number { number < length self.now.rows.now }
-        requires known { AreLinesOf (T.line self.now.reporter.now) self.now.places.now self.now.rows.now self.now.texts.now }
+        requires known { AreLinesOf (T.line self.now.reporter.now) self.now.indices.now self.now.rows.now self.now.texts.now }
         ensures { IfSome result (λ lines. (any : ARow) → lines.now ≡ T.line self.now.reporter.now
-            (slice_index_or self.now.places.now number 0) (slice_index_or self.now.rows.now number any)) }
+            (slice_index_or self.now.indices.now number 0) (slice_index_or self.now.rows.now number any)) }
     {
         if number >= self.texts.len() {
             return None;
@@ -56,10 +56,10 @@ impl<T: RowReporter> Cases<'_, T> {
         text: &mut Vec<u8>,
     ) -> Result<(), AllocError>
         requires number { number < length self.now.rows.now }
-        requires known { AreLinesOf (T.line self.now.reporter.now) self.now.places.now self.now.rows.now self.now.texts.now }
+        requires known { AreLinesOf (T.line self.now.reporter.now) self.now.indices.now self.now.rows.now self.now.texts.now }
         ensures { OnOk result ((any : ARow) → text.new.items ≡ text.old.items
             ++ case_text suite.now.name.now (judge_view suite.now.judge) (T.line self.now.reporter.now)
-            (slice_index_or self.now.places.now number 0) (slice_index_or self.now.rows.now number any)) }
+            (slice_index_or self.now.indices.now number 0) (slice_index_or self.now.rows.now number any)) }
     {
         let row = &self.rows[number];
         let mut case = String::new(alloc);
@@ -68,7 +68,7 @@ impl<T: RowReporter> Cases<'_, T> {
             None => {
                 let mut lines = Vec::new(alloc);
                 self.reporter
-                    .push_row_text(alloc, self.places[number], row, &mut lines)?;
+                    .push_row_text(alloc, self.indices[number], row, &mut lines)?;
                 push_test_case(alloc, &mut case, suite, row, lines.as_slice())?;
             }
         }
@@ -85,14 +85,14 @@ pub(crate) fn write_cases<T: RowReporter, W: Sink>(
     cases: &Cases<'_, T>,
     out: &mut W,
 ) -> Result<(), WriteError>
-    requires known { AreLinesOf (T.line cases.now.reporter.now) cases.now.places.now cases.now.rows.now cases.now.texts.now }
+    requires known { AreLinesOf (T.line cases.now.reporter.now) cases.now.indices.now cases.now.rows.now cases.now.texts.now }
     ensures partly_written { OnOk result (IsPartlyWritten (W.accepted out.old) (W.accepted out.new) text.new.items
         (text.old.items ++ joined_row_texts (case_text suite.now.name.now (judge_view suite.now.judge) (T.line cases.now.reporter.now))
-        cases.now.places.now cases.now.rows.now)) }
+        cases.now.indices.now cases.now.rows.now)) }
     ensures counted { OnOk result (W.failure_count out.new ≡ W.failure_count out.old) }
     ensures part { OnErr result (AppendsPrefix (W.accepted out.old) (W.accepted out.new)
         (text.old.items ++ joined_row_texts (case_text suite.now.name.now (judge_view suite.now.judge) (T.line cases.now.reporter.now))
-        cases.now.places.now cases.now.rows.now)) }
+        cases.now.indices.now cases.now.rows.now)) }
     ensures failed { IfErr result (λ error. error ≡ WriteError.Failed
         → W.failure_count out.new ≡ one_more (W.failure_count out.old)) }
     // If an allocation failed, no write did.

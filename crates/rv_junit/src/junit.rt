@@ -232,7 +232,7 @@ fn first_line(text: &[u8]) -> &[u8]
     ensures { result.now ≡ first_line text.now }
 {
     match line_feed_offset(text) {
-        Some(place) if place < text.len() => &text[..place],
+        Some(offset) if offset < text.len() => &text[..offset],
         _ => text,
     }
 }

@@ -25,7 +25,7 @@ any_at P xs i d below is = (i, get_or xs i d, below, get_or_default xs i (get_or
 
 -- a golden file of some job stands at the place
 abbrev pub IsGoldenPlace : Option (List ℕ) → List Job → List ℕ → Type 0
-IsGoldenPlace root jobs place = (path : List ℕ) × (IsGoldenPath jobs path × (place ≡ resolved_path root path))
+IsGoldenPlace root jobs index = (path : List ℕ) × (IsGoldenPath jobs path × (index ≡ resolved_path root path))
 
 abbrev HasGoldenPlace : Option (List ℕ) → List Job → GoldenFile → Type 0
 HasGoldenPlace root jobs file = IsGoldenPlace root jobs file.resolved_path

@@ -255,22 +255,22 @@ module _ (args : AcceptArgs) (before after : FileContents) (bytes : List ℕ) (j
           let agrees : file.target.outcome ≡ outcome.Agreed text = sym fate_is ∙ agreed_fate text (outcome_of_golden_file path golden_texts)
           (is_protected told.list file) (rw fate_is kept) unclaimed_is agreed_is in
           let there = golden_files_there told before after store list_stood files_stood alike k d below text agrees kept in
-          rw same (subst (λ place. after place ≡ Some text) of.0 there)
+          rw same (subst (λ index. after index ≡ Some text) of.0 there)
 
-  module _ (place : ℕ) (job : Job) (run : JobRun) (at : slice_get jobs place ≡ Some job)
-      (ran : slice_get told.runs.now place ≡ Some (Some run)) (accepted : is_accepted_run run ≡ true)
+  module _ (index : ℕ) (job : Job) (run : JobRun) (at : slice_get jobs index ≡ Some job)
+      (ran : slice_get told.runs.now index ≡ Some (Some run)) (accepted : is_accepted_run run ≡ true)
       (left : All (λ (file : GoldenFile). names_golden_file file.target.path job ≡ true → is_skipped told.list file ≡ false)
       told.files.now) where
     console_there : (path : List ℕ) → console_path job.expect_console ≡ Some path
         → after (resolved_path root path) ≡ Some run.row.console
     console_there path named = golden_text job path run.row.console
         (or_left (is_same_path path (console_path job.expect_console)) _ (rw named (same_bytes path)))
-        (console_is_target place jobs told.runs.now job run path at ran accepted named)
+        (console_is_target index jobs told.runs.now job run path at ran accepted named)
         (λ none. true_or_false (bytes_eq path path) (same_bytes path)
-        (console_claim_among (λ (claim : GoldenText). is_for_file path claim ≡ false) place jobs told.runs.now job run path
+        (console_claim_among (λ (claim : GoldenText). is_for_file path claim ≡ false) index jobs told.runs.now job run path
         (unclaimed path golden_texts none) at ran accepted named))
         (λ other is. some_same other run.row.console (sym
-        (console_claim_among (λ (claim : GoldenText). is_for_file path claim ≡ true → claim.text ≡ Some other) place jobs told.runs.now
+        (console_claim_among (λ (claim : GoldenText). is_for_file path claim ≡ true → claim.text ≡ Some other) index jobs told.runs.now
         job run path (agreed path other golden_texts is) at ran accepted named (same_bytes path))))
         left
 
@@ -278,12 +278,12 @@ module _ (args : AcceptArgs) (before after : FileContents) (bytes : List ℕ) (j
         → after (resolved_path root path) ≡ Some (lines_of_signature run.row.signature)
     signature_there path named = golden_text job path (lines_of_signature run.row.signature)
         (or_right (is_same_path path (console_path job.expect_console)) _ (rw named (same_bytes path)))
-        (signature_is_target place jobs told.runs.now job run path at ran accepted named)
+        (signature_is_target index jobs told.runs.now job run path at ran accepted named)
         (λ none. true_or_false (bytes_eq path path) (same_bytes path)
-        (signature_claim_among (λ (claim : GoldenText). is_for_file path claim ≡ false) place jobs told.runs.now job run path
+        (signature_claim_among (λ (claim : GoldenText). is_for_file path claim ≡ false) index jobs told.runs.now job run path
         (unclaimed path golden_texts none) at ran accepted named))
         (λ other is. some_same other (lines_of_signature run.row.signature) (sym
-        (signature_claim_among (λ (claim : GoldenText). is_for_file path claim ≡ true → claim.text ≡ Some other) place jobs
+        (signature_claim_among (λ (claim : GoldenText). is_for_file path claim ≡ true → claim.text ≡ Some other) index jobs
         told.runs.now job run path (agreed path other golden_texts is) at ran accepted named (same_bytes path))))
         left
 
@@ -319,14 +319,14 @@ module _ (args : AcceptArgs) (before after : FileContents) (bytes : List ℕ) (j
 -- ---- the whole
 
 -- the job that the new list has at the place
-new_job : (jobs others : List Job) (runs : List (Option JobRun)) (place : ℕ) (job other : Job) (run : JobRun)
-    → others ≡ intended_jobs jobs runs → slice_get jobs place ≡ Some job → slice_get runs place ≡ Some (Some run)
-    → is_accepted_run run ≡ true → slice_get others place ≡ Some other
+new_job : (jobs others : List Job) (runs : List (Option JobRun)) (index : ℕ) (job other : Job) (run : JobRun)
+    → others ≡ intended_jobs jobs runs → slice_get jobs index ≡ Some job → slice_get runs index ≡ Some (Some run)
+    → is_accepted_run run ≡ true → slice_get others index ≡ Some other
     → other ≡ accepted_job job run.row.ending run.row.console
-new_job jobs others runs place job other run are at ran accepted stands =
-    let meant = meant_at jobs runs place job (Some run) at ran in
+new_job jobs others runs index job other run are at ran accepted stands =
+    let meant = meant_at jobs runs index job (Some run) at ran in
     some_same other (accepted_job job run.row.ending run.row.console)
-    (sym stands ∙ ap (λ jobs. slice_get jobs place) are ∙ meant
+    (sym stands ∙ ap (λ jobs. slice_get jobs index) are ∙ meant
     ∙ ap (λ row. Some (intended_job job row)) (accepted_row_of run accepted))
 
 -- what was read of the accepted job's files was read of the job's
@@ -340,39 +340,39 @@ read_of_job answers job row files = record {
 }
 
 pub passes_after : (args : AcceptArgs) (before after : FileContents) (bytes : List ℕ) (jobs : List Job)
-    (chosen : List Bool) (status : ℕ) (from to : CommandOutputs) (place : ℕ) (job : Job) (row : Row)
+    (chosen : List Bool) (status : ℕ) (from to : CommandOutputs) (index : ℕ) (job : Job) (row : Row)
     → IsTextAt (Some before) args.run.list.now bytes → job_list_of bytes ≡ Ok jobs
     → (accepted : IsAcceptOfSelected (Some before) args bytes jobs chosen status from to)
     → (store : IsStoreAfter (written_files accepted.told) before after)
-    → HaveOneTextPerFile store.leads accepted.told.files.now → IsFullyAccepted accepted.told place job
-    → IsRowOfRun after args.run place row → is_pass_or_none row.verdict ≡ true
-passes_after args before after bytes jobs chosen status from to place job row read listed accepted store alike whole later =
+    → HaveOneTextPerFile store.leads accepted.told.files.now → IsFullyAccepted accepted.told index job
+    → IsRowOfRun after args.run index row → is_pass_or_none row.verdict ≡ true
+passes_after args before after bytes jobs chosen status from to index job row read listed accepted store alike whole later =
     let told = accepted.told in
     let outcome = accepted.outcome in
     let judged = accepted.judged in
     let earlier = accepted.ran.are.plan in
-    let at : slice_get jobs place ≡ Some job = rw outcome.listed at whole.at_index in
-    let run : AcceptedRun (slice_get told.runs.now place) = accepted_run (slice_get told.runs.now place) whole.accepted in
-    let first = accepted_from_the_first judged told.runs.now place run.of outcome.runs run.is run.accepted in
-    let of : IsAccepted (acceptance_of args.ends) job accepted.judging.candidates accepted.rows place run.of =
-    accepted_at (acceptance_of args.ends) jobs accepted.judging.candidates accepted.rows place job run.of at
+    let at : slice_get jobs index ≡ Some job = rw outcome.listed at whole.at_index in
+    let run : AcceptedRun (slice_get told.runs.now index) = accepted_run (slice_get told.runs.now index) whole.accepted in
+    let first = accepted_from_the_first judged told.runs.now index run.of outcome.runs run.is run.accepted in
+    let of : IsAccepted (acceptance_of args.ends) job accepted.judging.candidates accepted.rows index run.of =
+    accepted_at (acceptance_of args.ends) jobs accepted.judging.candidates accepted.rows index job run.of at
     (rw accepted.judging.are at first) run.accepted in
     let standing_is = stands_at (Some before) (optional_text args.run.root) accepted.rows jobs chosen
-    accepted.judging.candidates place job run.of.row of.candidate accepted.judging.stand at of.row of.stands in
-    let bare : slice_index_or earlier.jobs place (single_job [] 0 []) ≡ without_expectations job =
-    ap (λ jobs. slice_index_or jobs place (single_job [] 0 [])) accepted.ran.are.planned.listed
-    ∙ get_or_from_slice_get (map without_expectations jobs) place (without_expectations job) (single_job [] 0 [])
-    (slice_get-map without_expectations jobs place ∙ ap (option_map without_expectations) at) in
+    accepted.judging.candidates index job run.of.row of.candidate accepted.judging.stand at of.row of.stands in
+    let bare : slice_index_or earlier.jobs index (single_job [] 0 []) ≡ without_expectations job =
+    ap (λ jobs. slice_index_or jobs index (single_job [] 0 [])) accepted.ran.are.planned.listed
+    ∙ get_or_from_slice_get (map without_expectations jobs) index (without_expectations job) (single_job [] 0 [])
+    (slice_get-map without_expectations jobs index ∙ ap (option_map without_expectations) at) in
     let row_is : run.of.row ≡ row_of earlier (without_expectations job) =
-    row_at_place earlier (jobs_to_run jobs chosen) place run.of.row (rw accepted.ran.are.are at of.row)
+    row_at_place earlier (jobs_to_run jobs chosen) index run.of.row (rw accepted.ran.are.are at of.row)
     ∙ ap (row_of earlier) bare in
     let jobs_are = list_reads args before after bytes jobs judged told outcome read listed store alike later.bytes later.jobs
     later.read later.listed in
     let job_is : later.job ≡ accepted_job job run.of.row.ending run.of.row.console =
-    new_job jobs later.jobs told.runs.now place job later.job run.of jobs_are at run.is run.accepted later.at_index in
+    new_job jobs later.jobs told.runs.now index job later.job run.of jobs_are at run.is run.accepted later.at_index in
     let files = read_of_job later.plan.answers job run.of.row
     (subst (AreFilesRead later.plan.answers) job_is later.files) in
-    let finds_them = finds args before after bytes jobs judged told outcome read listed store alike place job run.of at run.is
+    let finds_them = finds args before after bytes jobs judged told outcome read listed store alike index job run.of at run.is
     run.accepted whole.files earlier later.plan.answers accepted.ran.are.planned.kept later.planned.kept files row_is in
     rw later.is (rw job_is (passes_over_files (acceptance_of args.ends) of.candidate.verdict job earlier later.plan run.of.row
     row_is of.kept (λ passes. ended_well _ (sym standing_is.is ∙ passes)) whole.alone finds_them))

@@ -68,17 +68,17 @@ committed_if_reported (Some earlier) middle after first second placed more =
     (rw placed at more) ∙ ap Some (append_assoc earlier first second)
 
 -- of files in their order, those that the first so many make, and the next one
-pub one_more_made : {X : Type 0} (made : X → List CommittedFile) (files : List X) (place : ℕ) (file : X)
-    → place < length files → get_or files place file ≡ file
-    → flat_map made (take (place + 1) files) ≡ flat_map made (take place files) ++ made file
-one_more_made made files place file within is =
-    rw (add-one place, take-suc files place file within, is, flat_map-append made (take place files) (file ∷ []))
-    (ap (λ last. flat_map made (take place files) ++ last) (append-nil (made file)))
+pub one_more_made : {X : Type 0} (made : X → List CommittedFile) (files : List X) (index : ℕ) (file : X)
+    → index < length files → get_or files index file ≡ file
+    → flat_map made (take (index + 1) files) ≡ flat_map made (take index files) ++ made file
+one_more_made made files index file within is =
+    rw (add-one index, take-suc files index file within, is, flat_map-append made (take index files) (file ∷ []))
+    (ap (λ last. flat_map made (take index files) ++ last) (append-nil (made file)))
 
-pub placed_one_more : {X : Type 0} (made : X → List CommittedFile) (files : List X) (place : ℕ) (file : X)
-    (before middle after : Option (List CommittedFile)) → place < length files → get_or files place file ≡ file
-    → AreFilesCommitted before middle (Some (flat_map made (take place files))) → AreFilesCommitted middle after (Some (made file))
-    → AreFilesCommitted before after (Some (flat_map made (take (place + 1) files)))
-placed_one_more made files place file before middle after within is placed more =
-    subst (λ all. AreFilesCommitted before after (Some all)) (sym (one_more_made made files place file within is))
-    (committed_if_reported before middle after (flat_map made (take place files)) (made file) placed more)
+pub placed_one_more : {X : Type 0} (made : X → List CommittedFile) (files : List X) (index : ℕ) (file : X)
+    (before middle after : Option (List CommittedFile)) → index < length files → get_or files index file ≡ file
+    → AreFilesCommitted before middle (Some (flat_map made (take index files))) → AreFilesCommitted middle after (Some (made file))
+    → AreFilesCommitted before after (Some (flat_map made (take (index + 1) files)))
+placed_one_more made files index file before middle after within is placed more =
+    subst (λ all. AreFilesCommitted before after (Some all)) (sym (one_more_made made files index file within is))
+    (committed_if_reported before middle after (flat_map made (take index files)) (made file) placed more)

@@ -42,16 +42,16 @@ module _ {P W : Type 0} (pending_path : P → List ℕ) (taken : W → Option (L
 -- ---- counts
 
 -- a table went to the path that was given
-pub counts_put : (stacks : Bool) (path : Option (List ℕ)) (plan : PlanView) (places text : List ℕ) (before after : CommandOutputs)
-    → is_some path ≡ true → IsCountsText stacks plan places text → IsWrittenAt path text before after
-    → AreCountsWritten stacks path plan places before after
-counts_put stacks None plan places text before after given is written = absurd cc
-counts_put stacks (Some path) plan places text before after given is written = (text, (is, written))
+pub counts_put : (stacks : Bool) (path : Option (List ℕ)) (plan : PlanView) (indices text : List ℕ) (before after : CommandOutputs)
+    → is_some path ≡ true → IsCountsText stacks plan indices text → IsWrittenAt path text before after
+    → AreCountsWritten stacks path plan indices before after
+counts_put stacks None plan indices text before after given is written = absurd cc
+counts_put stacks (Some path) plan indices text before after given is written = (text, (is, written))
 
 -- none went anywhere where no path was given
-pub no_counts_put : (stacks : Bool) (path : Option (List ℕ)) (plan : PlanView) (places : List ℕ) (before after : CommandOutputs)
-    → path ≡ None → IsWrittenAt None [] before after → AreCountsWritten stacks path plan places before after
-no_counts_put stacks path plan places before after none written = rw none written
+pub no_counts_put : (stacks : Bool) (path : Option (List ℕ)) (plan : PlanView) (indices : List ℕ) (before after : CommandOutputs)
+    → path ≡ None → IsWrittenAt None [] before after → AreCountsWritten stacks path plan indices before after
+no_counts_put stacks path plan indices before after none written = rw none written
 
 -- ---- the rows that were put before the counts
 
@@ -65,27 +65,27 @@ placed_behind_same : (earlier before after files : Option (List CommittedFile)) 
 placed_behind_same None before after files same are = rw same tt
 placed_behind_same (Some placed) before after files same are = are
 
-pub run_put_where_told : (args : RunArgs) (reporter : RowReporter) (places : List ℕ) (shard : Option Shard)
-    (old : Option (List Row)) (rows : List Row) (before after : CommandOutputs) → IsRunWritten args reporter places shard old rows before after
-    → IsRunWritten args reporter places shard old rows before (with_committed_if_reported before.placed after)
-run_put_where_told args reporter places shard old rows before after put = record {
+pub run_put_where_told : (args : RunArgs) (reporter : RowReporter) (indices : List ℕ) (shard : Option Shard)
+    (old : Option (List Row)) (rows : List Row) (before after : CommandOutputs) → IsRunWritten args reporter indices shard old rows before after
+    → IsRunWritten args reporter indices shard old rows before (with_committed_if_reported before.placed after)
+run_put_where_told args reporter indices shard old rows before after put = record {
   middle = put.middle;
   seen = put.seen;
   out = put.out;
   quiet = put.quiet;
   placed = placed_behind_same before.placed put.middle.placed after.placed
-      (Some (junit_file args reporter places rows ++ report_file args reporter places shard old rows))
+      (Some (junit_file args reporter indices rows ++ report_file args reporter indices shard old rows))
       (placed_of_shown _ _ before put.middle put.seen) put.placed;
 }
 
 -- ---- what is left
 
 -- where the rows' files did not all go out
-pub part_of_rows : (args : RunArgs) (reporter : RowReporter) (places : List ℕ) (shard : Option Shard)
+pub part_of_rows : (args : RunArgs) (reporter : RowReporter) (indices : List ℕ) (shard : Option Shard)
     (old : Option (List Row)) (rows : List Row) (before after : Option (List CommittedFile))
-    → AreFilesPartlyCommitted before after (Some (junit_file args reporter places rows))
-    → (after ≡ before) ⊎ AreRunFilesPartlyCommitted args reporter places shard old rows before after
-part_of_rows args reporter places shard old rows before after = ⊎_elim inl (λ placed. inr (inl placed))
+    → AreFilesPartlyCommitted before after (Some (junit_file args reporter indices rows))
+    → (after ≡ before) ⊎ AreRunFilesPartlyCommitted args reporter indices shard old rows before after
+part_of_rows args reporter indices shard old rows before after = ⊎_elim inl (λ placed. inr (inl placed))
 
 given_text : (args : RunArgs) → is_some (optional_text args.counts) ≡ true → is_some args.counts ≡ true
 given_text args = of args.counts
@@ -95,12 +95,12 @@ given_text args = of args.counts
     of (Some path) given = refl
 
 -- where the counts did not
-pub part_of_counts : (args : RunArgs) (reporter : RowReporter) (places : List ℕ) (shard : Option Shard)
+pub part_of_counts : (args : RunArgs) (reporter : RowReporter) (indices : List ℕ) (shard : Option Shard)
     (old : Option (List Row)) (rows : List Row) (before after placed : Option (List CommittedFile))
     → is_some (optional_text args.counts) ≡ true
-    → AreFilesCommitted before after (Some (junit_file args reporter places rows ++ report_file args reporter places shard old rows))
-    → placed ≡ after → (placed ≡ before) ⊎ AreRunFilesPartlyCommitted args reporter places shard old rows before placed
-part_of_counts args reporter places shard old rows before after placed given files same =
+    → AreFilesCommitted before after (Some (junit_file args reporter indices rows ++ report_file args reporter indices shard old rows))
+    → placed ≡ after → (placed ≡ before) ⊎ AreRunFilesPartlyCommitted args reporter indices shard old rows before placed
+part_of_counts args reporter indices shard old rows before after placed given files same =
     inr (inr (given_text args given, rw same files))
 
 -- ---- why

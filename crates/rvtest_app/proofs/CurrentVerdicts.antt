@@ -88,15 +88,15 @@ ended_well sides passes =
 -- ---- candidates, one more at a time
 
 -- what stands in a list with one more at its end
-last_or_before : {X : Type 0} (xs : List X) (last x : X) (place : ℕ) → slice_get (xs ++ last ∷ []) place ≡ Some x
-    → (slice_get xs place ≡ Some x) ⊎ ((place ≡ length xs) × (last ≡ x))
+last_or_before : {X : Type 0} (xs : List X) (last x : X) (index : ℕ) → slice_get (xs ++ last ∷ []) index ≡ Some x
+    → (slice_get xs index ≡ Some x) ⊎ ((index ≡ length xs) × (last ≡ x))
 last_or_before [] last x zero is = inr (refl, cc)
-last_or_before [] last x (suc place) is = cc
+last_or_before [] last x (suc index) is = cc
 last_or_before (y ∷ xs) last x zero is = inl is
-last_or_before (y ∷ xs) last x (suc place) is = go (last_or_before xs last x place is)
+last_or_before (y ∷ xs) last x (suc index) is = go (last_or_before xs last x index is)
   where
-    go : (slice_get xs place ≡ Some x) ⊎ ((place ≡ length xs) × (last ≡ x))
-        → (slice_get xs place ≡ Some x) ⊎ ((suc place ≡ suc (length xs)) × (last ≡ x))
+    go : (slice_get xs index ≡ Some x) ⊎ ((index ≡ length xs) × (last ≡ x))
+        → (slice_get xs index ≡ Some x) ⊎ ((suc index ≡ suc (length xs)) × (last ≡ x))
     go (inl before) = inl before
     go (inr at) = inr (ap suc at.0, at.1)
 
@@ -112,22 +112,22 @@ pub record StandSoFar (contents : Option FileContents) (root : Option (List ℕ)
     (chosen : List Bool) (count : ℕ) (candidates : List Candidate) : Type 0 where
   pub counted : length candidates ≡ count
   pub within : count ≤ length jobs
-  pub each : (place : ℕ) (job : Job) (candidate : Candidate) → slice_get jobs place ≡ Some job
-      → slice_get candidates place ≡ Some candidate → IsCandidateAt contents root rows chosen place job candidate
+  pub each : (index : ℕ) (job : Job) (candidate : Candidate) → slice_get jobs index ≡ Some job
+      → slice_get candidates index ≡ Some candidate → IsCandidateAt contents root rows chosen index job candidate
 
 pub one_more_stands : (contents : Option FileContents) (root : Option (List ℕ)) (rows : List (Option Row)) (jobs : List Job)
-    (chosen : List Bool) (count place : ℕ) (before after : List Candidate) (job : Job) (candidate : Candidate)
+    (chosen : List Bool) (count index : ℕ) (before after : List Candidate) (job : Job) (candidate : Candidate)
     → StandSoFar contents root rows jobs chosen count before → count < length jobs → job ≡ get_or jobs count job
-    → place ≡ length before → IsCandidateAt contents root rows chosen place job candidate → after ≡ before ++ candidate ∷ []
+    → index ≡ length before → IsCandidateAt contents root rows chosen index job candidate → after ≡ before ++ candidate ∷ []
     → StandSoFar contents root rows jobs chosen (count + 1) after
-one_more_stands contents root rows jobs chosen count place before after job candidate so below is at one added = record {
+one_more_stands contents root rows jobs chosen count index before after job candidate so below is at one added = record {
   counted = rw added (one_more_count before candidate ∙ ap (λ n. n + 1) so.counted);
   within = omega (arith, below);
   each = λ k other some there stands.
       go k other some there (last_or_before before candidate some k (rw added at stands));
 }
   where
-    here : slice_get jobs place ≡ Some job
+    here : slice_get jobs index ≡ Some job
     here = rw (at, so.counted) (slice_get-get_or jobs count job below ∙ ap Some (sym is))
 
     go : (k : ℕ) (other : Job) (some : Candidate) → slice_get jobs k ≡ Some other
@@ -135,7 +135,7 @@ one_more_stands contents root rows jobs chosen count place before after job cand
         → IsCandidateAt contents root rows chosen k other some
     go k other some there (inl earlier) = so.each k other some there earlier
     go k other some there (inr last) =
-        let same : k ≡ place = last.0 ∙ sym at in
+        let same : k ≡ index = last.0 ∙ sym at in
         let same_job : job ≡ other = some_same job other (sym here ∙ (rw same at there)) in
         rw same (rw (← same_job) (rw (← last.1) one))
 
@@ -153,17 +153,17 @@ pub none_stand : (contents : Option FileContents) (root : Option (List ℕ)) (ro
 none_stand contents root rows jobs chosen = record {
   counted = refl;
   within = omega arith;
-  each = λ place job candidate at stands. no_candidate place candidate stands;
+  each = λ index job candidate at stands. no_candidate index candidate stands;
 }
   where
-    no_candidate : {A : Type 0} (place : ℕ) (candidate : Candidate) → slice_get [] place ≡ Some candidate → A
-    no_candidate place candidate is = cc
+    no_candidate : {A : Type 0} (index : ℕ) (candidate : Candidate) → slice_get [] index ≡ Some candidate → A
+    no_candidate index candidate is = cc
 
 -- how the job stands that came to a row
 pub stands_at : (contents : Option FileContents) (root : Option (List ℕ)) (rows : List (Option Row)) (jobs : List Job)
-    (chosen : List Bool) (candidates : List Candidate) (place : ℕ) (job : Job) (row : Row) (candidate : Candidate)
-    → AreCandidates contents root rows jobs chosen candidates → slice_get jobs place ≡ Some job
-    → slice_get rows place ≡ Some (Some row) → slice_get candidates place ≡ Some candidate
+    (chosen : List Bool) (candidates : List Candidate) (index : ℕ) (job : Job) (row : Row) (candidate : Candidate)
+    → AreCandidates contents root rows jobs chosen candidates → slice_get jobs index ≡ Some job
+    → slice_get rows index ≡ Some (Some row) → slice_get candidates index ≡ Some candidate
     → IsCurrentVerdict contents root rows job row candidate.verdict
-stands_at contents root rows jobs chosen candidates place job row candidate are at ran stands =
-    rw ran at (are.each place job candidate at stands).1
+stands_at contents root rows jobs chosen candidates index job row candidate are at ran stands =
+    rw ran at (are.each index job candidate at stands).1

@@ -35,13 +35,13 @@ lines_of_failed_job reporter row shown failed (Some job) =
     shown failed
 
 -- where a row that failed is shown, its lines are those of all rows that failed
-lines_of_failed_row : (reporter : RowReporter) → shows_row reporter.verbosity true ≡ true → (place : ℕ) (row : Row)
-    → fails reporter.judging row ≡ true → row_lines_at reporter place row ≡ failure_lines reporter place row
+lines_of_failed_row : (reporter : RowReporter) → shows_row reporter.verbosity true ≡ true → (index : ℕ) (row : Row)
+    → fails reporter.judging row ≡ true → row_lines_at reporter index row ≡ failure_lines reporter index row
 unfolding row_lines_at
-lines_of_failed_row reporter shown place row failed =
-    lines_of_failed_job reporter row shown failed (slice_get reporter.plan.jobs place)
+lines_of_failed_row reporter shown index row failed =
+    lines_of_failed_job reporter row shown failed (slice_get reporter.plan.jobs index)
 
 -- and so they are where texts of failures are kept
-pub lines_of_kept : (args : RunArgs) (reporter : RowReporter) → stores_failure_texts args reporter.verbosity ≡ true → (place : ℕ) (row : Row)
-    → fails reporter.judging row ≡ true → row_lines_at reporter place row ≡ failure_lines reporter place row
+pub lines_of_kept : (args : RunArgs) (reporter : RowReporter) → stores_failure_texts args reporter.verbosity ≡ true → (index : ℕ) (row : Row)
+    → fails reporter.judging row ≡ true → row_lines_at reporter index row ≡ failure_lines reporter index row
 lines_of_kept args reporter keeps = lines_of_failed_row reporter (shows_kept args reporter.verbosity keeps)

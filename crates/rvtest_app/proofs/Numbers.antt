@@ -19,9 +19,9 @@ next p ps up some =
     let at : zero + 1 ≡ suc zero = omega arith in
     subst (λ n. p < get_or (p ∷ ps) n 0) at (up zero (omega arith))
 
-rising_behind : (before last : ℕ) (places : List ℕ) → IsStrictlyIncreasing places
-    → All (λ place. place < last) places → (0 < length places → before ≤ get_or places 0 0)
-    → are_increasing before last (job_numbers places) ≡ true
+rising_behind : (before last : ℕ) (indices : List ℕ) → IsStrictlyIncreasing indices
+    → All (λ index. index < last) indices → (0 < length indices → before ≤ get_or indices 0 0)
+    → are_increasing before last (job_numbers indices) ≡ true
 unfolding are_increasing
 rising_behind before last [] up within low = refl
 rising_behind before last (p ∷ ps) up within low =
@@ -33,11 +33,11 @@ rising_behind before last (p ∷ ps) up within low =
     (λ k d inside. within (suc k) d (omega arith)) (λ some. let n = next p ps up some in omega arith)))
 
 -- rising places from one on, below the last, are no more than are left
-pub fit_behind : (place last : ℕ) (places : List ℕ) → IsStrictlyIncreasing places → All (λ place. place < last) places
-    → place ≤ last → (0 < length places → place ≤ get_or places 0 0) → place + length places ≤ last
-fit_behind place last [] up within room low = omega (arith, room)
-fit_behind place last (p ∷ ps) up within room low =
-    let first : place ≤ p = low (omega arith) in
+pub fit_behind : (index last : ℕ) (indices : List ℕ) → IsStrictlyIncreasing indices → All (λ index. index < last) indices
+    → index ≤ last → (0 < length indices → index ≤ get_or indices 0 0) → index + length indices ≤ last
+fit_behind index last [] up within room low = omega (arith, room)
+fit_behind index last (p ∷ ps) up within room low =
+    let first : index ≤ p = low (omega arith) in
     let below : p < last = within 0 0 (omega arith) in
     let rest : (p + 1) + length ps ≤ last = fit_behind (p + 1) last ps (behind p ps up)
     (λ k d inside. within (suc k) d (omega arith)) (omega (arith, below))
@@ -45,7 +45,7 @@ fit_behind place last (p ∷ ps) up within room low =
     omega (arith, first, rest)
 
 -- places of so many jobs that rise have numbers that rise, up to the greatest of a list
-pub rising_numbers : (places : List ℕ) (jobs : ℕ) → jobs ≤ max_jobs → IsStrictlyIncreasing places
-    → All (λ place. place < jobs) places → are_increasing 0 max_jobs (job_numbers places) ≡ true
-rising_numbers places jobs few up within = rising_behind 0 max_jobs places up
+pub rising_numbers : (indices : List ℕ) (jobs : ℕ) → jobs ≤ max_jobs → IsStrictlyIncreasing indices
+    → All (λ index. index < jobs) indices → are_increasing 0 max_jobs (job_numbers indices) ≡ true
+rising_numbers indices jobs few up within = rising_behind 0 max_jobs indices up
     (λ k d inside. let w = within k d inside in omega arith) (λ some. omega arith)

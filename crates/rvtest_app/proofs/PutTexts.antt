@@ -157,19 +157,19 @@ pub part_same : (before after : Option (List CommittedFile)) (path : Option (Lis
 part_same before after path text other are e = rw e at are
 
 -- JUnit's documents of one suite, with lines that are equal
-pub same_junit : (name other : List ℕ) (judging : JudgeView) (line told : ℕ → Row → List ℕ) (places : List ℕ) (rows : List Row)
+pub same_junit : (name other : List ℕ) (judging : JudgeView) (line told : ℕ → Row → List ℕ) (indices : List ℕ) (rows : List Row)
     → name ≡ other → line ≡ told
-    → junit_text name judging (row_text_list line places rows) rows ≡ junit_text other judging (row_text_list told places rows) rows
-same_junit name other judging line told places rows e f = rw (e, f) refl
+    → junit_text name judging (row_text_list line indices rows) rows ≡ junit_text other judging (row_text_list told indices rows) rows
+same_junit name other judging line told indices rows e f = rw (e, f) refl
 
 pub begins_nothing : (contents : Option (List ℕ)) → AppendsPrefix contents contents []
 begins_nothing contents = record { part = []; rest = []; whole = refl; appended = appends_nothing contents }
 
 -- what is told of rows, whatever their places are
-pub texts_of_rows : (line : Row → List ℕ) (places : List ℕ) (rows : List Row) → length places ≡ length rows
-    → row_text_list (λ place row. line row) places rows ≡ map line rows
+pub texts_of_rows : (line : Row → List ℕ) (indices : List ℕ) (rows : List Row) → length indices ≡ length rows
+    → row_text_list (λ index row. line row) indices rows ≡ map line rows
 texts_of_rows line [] [] even = refl
 texts_of_rows line [] (row ∷ rows) even = absurd (omega (arith, even))
-texts_of_rows line (place ∷ places) [] even = refl
-texts_of_rows line (place ∷ places) (row ∷ rows) even =
-    ap (λ texts. line row ∷ texts) (texts_of_rows line places rows (omega (arith, even)))
+texts_of_rows line (index ∷ indices) [] even = refl
+texts_of_rows line (index ∷ indices) (row ∷ rows) even =
+    ap (λ texts. line row ∷ texts) (texts_of_rows line indices rows (omega (arith, even)))

@@ -68,20 +68,20 @@ module _ {P V : Type 0} where
   sink_has_path (outlet.File file) None whole is there = elim is [ ]
 
 -- no texts
-empty_texts : (places : List ℕ) (rows : List Row) → joined_row_texts (report_row_text false) places rows ≡ []
+empty_texts : (indices : List ℕ) (rows : List Row) → joined_row_texts (report_row_text false) indices rows ≡ []
 empty_texts [] rows = refl
-empty_texts (place ∷ places) [] = refl
-empty_texts (place ∷ places) (row ∷ rows) = empty_texts places rows
+empty_texts (index ∷ indices) [] = refl
+empty_texts (index ∷ indices) (row ∷ rows) = empty_texts indices rows
 
 negated : (a b : Bool) → a ≡ not b → b ≡ not a
 negated a true is = rw is refl
 negated a false is = rw is refl
 
 -- the rows that are streamed are the part of the report that is written as they arrive
-streamed : (old : Option (List Row)) (is_streaming : Bool) (places : List ℕ) (rows : List Row) → is_streaming ≡ not (is_some old)
-    → joined_row_texts (report_row_text is_streaming) places rows ≡ streamed_rows old (shown_indices places rows) rows
-streamed (Some old) is_streaming places rows is = rw is (empty_texts places rows)
-streamed None is_streaming places rows is = rw is (sym (ahead_of_shown None places rows))
+streamed : (old : Option (List Row)) (is_streaming : Bool) (indices : List ℕ) (rows : List Row) → is_streaming ≡ not (is_some old)
+    → joined_row_texts (report_row_text is_streaming) indices rows ≡ streamed_rows old (shown_indices indices rows) rows
+streamed (Some old) is_streaming indices rows is = rw is (empty_texts indices rows)
+streamed None is_streaming indices rows is = rw is (sym (ahead_of_shown None indices rows))
 
 -- ---- the outlets of a run
 
@@ -106,19 +106,19 @@ module _ {P V : Type 0} (pending_path : P → List ℕ) (taken : V → Option (L
 
   -- the outlet of the report has received the rows that were streamed, the others nothing
   pub taken_of_run : {G : Type 0} (placed : Option (List CommittedFile)) (args : RunArgs) (old : Option (List Row)) (is_streaming : Bool)
-      (places : List ℕ) (all : List Row) (ran : Result (List Row) G) (shell : Outlet P (Unit {0})) (before after : Option V)
+      (indices : List ℕ) (all : List Row) (ran : Result (List Row) G) (shell : Outlet P (Unit {0})) (before after : Option V)
       (whole_before whole_after junit counts : Outlet P V)
       → HaveRunOutletsReceived pending_path taken failed placed args [] (record { report = whole_before; junit = junit; counts = counts })
       → AreOutletParts shell before whole_before → AreOutletParts shell after whole_after → is_some old ≡ not is_streaming
       → IfOk ran (λ rows. rows ≡ all)
-      → OnOk ran (AreRowsWritten taken failed before after (joined_row_texts (report_row_text is_streaming) places all))
-      → IfOk ran (λ rows. HaveRunOutletsReceived pending_path taken failed placed args (streamed_rows old (shown_indices places rows) rows)
+      → OnOk ran (AreRowsWritten taken failed before after (joined_row_texts (report_row_text is_streaming) indices all))
+      → IfOk ran (λ rows. HaveRunOutletsReceived pending_path taken failed placed args (streamed_rows old (shown_indices indices rows) rows)
       (record { report = whole_after; junit = junit; counts = counts }))
-  taken_of_run placed args old is_streaming places all (Err stop) shell before after wb wa junit counts has was is streams same written = tt
-  taken_of_run placed args old is_streaming places all (Ok rows) shell before after wb wa junit counts has was is streams same written =
-      let text = streamed_rows old (shown_indices places all) all in
+  taken_of_run placed args old is_streaming indices all (Err stop) shell before after wb wa junit counts has was is streams same written = tt
+  taken_of_run placed args old is_streaming indices all (Ok rows) shell before after wb wa junit counts has was is streams same written =
+      let text = streamed_rows old (shown_indices indices all) all in
       let put = written_into taken failed shell before after wb wa text was is
-      (subst (AreRowsWritten taken failed before after) (streamed old is_streaming places all (negated (is_some old) is_streaming streams))
+      (subst (AreRowsWritten taken failed before after) (streamed old is_streaming indices all (negated (is_some old) is_streaming streams))
       written) in
       rw same (record {
         report = taken_more pending_path taken failed placed (run_report_path args) [] text wb wa has.report put
@@ -130,11 +130,11 @@ module _ {P V : Type 0} (pending_path : P → List ℕ) (taken : V → Option (L
       })
 
 -- the lines that are known of the rows of some jobs are known of the rows of the first of them
-pub lines_of_first : (line : ℕ → Row → List ℕ) (places firsts : List ℕ) (rows : List Row) (texts : List (Option (Vec ℕ Global)))
-    → firsts ≡ take (length rows) places → AreLinesOf line places rows texts → AreLinesOf line firsts rows texts
-lines_of_first line places firsts rows texts are lines = λ k any below.
-    subst (λ (place : ℕ). IfSome (slice_index_or texts k None) (λ text. text.items ≡ line place (slice_index_or rows k any)))
-    (sym (ap (λ (all : List ℕ). slice_index_or all k 0) are ∙ get_or-take (length rows) places k 0 below)) (lines k any below)
+pub lines_of_first : (line : ℕ → Row → List ℕ) (indices firsts : List ℕ) (rows : List Row) (texts : List (Option (Vec ℕ Global)))
+    → firsts ≡ take (length rows) indices → AreLinesOf line indices rows texts → AreLinesOf line firsts rows texts
+lines_of_first line indices firsts rows texts are lines = λ k any below.
+    subst (λ (index : ℕ). IfSome (slice_index_or texts k None) (λ text. text.items ≡ line index (slice_index_or rows k any)))
+    (sym (ap (λ (all : List ℕ). slice_index_or all k 0) are ∙ get_or-take (length rows) indices k 0 below)) (lines k any below)
 
 -- ---- a run that is shown
 

@@ -43,15 +43,15 @@ reported_as_requested args failures known plan unread rule verbosity e f h =
     ∙ ap (λ (k : Option KnownJobs). told_by args k plan unread (failure_rule args.lenient) verbosity) f
     ∙ ap (λ (v : Verbosity). told_by args failures plan unread (failure_rule args.lenient) v) h
 
-pub same_rows : (stop_after : Option ℕ) (judging other : JudgeView) (plan : PlanView) (places others : List ℕ) → judging ≡ other
-    → places ≡ others → run_rows stop_after other plan others ≡ run_rows stop_after judging plan places
-same_rows stop_after judging other plan places others e f =
-    sym (ap (λ (j : JudgeView). run_rows stop_after j plan places) e ∙ ap (λ (p : List ℕ). run_rows stop_after other plan p) f)
+pub same_rows : (stop_after : Option ℕ) (judging other : JudgeView) (plan : PlanView) (indices others : List ℕ) → judging ≡ other
+    → indices ≡ others → run_rows stop_after other plan others ≡ run_rows stop_after judging plan indices
+same_rows stop_after judging other plan indices others e f =
+    sym (ap (λ (j : JudgeView). run_rows stop_after j plan indices) e ∙ ap (λ (p : List ℕ). run_rows stop_after other plan p) f)
 
-pub same_part : (args : RunArgs) (reporter other : RowReporter) (places others : List ℕ) (shard : Option Shard)
-    (old : Option (List Row)) (rows : List Row) (before after : Option (List CommittedFile)) → reporter ≡ other → places ≡ others
-    → AreRunFilesPartlyCommitted args reporter places shard old rows before after
+pub same_part : (args : RunArgs) (reporter other : RowReporter) (indices others : List ℕ) (shard : Option Shard)
+    (old : Option (List Row)) (rows : List Row) (before after : Option (List CommittedFile)) → reporter ≡ other → indices ≡ others
+    → AreRunFilesPartlyCommitted args reporter indices shard old rows before after
     → AreRunFilesPartlyCommitted args other others shard old rows before after
-same_part args reporter other places others shard old rows before after e f part =
+same_part args reporter other indices others shard old rows before after e f part =
     subst (λ (p : List ℕ). AreRunFilesPartlyCommitted args other p shard old rows before after) f
-    (subst (λ (t : RowReporter). AreRunFilesPartlyCommitted args t places shard old rows before after) e part)
+    (subst (λ (t : RowReporter). AreRunFilesPartlyCommitted args t indices shard old rows before after) e part)

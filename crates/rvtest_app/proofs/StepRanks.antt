@@ -37,13 +37,13 @@ take-ranked (suc n) row (first ∷ more) =
 abbrev pub rank_in : ℕ → List (Bor Row) → ℕ
 rank_in steps rows = prefix_len (λ row. nat_lt steps row.now.steps) rows
 
-insert_step : (more : Bool) (row first : Bor Row) (rows : List (Bor Row)) (place : ℕ) →
-    inserted_by_steps row.now (map now rows) ≡ map now (insert rows place row) →
+insert_step : (more : Bool) (row first : Bor Row) (rows : List (Bor Row)) (rank : ℕ) →
+    inserted_by_steps row.now (map now rows) ≡ map now (insert rows rank row) →
     cond more (first.now ∷ inserted_by_steps row.now (map now rows)) (row.now ∷ first.now ∷ map now rows)
-    ≡ map now (insert (first ∷ rows) (cond more (1 + place) 0) row)
-insert_step true row first rows place is =
-    let one : 1 + place ≡ suc place = omega arith in rw one (ap (λ rows. first.now ∷ rows) is)
-insert_step false row first rows place is = refl
+    ≡ map now (insert (first ∷ rows) (cond more (1 + rank) 0) row)
+insert_step true row first rows rank is =
+    let one : 1 + rank ≡ suc rank = omega arith in rw one (ap (λ rows. first.now ∷ rows) is)
+insert_step false row first rows rank is = refl
 
 pub ranked-insert : (row : Bor Row) (rows : List (Bor Row)) →
     inserted_by_steps row.now (map now rows) ≡ map now (insert rows (rank_in row.now.steps rows) row)
@@ -52,13 +52,13 @@ ranked-insert row (first ∷ rows) =
     insert_step (nat_lt row.now.steps first.now.steps) row first rows (rank_in row.now.steps rows)
     (ranked-insert row rows)
 
-pub take-insert : {X : Type 0} (n place : ℕ) (x : X) (xs : List X) → place ≤ n →
-    take (suc n) (insert xs place x) ≡ insert (take n xs) place x
+pub take-insert : {X : Type 0} (n rank : ℕ) (x : X) (xs : List X) → rank ≤ n →
+    take (suc n) (insert xs rank x) ≡ insert (take n xs) rank x
 take-insert n zero x xs within = refl
-take-insert zero (suc place) x xs within = absurd (omega arith)
-take-insert (suc n) (suc place) x [] within = refl
-take-insert (suc n) (suc place) x (first ∷ xs) within =
-    ap (λ ys. first ∷ ys) (take-insert n place x xs (omega arith))
+take-insert zero (suc rank) x xs within = absurd (omega arith)
+take-insert (suc n) (suc rank) x [] within = refl
+take-insert (suc n) (suc rank) x (first ∷ xs) within =
+    ap (λ ys. first ∷ ys) (take-insert n rank x xs (omega arith))
 
 pub take-insert_last : {X : Type 0} (n : ℕ) (x : X) (xs : List X) → length xs ≡ n → take n (insert xs n x) ≡ xs
 take-insert_last zero x [] is = refl

@@ -28,21 +28,21 @@ use Rattle.rvtest_app.specs.declared.view.View.TheVariants as view
 
 -- ---- lines
 
-jobs_more : (plan : PlanView) (places : List ℕ) (i place : ℕ) → i < length places → place ≡ get_or places i place
-    → jobs_at plan (take (i + 1) places) ≡ jobs_at plan (take i places) ++ slice_index_or plan.jobs place (single_job [] 0 []) ∷ []
-jobs_more plan places i place lt is =
-    ap (jobs_at plan) (take_more places i place lt)
-    ∙ map-append _ (take i places) (get_or places i place ∷ [])
-    ∙ ap (λ (k : ℕ). jobs_at plan (take i places) ++ jobs_at plan (k ∷ [])) (sym is)
+jobs_more : (plan : PlanView) (indices : List ℕ) (i index : ℕ) → i < length indices → index ≡ get_or indices i index
+    → jobs_at plan (take (i + 1) indices) ≡ jobs_at plan (take i indices) ++ slice_index_or plan.jobs index (single_job [] 0 []) ∷ []
+jobs_more plan indices i index lt is =
+    ap (jobs_at plan) (take_more indices i index lt)
+    ∙ map-append _ (take i indices) (get_or indices i index ∷ [])
+    ∙ ap (λ (k : ℕ). jobs_at plan (take i indices) ++ jobs_at plan (k ∷ [])) (sym is)
 
-pub refused_more : (judging : JudgeView) (plan : PlanView) (unread : List UnreadablePath) (places : List ℕ) (i place : ℕ) → i < length places
-    → place ≡ get_or places i place
-    → refused_lines judging plan unread (take (i + 1) places)
-    ≡ refused_lines judging plan unread (take i places) ++ invalid_line judging plan unread (slice_index_or plan.jobs place (single_job [] 0 []))
-refused_more judging plan unread places i place lt is =
-    ap (λ js. flat_map (invalid_line judging plan unread) js) (jobs_more plan places i place lt is)
-    ∙ flat_map-append (invalid_line judging plan unread) (jobs_at plan (take i places)) (slice_index_or plan.jobs place (single_job [] 0 []) ∷ [])
-    ∙ ap (λ text. refused_lines judging plan unread (take i places) ++ text) (append-nil _)
+pub refused_more : (judging : JudgeView) (plan : PlanView) (unread : List UnreadablePath) (indices : List ℕ) (i index : ℕ) → i < length indices
+    → index ≡ get_or indices i index
+    → refused_lines judging plan unread (take (i + 1) indices)
+    ≡ refused_lines judging plan unread (take i indices) ++ invalid_line judging plan unread (slice_index_or plan.jobs index (single_job [] 0 []))
+refused_more judging plan unread indices i index lt is =
+    ap (λ js. flat_map (invalid_line judging plan unread) js) (jobs_more plan indices i index lt is)
+    ∙ flat_map-append (invalid_line judging plan unread) (jobs_at plan (take i indices)) (slice_index_or plan.jobs index (single_job [] 0 []) ∷ [])
+    ∙ ap (λ text. refused_lines judging plan unread (take i indices) ++ text) (append-nil _)
 
 -- ---- files
 
@@ -73,11 +73,11 @@ all_small contents answers are job = kept_small contents job.image answers are
 
 -- ---- tables
 
-counted_table : (shown : View) (plan : PlanView) (places : List ℕ) (table : CountTable) → IsRunTableForView shown plan places table → IsValidTable table
-counted_table (view.Cover csv) plan places table are = are.table
-counted_table (view.Profile format) plan places table are = are.sum.table
+counted_table : (shown : View) (plan : PlanView) (indices : List ℕ) (table : CountTable) → IsRunTableForView shown plan indices table → IsValidTable table
+counted_table (view.Cover csv) plan indices table are = are.table
+counted_table (view.Profile format) plan indices table are = are.sum.table
 
-pub table_of_view : (contents : Option FileContents) (shown : View) (path : Option (List ℕ)) (plan : PlanView) (places : List ℕ)
-    (table : CountTable) → IsTableForView contents shown path plan places table → IsValidTable table
-table_of_view contents shown None plan places table are = counted_table shown plan places table are
-table_of_view contents shown (Some path) plan places table are = are.at.0
+pub table_of_view : (contents : Option FileContents) (shown : View) (path : Option (List ℕ)) (plan : PlanView) (indices : List ℕ)
+    (table : CountTable) → IsTableForView contents shown path plan indices table → IsValidTable table
+table_of_view contents shown None plan indices table are = counted_table shown plan indices table are
+table_of_view contents shown (Some path) plan indices table are = are.at.0

@@ -45,12 +45,12 @@ HaveOneTextPerFile leads files = All (λ (file : GoldenFile). All (λ (other : G
 
 -- ---- the job
 
--- `job` is the job at index `place` of the list in the summary `told`; it was accepted, none of its golden files was skipped, and it has no
+-- `job` is the job at index `index` of the list in the summary `told`; it was accepted, none of its golden files was skipped, and it has no
 -- `same_as`
-pub record IsFullyAccepted (told : AcceptSummary) (place : ℕ) (job : Job) : Type 0 where
-  -- the job is at index `place` of the list
-  pub at_index : slice_get told.list.jobs.now place ≡ Some job
-  pub accepted : IsTrue (is_accepted_entry (slice_get told.runs.now place))
+pub record IsFullyAccepted (told : AcceptSummary) (index : ℕ) (job : Job) : Type 0 where
+  -- the job is at index `index` of the list
+  pub at_index : slice_get told.list.jobs.now index ≡ Some job
+  pub accepted : IsTrue (is_accepted_entry (slice_get told.runs.now index))
   pub files : All (λ (file : GoldenFile). IsTrue (names_golden_file file.target.path job)
       → IsFalse (is_skipped told.list file)) told.files.now
   pub alone : job.same_as ≡ None
@@ -68,19 +68,19 @@ pub record AreFilesRead (answers : List PathResult) (job : Job) : Type 0 where
   pub signature : IfSome job.expect_signature (λ path. IsTrue (is_read (result_or_unreadable answers path)))
   pub console : IfSome (console_path job.expect_console) (λ path. IsTrue (is_read (result_or_unreadable answers path)))
 
--- `row` is the row of the job at index `place` when the list at the path in `args` runs with the files of `store`, and all files of the
+-- `row` is the row of the job at index `index` when the list at the path in `args` runs with the files of `store`, and all files of the
 -- job were read
-pub record IsRowOfRun (store : FileContents) (args : RunArgs) (place : ℕ) (row : Row) : Type 0 where
+pub record IsRowOfRun (store : FileContents) (args : RunArgs) (index : ℕ) (row : Row) : Type 0 where
   pub bytes : List ℕ
   pub read : IsTextAt (Some store) args.list.now bytes
   pub jobs : List Job
   pub listed : job_list_of bytes ≡ Ok jobs
   pub job : Job
-  -- the job is at index `place`
-  pub at_index : slice_get jobs place ≡ Some job
-  pub places : List ℕ
+  -- the job is at index `index`
+  pub at_index : slice_get jobs index ≡ Some job
+  pub indices : List ℕ
   pub plan : PlanView
   pub unread : List UnreadablePath
-  pub planned : IsPlanFor (contents_below (optional_text args.root) (Some store)) jobs places plan unread
+  pub planned : IsPlanFor (contents_below (optional_text args.root) (Some store)) jobs indices plan unread
   pub files : AreFilesRead plan.answers job
   pub is : row ≡ row_of plan job

@@ -62,10 +62,10 @@ IsAcceptanceWriteStop contents check list files stop = (stop ≡ stops.OutOfMemo
 abbrev pub IsGoldenPath : List Job → List ℕ → Type 0
 IsGoldenPath jobs path = IsTrue (list_any (names_golden_file path) jobs)
 
--- `place` is the path of the list, or the path of a job's golden file, resolved against the `--root` directory
+-- `resolved` is the path of the list, or the path of a job's golden file, resolved against the `--root` directory
 abbrev pub IsListOrGoldenPath : AcceptArgs → List Job → List ℕ → Type 0
-IsListOrGoldenPath args jobs place = (place ≡ args.run.list.now)
-    ⊎ ((path : List ℕ) × (IsGoldenPath jobs path × (place ≡ resolved_path (optional_text args.run.root) path)))
+IsListOrGoldenPath args jobs resolved = (resolved ≡ args.run.list.now)
+    ⊎ ((path : List ℕ) × (IsGoldenPath jobs path × (resolved ≡ resolved_path (optional_text args.run.root) path)))
 
 -- why a command stopped: memory ran out, or the list or a golden file of its jobs could not be read
 abbrev pub IsGoldenUnreadStop : Option FileContents → AcceptArgs → List Job → Stop → Type 0

@@ -40,10 +40,10 @@ abbrev pub path_and_line : List ℕ → Option ℕ → List ℕ
 path_and_line path None = printable_text path
 path_and_line path (Some number) = printable_text path ++ codes ":" ++ decimal number
 
--- the prefix of a line of `check`: where the job at index `place` begins, the severity, and the job's number from 1 and its name
+-- the prefix of a line of `check`: where the job at index `index` begins, the severity, and the job's number from 1 and its name
 unfoldable pub job_prefix : List ℕ → List ℕ → List ℕ → ℕ → Job → List ℕ
-job_prefix severity path lines place job =
-    path_and_line path (slice_get lines place) ++ severity ++ codes " job " ++ decimal (place + 1) ++ codes " \"" ++ job.name ++ codes "\": "
+job_prefix severity path lines index job =
+    path_and_line path (slice_get lines index) ++ severity ++ codes " job " ++ decimal (index + 1) ++ codes " \"" ++ job.name ++ codes "\": "
 
 -- ---- a job that is refused
 
@@ -51,44 +51,44 @@ job_prefix severity path lines place job =
 abbrev pub refusal_text : Refusal → Option (List ℕ) → List ℕ
 refusal_text refusal reason = codes "refused " ++ refusal_name refusal ++ optional_reason_text reason
 
--- the error line for a file that makes the job at index `place` refused, with the refusal and, if they are given, its details
+-- the error line for a file that makes the job at index `index` refused, with the refusal and, if they are given, its details
 unfoldable pub refused_file_line : List ℕ → List ℕ → ℕ → Job → Refusal → Option (List ℕ) → List ℕ
-refused_file_line path lines place job refusal reason = line (job_prefix (codes ": error:") path lines place job ++ refusal_text refusal reason)
+refused_file_line path lines index job refusal reason = line (job_prefix (codes ": error:") path lines index job ++ refusal_text refusal reason)
 
--- the error line for the job at index `place`, whose image makes it refused
+-- the error line for the job at index `index`, whose image makes it refused
 abbrev pub refused_image_line : List ℕ → List ℕ → PlanView → List UnreadablePath → ℕ → Job → Refusal → List ℕ
-refused_image_line path lines plan unread place job refusal =
-    refused_file_line path lines place job refusal (refusal_reason plan.answers unread job refusal)
+refused_image_line path lines plan unread index job refusal =
+    refused_file_line path lines index job refusal (refusal_reason plan.answers unread job refusal)
 
--- the error line for the job at index `place` if its image makes it refused; otherwise empty
+-- the error line for the job at index `index` if its image makes it refused; otherwise empty
 abbrev pub refused_image_text : List ℕ → List ℕ → PlanView → List UnreadablePath → ℕ → Job → List ℕ
-refused_image_text path lines plan unread place job =
-    unwrap_or (option_map (refused_image_line path lines plan unread place job) (image_refusal_in plan.answers job)) []
+refused_image_text path lines plan unread index job =
+    unwrap_or (option_map (refused_image_line path lines plan unread index job) (image_refusal_in plan.answers job)) []
 
 -- the error line for the expectation file `file` of a job, given what was stored for its path: empty if the file was read, and otherwise
 -- the reason why it was not
 abbrev pub unread_reference_text : List ℕ → List ℕ → List UnreadablePath → ℕ → Job → Option Kept → Option (List ℕ) → List ℕ
-unread_reference_text path lines unread place job (Some kept.Unreadable) (Some file) =
-    refused_file_line path lines place job refusal.ReferenceUnreadable (Some (unread_file_text unread file))
-unread_reference_text path lines unread place job (Some kept.TooLong) (Some file) =
-    refused_file_line path lines place job refusal.ReferenceTooLong (Some (too_long_file_text file))
-unread_reference_text path lines unread place job _ _ = []
+unread_reference_text path lines unread index job (Some kept.Unreadable) (Some file) =
+    refused_file_line path lines index job refusal.ReferenceUnreadable (Some (unread_file_text unread file))
+unread_reference_text path lines unread index job (Some kept.TooLong) (Some file) =
+    refused_file_line path lines index job refusal.ReferenceTooLong (Some (too_long_file_text file))
+unread_reference_text path lines unread index job _ _ = []
 
 -- the error line for a job's expectation file; empty if it was read or none is named
 abbrev pub reference_text : List ℕ → List ℕ → PlanView → List UnreadablePath → ℕ → Job → Option (List ℕ) → List ℕ
-reference_text path lines plan unread place job file =
-    unread_reference_text path lines unread place job (option_map (result_or_unreadable plan.answers) file) file
+reference_text path lines plan unread index job file =
+    unread_reference_text path lines unread index job (option_map (result_or_unreadable plan.answers) file) file
 
 -- the error lines for a job's image and for the files with its expected signature and console
 unfoldable pub refused_files_text : List ℕ → List ℕ → PlanView → List UnreadablePath → ℕ → Job → List ℕ
-refused_files_text path lines plan unread place job = refused_image_text path lines plan unread place job
-    ++ (reference_text path lines plan unread place job job.expect_signature
-    ++ reference_text path lines plan unread place job (console_path job.expect_console))
+refused_files_text path lines plan unread index job = refused_image_text path lines plan unread index job
+    ++ (reference_text path lines plan unread index job job.expect_signature
+    ++ reference_text path lines plan unread index job (console_path job.expect_console))
 
 -- the error lines for a job; empty if the job is not refused
 unfoldable pub refused_job_text : List ℕ → List ℕ → PlanView → List UnreadablePath → ℕ → Job → List ℕ
-refused_job_text path lines plan unread place job =
-    if is_job_refused plan job then refused_files_text path lines plan unread place job else []
+refused_job_text path lines plan unread index job =
+    if is_job_refused plan job then refused_files_text path lines plan unread index job else []
 
 -- ---- a job that expects two ends
 
@@ -105,12 +105,12 @@ two_ends_text code end = codes "expect_exit = " ++ decimal (unwrap_or code 0)
 
 -- the warning line for a job that expects two ends
 unfoldable pub two_ends_line : List ℕ → List ℕ → ℕ → Job → List ℕ
-two_ends_line path lines place job =
-    line (job_prefix (codes ": warning:") path lines place job ++ two_ends_text job.expect_exit job.expect_end)
+two_ends_line path lines index job =
+    line (job_prefix (codes ": warning:") path lines index job ++ two_ends_text job.expect_exit job.expect_end)
 
 -- the warning line for a job that expects two ends; empty for any other job
 unfoldable pub warned_job_text : List ℕ → List ℕ → ℕ → Job → List ℕ
-warned_job_text path lines place job = if expects_two_ends job then two_ends_line path lines place job else []
+warned_job_text path lines index job = if expects_two_ends job then two_ends_line path lines index job else []
 
 -- ---- the counts
 

@@ -17,29 +17,29 @@ use Rattle.rvtest_app.specs.Commands.{passing_status}
 use Rattle.rvtest_app.specs.Reports.{HasEntryPerUnreadable, IsFirstJobNamed}
 use Rattle.rvtest_app.specs.CommandOutputs.{IsOnlyStandardOutput, IsOnlyErrorOutput, CommandOutputs}
 
--- `console` is the text that the job at index `place` printed, `line` is the line that reports its row, and `status` is the exit status
-pub record IsJobConsole (contents : Option FileContents) (jobs : List Job) (place : ℕ) (console line : List ℕ) (status : ℕ)
+-- `console` is the text that the job at index `index` printed, `line` is the line that reports its row, and `status` is the exit status
+pub record IsJobConsole (contents : Option FileContents) (jobs : List Job) (index : ℕ) (console line : List ℕ) (status : ℕ)
     : Type 0 where
   pub plan : PlanView
   pub listed : plan.jobs ≡ jobs
-  pub paths : paths_of plan.answers ≡ paths_used (jobs_needed_for jobs (place ∷ []))
+  pub paths : paths_of plan.answers ≡ paths_used (jobs_needed_for jobs (index ∷ []))
   pub kept : AgreeWithContents contents plan.answers
   pub unread : List UnreadablePath
   pub noted : HasEntryPerUnreadable plan.answers unread
-  pub written : (d : Job) → console ≡ (row_of plan (slice_index_or plan.jobs place d)).console
-  pub told : (d : Job) → line ≡ row_line plan unread (judge_by_rule Strict) (slice_index_or plan.jobs place d)
-      (row_of plan (slice_index_or plan.jobs place d))
+  pub written : (d : Job) → console ≡ (row_of plan (slice_index_or plan.jobs index d)).console
+  pub told : (d : Job) → line ≡ row_line plan unread (judge_by_rule Strict) (slice_index_or plan.jobs index d)
+      (row_of plan (slice_index_or plan.jobs index d))
   pub judged : (d : Job) → status ≡ passing_status
-      (has_passed Strict (row_of plan (slice_index_or plan.jobs place d)))
+      (has_passed Strict (row_of plan (slice_index_or plan.jobs index d)))
 
 -- `console`, `line` and `status` are the console, the result line and the exit status of the first job named `name` in the list with the
 -- text `bytes`
 pub record IsConsoleOf (contents : Option FileContents) (bytes name console line : List ℕ) (status : ℕ) : Type 0 where
   pub jobs : List Job
   pub listed : job_list_of bytes ≡ Ok jobs
-  pub place : ℕ
-  pub first : IsFirstJobNamed jobs name place
-  pub of_job : IsJobConsole contents jobs place console line status
+  pub index : ℕ
+  pub first : IsFirstJobNamed jobs name index
+  pub of_job : IsJobConsole contents jobs index console line status
 
 -- `console`, `line` and `status` are the console, the result line and the exit status of the job that the arguments name, in the list at
 -- their path

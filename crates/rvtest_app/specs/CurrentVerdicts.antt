@@ -24,17 +24,17 @@ use Rattle.rv_rows.specs.Verdict.{did_run}
 
 -- there is no file at the path; holds for any path if the contents of files are not known
 abbrev pub IsMissingAt : Option FileContents → List ℕ → Type 0
-IsMissingAt contents place = IfSome contents (λ files. files place ≡ None)
+IsMissingAt contents path = IfSome contents (λ files. files path ≡ None)
 
 -- the file at the path is longer than `max_file_size`, the largest number of bytes that is read of a file; holds for any path if the
 -- contents of files are not known
 abbrev pub IsTooLongAt : Option FileContents → List ℕ → Type 0
-IsTooLongAt contents place = IfSome contents (λ files. IsSomeAnd (files place) (λ bytes. max_file_size < length bytes))
+IsTooLongAt contents path = IfSome contents (λ files. IsSomeAnd (files path) (λ bytes. max_file_size < length bytes))
 
 -- the `Option` is the whole contents of the file at the path, or `None` if there is no file or it is longer than `max_file_size`
 abbrev pub AreContentsUpToLimit : Option FileContents → List ℕ → Option (List ℕ) → Type 0
-AreContentsUpToLimit contents place None = IsMissingAt contents place ⊎ IsTooLongAt contents place
-AreContentsUpToLimit contents place (Some bytes) = (length bytes ≤ max_file_size) × IfSome contents (λ files. files place ≡ Some bytes)
+AreContentsUpToLimit contents path None = IsMissingAt contents path ⊎ IsTooLongAt contents path
+AreContentsUpToLimit contents path (Some bytes) = (length bytes ≤ max_file_size) × IfSome contents (λ files. files path ≡ Some bytes)
 
 -- `text` is the whole contents of the golden file at the path, which is resolved against `root`; `None` if no path is given
 abbrev pub IsGoldenText : Option FileContents → Option (List ℕ) → Option (List ℕ) → Option (List ℕ) → Type 0
@@ -50,7 +50,7 @@ path_to_read job row path = if is_accepted_end acceptance.Expected job row.endin
 -- the row at the index of the job that `same_as` names; `None` if no job is named, or the named job did not run
 abbrev pub compared_row : List (Option Row) → Option ℕ → Option Row
 compared_row rows None = None
-compared_row rows (Some place) = row_or_none (slice_get rows place)
+compared_row rows (Some index) = row_or_none (slice_get rows index)
 
 -- whether the list of unmet expectations is empty
 abbrev pub are_all_met : List UnmetExpectation → Bool
@@ -95,14 +95,14 @@ abbrev pub is_true : Option Bool → Bool
 is_true None = false
 is_true (Some marked) = marked
 
--- whether the selection `selection` selects the job at index `place`; false if the index is out of range
+-- whether the selection `selection` selects the job at index `index`; false if the index is out of range
 abbrev pub is_selected : List Bool → ℕ → Bool
-is_selected selection place = is_true (slice_get selection place)
+is_selected selection index = is_true (slice_get selection index)
 
--- `candidate` says of the job at index `place` whether it is chosen, and what the verdict on it is
+-- `candidate` says of the job at index `index` whether it is chosen, and what the verdict on it is
 abbrev pub IsCandidateAt : Option FileContents → Option (List ℕ) → List (Option Row) → List Bool → ℕ → Job → Candidate → Type 0
-IsCandidateAt contents root rows chosen place job candidate = (candidate.is_chosen ≡ is_selected chosen place)
-    × IsCurrentVerdictIfRun contents root rows job (row_or_none (slice_get rows place)) candidate.verdict
+IsCandidateAt contents root rows chosen index job candidate = (candidate.is_chosen ≡ is_selected chosen index)
+    × IsCurrentVerdictIfRun contents root rows job (row_or_none (slice_get rows index)) candidate.verdict
 
 -- ---- all jobs
 
@@ -110,5 +110,5 @@ IsCandidateAt contents root rows chosen place job candidate = (candidate.is_chos
 pub record AreCandidates (contents : Option FileContents) (root : Option (List ℕ)) (rows : List (Option Row)) (jobs : List Job)
     (chosen : List Bool) (candidates : List Candidate) : Type 0 where
   pub counted : length candidates ≡ length jobs
-  pub each : (place : ℕ) (job : Job) (candidate : Candidate) → slice_get jobs place ≡ Some job
-      → slice_get candidates place ≡ Some candidate → IsCandidateAt contents root rows chosen place job candidate
+  pub each : (index : ℕ) (job : Job) (candidate : Candidate) → slice_get jobs index ≡ Some job
+      → slice_get candidates index ≡ Some candidate → IsCandidateAt contents root rows chosen index job candidate

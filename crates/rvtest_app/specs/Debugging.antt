@@ -35,37 +35,37 @@ abbrev pub end_text_of_job : PlanView → List UnreadablePath → Option Job →
 end_text_of_job plan unread None = []
 end_text_of_job plan unread (Some job) = outcome_text plan unread (judge_by_rule Strict) job (row_of plan job)
 
--- the text that `run` prints about the job at index `place` of the plan: its result line and its unmet expectations
+-- the text that `run` prints about the job at index `index` of the plan: its result line and its unmet expectations
 unfoldable pub job_end_text : PlanView → List UnreadablePath → ℕ → List ℕ
-job_end_text plan unread place = end_text_of_job plan unread (slice_get plan.jobs place)
+job_end_text plan unread index = end_text_of_job plan unread (slice_get plan.jobs index)
 
--- the state in which the run of the job at index `place` starts; for a refused job, the start state of an empty image
+-- the state in which the run of the job at index `index` starts; for a refused job, the start state of an empty image
 unfoldable pub job_start_state : PlanView → ℕ → State
-job_start_state plan place =
-    unwrap_or (option_and_then (λ (job : Job). result_ok (start_state_in plan.answers job)) (slice_get plan.jobs place)) (flat_state [])
+job_start_state plan index =
+    unwrap_or (option_and_then (λ (job : Job). result_ok (start_state_in plan.answers job)) (slice_get plan.jobs index)) (flat_state [])
 
--- `session` debugs the run of the job at index `place`, with the files that it needs read from the store and its image's path resolved
+-- `session` debugs the run of the job at index `index`, with the files that it needs read from the store and its image's path resolved
 -- against `root`; `end_text` is the text that `run` prints about the job
-pub record IsJobOpened (contents : Option FileContents) (root : Option (List ℕ)) (jobs : List Job) (place : ℕ) (end_text : List ℕ)
+pub record IsJobOpened (contents : Option FileContents) (root : Option (List ℕ)) (jobs : List Job) (index : ℕ) (end_text : List ℕ)
     (session : Session) : Type 0 where
   pub plan : PlanView
   pub listed : plan.jobs ≡ jobs
-  pub paths : paths_of plan.answers ≡ paths_used (jobs_needed_for jobs (place ∷ []))
+  pub paths : paths_of plan.answers ≡ paths_used (jobs_needed_for jobs (index ∷ []))
   pub kept : AgreeWithContents contents plan.answers
   pub unread : List UnreadablePath
   pub noted : HasEntryPerUnreadable plan.answers unread
-  pub over : (d : Job) → IsSessionOf plan.answers (slice_index_or plan.jobs place d)
-      (resolved_path root (slice_index_or plan.jobs place d).image) session
-  pub outputs_of : end_text ≡ job_end_text plan unread place
+  pub over : (d : Job) → IsSessionOf plan.answers (slice_index_or plan.jobs index d)
+      (resolved_path root (slice_index_or plan.jobs index d).image) session
+  pub outputs_of : end_text ≡ job_end_text plan unread index
 
 -- `session` debugs the first job of the requested name in the list with the text `bytes`, and `end_text` is the text that `run` prints
 -- about this job
 pub record IsSessionOpenedOf (contents : Option FileContents) (args : GdbArgs) (bytes end_text : List ℕ) (session : Session) : Type 0 where
   pub jobs : List Job
   pub listed : job_list_of bytes ≡ Ok jobs
-  pub place : ℕ
-  pub first : IsFirstJobNamed jobs args.name.now place
-  pub of_job : IsJobOpened (contents_below (optional_text args.root) contents) (optional_text args.root) jobs place end_text session
+  pub index : ℕ
+  pub first : IsFirstJobNamed jobs args.name.now index
+  pub of_job : IsJobOpened (contents_below (optional_text args.root) contents) (optional_text args.root) jobs index end_text session
 
 -- `session` debugs the job that the arguments name, in the list at their path, and `end_text` is the text that `run` prints about this job
 pub record IsSessionOpenedAt (contents : Option FileContents) (args : GdbArgs) (end_text : List ℕ) (session : Session) : Type 0 where
@@ -105,29 +105,29 @@ abbrev pub IsNoGdbStop : Stop → Type 0
 IsNoGdbStop stop = IsStop 2 (path_message (codes "standard output")
     (codes "expected gdb, found a terminal; run gdb-multiarch -ex 'target remote | rvtest gdb LIST NAME'")) stop
 
--- the stop reports that the job at index `place` is refused; its message is the job's result line
-pub record IsRefusedJobStop (contents : Option FileContents) (jobs : List Job) (place : ℕ) (stop : Stop) : Type 0 where
+-- the stop reports that the job at index `index` is refused; its message is the job's result line
+pub record IsRefusedJobStop (contents : Option FileContents) (jobs : List Job) (index : ℕ) (stop : Stop) : Type 0 where
   pub plan : PlanView
   pub listed : plan.jobs ≡ jobs
-  pub paths : paths_of plan.answers ≡ paths_used (jobs_needed_for jobs (place ∷ []))
+  pub paths : paths_of plan.answers ≡ paths_used (jobs_needed_for jobs (index ∷ []))
   pub kept : AgreeWithContents contents plan.answers
   pub unread : List UnreadablePath
   pub noted : HasEntryPerUnreadable plan.answers unread
-  pub refused : (d : Job) → is_ok (start_state_in plan.answers (slice_index_or plan.jobs place d)) ≡ false
-  pub told : (d : Job) → IsStop 2 (row_line plan unread (judge_by_rule Strict) (slice_index_or plan.jobs place d)
-      (row_of plan (slice_index_or plan.jobs place d))) stop
+  pub refused : (d : Job) → is_ok (start_state_in plan.answers (slice_index_or plan.jobs index d)) ≡ false
+  pub told : (d : Job) → IsStop 2 (row_line plan unread (judge_by_rule Strict) (slice_index_or plan.jobs index d)
+      (row_of plan (slice_index_or plan.jobs index d))) stop
 
--- why a command stopped: memory ran out, or the job at index `place` is refused
+-- why a command stopped: memory ran out, or the job at index `index` is refused
 abbrev pub IsUnopenedJobStop : Option FileContents → List Job → ℕ → Stop → Type 0
-IsUnopenedJobStop contents jobs place stop = (stop ≡ stops.OutOfMemory) ⊎ IsRefusedJobStop contents jobs place stop
+IsUnopenedJobStop contents jobs index stop = (stop ≡ stops.OutOfMemory) ⊎ IsRefusedJobStop contents jobs index stop
 
 -- why a command stopped: memory ran out, or the first job of the requested name in the list with the text `bytes` is refused
 pub record IsUnopenedJobOfTextStop (contents : Option FileContents) (args : GdbArgs) (bytes : List ℕ) (stop : Stop) : Type 0 where
   pub jobs : List Job
   pub listed : job_list_of bytes ≡ Ok jobs
-  pub place : ℕ
-  pub first : IsFirstJobNamed jobs args.name.now place
-  pub refused : IsRefusedJobStop (contents_below (optional_text args.root) contents) jobs place stop
+  pub index : ℕ
+  pub first : IsFirstJobNamed jobs args.name.now index
+  pub refused : IsRefusedJobStop (contents_below (optional_text args.root) contents) jobs index stop
 
 -- the stop for an error of the session: memory ran out, standard input could not be read, or a write failed
 abbrev pub IsSessionErrorStop : SessionError → Stop → Type 0

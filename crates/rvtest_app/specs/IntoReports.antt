@@ -41,28 +41,28 @@ AreOldRows contents args jobs old = MatchOption args.into (old ≡ None)
 -- the rows `old`, in which the rows at the indices of the first list are replaced, in order, by the rows of the second
 abbrev pub merged_rows : List ℕ → List Row → List Row → List Row
 merged_rows [] rows old = old
-merged_rows (place ∷ places) [] old = old
-merged_rows (place ∷ places) (row ∷ rows) old = merged_rows places rows (slice_set old place row)
+merged_rows (index ∷ indices) [] old = old
+merged_rows (index ∷ indices) (row ∷ rows) old = merged_rows indices rows (slice_set old index row)
 
 -- the text of a run's report: with old rows, the whole report updated with the new rows; without, a report of the new rows alone
 abbrev pub run_report_text : Option (List Row) → ℕ → List ℕ → Option Shard → List Row → List ℕ
-run_report_text (Some old) jobs places shard rows = report_text (merged_rows places rows old)
-run_report_text None jobs places shard rows = chosen_report_text jobs places shard rows
+run_report_text (Some old) jobs indices shard rows = report_text (merged_rows indices rows old)
+run_report_text None jobs indices shard rows = chosen_report_text jobs indices shard rows
 
--- the text that a finished job at index `place` adds to the report at once: its row if rows are streamed, and otherwise nothing
+-- the text that a finished job at index `index` adds to the report at once: its row if rows are streamed, and otherwise nothing
 abbrev pub report_row_text : Bool → ℕ → Row → List ℕ
-report_row_text is_streaming place row = if is_streaming then row_text place row else []
+report_row_text is_streaming index row = if is_streaming then row_text index row else []
 
 -- the part of the report that is written while jobs finish: their rows, or nothing if the run updates an old report
 abbrev pub streamed_rows : Option (List Row) → List ℕ → List Row → List ℕ
-streamed_rows (Some old) places rows = []
-streamed_rows None places rows = joined_row_texts row_text places rows
+streamed_rows (Some old) indices rows = []
+streamed_rows None indices rows = joined_row_texts row_text indices rows
 
 -- the part of the report that is written after all jobs have finished: the whole report if the run updates an old one, and otherwise the
 -- last line
 abbrev pub run_report_rest : Option (List Row) → ℕ → List ℕ → Option Shard → List Row → List ℕ
-run_report_rest (Some old) jobs places shard rows = report_text (merged_rows places rows old)
-run_report_rest None jobs places shard rows = chosen_last_line jobs places shard rows
+run_report_rest (Some old) jobs indices shard rows = report_text (merged_rows indices rows old)
+run_report_rest None jobs indices shard rows = chosen_last_line jobs indices shard rows
 
 -- the path of the report to write: the path of `--into`, or else the path of `--report`
 abbrev pub run_report_path : RunArgs → Option (List ℕ)

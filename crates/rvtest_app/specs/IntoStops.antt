@@ -58,12 +58,12 @@ jobs_of_partial_report (extent.Shard shard) = Some shard.jobs
 -- `other` describes the first index at which the two lists have different names: its number, counted from 1, and the name in each list
 pub record IsFirstNameMismatch (names all : List (List ℕ)) (other : NameMismatch) : Type 0 where
   -- the index of the name
-  pub place : ℕ
-  pub number : other.number ≡ place + 1
-  pub name_in_report : slice_get names place ≡ Some other.in_report.now
-  pub listed : slice_get all place ≡ Some other.listed.now
+  pub index : ℕ
+  pub number : other.number ≡ index + 1
+  pub name_in_report : slice_get names index ≡ Some other.in_report.now
+  pub listed : slice_get all index ≡ Some other.listed.now
   pub differ : bytes_eq other.in_report.now other.listed.now ≡ false
-  pub before : take place names ≡ take place all
+  pub before : take index names ≡ take index all
 
 -- why a report is not a report of all jobs of the list: it is partial, it has another number of rows than the list has jobs, or a row has
 -- another name than its job

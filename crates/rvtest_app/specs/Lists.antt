@@ -19,7 +19,7 @@ name_line job = line job.name
 
 -- the names of the jobs at these indices, one per line
 abbrev pub name_lines : List Job → List ℕ → List ℕ
-name_lines jobs places = flat_map (λ place. name_line (slice_index_or jobs place (single_job [] 0 []))) places
+name_lines jobs indices = flat_map (λ index. name_line (slice_index_or jobs index (single_job [] 0 []))) indices
 
 -- the names of the selected jobs, one per line; empty if no job is selected (`None`)
 abbrev pub chosen_name_lines : List Job → Option (List Bool) → List ℕ

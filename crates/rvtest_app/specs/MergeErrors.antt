@@ -17,9 +17,9 @@ use Rattle.rv_merge.specs.declared.error.MergeError.{MergeError}
 use Rattle.rv_merge.specs.declared.error.MergeError.TheVariants as error
 use Rattle.rv_job_text.specs.Printable.{printable_text}
 
--- the path of the part at index `place`; "a part" if there is no such index
+-- the path of the part at index `index`; "a part" if there is no such index
 abbrev pub part_path : List (Bor (List ℕ)) → ℕ → List ℕ
-part_path parts place = option_map_or (λ path. path.now) (slice_get parts place) (codes "a part")
+part_path parts index = option_map_or (λ path. path.now) (slice_get parts index) (codes "a part")
 
 -- a message about two parts: `path`, the rejected part; `what`, the error; `other`, the path of the other part; and `end`
 abbrev pub two_parts_message : List ℕ → List ℕ → List ℕ → List ℕ → List ℕ
@@ -49,8 +49,8 @@ flaw_message parts path text (flaw.RepeatedName number) =
 abbrev pub IsMergeErrorStop : List (Bor (List ℕ)) → List (List ℕ) → MergeError → Stop → Type 0
 IsMergeErrorStop parts texts error.OutOfMemory stop = stop ≡ stops.OutOfMemory
 IsMergeErrorStop parts texts error.NoTexts stop = IsStop 2 (codes "rvtest: expected at least one part\n") stop
-IsMergeErrorStop parts texts (error.Text place flaw) stop =
-    IsStop 2 (flaw_message parts (part_path parts place) (nth_text texts place) flaw) stop
+IsMergeErrorStop parts texts (error.Text index flaw) stop =
+    IsStop 2 (flaw_message parts (part_path parts index) (nth_text texts index) flaw) stop
 IsMergeErrorStop parts texts (error.Missing number) stop =
     IsStop 2 (codes "rvtest: no part for shard " ++ decimal number ++ codes "\n") stop
 

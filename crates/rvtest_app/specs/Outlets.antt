@@ -72,16 +72,16 @@ module _ {P W : Type 0} where
   HasReceived pending_path taken failed placed path text outlet.Nowhere = path ≡ None
   HasReceived pending_path taken failed placed path text outlet.Out = path ≡ Some (codes "-")
   HasReceived pending_path taken failed placed path text (outlet.File file) =
-      (path ≡ Some (pending_path file.place)) × ((is_stdout (pending_path file.place) ≡ false)
+      (path ≡ Some (pending_path file.destination)) × ((is_stdout (pending_path file.destination) ≡ false)
       × (IfSome placed (λ _. taken file.sink ≡ Some text) × (failed file.sink ≡ 0)
-      × (file.path.now ≡ pending_path file.place)))
+      × (file.path.now ≡ pending_path file.destination)))
 
   -- the text was written to the outlet, and no write failed
   abbrev pub IsWrittenToOutlet : (W → Option (List ℕ)) → (W → ℕ) → Outlet P W → Outlet P W → List ℕ → Type 0
   IsWrittenToOutlet taken failed outlet.Nowhere outlet.Nowhere text = ⊤
   IsWrittenToOutlet taken failed outlet.Out outlet.Out text = ⊤
   IsWrittenToOutlet taken failed (outlet.File before) (outlet.File after) text =
-      (after.place ≡ before.place) × (Appends (taken before.sink) (taken after.sink) text
+      (after.destination ≡ before.destination) × (Appends (taken before.sink) (taken after.sink) text
       × (failed after.sink ≡ failed before.sink))
   IsWrittenToOutlet taken failed _ _ text = ⊥
 
@@ -90,14 +90,14 @@ module _ {P W : Type 0} where
   files_of pending_path taken outlet.Nowhere = Some []
   files_of pending_path taken outlet.Out = Some []
   files_of pending_path taken (outlet.File file) =
-      option_map (λ bytes. record { path = pending_path file.place; bytes = bytes } ∷ []) (taken file.sink)
+      option_map (λ bytes. record { path = pending_path file.destination; bytes = bytes } ∷ []) (taken file.sink)
 
 module _ {P S : Type 0} where
   -- the file that is synced to disk, with its contents; none if the contents are not reported
   abbrev pub synced_files : (P → List ℕ) → (S → Option (List ℕ)) → Option (SyncedFile P S) → Option (List CommittedFile)
   synced_files pending_path bytes None = Some []
   synced_files pending_path bytes (Some file) =
-      option_map (λ bytes. record { path = pending_path file.place; bytes = bytes } ∷ []) (bytes file.file)
+      option_map (λ bytes. record { path = pending_path file.destination; bytes = bytes } ∷ []) (bytes file.file)
 
   -- the path by which messages name the file
   abbrev pub synced_path : Option (SyncedFile P S) → Option (List ℕ)

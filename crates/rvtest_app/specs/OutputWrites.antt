@@ -18,7 +18,7 @@ IsWrittenToErrorsIf false text before after = IsOnlyStandardOutput text before a
 -- the JUnit document of the rows of a report; the function `line` returns the lines about a row
 abbrev pub junit_of_report : {T : Type 0} → (T → ℕ → Row → List ℕ) → FileTexts T → List ℕ
 junit_of_report line texts = junit_text texts.suite.name.now (judge_view texts.suite.judge)
-    (row_text_list (line texts.reporter.now) texts.places.now (report_rows texts.report)) (report_rows texts.report)
+    (row_text_list (line texts.reporter.now) texts.indices.now (report_rows texts.report)) (report_rows texts.report)
 
 -- the text `shown` was written, to standard error if `is_beside` is true and otherwise to standard output; then the report and the JUnit
 -- XML were written to their paths

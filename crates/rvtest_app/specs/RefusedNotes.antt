@@ -20,9 +20,9 @@ invalid_line judging plan unread job =
 
 -- the result lines of the refused jobs among the jobs at these indices
 abbrev pub refused_lines : JudgeView → PlanView → List UnreadablePath → List ℕ → List ℕ
-refused_lines judging plan unread places = flat_map (invalid_line judging plan unread) (jobs_at plan places)
+refused_lines judging plan unread indices = flat_map (invalid_line judging plan unread) (jobs_at plan indices)
 
 -- the note about missing images, which may be empty, and then the result lines of the refused jobs among the jobs at these indices
 abbrev pub refused_note : RunArgs → PlanView → List UnreadablePath → List ℕ → List ℕ
-refused_note args plan unread places = missing_images_note plan.jobs unread (length places) (optional_text args.root)
-    ++ refused_lines (report_judging args.lenient) plan unread places
+refused_note args plan unread indices = missing_images_note plan.jobs unread (length indices) (optional_text args.root)
+    ++ refused_lines (report_judging args.lenient) plan unread indices

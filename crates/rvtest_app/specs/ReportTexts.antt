@@ -10,14 +10,14 @@ use Rattle.rvtest_app.specs.declared.report_texts.ReportText.TheVariants as repo
 -- the text of a report: a report of all rows, a report of a shard or of chosen jobs, or an old report updated with the rows of the run
 abbrev pub report_text_of : ReportText → List ℕ
 report_text_of (report.Whole rows) = report_text rows
-report_text_of (report.Chosen chosen shard) = chosen_report_text chosen.jobs chosen.places.now shard chosen.rows
-report_text_of (report.Into into) = report_text (merged_rows into.chosen.places.now into.chosen.rows into.old)
+report_text_of (report.Chosen chosen shard) = chosen_report_text chosen.jobs chosen.indices.now shard chosen.rows
+report_text_of (report.Into into) = report_text (merged_rows into.chosen.indices.now into.chosen.rows into.old)
 
 -- the part of a report that is written after all jobs have finished: the whole report, or only its last line if its rows were streamed
 abbrev pub report_rest_of : ReportText → List ℕ
 report_rest_of (report.Whole rows) = report_text rows
-report_rest_of (report.Chosen chosen shard) = chosen_last_line chosen.jobs chosen.places.now shard chosen.rows
-report_rest_of (report.Into into) = report_text (merged_rows into.chosen.places.now into.chosen.rows into.old)
+report_rest_of (report.Chosen chosen shard) = chosen_last_line chosen.jobs chosen.indices.now shard chosen.rows
+report_rest_of (report.Into into) = report_text (merged_rows into.chosen.indices.now into.chosen.rows into.old)
 
 -- the rows of the run, without the rows of an old report that they update
 abbrev pub report_rows : ReportText → List Row

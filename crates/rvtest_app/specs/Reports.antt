@@ -133,32 +133,32 @@ pub record IsCheckOutputAt (contents : Option FileContents) (args : CheckArgs) (
 
 -- ---- explain
 
--- `text` explains the row of the job at index `place` of the plan, with its last `last` instructions and, if its budget was exhausted, how
+-- `text` explains the row of the job at index `index` of the plan, with its last `last` instructions and, if its budget was exhausted, how
 -- it used the budget
-pub record IsTextExplaining (plan : PlanView) (unread : List UnreadablePath) (place last : ℕ) (text : List ℕ) : Type 0 where
+pub record IsTextExplaining (plan : PlanView) (unread : List UnreadablePath) (index last : ℕ) (text : List ℕ) : Type 0 where
   pub budget_use : Option BudgetUse
-  pub found : (d : Job) → IsBudgetUseOfRow plan (slice_index_or plan.jobs place d)
-      (row_of plan (slice_index_or plan.jobs place d)) budget_use
-  pub told : (d : Job) → text ≡ explanation_text plan unread (judge_by_rule Strict) (slice_index_or plan.jobs place d)
-      (row_of plan (slice_index_or plan.jobs place d)) (record { last = last; budget_use = budget_use })
+  pub found : (d : Job) → IsBudgetUseOfRow plan (slice_index_or plan.jobs index d)
+      (row_of plan (slice_index_or plan.jobs index d)) budget_use
+  pub told : (d : Job) → text ≡ explanation_text plan unread (judge_by_rule Strict) (slice_index_or plan.jobs index d)
+      (row_of plan (slice_index_or plan.jobs index d)) (record { last = last; budget_use = budget_use })
 
--- `output` and `status` are the output and the exit status of `explain` for the job at index `place`, with the files that its row needs
+-- `output` and `status` are the output and the exit status of `explain` for the job at index `index`, with the files that its row needs
 -- read from the store
-pub record IsJobExplained (contents : Option FileContents) (jobs : List Job) (place last : ℕ) (output : List ℕ)
+pub record IsJobExplained (contents : Option FileContents) (jobs : List Job) (index last : ℕ) (output : List ℕ)
     (status : ℕ) : Type 0 where
   pub plan : PlanView
   pub listed : plan.jobs ≡ jobs
-  pub paths : paths_of plan.answers ≡ paths_used (jobs_needed_for jobs (place ∷ []))
+  pub paths : paths_of plan.answers ≡ paths_used (jobs_needed_for jobs (index ∷ []))
   pub kept : AgreeWithContents contents plan.answers
   pub unread : List UnreadablePath
   pub noted : HasEntryPerUnreadable plan.answers unread
-  pub text : IsTextExplaining plan unread place last output
+  pub text : IsTextExplaining plan unread index last output
   pub judged : (d : Job) → status ≡ passing_status
-      (has_passed Strict (row_of plan (slice_index_or plan.jobs place d)))
+      (has_passed Strict (row_of plan (slice_index_or plan.jobs index d)))
 
--- `place` is the index of the first job named `name`
+-- `index` is the index of the first job named `name`
 abbrev pub IsFirstJobNamed : List Job → List ℕ → ℕ → Type 0
-IsFirstJobNamed jobs name place = position (λ (job : Job). bytes_eq job.name name) jobs ≡ Some place
+IsFirstJobNamed jobs name index = position (λ (job : Job). bytes_eq job.name name) jobs ≡ Some index
 
 -- `output` and `status` are the output and the exit status of `explain` for the list with the text `bytes`; a requested budget applies to
 -- every job
@@ -166,9 +166,9 @@ pub record IsExplanationOf (contents : Option FileContents) (args : ExplainArgs)
     : Type 0 where
   pub jobs : List Job
   pub listed : job_list_of bytes ≡ Ok jobs
-  pub place : ℕ
-  pub first : IsFirstJobNamed jobs args.name.now place
-  pub explained : IsJobExplained (contents_below (optional_text args.root) contents) (with_budget args.budget jobs) place
+  pub index : ℕ
+  pub first : IsFirstJobNamed jobs args.name.now index
+  pub explained : IsJobExplained (contents_below (optional_text args.root) contents) (with_budget args.budget jobs) index
       args.last output status
 
 -- `output` and `status` are the output and the exit status of `explain` for the list at the path in the arguments

@@ -27,7 +27,7 @@ module _ {P V : Type 0} where
   AreOutletParts outlet.Nowhere None whole = whole ≡ outlet.Nowhere
   AreOutletParts outlet.Out None whole = whole ≡ outlet.Out
   AreOutletParts (outlet.File file) (Some sink) whole =
-      whole ≡ outlet.File (record { path = file.path; place = file.place; sink = sink })
+      whole ≡ outlet.File (record { path = file.path; destination = file.destination; sink = sink })
   AreOutletParts _ _ whole = ⊥
 
   -- whether the outlet is a file

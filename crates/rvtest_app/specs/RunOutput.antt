@@ -15,8 +15,8 @@ use Rattle.rv_stream.specs.Streams.{joined_row_texts}
 
 -- the text that a run prints: the lines about each row, then the summary line, which also counts the jobs that have no row
 abbrev pub run_output_text : (ℕ → Row → List ℕ) → JudgeView → PlanView → List ℕ → List Row → List ℕ
-run_output_text line judging plan places rows =
-    joined_row_texts line places rows ++ run_totals_line judging plan places rows (length places - length rows)
+run_output_text line judging plan indices rows =
+    joined_row_texts line indices rows ++ run_totals_line judging plan indices rows (length indices - length rows)
 
 -- the exit status for these rows: 1 if one of them is a failure, and otherwise 0
 abbrev pub rows_status : JudgeView → List Row → ℕ
@@ -24,30 +24,30 @@ rows_status judging rows = if list_any (fails judging) rows then 1 else 0
 
 -- the numbers of the jobs at these indices, counted from 1
 abbrev pub job_numbers : List ℕ → List ℕ
-job_numbers places = map (λ place. place + 1) places
+job_numbers indices = map (λ index. index + 1) indices
 
 -- the report with these rows of the jobs at these indices; its extent `jobs` says whether it has a shard, all jobs or chosen jobs of a list
 abbrev pub part_text : Extent → List ℕ → List Row → List ℕ
-part_text jobs places rows = saved_text (record {
+part_text jobs indices rows = saved_text (record {
   extent = jobs;
-  numbers = job_numbers places;
+  numbers = job_numbers indices;
   rows = rows;
 })
 
 -- the report with these rows: of a shard if one is given, else of all jobs if there are `jobs` indices, as many as jobs in the list, else
 -- of chosen jobs
 abbrev pub chosen_report_text : ℕ → List ℕ → Option Shard → List Row → List ℕ
-chosen_report_text jobs places (Some shard) rows = part_text (extent.Shard shard) places rows
-chosen_report_text jobs places None rows =
-    if length places == jobs then report_text rows
-    else part_text (extent.Choice jobs) places rows
+chosen_report_text jobs indices (Some shard) rows = part_text (extent.Shard shard) indices rows
+chosen_report_text jobs indices None rows =
+    if length indices == jobs then report_text rows
+    else part_text (extent.Choice jobs) indices rows
 
 -- the extent of a report: a shard if one is given, else the whole list if there are `jobs` indices, as many as jobs in the list, else
 -- chosen jobs
 abbrev pub chosen_extent : ℕ → List ℕ → Option Shard → Extent
-chosen_extent jobs places (Some shard) = extent.Shard shard
-chosen_extent jobs places None = if length places == jobs then extent.Whole else extent.Choice jobs
+chosen_extent jobs indices (Some shard) = extent.Shard shard
+chosen_extent jobs indices None = if length indices == jobs then extent.Whole else extent.Choice jobs
 
 -- the last line of the report that `chosen_report_text` describes, which follows its rows
 abbrev pub chosen_last_line : ℕ → List ℕ → Option Shard → List Row → List ℕ
-chosen_last_line jobs places shard rows = extent_line (chosen_extent jobs places shard) (length rows)
+chosen_last_line jobs indices shard rows = extent_line (chosen_extent jobs indices shard) (length rows)

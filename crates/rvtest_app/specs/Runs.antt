@@ -77,17 +77,17 @@ pub record AreJobsToRun (contents : Option FileContents) (args : RunArgs) : Type
 
 -- `plan` is a plan of the jobs with the files that the rows at these indices need, read from the store; `unread` has one entry for each
 -- path that could not be read
-pub record IsPlanFor (contents : Option FileContents) (jobs : List Job) (places : List ℕ) (plan : PlanView)
+pub record IsPlanFor (contents : Option FileContents) (jobs : List Job) (indices : List ℕ) (plan : PlanView)
     (unread : List UnreadablePath) : Type 0 where
   pub listed : plan.jobs ≡ jobs
-  pub paths : paths_of plan.answers ≡ paths_used (jobs_needed_for jobs places)
+  pub paths : paths_of plan.answers ≡ paths_used (jobs_needed_for jobs indices)
   pub kept : AgreeWithContents contents plan.answers
   pub noted : length unread ≡ after_increments 0 (unreadable_count plan.answers)
 
 -- the JUnit document of the rows of the jobs at these indices, in which each failed row has its lines
 abbrev pub run_junit : RunArgs → RowReporter → List ℕ → List Row → List ℕ
-run_junit args reporter places rows = junit_text (suite_name (optional_text args.suite) args.list.now) reporter.judging
-    (row_text_list (row_lines_at (record reporter { verbosity = Failures })) places rows) rows
+run_junit args reporter indices rows = junit_text (suite_name (optional_text args.suite) args.list.now) reporter.judging
+    (row_text_list (row_lines_at (record reporter { verbosity = Failures })) indices rows) rows
 
 -- how the rows of a run are judged: by the rule in the arguments, and with the known failures
 abbrev pub run_judging : RunArgs → Option KnownJobs → JudgeView
@@ -105,68 +105,68 @@ run_reporter args failures plan unread = record {
 
 -- the rows of the jobs at these indices, in order; if `stop_after` is given, only up to the failure with this number
 abbrev pub run_rows : Option ℕ → JudgeView → PlanView → List ℕ → List Row
-run_rows stop_after judging plan places = rows_up_to stop_after (fails judging) (rows_at plan places)
+run_rows stop_after judging plan indices = rows_up_to stop_after (fails judging) (rows_at plan indices)
 
--- the indices of the jobs that have a row: the first of `places`, as many as there are rows
+-- the indices of the jobs that have a row: the first of `indices`, as many as there are rows
 abbrev pub shown_indices : List ℕ → List Row → List ℕ
-shown_indices places rows = take (length rows) places
+shown_indices indices rows = take (length rows) indices
 
 -- a list with the JUnit file of a run with these rows; empty if `--junit` names no file
 abbrev pub junit_file : RunArgs → RowReporter → List ℕ → List Row → List CommittedFile
-junit_file args reporter places rows =
-    file_at (optional_text args.junit) (run_junit args reporter (shown_indices places rows) rows)
+junit_file args reporter indices rows =
+    file_at (optional_text args.junit) (run_junit args reporter (shown_indices indices rows) rows)
 
 -- a list with the report file of a run with these rows; empty if no option names a report file
 abbrev pub report_file : RunArgs → RowReporter → List ℕ → Option Shard → Option (List Row) → List Row → List CommittedFile
-report_file args reporter places shard old rows = file_at (run_report_path args)
-    (run_report_text old (length reporter.plan.jobs) (shown_indices places rows) shard rows)
+report_file args reporter indices shard old rows = file_at (run_report_path args)
+    (run_report_text old (length reporter.plan.jobs) (shown_indices indices rows) shard rows)
 
 -- a run of the jobs at these indices, with these rows, wrote its results, its report and its JUnit XML
 abbrev pub IsRunWritten : RunArgs → RowReporter → List ℕ → Option Shard → Option (List Row) → List Row → CommandOutputs → CommandOutputs → Type 0
-IsRunWritten args reporter places shard old rows before after =
+IsRunWritten args reporter indices shard old rows before after =
     IsOutputWrittenTo (uses_run_stdout args) (run_report_path args) (optional_text args.junit)
-    (run_output_text (row_lines_at reporter) reporter.judging reporter.plan places rows)
-    (run_report_text old (length reporter.plan.jobs) (shown_indices places rows) shard rows)
-    (run_junit args reporter (shown_indices places rows) rows) before after
+    (run_output_text (row_lines_at reporter) reporter.judging reporter.plan indices rows)
+    (run_report_text old (length reporter.plan.jobs) (shown_indices indices rows) shard rows)
+    (run_junit args reporter (shown_indices indices rows) rows) before after
 
 -- `table` has the counts of the runs of the jobs at these indices; it has call stacks if the Bool is true
 abbrev pub IsCountsTable : Bool → PlanView → List ℕ → CountTable → Type 0
-IsCountsTable false plan places table = IsTableOfJobsAt plan places table
-IsCountsTable true plan places table = IsTableWithStacks plan places table
+IsCountsTable false plan indices table = IsTableOfJobsAt plan indices table
+IsCountsTable true plan indices table = IsTableWithStacks plan indices table
 
 -- the text is the table of counts of the jobs at these indices, with call stacks if `stacks` is true
 abbrev pub IsCountsText : Bool → PlanView → List ℕ → List ℕ → Type 0
-IsCountsText stacks plan places text =
-    (table : CountTable) × (IsCountsTable stacks plan places table × (text ≡ table_text table))
+IsCountsText stacks plan indices text =
+    (table : CountTable) × (IsCountsTable stacks plan indices table × (text ≡ table_text table))
 
 -- the table of counts of the jobs at these indices, with call stacks if `stacks` is true, was written to the path; without a path nothing
 -- was written
 abbrev pub AreCountsWritten : Bool → Option (List ℕ) → PlanView → List ℕ → CommandOutputs → CommandOutputs → Type 0
-AreCountsWritten stacks None plan places before after = IsWrittenAt None [] before after
-AreCountsWritten stacks (Some path) plan places before after =
-    (text : List ℕ) × (IsCountsText stacks plan places text × IsWrittenAt (Some path) text before after)
+AreCountsWritten stacks None plan indices before after = IsWrittenAt None [] before after
+AreCountsWritten stacks (Some path) plan indices before after =
+    (text : List ℕ) × (IsCountsText stacks plan indices text × IsWrittenAt (Some path) text before after)
 
 -- a run wrote its results, its report and its JUnit XML, and then its table of counts
-pub record IsCountedRunWritten (args : RunArgs) (reporter : RowReporter) (places : List ℕ) (shard : Option Shard) (old : Option (List Row))
+pub record IsCountedRunWritten (args : RunArgs) (reporter : RowReporter) (indices : List ℕ) (shard : Option Shard) (old : Option (List Row))
     (rows : List Row) (before after : CommandOutputs) : Type 0 where
   pub middle : CommandOutputs
-  pub put : IsRunWritten args reporter places shard old rows before middle
-  pub counted : AreCountsWritten args.stacks (optional_text args.counts) reporter.plan (shown_indices places rows) middle after
+  pub put : IsRunWritten args reporter indices shard old rows before middle
+  pub counted : AreCountsWritten args.stacks (optional_text args.counts) reporter.plan (shown_indices indices rows) middle after
 
 -- the jobs at these indices ran, with the requested budget: the note about missing images went to standard error, and then their rows and
 -- counts were written; the status follows from the rows
-pub record IsRunOfJobs (contents : Option FileContents) (args : RunArgs) (failures : Option KnownJobs) (jobs : List Job) (places : List ℕ)
+pub record IsRunOfJobs (contents : Option FileContents) (args : RunArgs) (failures : Option KnownJobs) (jobs : List Job) (indices : List ℕ)
     (shard : Option Shard) (old : Option (List Row)) (status : ℕ) (before after : CommandOutputs) : Type 0 where
   pub plan : PlanView
   pub unread : List UnreadablePath
-  pub planned : IsPlanFor (contents_below (optional_text args.root) contents) (with_budget args.budget jobs) places plan
+  pub planned : IsPlanFor (contents_below (optional_text args.root) contents) (with_budget args.budget jobs) indices plan
       unread
   pub rows : List Row
-  pub shown : rows ≡ run_rows args.stop_after (run_judging args failures) plan places
+  pub shown : rows ≡ run_rows args.stop_after (run_judging args failures) plan indices
   pub judged : status ≡ rows_status (run_judging args failures) rows
   pub middle : CommandOutputs
-  pub noted : IsOnlyErrorOutput (missing_images_note plan.jobs unread (length places) (optional_text args.root)) before middle
-  pub put : IsCountedRunWritten args (run_reporter args failures plan unread) places shard old rows middle after
+  pub noted : IsOnlyErrorOutput (missing_images_note plan.jobs unread (length indices) (optional_text args.root)) before middle
+  pub put : IsCountedRunWritten args (run_reporter args failures plan unread) indices shard old rows middle after
 
 -- the selected jobs ran and their outputs were written; if no job is selected (`None`), the status is 0 and nothing more was output
 abbrev pub IsRunOfSelected : Option FileContents → RunArgs → Option KnownJobs → List Job → Option (List Bool) → Option Shard
@@ -194,27 +194,27 @@ pub record IsRunAt (contents : Option FileContents) (args : RunArgs) (status : �
 -- after an error, only some of a run's files were committed: the JUnit XML or, if counts are requested, the JUnit XML and the report
 abbrev pub AreRunFilesPartlyCommitted : RunArgs → RowReporter → List ℕ → Option Shard → Option (List Row) → List Row
     → Option (List CommittedFile) → Option (List CommittedFile) → Type 0
-AreRunFilesPartlyCommitted args reporter places shard old rows before after =
-    AreFilesCommitted before after (Some (junit_file args reporter places rows))
+AreRunFilesPartlyCommitted args reporter indices shard old rows before after =
+    AreFilesCommitted before after (Some (junit_file args reporter indices rows))
     ⊎ ((is_some args.counts ≡ true) × AreFilesCommitted before after
-    (Some (junit_file args reporter places rows ++ report_file args reporter places shard old rows)))
+    (Some (junit_file args reporter indices rows ++ report_file args reporter indices shard old rows)))
 
 -- the jobs at these indices ran, but only some of the requested output files were committed
-pub record IsRunPartlyCommitted (contents : Option FileContents) (args : RunArgs) (failures : Option KnownJobs) (jobs : List Job) (places : List ℕ)
+pub record IsRunPartlyCommitted (contents : Option FileContents) (args : RunArgs) (failures : Option KnownJobs) (jobs : List Job) (indices : List ℕ)
     (shard : Option Shard) (old : Option (List Row)) (before after : Option (List CommittedFile)) : Type 0 where
   pub plan : PlanView
   pub unread : List UnreadablePath
-  pub planned : IsPlanFor (contents_below (optional_text args.root) contents) (with_budget args.budget jobs) places plan
+  pub planned : IsPlanFor (contents_below (optional_text args.root) contents) (with_budget args.budget jobs) indices plan
       unread
   pub rows : List Row
-  pub shown : rows ≡ run_rows args.stop_after (run_judging args failures) plan places
-  pub placed : AreRunFilesPartlyCommitted args (run_reporter args failures plan unread) places shard old rows before after
+  pub shown : rows ≡ run_rows args.stop_after (run_judging args failures) plan indices
+  pub placed : AreRunFilesPartlyCommitted args (run_reporter args failures plan unread) indices shard old rows before after
 
 -- after an error, a run of the jobs at these indices has committed no file, or only some of the requested output files
 abbrev pub IsAbortedRunOfJobs : Option FileContents → RunArgs → Option KnownJobs → List Job → List ℕ → Option Shard
     → Option (List Row) → Option (List CommittedFile) → Option (List CommittedFile) → Type 0
-IsAbortedRunOfJobs contents args failures jobs places shard old before after =
-    (after ≡ before) ⊎ IsRunPartlyCommitted contents args failures jobs places shard old before after
+IsAbortedRunOfJobs contents args failures jobs indices shard old before after =
+    (after ≡ before) ⊎ IsRunPartlyCommitted contents args failures jobs indices shard old before after
 
 -- the requested jobs were found and ran, but only some of the requested output files were committed
 pub record IsRunPartlyCommittedAt (contents : Option FileContents) (args : RunArgs) (before after : Option (List CommittedFile))

@@ -64,21 +64,21 @@ IsMismatchedTableStop contents shown path images stop = IsNoTableStop contents p
 
 -- why a command stopped: the call stacks of the jobs at these indices cannot be summed up; the message names `path`
 abbrev pub IsStackSumOfJobsStop : PlanView → List ℕ → List ℕ → Stop → Type 0
-IsStackSumOfJobsStop plan places path stop =
-    (error : SumError) × (HaveNoTableWithStacks plan places error × IsSumErrorStop path error stop)
+IsStackSumOfJobsStop plan indices path stop =
+    (error : SumError) × (HaveNoTableWithStacks plan indices error × IsSumErrorStop path error stop)
 
 -- why a command stopped: the runs of the jobs at these indices could not be counted: memory ran out, or the call stacks of a profile cannot
 -- be summed up
 abbrev pub IsUncountedStop : View → PlanView → List ℕ → List ℕ → Stop → Type 0
-IsUncountedStop (view.Cover csv) plan places path stop = stop ≡ stops.OutOfMemory
-IsUncountedStop (view.Profile format) plan places path stop = IsStackSumOfJobsStop plan places path stop
+IsUncountedStop (view.Cover csv) plan indices path stop = stop ≡ stops.OutOfMemory
+IsUncountedStop (view.Profile format) plan indices path stop = IsStackSumOfJobsStop plan indices path stop
 
 -- why a command stopped: no table for the view was found: the table at the given path cannot be used, or no path is given and the runs
 -- could not be counted
 abbrev pub IsNoViewTableStop : Option FileContents → RunArgs → View → Option (List ℕ) → PlanView → List ℕ → Stop → Type 0
-IsNoViewTableStop contents args shown None plan places stop = IsUncountedStop shown plan places args.list.now stop
-IsNoViewTableStop contents args shown (Some path) plan places stop =
-    IsMismatchedTableStop contents shown path (images_of plan.answers (jobs_at plan places)) stop
+IsNoViewTableStop contents args shown None plan indices stop = IsUncountedStop shown plan indices args.list.now stop
+IsNoViewTableStop contents args shown (Some path) plan indices stop =
+    IsMismatchedTableStop contents shown path (images_of plan.answers (jobs_at plan indices)) stop
 
 -- ---- too many steps
 
@@ -105,30 +105,30 @@ IsTableTextStop (view.Profile format) table images source stop = (stop ≡ stops
 -- why a command stopped: a table for the jobs at these indices was found, but its view could not be written because memory ran out or, for
 -- a profile, a sum does not fit in 64 bits
 abbrev pub IsViewTextStop : Option FileContents → RunArgs → View → PlanView → List ℕ → Stop → Type 0
-IsViewTextStop contents args shown plan places stop = (table : CountTable)
-    × (IsTableForView contents shown (optional_text args.counts) plan places table
-    × IsTableTextStop shown table (images_of plan.answers (jobs_at plan places)) (counts_source args) stop)
+IsViewTextStop contents args shown plan indices stop = (table : CountTable)
+    × (IsTableForView contents shown (optional_text args.counts) plan indices table
+    × IsTableTextStop shown table (images_of plan.answers (jobs_at plan indices)) (counts_source args) stop)
 
 -- ---- the command
 
 -- why a command stopped: memory ran out, no table for the view was found, or its view could not be written
 abbrev pub IsUnshownStop : Option FileContents → RunArgs → View → PlanView → List ℕ → Stop → Type 0
-IsUnshownStop contents args shown plan places stop = (stop ≡ stops.OutOfMemory)
-    ⊎ (IsNoViewTableStop contents args shown (optional_text args.counts) plan places stop
-    ⊎ IsViewTextStop contents args shown plan places stop)
+IsUnshownStop contents args shown plan indices stop = (stop ≡ stops.OutOfMemory)
+    ⊎ (IsNoViewTableStop contents args shown (optional_text args.counts) plan indices stop
+    ⊎ IsViewTextStop contents args shown plan indices stop)
 
 -- why a command stopped: the files of the jobs at these indices were read, but the view could not be made
-pub record IsNoViewOfJobsStop (contents : Option FileContents) (args : RunArgs) (shown : View) (jobs : List Job) (places : List ℕ)
+pub record IsNoViewOfJobsStop (contents : Option FileContents) (args : RunArgs) (shown : View) (jobs : List Job) (indices : List ℕ)
     (stop : Stop) : Type 0 where
   pub plan : PlanView
   pub unread : List UnreadablePath
-  pub planned : IsPlanFor (contents_below (optional_text args.root) contents) jobs places plan unread
-  pub unshown : IsUnshownStop contents args shown plan places stop
+  pub planned : IsPlanFor (contents_below (optional_text args.root) contents) jobs indices plan unread
+  pub unshown : IsUnshownStop contents args shown plan indices stop
 
 -- why a command stopped: memory ran out, a write to standard output failed, or the view of the jobs at these indices could not be made
 abbrev pub IsViewFailedStop : Option FileContents → RunArgs → View → List Job → List ℕ → Stop → Type 0
-IsViewFailedStop contents args shown jobs places stop = (stop ≡ stops.OutOfMemory)
-    ⊎ ((stop ≡ stops.WriteFailed) ⊎ IsNoViewOfJobsStop contents args shown jobs places stop)
+IsViewFailedStop contents args shown jobs indices stop = (stop ≡ stops.OutOfMemory)
+    ⊎ ((stop ≡ stops.WriteFailed) ⊎ IsNoViewOfJobsStop contents args shown jobs indices stop)
 
 -- why a command stopped: the requested jobs were found, but their view could not be written
 pub record IsViewFailedAtStop (contents : Option FileContents) (args : RunArgs) (shown : View) (stop : Stop) : Type 0 where

@@ -28,8 +28,8 @@ use Rattle.rvtest_app.specs.declared.view.View.TheVariants as view
 
 -- the table has the counts of a run of the jobs at these indices: without call stacks for coverage, and with them for a profile
 abbrev pub IsRunTableForView : View → PlanView → List ℕ → CountTable → Type 0
-IsRunTableForView (view.Cover csv) plan places table = IsTableOfJobsAt plan places table
-IsRunTableForView (view.Profile format) plan places table = IsTableWithStacks plan places table
+IsRunTableForView (view.Cover csv) plan indices table = IsTableOfJobsAt plan indices table
+IsRunTableForView (view.Profile format) plan indices table = IsTableWithStacks plan indices table
 
 -- whether the table has the counts that the view needs: call stacks for a profile, and any counts for coverage
 abbrev pub has_counts_for : View → CountTable → Bool
@@ -52,27 +52,27 @@ pub record IsMatchingTableAt (contents : Option FileContents) (shown : View) (pa
 
 -- `table` is the table for the view: the table at the path, or without a path the counts of a run of the jobs at these indices
 abbrev pub IsTableForView : Option FileContents → View → Option (List ℕ) → PlanView → List ℕ → CountTable → Type 0
-IsTableForView contents shown None plan places table = IsRunTableForView shown plan places table
-IsTableForView contents shown (Some path) plan places table = IsMatchingTableAt contents shown path (images_of plan.answers (jobs_at plan places)) table
+IsTableForView contents shown None plan indices table = IsRunTableForView shown plan indices table
+IsTableForView contents shown (Some path) plan indices table = IsMatchingTableAt contents shown path (images_of plan.answers (jobs_at plan indices)) table
 
 -- the text is the view of the images of the jobs at these indices of the plan
 abbrev pub IsViewOfPlan : Option FileContents → RunArgs → View → PlanView → List ℕ → List ℕ → Type 0
-IsViewOfPlan contents args shown plan places text = (table : CountTable)
-    × (IsTableForView contents shown (optional_text args.counts) plan places table
-    × IsViewText shown table (images_of plan.answers (jobs_at plan places)) text)
+IsViewOfPlan contents args shown plan indices text = (table : CountTable)
+    × (IsTableForView contents shown (optional_text args.counts) plan indices table
+    × IsViewText shown table (images_of plan.answers (jobs_at plan indices)) text)
 
 -- ---- the command
 
 -- the notes about missing images and refused jobs went to standard error, and then the view of the jobs at these indices was written
-pub record IsViewOfJobs (contents : Option FileContents) (args : RunArgs) (shown : View) (jobs : List Job) (places : List ℕ)
+pub record IsViewOfJobs (contents : Option FileContents) (args : RunArgs) (shown : View) (jobs : List Job) (indices : List ℕ)
     (before after : CommandOutputs) : Type 0 where
   pub plan : PlanView
   pub unread : List UnreadablePath
-  pub planned : IsPlanFor (contents_below (optional_text args.root) contents) jobs places plan unread
+  pub planned : IsPlanFor (contents_below (optional_text args.root) contents) jobs indices plan unread
   pub middle : CommandOutputs
-  pub told : IsOnlyErrorOutput (refused_note args plan unread places) before middle
+  pub told : IsOnlyErrorOutput (refused_note args plan unread indices) before middle
   pub text : List ℕ
-  pub of_plan : IsViewOfPlan contents args shown plan places text
+  pub of_plan : IsViewOfPlan contents args shown plan indices text
   pub put : IsOnlyStandardOutput text middle after
 
 -- the view of the selected jobs was written; if no job is selected (`None`), nothing was written

@@ -277,14 +277,14 @@ fn run_selected<
         ..
     } = marked;
     let (alloc, root) = (host.alloc, args.run.root);
-    let places = selected_indices(alloc, selection.as_slice())?;
+    let indices = selected_indices(alloc, selection.as_slice())?;
     let mut store = RecordingStore::new(host.inputs, alloc, root);
-    let plan = gather_jobs_at(alloc, jobs, places.as_slice(), &mut store)?;
-    let count = places.as_slice().len();
+    let plan = gather_jobs_at(alloc, jobs, indices.as_slice(), &mut store)?;
+    let count = indices.as_slice().len();
     let note = missing_images_note(alloc, &plan, store.unreadable_paths(), count, root)?;
     write_message(&mut to.errors, note.as_slice());
     let crew = requested_crew(host.rt, alloc, &args.run);
-    let batch = Batch::new(&plan, places.as_slice());
+    let batch = Batch::new(&plan, indices.as_slice());
     match run_batch(&crew, &batch) {
         Ok(rows) => Ok(indexed_rows(alloc, selection.as_slice(), rows.into_vec())?),
         Err(error) => Err(stop_of_run_error(error)),

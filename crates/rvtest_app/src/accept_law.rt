@@ -17,12 +17,12 @@ ghost use Rattle.rvtest_app.specs.CommandOutputs.{CommandOutputs};
 /// get the same text, and the run can read the job's files.
 pub fn accepted_jobs_pass()
     ensures { (args : Words) (before after : FileContents) (bytes : List ℕ) (jobs : List Job) (chosen : List Bool)
-        (status : ℕ) (from to : CommandOutputs) (place : ℕ) (job : Job) (row : Row)
+        (status : ℕ) (from to : CommandOutputs) (index : ℕ) (job : Job) (row : Row)
         → IsTextAt (Some before) args.run.list.now bytes → job_list_of bytes ≡ Ok jobs
         → (accepted : IsAcceptOfSelected (Some before) args bytes jobs chosen status from to)
         → (store : IsStoreAfter (written_files accepted.told) before after)
         → HaveOneTextPerFile store.leads accepted.told.files.now
-        → IsFullyAccepted accepted.told place job
-        → IsRowOfRun after args.run place row
+        → IsFullyAccepted accepted.told index job
+        → IsRowOfRun after args.run index row
         → IsTrue (is_pass_or_none row.verdict) }
 {}

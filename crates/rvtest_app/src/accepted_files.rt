@@ -32,13 +32,13 @@ pub(crate) fn read_golden_files<D: Inputs>(
 {
     let mut files = Vec::new(alloc);
     for target in targets {
-        let place = golden_file_path(alloc, folder, target.path.as_str())?;
-        let old = read_golden_file(inputs, alloc, place.as_str())?;
+        let resolved = golden_file_path(alloc, folder, target.path.as_str())?;
+        let old = read_golden_file(inputs, alloc, resolved.as_str())?;
         push_file(
             &mut files,
             GoldenFile {
                 target,
-                resolved_path: place,
+                resolved_path: resolved,
                 old,
             },
         )?;
@@ -60,10 +60,10 @@ pub(crate) fn golden_file_path(
     folder: Option<&str>,
     path: &str,
 ) -> Result<Text, AllocError>
-    ensures { IfOk result (λ place. place ≡ resolved_path (optional_text folder.entry) path.now) }
+    ensures { IfOk result (λ resolved. resolved ≡ resolved_path (optional_text folder.entry) path.now) }
 {
-    let place = resolved_path(alloc, folder, path)?;
-    Text::copy(alloc, place.as_str())
+    let resolved = resolved_path(alloc, folder, path)?;
+    Text::copy(alloc, resolved.as_str())
 }
 
 // Reads the file at a path. Returns `None` if there is no file.

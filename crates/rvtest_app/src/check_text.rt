@@ -50,8 +50,8 @@ impl<'a> CheckedList<'a> {
         ensures count { IfOk result (λ refused. refused ≡ refused_job_count self.now.plan.now) }
     {
         let mut refused = 0;
-        for place in 0..self.plan.jobs() {
-            let is_refused = self.push_job_if_refused(alloc, text, place)?;
+        for index in 0..self.plan.jobs() {
+            let is_refused = self.push_job_if_refused(alloc, text, index)?;
             if is_refused {
                 refused += 1;
             }
@@ -59,122 +59,122 @@ impl<'a> CheckedList<'a> {
         Ok(refused)
     }
 
-    // Appends the lines for the job at index `place` if it is refused. Returns whether it is.
+    // Appends the lines for the job at index `index` if it is refused. Returns whether it is.
     #[tactic(auto, unfolding(crate::specs::CheckText::refused_job_text))]
     fn push_job_if_refused(
         &self,
         alloc: Global,
         text: &mut Vec<u8>,
-        place: usize,
+        index: usize,
     ) -> Result<bool, AllocError>
-        requires { place < length self.now.plan.now.jobs }
+        requires { index < length self.now.plan.now.jobs }
         ensures text { OnOk result ((d : AJob) → text.new.items ≡ text.old.items ++ refused_job_text
-            self.now.path.now self.now.lines.now self.now.plan.now self.now.unread.now place
-            (slice_index_or self.now.plan.now.jobs place d)) }
+            self.now.path.now self.now.lines.now self.now.plan.now self.now.unread.now index
+            (slice_index_or self.now.plan.now.jobs index d)) }
         ensures refused { IfOk result (λ refused. (d : AJob) → refused
-            ≡ is_job_refused self.now.plan.now (slice_index_or self.now.plan.now.jobs place d)) }
+            ≡ is_job_refused self.now.plan.now (slice_index_or self.now.plan.now.jobs index d)) }
     {
-        match refusal_at(alloc, self.plan, place)? {
+        match refusal_at(alloc, self.plan, index)? {
             Some(_) => {
-                self.push_refused_files(alloc, text, place)?;
+                self.push_refused_files(alloc, text, index)?;
                 Ok(true)
             }
             None => Ok(false),
         }
     }
 
-    // Appends the lines for the files that make the job at index `place` refused.
+    // Appends the lines for the files that make the job at index `index` refused.
     #[tactic(auto, unfolding(crate::specs::CheckText::refused_files_text))]
     fn push_refused_files(
         &self,
         alloc: Global,
         text: &mut Vec<u8>,
-        place: usize,
+        index: usize,
     ) -> Result<(), AllocError>
-        requires { place < length self.now.plan.now.jobs }
+        requires { index < length self.now.plan.now.jobs }
         ensures { OnOk result ((d : AJob) → text.new.items ≡ text.old.items ++ refused_files_text
-            self.now.path.now self.now.lines.now self.now.plan.now self.now.unread.now place
-            (slice_index_or self.now.plan.now.jobs place d)) }
+            self.now.path.now self.now.lines.now self.now.plan.now self.now.unread.now index
+            (slice_index_or self.now.plan.now.jobs index d)) }
     {
-        self.push_image_if_refused(alloc, text, place)?;
-        let job = self.plan.job(place);
+        self.push_image_if_refused(alloc, text, index)?;
+        let job = self.plan.job(index);
         let signature = Reference {
-            kept: self.plan.reference(place),
+            kept: self.plan.reference(index),
             path: reference_path(job),
         };
-        self.push_reference_if_unread(alloc, text, place, signature)?;
+        self.push_reference_if_unread(alloc, text, index, signature)?;
         let console = Reference {
-            kept: self.plan.console_reference(place),
+            kept: self.plan.console_reference(index),
             path: console_path(job),
         };
-        self.push_reference_if_unread(alloc, text, place, console)
+        self.push_reference_if_unread(alloc, text, index, console)
     }
 
-    // Appends the line for the image of the job at index `place` if the image makes the job refused.
+    // Appends the line for the image of the job at index `index` if the image makes the job refused.
     #[tactic(auto, unfolding(rv_job_text::specs::RefusalReasons::ending_reason))]
     fn push_image_if_refused(
         &self,
         alloc: Global,
         text: &mut Vec<u8>,
-        place: usize,
+        index: usize,
     ) -> Result<(), AllocError>
-        requires { place < length self.now.plan.now.jobs }
+        requires { index < length self.now.plan.now.jobs }
         ensures { OnOk result ((d : AJob) → text.new.items ≡ text.old.items ++ refused_image_text
-            self.now.path.now self.now.lines.now self.now.plan.now self.now.unread.now place
-            (slice_index_or self.now.plan.now.jobs place d)) }
+            self.now.path.now self.now.lines.now self.now.plan.now self.now.unread.now index
+            (slice_index_or self.now.plan.now.jobs index d)) }
     {
-        match image_refusal_at(alloc, self.plan, place)? {
+        match image_refusal_at(alloc, self.plan, index)? {
             Some(refusal) => {
                 let ending = RowEnd::Refused(refusal);
-                let reason = ending_reason(alloc, self.plan, self.unread, place, ending)?;
-                self.push_refused_file(text, place, refusal, reason)
+                let reason = ending_reason(alloc, self.plan, self.unread, index, ending)?;
+                self.push_refused_file(text, index, refusal, reason)
             }
             None => Ok(()),
         }
     }
 
-    // Appends the line for an expectation file of the job at index `place` if the file could not be read.
+    // Appends the line for an expectation file of the job at index `index` if the file could not be read.
     fn push_reference_if_unread(
         &self,
         alloc: Global,
         text: &mut Vec<u8>,
-        place: usize,
+        index: usize,
         file: Reference<'_>,
     ) -> Result<(), AllocError>
-        requires { place < length self.now.plan.now.jobs }
+        requires { index < length self.now.plan.now.jobs }
         ensures { OnOk result ((d : AJob) → text.new.items ≡ text.old.items ++ unread_reference_text
-            self.now.path.now self.now.lines.now self.now.unread.now place
-            (slice_index_or self.now.plan.now.jobs place d) (option_map (λ kept. kept.now) file.entry.kept)
+            self.now.path.now self.now.lines.now self.now.unread.now index
+            (slice_index_or self.now.plan.now.jobs index d) (option_map (λ kept. kept.now) file.entry.kept)
             (option_map (λ path. path.now) file.entry.path)) }
     {
         match (file.kept, file.path) {
             (Some(Kept::Unreadable), Some(path)) => {
                 let reason = unread_file_text(alloc, self.unread, path)?;
-                self.push_refused_file(text, place, Refusal::ReferenceUnreadable, Some(reason))
+                self.push_refused_file(text, index, Refusal::ReferenceUnreadable, Some(reason))
             }
             (Some(Kept::TooLong), Some(path)) => {
                 let reason = too_long_file_text(alloc, path)?;
-                self.push_refused_file(text, place, Refusal::ReferenceTooLong, Some(reason))
+                self.push_refused_file(text, index, Refusal::ReferenceTooLong, Some(reason))
             }
             _ => Ok(()),
         }
     }
 
-    // Appends the line for a file that makes the job at index `place` refused.
+    // Appends the line for a file that makes the job at index `index` refused.
     #[tactic(auto, unfolding(crate::specs::CheckText::refused_file_line))]
     fn push_refused_file(
         &self,
         text: &mut Vec<u8>,
-        place: usize,
+        index: usize,
         refusal: Refusal,
         reason: Option<Vec<u8>>,
     ) -> Result<(), AllocError>
-        requires { place < length self.now.plan.now.jobs }
+        requires { index < length self.now.plan.now.jobs }
         ensures { OnOk result ((d : AJob) → text.new.items ≡ text.old.items ++ refused_file_line
-            self.now.path.now self.now.lines.now place (slice_index_or self.now.plan.now.jobs place d) refusal
+            self.now.path.now self.now.lines.now index (slice_index_or self.now.plan.now.jobs index d) refusal
             (option_map (λ text. text.items) reason)) }
     {
-        self.push_job_prefix(text, ": error:", place, self.plan.job(place))?;
+        self.push_job_prefix(text, ": error:", index, self.plan.job(index))?;
         push_refusal(text, refusal, reason)?;
         push_text(text, "\n")
     }
@@ -186,9 +186,9 @@ impl<'a> CheckedList<'a> {
         ensures count { IfOk result (λ warned. warned ≡ warned_job_count self.now.plan.now) }
     {
         let mut warned = 0;
-        for place in 0..self.plan.jobs() {
-            let job = self.plan.job(place);
-            self.push_job_if_warned(text, place, job)?;
+        for index in 0..self.plan.jobs() {
+            let job = self.plan.job(index);
+            self.push_job_if_warned(text, index, job)?;
             if expects_two_ends(job) {
                 warned += 1;
             }
@@ -196,62 +196,62 @@ impl<'a> CheckedList<'a> {
         Ok(warned)
     }
 
-    // Appends a warning if the job at index `place` expects two ends.
+    // Appends a warning if the job at index `index` expects two ends.
     #[tactic(auto, unfolding(crate::specs::CheckText::warned_job_text))]
     fn push_job_if_warned(
         &self,
         text: &mut Vec<u8>,
-        place: usize,
+        index: usize,
         job: &Job,
     ) -> Result<(), AllocError>
-        requires { place < length self.now.plan.now.jobs }
+        requires { index < length self.now.plan.now.jobs }
         ensures { OnOk result (text.new.items ≡ text.old.items
-            ++ warned_job_text self.now.path.now self.now.lines.now place job.now) }
+            ++ warned_job_text self.now.path.now self.now.lines.now index job.now) }
     {
         if expects_two_ends(job) {
-            self.push_two_ends_warning(text, place, job)?;
+            self.push_two_ends_warning(text, index, job)?;
         }
         Ok(())
     }
 
-    // Appends the warning line that the job at index `place` expects two ends.
+    // Appends the warning line that the job at index `index` expects two ends.
     #[tactic(auto, unfolding(crate::specs::CheckText::two_ends_line))]
     fn push_two_ends_warning(
         &self,
         text: &mut Vec<u8>,
-        place: usize,
+        index: usize,
         job: &Job,
     ) -> Result<(), AllocError>
-        requires { place < length self.now.plan.now.jobs }
+        requires { index < length self.now.plan.now.jobs }
         ensures { OnOk result (text.new.items ≡ text.old.items
-            ++ two_ends_line self.now.path.now self.now.lines.now place job.now) }
+            ++ two_ends_line self.now.path.now self.now.lines.now index job.now) }
     {
-        self.push_job_prefix(text, ": warning:", place, job)?;
+        self.push_job_prefix(text, ": warning:", index, job)?;
         push_two_ends(text, job.expect_exit, job.expect_end)?;
         push_text(text, "\n")
     }
 
-    // Appends the beginning of a line about the job at index `place`: the path and line where it begins, the severity, its number and its
+    // Appends the beginning of a line about the job at index `index`: the path and line where it begins, the severity, its number and its
     // name.
     #[tactic(auto, unfolding(crate::specs::CheckText::job_prefix))]
     fn push_job_prefix(
         &self,
         text: &mut Vec<u8>,
         severity: &'static str,
-        place: usize,
+        index: usize,
         job: &Job,
     ) -> Result<(), AllocError>
-        requires { place < length self.now.plan.now.jobs }
+        requires { index < length self.now.plan.now.jobs }
         ensures { OnOk result (text.new.items ≡ text.old.items
-            ++ job_prefix severity.now self.now.path.now self.now.lines.now place job.now) }
+            ++ job_prefix severity.now self.now.path.now self.now.lines.now index job.now) }
     {
-        self.push_path_and_line(text, place)?;
+        self.push_path_and_line(text, index)?;
         push_spans(
             text,
             &[
                 Span::Text(severity),
                 Span::Text(" job "),
-                Span::Number(place as u64 + 1),
+                Span::Number(index as u64 + 1),
                 Span::Text(" \""),
                 Span::Text(job.name.as_str()),
                 Span::Text("\": "),
@@ -259,13 +259,13 @@ impl<'a> CheckedList<'a> {
         )
     }
 
-    // Appends the path of the list, and the number of the line on which the job at index `place` begins, if it is known.
-    fn push_path_and_line(&self, text: &mut Vec<u8>, place: usize) -> Result<(), AllocError>
+    // Appends the path of the list, and the number of the line on which the job at index `index` begins, if it is known.
+    fn push_path_and_line(&self, text: &mut Vec<u8>, index: usize) -> Result<(), AllocError>
         ensures { OnOk result (text.new.items ≡ text.old.items
-            ++ path_and_line self.now.path.now (slice_get self.now.lines.now place)) }
+            ++ path_and_line self.now.path.now (slice_get self.now.lines.now index)) }
     {
         let path = Span::Printable(self.path.as_bytes());
-        match self.lines.get(place) {
+        match self.lines.get(index) {
             Some(line) => push_spans(text, &[path, Span::Text(":"), Span::Number(*line as u64)]),
             None => push_spans(text, &[path]),
         }

@@ -12,10 +12,10 @@ use rv_rows::Rows;
 pub(crate) struct ChosenRows<'a> {
     /// The number of jobs in the list.
     pub(crate) jobs: usize,
-    pub(crate) places: &'a [usize],
+    pub(crate) indices: &'a [usize],
     pub(crate) rows: Rows,
     ghost few: { jobs ≤ max_jobs },
-    ghost within: { All (λ place. place < jobs) places.now },
-    ghost rising: { IsStrictlyIncreasing places.now },
-    ghost counted: { length rows ≡ length places.now },
+    ghost within: { All (λ index. index < jobs) indices.now },
+    ghost rising: { IsStrictlyIncreasing indices.now },
+    ghost counted: { length rows ≡ length indices.now },
 }

@@ -14,7 +14,7 @@ use std::alloc::Global;
 #[derive(Drop)]
 pub(crate) struct SyncedFile<'a, P: Drop, S: Drop> {
     path: &'a str,
-    place: P,
+    destination: P,
     file: S,
 }
 
@@ -97,11 +97,11 @@ fn sync_outlet<'a, F: Outputs>(
     let Outlet::File(file) = outlet else {
         return Ok(None);
     };
-    let OpenFile { path, place, sink } = file;
+    let OpenFile { path, destination, sink } = file;
     match files.sync(sink) {
-        Ok(file) => Ok(Some(SyncedFile { path, place, file })),
+        Ok(file) => Ok(Some(SyncedFile { path, destination, file })),
         Err(error) => {
-            files.abandon(place);
+            files.abandon(destination);
             Err(file_error_stop(alloc, path, error))
         }
     }
@@ -112,7 +112,7 @@ fn abandon_synced<F: Outputs>(files: &mut F, synced: Option<SyncedFile<'_, F::Pl
     ensures { F.committed files.new ≡ F.committed files.old }
 {
     if let Some(synced) = synced {
-        files.abandon(synced.place);
+        files.abandon(synced.destination);
     }
 }
 
@@ -154,8 +154,8 @@ fn commit_synced<F: Outputs>(
     let Some(synced) = synced else {
         return Ok(());
     };
-    let SyncedFile { path, place, file } = synced;
-    match files.place(place, file) {
+    let SyncedFile { path, destination, file } = synced;
+    match files.place(destination, file) {
         Ok(()) => Ok(()),
         Err(error) => Err(file_error_stop(alloc, path, error)),
     }

@@ -81,49 +81,49 @@ fn run_job_of_text<D: Inputs>(
     ensures low { IfOk result (λ told. told.status ≤ 1) }
     ensures stopped { IfErr result (IsNoJobStop args.entry.list.now text.now args.entry.name.now) }
 {
-    let NamedJob { jobs, place } = find_named_job(alloc, args.list, args.name, text)?;
-    run_job_at(inputs, alloc, args, jobs, place)
+    let NamedJob { jobs, index } = find_named_job(alloc, args.list, args.name, text)?;
+    run_job_at(inputs, alloc, args, jobs, index)
 }
 
-// Runs the job at index `place` of the list, and returns its row, its result line, and the exit status.
+// Runs the job at index `index` of the list, and returns its row, its result line, and the exit status.
 fn run_job_at<D: Inputs>(
     inputs: &D,
     alloc: Global,
     args: ConsoleArgs<'_>,
     jobs: JobList,
-    place: usize,
+    index: usize,
 ) -> Result<ReportedRow, Stop>
-    requires { place < length jobs }
+    requires { index < length jobs }
     ensures told { IfOk result (λ told.
         IsJobConsole (contents_below (optional_text args.entry.root) (D.contents inputs.now))
-        jobs place told.row.console told.line.items told.status) }
+        jobs index told.row.console told.line.items told.status) }
     ensures low { IfOk result (λ told. told.status ≤ 1) }
     ensures memory { IfErr result (λ stop. stop ≡ Stop.OutOfMemory) }
 {
-    let places = vec![in alloc; place; 1]?;
+    let indices = vec![in alloc; index; 1]?;
     let mut store = RecordingStore::new(inputs, alloc, args.root);
-    let plan = gather_jobs(alloc, jobs, places, &mut store)?;
-    run_planned_job(alloc, &plan, store.unreadable_paths(), place)
+    let plan = gather_jobs(alloc, jobs, indices, &mut store)?;
+    run_planned_job(alloc, &plan, store.unreadable_paths(), index)
 }
 
-// Runs the job at index `place` of a plan, and returns its row, the lines about it and the exit status.
+// Runs the job at index `index` of a plan, and returns its row, the lines about it and the exit status.
 fn run_planned_job(
     alloc: Global,
     plan: &Plan,
     unread: &[UnreadablePath],
-    place: usize,
+    index: usize,
 ) -> Result<ReportedRow, Stop>
-    requires { place < length plan.now.jobs }
-    ensures row { IfOk result (λ told. (d : AJob) → told.row ≡ row_of plan.now (slice_index_or plan.now.jobs place d)) }
+    requires { index < length plan.now.jobs }
+    ensures row { IfOk result (λ told. (d : AJob) → told.row ≡ row_of plan.now (slice_index_or plan.now.jobs index d)) }
     ensures line { IfOk result (λ told. (d : AJob) → told.line.items
-        ≡ row_line plan.now unread.now (judge_by_rule Strict) (slice_index_or plan.now.jobs place d)
-        (row_of plan.now (slice_index_or plan.now.jobs place d))) }
+        ≡ row_line plan.now unread.now (judge_by_rule Strict) (slice_index_or plan.now.jobs index d)
+        (row_of plan.now (slice_index_or plan.now.jobs index d))) }
     ensures status { IfOk result (λ told. (d : AJob) → told.status
-        ≡ passing_status (has_passed Strict (row_of plan.now (slice_index_or plan.now.jobs place d)))) }
+        ≡ passing_status (has_passed Strict (row_of plan.now (slice_index_or plan.now.jobs index d)))) }
     ensures low { IfOk result (λ told. told.status ≤ 1) }
     ensures memory { IfErr result (λ stop. stop ≡ Stop.OutOfMemory) }
 {
-    let row = row_at(alloc, plan, place)?;
+    let row = row_at(alloc, plan, index)?;
     let reporter = TextReporter {
         plan,
         unread,
@@ -132,7 +132,7 @@ fn run_planned_job(
         last: None,
     };
     let mut line = Vec::new(alloc);
-    reporter.push_only_row_line(alloc, place, &row, &mut line)?;
+    reporter.push_only_row_line(alloc, index, &row, &mut line)?;
     let status = passing_status(has_passed(Rule::Strict, &row));
     Ok(ReportedRow { row, line, status })
 }

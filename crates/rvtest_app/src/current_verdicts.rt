@@ -43,25 +43,25 @@ impl<'x, D: Inputs> CurrentFiles<'x, D> {
     {
         let mut candidates = Vec::new(self.alloc);
         for job in jobs {
-            let place = candidates.len();
-            let candidate = self.candidate_at(place, job, chosen)?;
+            let index = candidates.len();
+            let candidate = self.candidate_at(index, job, chosen)?;
             push_candidate(&mut candidates, candidate)?;
         }
         Ok(candidates)
     }
 
-    // Returns whether the job at index `place` is chosen, and the verdict on it; a job that was not run fails.
+    // Returns whether the job at index `index` is chosen, and the verdict on it; a job that was not run fails.
     fn candidate_at(
         &self,
-        place: usize,
+        index: usize,
         job: &Job,
         chosen: &[bool],
     ) -> Result<Candidate, AllocError>
         ensures { IfOk result (IsCandidateAt (D.contents self.now.inputs.now) (optional_text self.now.folder)
-            self.now.rows.now chosen.now place job.now) }
+            self.now.rows.now chosen.now index job.now) }
     {
-        let is_chosen = is_selected(chosen, place);
-        match self.row_at(place) {
+        let is_chosen = is_selected(chosen, index);
+        match self.row_at(index) {
             Some(row) => {
                 let verdict = self.current_verdict(job, row)?;
                 Ok(Candidate {
@@ -113,16 +113,16 @@ impl<'x, D: Inputs> CurrentFiles<'x, D> {
         ensures { option_map (λ row. row.now) result ≡ compared_row self.now.rows.now job.now.same_as }
     {
         match job.same_as {
-            Some(place) => self.row_at(place),
+            Some(index) => self.row_at(index),
             None => None,
         }
     }
 
-    // Returns the row of the job at index `place`; `None` if the job did not run.
-    fn row_at(&self, place: usize) -> Option<&Row>
-        ensures { option_map (λ row. row.now) result ≡ row_or_none (slice_get self.now.rows.now place) }
+    // Returns the row of the job at index `index`; `None` if the job did not run.
+    fn row_at(&self, index: usize) -> Option<&Row>
+        ensures { option_map (λ row. row.now) result ≡ row_or_none (slice_get self.now.rows.now index) }
     {
-        row_if_run(self.rows.get(place))
+        row_if_run(self.rows.get(index))
     }
 
     // Returns the contents of the golden file at a path; `None` if no path is given, or the file cannot be read or is too long.
@@ -142,16 +142,16 @@ impl<'x, D: Inputs> CurrentFiles<'x, D> {
         ensures { IfOk result (λ text. AreContentsUpToLimit (D.contents self.now.inputs.now)
             (resolved_path (optional_text self.now.folder) path.now) (option_map (λ bytes. bytes.items) text)) }
     {
-        let place = golden_file_path(self.alloc, self.folder, path)?;
-        self.text_at(place.as_str())
+        let resolved = golden_file_path(self.alloc, self.folder, path)?;
+        self.text_at(resolved.as_str())
     }
 
     // Reads the file at a path. Returns `None` if it cannot be read or is too long.
-    fn text_at(&self, place: &str) -> Result<Option<Vec<u8>>, AllocError>
-        ensures { IfOk result (λ text. AreContentsUpToLimit (D.contents self.now.inputs.now) place.now
+    fn text_at(&self, path: &str) -> Result<Option<Vec<u8>>, AllocError>
+        ensures { IfOk result (λ text. AreContentsUpToLimit (D.contents self.now.inputs.now) path.now
             (option_map (λ bytes. bytes.items) text)) }
     {
-        match read_whole_up_to(self.inputs, self.alloc, place, MAX_FILE_SIZE) {
+        match read_whole_up_to(self.inputs, self.alloc, path, MAX_FILE_SIZE) {
             Ok(Some(text)) => Ok(Some(text)),
             Ok(None) => Ok(None),
             Err(InputError::Failed(_)) => Ok(None),
@@ -168,11 +168,11 @@ fn push_candidate(candidates: &mut Vec<Candidate>, candidate: Candidate) -> Resu
     Ok(())
 }
 
-// Whether the job at index `place` is selected; false if the index is out of range.
-fn is_selected(selection: &[bool], place: usize) -> bool
-    ensures { result ≡ is_selected selection.now place }
+// Whether the job at index `index` is selected; false if the index is out of range.
+fn is_selected(selection: &[bool], index: usize) -> bool
+    ensures { result ≡ is_selected selection.now index }
 {
-    match selection.get(place) {
+    match selection.get(index) {
         Some(marked) => *marked,
         None => false,
     }

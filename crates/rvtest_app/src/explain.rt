@@ -50,49 +50,49 @@ fn explain_job_of_text<D: Inputs>(
     ensures low { IfOk result (λ found. found.status ≤ 1) }
     ensures stopped { IfErr result (IsNoJobStop args.entry.list.now text.now args.entry.name.now) }
 {
-    let NamedJob { jobs, place } = find_named_job(alloc, args.list, args.name, text)?;
-    explain_job_at(inputs, alloc, args, jobs, place)
+    let NamedJob { jobs, index } = find_named_job(alloc, args.list, args.name, text)?;
+    explain_job_at(inputs, alloc, args, jobs, index)
 }
 
-// Runs the job at index `place` of the list, and returns its explanation. A requested budget applies to every job.
+// Runs the job at index `index` of the list, and returns its explanation. A requested budget applies to every job.
 fn explain_job_at<D: Inputs>(
     inputs: &D,
     alloc: Global,
     args: ExplainArgs<'_>,
     jobs: JobList,
-    place: usize,
+    index: usize,
 ) -> Result<CommandResult, Stop>
-    requires { place < length jobs }
+    requires { index < length jobs }
     ensures explained { IfOk result (λ found.
         IsJobExplained (contents_below (optional_text args.entry.root) (D.contents inputs.now))
-        (with_budget args.entry.budget jobs) place args.entry.last found.text.items found.status) }
+        (with_budget args.entry.budget jobs) index args.entry.last found.text.items found.status) }
     ensures low { IfOk result (λ found. found.status ≤ 1) }
     ensures memory { IfErr result (λ stop. stop ≡ Stop.OutOfMemory) }
 {
-    let places = vec![in alloc; place; 1]?;
+    let indices = vec![in alloc; index; 1]?;
     let jobs = jobs.with_budget(args.budget);
     let mut store = RecordingStore::new(inputs, alloc, args.root);
-    let plan = gather_jobs(alloc, jobs, places, &mut store)?;
-    explain_planned_job(alloc, &plan, store.unreadable_paths(), place, args.last)
+    let plan = gather_jobs(alloc, jobs, indices, &mut store)?;
+    explain_planned_job(alloc, &plan, store.unreadable_paths(), index, args.last)
 }
 
-// Runs the job at index `place` of a plan, and returns its explanation, with its last `last` instructions.
+// Runs the job at index `index` of a plan, and returns its explanation, with its last `last` instructions.
 fn explain_planned_job(
     alloc: Global,
     plan: &Plan,
     unread: &[UnreadablePath],
-    place: usize,
+    index: usize,
     last: u32,
 ) -> Result<CommandResult, Stop>
-    requires { place < length plan.now.jobs }
-    ensures text { IfOk result (λ found. IsTextExplaining plan.now unread.now place last found.text.items) }
+    requires { index < length plan.now.jobs }
+    ensures text { IfOk result (λ found. IsTextExplaining plan.now unread.now index last found.text.items) }
     ensures status { IfOk result (λ found. (d : AJob) → found.status
         ≡ passing_status (has_passed Strict
-        (row_of plan.now (slice_index_or plan.now.jobs place d)))) }
+        (row_of plan.now (slice_index_or plan.now.jobs index d)))) }
     ensures low { IfOk result (λ found. found.status ≤ 1) }
     ensures memory { IfErr result (λ stop. stop ≡ Stop.OutOfMemory) }
 {
-    let row = row_at(alloc, plan, place)?;
+    let row = row_at(alloc, plan, index)?;
     let reporter = TextReporter {
         plan,
         unread,
@@ -100,10 +100,10 @@ fn explain_planned_job(
         verbosity: Verbosity::All,
         last: None,
     };
-    let budget_use = budget_use_at(alloc, plan, place, &row)?;
+    let budget_use = budget_use_at(alloc, plan, index, &row)?;
     let way = TraceOptions { last, budget_use };
     let mut text = Vec::new(alloc);
-    reporter.push_job_explanation(alloc, place, &row, &way, &mut text)?;
+    reporter.push_job_explanation(alloc, index, &row, &way, &mut text)?;
     let status = passing_status(has_passed(Rule::Strict, &row));
     Ok(CommandResult { text, status })
 }

@@ -11,9 +11,9 @@ use rv_junit::Suite;
 pub(crate) struct FileTexts<'s, 't, 'p, T> {
     pub(crate) suite: Suite<'s>,
     pub(crate) reporter: &'t T,
-    pub(crate) places: &'p [usize],
+    pub(crate) indices: &'p [usize],
     pub(crate) report: ReportText<'p>,
     /// The lines that are known already, by the numbers of their rows.
     pub(crate) texts: &'p [Option<Vec<u8>>],
-    ghost placed: { length (report_rows report) ≤ length places.now },
+    ghost placed: { length (report_rows report) ≤ length indices.now },
 }

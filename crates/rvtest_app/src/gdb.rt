@@ -38,7 +38,7 @@ use std::thread::Threads;
 struct JobSession {
     session: Session,
     job: PlannedJob,
-    ghost same_run: { job_start_state job.plan job.place ≡ session.history.start } by { Coded-set state_code (job_start_state job.plan job.place) session.history.start },
+    ghost same_run: { job_start_state job.plan job.index ≡ session.history.start } by { Coded-set state_code (job_start_state job.plan job.index) session.history.start },
 }
 
 /// Debugs the run of the job with the requested name. Reads gdb's packets from `input` and writes the replies to standard output, until gdb
@@ -122,7 +122,7 @@ fn session_of_named_job<D: Inputs>(
     args: GdbArgs<'_>,
 ) -> Result<JobSession, Stop>
     ensures opened { IfOk result (λ opened. IsSessionOpenedAt (D.contents inputs.now) args.entry
-        (job_end_text opened.job.plan opened.job.unread.items opened.job.place) opened.session) }
+        (job_end_text opened.job.plan opened.job.unread.items opened.job.index) opened.session) }
     ensures stopped { IfErr result (IsUnopenedSessionStop (D.contents inputs.now) args.entry) }
 {
     let text = read_list_text(inputs, alloc, args.list)?;
@@ -137,7 +137,7 @@ fn session_of_text<D: Inputs>(
     text: &[u8],
 ) -> Result<JobSession, Stop>
     ensures opened { IfOk result (λ opened. IsSessionOpenedOf (D.contents inputs.now) args.entry text.now
-        (job_end_text opened.job.plan opened.job.unread.items opened.job.place) opened.session) }
+        (job_end_text opened.job.plan opened.job.unread.items opened.job.index) opened.session) }
     ensures stopped { IfErr result (λ stop. IsNoJobStop args.entry.list.now text.now args.entry.name.now stop
         ⊎ IsUnopenedJobOfTextStop (D.contents inputs.now) args.entry text.now stop) }
 {
@@ -152,47 +152,47 @@ fn session_of_job<D: Inputs>(
     args: GdbArgs<'_>,
     named: NamedJob,
 ) -> Result<JobSession, Stop>
-    requires { named.place < length named.jobs }
+    requires { named.index < length named.jobs }
     ensures opened { IfOk result (λ opened. IsJobOpened
         (contents_below (optional_text args.entry.root) (D.contents inputs.now)) (optional_text args.entry.root) named.jobs
-        named.place (job_end_text opened.job.plan opened.job.unread.items opened.job.place) opened.session) }
+        named.index (job_end_text opened.job.plan opened.job.unread.items opened.job.index) opened.session) }
     ensures stopped { IfErr result (IsUnopenedJobStop (contents_below (optional_text args.entry.root) (D.contents inputs.now))
-        named.jobs named.place) }
+        named.jobs named.index) }
 {
-    let NamedJob { jobs, place } = named;
-    let places = vec![in alloc; place; 1]?;
+    let NamedJob { jobs, index } = named;
+    let indices = vec![in alloc; index; 1]?;
     let mut store = RecordingStore::new(inputs, alloc, args.root);
-    let plan = gather_jobs(alloc, jobs, places, &mut store)?;
-    match session_of_plan(alloc, &plan, place, args.root)? {
+    let plan = gather_jobs(alloc, jobs, indices, &mut store)?;
+    match session_of_plan(alloc, &plan, index, args.root)? {
         Some(session) => {
             let unread = store.into_unreadable_paths();
             let job = PlannedJob {
                 plan,
                 unread,
-                place,
+                index,
             };
             Ok(JobSession { session, job })
         }
-        None => Err(refused_job_stop(alloc, &plan, store.unreadable_paths(), place)),
+        None => Err(refused_job_stop(alloc, &plan, store.unreadable_paths(), index)),
     }
 }
 
-// Opens the session of the job at index `place` of a plan, with its image's path resolved against `root`. Returns `None` if the job is
+// Opens the session of the job at index `index` of a plan, with its image's path resolved against `root`. Returns `None` if the job is
 // refused.
 fn session_of_plan(
     alloc: Global,
     plan: &Plan,
-    place: usize,
+    index: usize,
     root: Option<&str>,
 ) -> Result<Option<Session>, AllocError>
-    requires { place < length plan.now.jobs }
+    requires { index < length plan.now.jobs }
     ensures { IfOk result (λ found. (d : AJob) → MatchOption found
-        (is_ok (start_state_in plan.now.answers (slice_index_or plan.now.jobs place d)) ≡ false)
-        (IsSessionOf plan.now.answers (slice_index_or plan.now.jobs place d)
-        (resolved_path (optional_text root.entry) (slice_index_or plan.now.jobs place d).image))) }
+        (is_ok (start_state_in plan.now.answers (slice_index_or plan.now.jobs index d)) ≡ false)
+        (IsSessionOf plan.now.answers (slice_index_or plan.now.jobs index d)
+        (resolved_path (optional_text root.entry) (slice_index_or plan.now.jobs index d).image))) }
 {
-    let path = image_path(alloc, root, plan.job(place).image.as_str())?;
-    session_at(alloc, plan, place, path)
+    let path = image_path(alloc, root, plan.job(index).image.as_str())?;
+    session_at(alloc, plan, index, path)
 }
 
 // Returns the path of an image, resolved against `root`.
@@ -203,27 +203,27 @@ fn image_path(alloc: Global, root: Option<&str>, image: &str) -> Result<Bytes, A
     Ok(Bytes::new(Vec::from_slice(alloc, path.as_str().as_bytes())?))
 }
 
-// Returns the error that the job at index `place` is refused; its message is the job's result line.
-fn refused_job_stop(alloc: Global, plan: &Plan, unread: &[UnreadablePath], place: usize) -> Stop
-    requires { place < length plan.now.jobs }
+// Returns the error that the job at index `index` is refused; its message is the job's result line.
+fn refused_job_stop(alloc: Global, plan: &Plan, unread: &[UnreadablePath], index: usize) -> Stop
+    requires { index < length plan.now.jobs }
     ensures { (d : AJob) → IsStop 2 (row_line plan.now unread.now (judge_by_rule Strict)
-        (slice_index_or plan.now.jobs place d) (row_of plan.now (slice_index_or plan.now.jobs place d))) result }
+        (slice_index_or plan.now.jobs index d) (row_of plan.now (slice_index_or plan.now.jobs index d))) result }
 {
-    Stop::rejection(row_line(alloc, plan, unread, place))
+    Stop::rejection(row_line(alloc, plan, unread, index))
 }
 
-// Runs the job at index `place` of a plan, and returns its result line.
+// Runs the job at index `index` of a plan, and returns its result line.
 fn row_line(
     alloc: Global,
     plan: &Plan,
     unread: &[UnreadablePath],
-    place: usize,
+    index: usize,
 ) -> Result<Vec<u8>, AllocError>
-    requires { place < length plan.now.jobs }
+    requires { index < length plan.now.jobs }
     ensures { IfOk result (λ line. (d : AJob) → line.items ≡ row_line plan.now unread.now (judge_by_rule Strict)
-        (slice_index_or plan.now.jobs place d) (row_of plan.now (slice_index_or plan.now.jobs place d))) }
+        (slice_index_or plan.now.jobs index d) (row_of plan.now (slice_index_or plan.now.jobs index d))) }
 {
-    let row = row_at(alloc, plan, place)?;
+    let row = row_at(alloc, plan, index)?;
     let reporter = TextReporter {
         plan,
         unread,
@@ -232,6 +232,6 @@ fn row_line(
         last: None,
     };
     let mut line = Vec::new(alloc);
-    reporter.push_only_row_line(alloc, place, &row, &mut line)?;
+    reporter.push_only_row_line(alloc, index, &row, &mut line)?;
     Ok(line)
 }

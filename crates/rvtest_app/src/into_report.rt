@@ -30,25 +30,25 @@ pub(crate) struct IntoRows<'a> {
 impl<'a> IntoRows<'a> {
     /// Returns the old rows, in which the new rows replace the rows of the chosen jobs. Allocates no memory.
     pub(crate) fn into_whole_rows(self) -> Rows
-        ensures { result ≡ merged_rows self.entry.chosen.places.now self.entry.chosen.rows self.entry.old }
+        ensures { result ≡ merged_rows self.entry.chosen.indices.now self.entry.chosen.rows self.entry.old }
     {
         let IntoRows { chosen, old, .. } = self;
-        let ChosenRows { places, rows, .. } = chosen;
+        let ChosenRows { indices, rows, .. } = chosen;
         let mut whole = old.into_vec();
-        replace_rows_at(&mut whole, places, rows.into_vec());
+        replace_rows_at(&mut whole, indices, rows.into_vec());
         Rows::new(whole)
     }
 }
 
-// Replaces the rows of `whole` at the indices `places`, in order, by `rows`.
-fn replace_rows_at(whole: &mut Vec<Row>, places: &[usize], rows: Vec<Row>)
-    requires within { All (λ place. place < vec_len whole.old) places.now }
-    requires counted { length places.now ≡ vec_len rows }
-    ensures { whole.new.items ≡ merged_rows places.now rows.items whole.old.items }
+// Replaces the rows of `whole` at the indices `indices`, in order, by `rows`.
+fn replace_rows_at(whole: &mut Vec<Row>, indices: &[usize], rows: Vec<Row>)
+    requires within { All (λ index. index < vec_len whole.old) indices.now }
+    requires counted { length indices.now ≡ vec_len rows }
+    ensures { whole.new.items ≡ merged_rows indices.now rows.items whole.old.items }
 {
     let mut at = 0;
     for row in rows {
-        whole[places[at]] = row;
+        whole[indices[at]] = row;
         at += 1;
     }
 }

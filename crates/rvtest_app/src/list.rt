@@ -90,20 +90,20 @@ fn selected_name_lines(
     requires { length selection.now ≡ length jobs.now }
     ensures { IfOk result (λ names. names.items ≡ name_lines jobs.now (selected_job_indices selection.now)) }
 {
-    let places = selected_indices(alloc, selection)?;
+    let indices = selected_indices(alloc, selection)?;
     let mut names = Vec::new(alloc);
-    push_name_lines(&mut names, jobs, places.as_slice())?;
+    push_name_lines(&mut names, jobs, indices.as_slice())?;
     Ok(names)
 }
 
 // Appends the names of the jobs at these indices, one per line.
-fn push_name_lines(names: &mut Vec<u8>, jobs: &[Job], places: &[usize]) -> Result<(), AllocError>
-    requires { All (λ place. place < length jobs.now) places.now }
-    ensures { OnOk result (names.new.items ≡ names.old.items ++ name_lines jobs.now places.now) }
+fn push_name_lines(names: &mut Vec<u8>, jobs: &[Job], indices: &[usize]) -> Result<(), AllocError>
+    requires { All (λ index. index < length jobs.now) indices.now }
+    ensures { OnOk result (names.new.items ≡ names.old.items ++ name_lines jobs.now indices.now) }
 {
-    for at in 0..places.len() {
-        let place = places[at];
-        push_name_line(names, &jobs[place])?;
+    for at in 0..indices.len() {
+        let index = indices[at];
+        push_name_line(names, &jobs[index])?;
     }
     Ok(())
 }

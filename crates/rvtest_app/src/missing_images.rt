@@ -74,8 +74,8 @@ fn are_images_missing(plan: &Plan, unread: &[UnreadablePath]) -> bool
     ensures { result ≡ are_images_missing plan.now.jobs unread.now }
 {
     let mut all = true;
-    for place in 0..plan.jobs() {
-        let is_missing = is_image_missing(plan.job(place), unread);
+    for index in 0..plan.jobs() {
+        let is_missing = is_image_missing(plan.job(index), unread);
         all = all && is_missing;
     }
     all

@@ -15,7 +15,7 @@ use std::alloc::Global;
 #[derive(Drop)]
 pub(crate) struct NamedJob {
     pub(crate) jobs: JobList,
-    pub(crate) place: usize,
+    pub(crate) index: usize,
 }
 
 /// Parses the text of a list, and returns its jobs and the index of the first job with this name. `list` is the path of the list.
@@ -26,20 +26,20 @@ pub(crate) fn find_named_job(
     text: &[u8],
 ) -> Result<NamedJob, Stop>
     ensures listed { IfOk result (λ named. job_list_of text.now ≡ Ok named.jobs) }
-    ensures first { IfOk result (λ named. IsFirstJobNamed named.jobs name.now named.place) }
-    ensures within { IfOk result (λ named. named.place < length named.jobs) }
+    ensures first { IfOk result (λ named. IsFirstJobNamed named.jobs name.now named.index) }
+    ensures within { IfOk result (λ named. named.index < length named.jobs) }
     ensures stopped { IfErr result (IsNoJobStop list.now text.now name.now) }
 {
     let jobs = parse_list(alloc, list, text)?;
     match named_job_index(jobs.as_slice(), name) {
-        Some(place) => Ok(NamedJob { jobs, place }),
+        Some(index) => Ok(NamedJob { jobs, index }),
         None => Err(unknown_name_stop(alloc, list, jobs.as_slice(), name)),
     }
 }
 
 // Returns the index of the first job with this name; `None` if there is none.
 fn named_job_index(jobs: &[Job], name: &str) -> Option<usize>
-    ensures within { IfSome result (λ place. place < length jobs.now) }
+    ensures within { IfSome result (λ index. index < length jobs.now) }
     ensures named { result ≡ position (λ job. bytes_eq job.name name.now) jobs.now }
 {
     jobs.iter().position(|job| job.name.as_str() == name)

@@ -27,7 +27,7 @@ use std::io::ErrorKind;
 #[derive(Drop)]
 pub(crate) struct OpenFile<'a, P: Drop, W: Drop> {
     pub(crate) path: &'a str,
-    pub(crate) place: P,
+    pub(crate) destination: P,
     pub(crate) sink: W,
 }
 
@@ -123,7 +123,7 @@ fn open_file<'a, F: Outputs>(
     ensures stopped { IfErr result (IsUnopenedJobStop path.now) }
 {
     match files.create(alloc, path) {
-        Ok((place, sink)) => Ok(Outlet::File(OpenFile { path, place, sink })),
+        Ok((destination, sink)) => Ok(Outlet::File(OpenFile { path, destination, sink })),
         Err(error) => Err(file_error_stop(alloc, path, error)),
     }
 }
@@ -137,10 +137,10 @@ impl<'a, P: Drop, W: Drop> Outlet<'a, P, W> {
         match self {
             Outlet::Nowhere => (Outlet::Nowhere, None),
             Outlet::Out => (Outlet::Out, None),
-            Outlet::File(OpenFile { path, place, sink }) => {
+            Outlet::File(OpenFile { path, destination, sink }) => {
                 let file = OpenFile {
                     path,
-                    place,
+                    destination,
                     sink: (),
                 };
                 (Outlet::File(file), Some(sink))
@@ -158,8 +158,8 @@ impl<'a, P: Drop> Outlet<'a, P, ()> {
         match (self, sink) {
             (Outlet::Nowhere, None) => Outlet::Nowhere,
             (Outlet::Out, None) => Outlet::Out,
-            (Outlet::File(OpenFile { path, place, .. }), Some(sink)) => {
-                Outlet::File(OpenFile { path, place, sink })
+            (Outlet::File(OpenFile { path, destination, .. }), Some(sink)) => {
+                Outlet::File(OpenFile { path, destination, sink })
             }
             (Outlet::Nowhere | Outlet::Out, Some(_)) | (Outlet::File(_), None) => unreachable!(),
         }
@@ -226,13 +226,13 @@ impl<'a, P: Drop, W: Sink + LastError + Drop> Outlet<'a, P, W> {
         suite: &Suite<'_>,
         cases: &Cases<'_, T>,
     ) -> Result<(), Stop>
-        requires known { AreLinesOf (T.line cases.now.reporter.now) cases.now.places.now cases.now.rows.now cases.now.texts.now }
+        requires known { AreLinesOf (T.line cases.now.reporter.now) cases.now.indices.now cases.now.rows.now cases.now.texts.now }
         ensures put { OnOk result (IsWrittenToOutlet W.accepted W.failure_count self.old self.new
             (junit_text suite.now.name.now (judge_view suite.now.judge)
-            (row_text_list (T.line cases.now.reporter.now) cases.now.places.now cases.now.rows.now) cases.now.rows.now)) }
+            (row_text_list (T.line cases.now.reporter.now) cases.now.indices.now cases.now.rows.now) cases.now.rows.now)) }
         ensures out { OnOk result (Appends (O.accepted out.old) (O.accepted out.new) (text_if_stdout self.old
             (junit_text suite.now.name.now (judge_view suite.now.judge)
-            (row_text_list (T.line cases.now.reporter.now) cases.now.places.now cases.now.rows.now) cases.now.rows.now))) }
+            (row_text_list (T.line cases.now.reporter.now) cases.now.indices.now cases.now.rows.now) cases.now.rows.now))) }
         ensures counted { OnOk result (O.failure_count out.new ≡ O.failure_count out.old) }
         ensures path { outlet_path self.new ≡ outlet_path self.old }
         ensures stopped { IfErr result (IsTextNotWrittenStop (outlet_path self.old)) }
@@ -306,6 +306,6 @@ pub(crate) fn abandon_outlet<F: Outputs>(files: &mut F, outlet: Outlet<'_, F::Pl
     ensures { F.committed files.new ≡ F.committed files.old }
 {
     if let Outlet::File(file) = outlet {
-        files.abandon(file.place);
+        files.abandon(file.destination);
     }
 }

@@ -46,7 +46,7 @@ pub(crate) fn put_files<F: Outputs + Drop, O: Sink + Drop, E: Sink + Drop, T: Ro
     outlets: Outlets<'_, F::Place, F::File>,
     texts: FileTexts<'_, '_, '_, T>,
 ) -> Result<(), Stop>
-    requires known { AreLinesOf (T.line texts.reporter.now) texts.places.now (report_rows texts.report) texts.texts.now }
+    requires known { AreLinesOf (T.line texts.reporter.now) texts.indices.now (report_rows texts.report) texts.texts.now }
     requires report { has_no_failure F.File.failure_count outlets.report }
     requires junit { has_no_failure F.File.failure_count outlets.junit }
     ensures errors { to.new.errors ≡ to.old.errors }
@@ -85,7 +85,7 @@ fn write_texts<P: Drop, W: Sink + LastError + Drop, O: Sink, T: RowReporter>(
     outlets: &mut Outlets<'_, P, W>,
     texts: FileTexts<'_, '_, '_, T>,
 ) -> Result<(), Stop>
-    requires known { AreLinesOf (T.line texts.reporter.now) texts.places.now (report_rows texts.report) texts.texts.now }
+    requires known { AreLinesOf (T.line texts.reporter.now) texts.indices.now (report_rows texts.report) texts.texts.now }
     ensures junit { OnOk result
         (IsWrittenToOutlet W.accepted W.failure_count outlets.old.junit outlets.new.junit (junit_of_report T.line texts.entry)) }
     ensures report { OnOk result (IsWrittenToOutlet W.accepted W.failure_count outlets.old.report outlets.new.report
@@ -101,14 +101,14 @@ fn write_texts<P: Drop, W: Sink + LastError + Drop, O: Sink, T: RowReporter>(
     let FileTexts {
         suite,
         reporter,
-        places,
+        indices,
         report,
         texts,
         ..
     } = texts;
     let cases = Cases {
         reporter,
-        places,
+        indices,
         rows: report.rows(),
         texts,
     };

@@ -19,28 +19,28 @@ use std::alloc::{AllocError, Global};
 pub(crate) struct PlannedJob {
     pub(crate) plan: Plan,
     pub(crate) unread: Vec<UnreadablePath>,
-    pub(crate) place: usize,
-    ghost within: { place < length plan.jobs },
-    ghost runs: { (d : AJob) → is_ok (start_state_in plan.answers (slice_index_or plan.jobs place d)) ≡ true },
+    pub(crate) index: usize,
+    ghost within: { index < length plan.jobs },
+    ghost runs: { (d : AJob) → is_ok (start_state_in plan.answers (slice_index_or plan.jobs index d)) ≡ true },
 }
 
 impl EndText for PlannedJob {
     ghost use Rattle.rvtest_app.specs.Debugging.{job_end_text};
 
-    ghost start = { λ job. job_start_state job.plan job.place };
+    ghost start = { λ job. job_start_state job.plan job.index };
 
-    ghost end_text = { λ job. job_end_text job.plan job.unread.items job.place };
+    ghost end_text = { λ job. job_end_text job.plan job.unread.items job.index };
 
-    // Appends the text that `run` prints about the job, given its machine after `place` steps of the run.
+    // Appends the text that `run` prints about the job, given its machine after `steps` steps of the run.
     #[tactic(auto, unfolding(crate::specs::Debugging::job_end_text))]
     fn push_end_text(
         &self,
         alloc: Global,
-        place: u32,
+        steps: u32,
         machine: &Machine,
         text: &mut Vec<u8>,
     ) -> Result<(), AllocError> {
-        let row = row_after_steps(alloc, self, place, machine)?;
+        let row = row_after_steps(alloc, self, steps, machine)?;
         let reporter = TextReporter {
             plan: &self.plan,
             unread: self.unread.as_slice(),
@@ -48,7 +48,7 @@ impl EndText for PlannedJob {
             verbosity: Verbosity::All,
             last: None,
         };
-        reporter.push_outcome(alloc, self.place, &row, text)
+        reporter.push_outcome(alloc, self.steps, &row, text)
     }
 }
 
@@ -59,18 +59,18 @@ fn row_after_steps(
     steps: u32,
     machine: &Machine,
 ) -> Result<Row, AllocError>
-    requires { IsReached (job_start_state job.now.plan job.now.place) steps (state_of machine.now) }
+    requires { IsReached (job_start_state job.now.plan job.now.index) steps (state_of machine.now) }
     ensures { IfOk result (λ row. (d : AJob) → row
-        ≡ row_of job.now.plan (slice_index_or job.now.plan.jobs job.now.place d)) }
+        ≡ row_of job.now.plan (slice_index_or job.now.plan.jobs job.now.index d)) }
 {
     // No session runs past the job's budget; the machine would be of no use there.
-    if job.plan.job(job.place).budget < steps {
-        return row_at(alloc, &job.plan, job.place);
+    if job.plan.job(job.index).budget < steps {
+        return row_at(alloc, &job.plan, job.index);
     }
     row_from(
         alloc,
         &job.plan,
-        job.place,
+        job.index,
         steps,
         machine.try_clone(alloc)?,
     )

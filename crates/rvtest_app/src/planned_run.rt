@@ -39,21 +39,21 @@ pub(crate) struct SelectedJobs {
 #[derive(Drop)]
 pub(crate) struct PlannedRun<'a> {
     pub(crate) reporter: &'a TextReporter<'a>,
-    pub(crate) places: &'a [usize],
-    ghost within: { AreJobIndices reporter.now.plan.now places.now },
-    ghost rising: { IsStrictlyIncreasing places.now },
+    pub(crate) indices: &'a [usize],
+    ghost within: { AreJobIndices reporter.now.plan.now indices.now },
+    ghost rising: { IsStrictlyIncreasing indices.now },
 }
 
 impl<'a> PlannedRun<'a> {
     /// Returns the run limited to the first `count` of its jobs.
     pub(crate) fn first_jobs(&self, count: usize) -> PlannedRun<'a>
-        requires { count ≤ length self.now.places.now }
-        ensures places { result.places.now ≡ take count self.now.places.now }
+        requires { count ≤ length self.now.indices.now }
+        ensures indices { result.indices.now ≡ take count self.now.indices.now }
         ensures reporter { result.reporter.now ≡ self.now.reporter.now }
     {
         PlannedRun {
             reporter: self.reporter,
-            places: &self.places[..count],
+            indices: &self.indices[..count],
         }
     }
 }

@@ -22,12 +22,12 @@ pub(crate) fn refused_note(
     args: &RunArgs<'_>,
     plan: &Plan,
     unread: &[UnreadablePath],
-    places: &[usize],
+    indices: &[usize],
 ) -> Result<Vec<u8>, AllocError>
-    requires { AreJobIndices plan.now places.now }
-    ensures { IfOk result (λ note. note.items ≡ refused_note args.now plan.now unread.now places.now) }
+    requires { AreJobIndices plan.now indices.now }
+    ensures { IfOk result (λ note. note.items ≡ refused_note args.now plan.now unread.now indices.now) }
 {
-    let mut note = missing_images_note(alloc, plan, unread, places.len(), args.root)?;
+    let mut note = missing_images_note(alloc, plan, unread, indices.len(), args.root)?;
     let reporter = TextReporter {
         plan,
         unread,
@@ -35,7 +35,7 @@ pub(crate) fn refused_note(
         verbosity: Verbosity::All,
         last: None,
     };
-    push_refused_lines(alloc, &reporter, places, &mut note)?;
+    push_refused_lines(alloc, &reporter, indices, &mut note)?;
     Ok(note)
 }
 
@@ -43,36 +43,36 @@ pub(crate) fn refused_note(
 fn push_refused_lines(
     alloc: Global,
     reporter: &TextReporter<'_>,
-    places: &[usize],
+    indices: &[usize],
     text: &mut Vec<u8>,
 ) -> Result<(), AllocError>
-    requires { AreJobIndices reporter.now.plan.now places.now }
+    requires { AreJobIndices reporter.now.plan.now indices.now }
     ensures { OnOk result (text.new.items ≡ text.old.items
-        ++ refused_lines (judge_view reporter.now.judge) reporter.now.plan.now reporter.now.unread.now places.now) }
+        ++ refused_lines (judge_view reporter.now.judge) reporter.now.plan.now reporter.now.unread.now indices.now) }
 {
-    for place in places {
-        push_refused_line(alloc, reporter, *place, text)?;
+    for index in indices {
+        push_refused_line(alloc, reporter, *index, text)?;
     }
     Ok(())
 }
 
-// Appends the result line of the job at index `place` if the job is refused; otherwise nothing.
+// Appends the result line of the job at index `index` if the job is refused; otherwise nothing.
 #[tactic(auto, unfolding(crate::specs::RefusedNotes::invalid_line))]
 fn push_refused_line(
     alloc: Global,
     reporter: &TextReporter<'_>,
-    place: usize,
+    index: usize,
     text: &mut Vec<u8>,
 ) -> Result<(), AllocError>
-    requires place { place < length reporter.now.plan.now.jobs }
+    requires index { index < length reporter.now.plan.now.jobs }
     ensures { OnOk result ((d : AJob) → text.new.items ≡ text.old.items
         ++ invalid_line (judge_view reporter.now.judge) reporter.now.plan.now reporter.now.unread.now
-        (slice_index_or reporter.now.plan.now.jobs place d)) }
+        (slice_index_or reporter.now.plan.now.jobs index d)) }
 {
-    match refusal_at(alloc, reporter.plan, place)? {
+    match refusal_at(alloc, reporter.plan, index)? {
         Some(_) => {
-            let row = row_at(alloc, reporter.plan, place)?;
-            reporter.push_only_row_line(alloc, place, &row, text)
+            let row = row_at(alloc, reporter.plan, index)?;
+            reporter.push_only_row_line(alloc, index, &row, text)
         }
         None => Ok(()),
     }

@@ -13,25 +13,25 @@ pub(crate) struct ReportRowReporter {
 }
 
 impl RowReporter for ReportRowReporter {
-    ghost line = { λ s place row. report_row_text s.is_streaming place row };
+    ghost line = { λ s index row. report_row_text s.is_streaming index row };
 
-    // Appends the row of the job at index `place`, as the report has it, if rows are streamed; otherwise nothing.
+    // Appends the row of the job at index `index`, as the report has it, if rows are streamed; otherwise nothing.
     fn push_row_text(
         &self,
         alloc: Global,
-        place: usize,
+        index: usize,
         row: &Row,
         text: &mut Vec<u8>,
     ) -> Result<(), AllocError> {
         if !self.is_streaming {
             return Ok(());
         }
-        if place == usize::MAX {
+        if index == usize::MAX {
             // Out of memory: no memory has so many jobs.
             return Err(AllocError);
         }
         let mut row_text = String::new(alloc);
-        push_row(alloc, &mut row_text, place, row)?;
+        push_row(alloc, &mut row_text, index, row)?;
         text.extend_from_slice(row_text.as_bytes())
     }
 }

@@ -81,10 +81,10 @@ fn write_whole_report<W: Sink>(
     out: &mut W,
 ) -> Result<(), WriteError>
     ensures all { OnOk result (Appends (W.accepted out.old) (W.accepted out.new)
-        (report_text (merged_rows into.entry.chosen.places.now into.entry.chosen.rows into.entry.old))) }
+        (report_text (merged_rows into.entry.chosen.indices.now into.entry.chosen.rows into.entry.old))) }
     ensures counted { OnOk result (W.failure_count out.new ≡ W.failure_count out.old) }
     ensures part { OnErr result (AppendsPrefix (W.accepted out.old) (W.accepted out.new)
-        (report_text (merged_rows into.entry.chosen.places.now into.entry.chosen.rows into.entry.old))) }
+        (report_text (merged_rows into.entry.chosen.indices.now into.entry.chosen.rows into.entry.old))) }
     ensures failed { IfErr result (λ error. error ≡ WriteError.Failed
         → HasIncreased (W.failure_count out.old) (W.failure_count out.new)) }
 {
@@ -96,9 +96,9 @@ fn write_whole_report<W: Sink>(
 pub(crate) fn report_with_context(chosen: ChosenRows<'_>, frame: ReportContext) -> ReportText<'_>
     requires { ForSome frame.old (λ rows. length rows ≡ chosen.jobs) }
     ensures text { report_text_of result
-        ≡ run_report_text frame.old chosen.entry.jobs chosen.entry.places.now frame.shard chosen.entry.rows }
+        ≡ run_report_text frame.old chosen.entry.jobs chosen.entry.indices.now frame.shard chosen.entry.rows }
     ensures rest { report_rest_of result
-        ≡ run_report_rest frame.old chosen.entry.jobs chosen.entry.places.now frame.shard chosen.entry.rows }
+        ≡ run_report_rest frame.old chosen.entry.jobs chosen.entry.indices.now frame.shard chosen.entry.rows }
     ensures rows { report_rows result ≡ chosen.entry.rows }
 {
     let ReportContext { shard, old } = frame;

@@ -25,16 +25,16 @@ pub(crate) fn write_chosen_report<W: Sink>(
     out: &mut W,
 ) -> Result<(), WriteError>
     ensures all { OnOk result (Appends (W.accepted out.old) (W.accepted out.new)
-        (chosen_report_text chosen.entry.jobs chosen.entry.places.now shard chosen.entry.rows)) }
+        (chosen_report_text chosen.entry.jobs chosen.entry.indices.now shard chosen.entry.rows)) }
     ensures counted { OnOk result (W.failure_count out.new ≡ W.failure_count out.old) }
     ensures part { OnErr result (AppendsPrefix (W.accepted out.old) (W.accepted out.new)
-        (chosen_report_text chosen.entry.jobs chosen.entry.places.now shard chosen.entry.rows)) }
+        (chosen_report_text chosen.entry.jobs chosen.entry.indices.now shard chosen.entry.rows)) }
     ensures failed { IfErr result (λ error. error ≡ WriteError.Failed
         → HasIncreased (W.failure_count out.old) (W.failure_count out.new)) }
 {
     let extent = match shard {
         Some(shard) => Extent::Shard(shard),
-        None if chosen.places.len() == chosen.jobs => {
+        None if chosen.indices.len() == chosen.jobs => {
             return write_report(alloc, &Report { rows: chosen.rows }, out);
         }
         None => Extent::Choice(chosen.jobs as u32),
@@ -50,16 +50,16 @@ pub(crate) fn write_last_line<W: Sink>(
     out: &mut W,
 ) -> Result<(), WriteError>
     ensures all { OnOk result (Appends (W.accepted out.old) (W.accepted out.new)
-        (chosen_last_line chosen.entry.jobs chosen.entry.places.now shard chosen.entry.rows)) }
+        (chosen_last_line chosen.entry.jobs chosen.entry.indices.now shard chosen.entry.rows)) }
     ensures counted { OnOk result (W.failure_count out.new ≡ W.failure_count out.old) }
     ensures part { OnErr result (AppendsPrefix (W.accepted out.old) (W.accepted out.new)
-        (chosen_last_line chosen.entry.jobs chosen.entry.places.now shard chosen.entry.rows)) }
+        (chosen_last_line chosen.entry.jobs chosen.entry.indices.now shard chosen.entry.rows)) }
     ensures failed { IfErr result (λ error. error ≡ WriteError.Failed
         → HasIncreased (W.failure_count out.old) (W.failure_count out.new)) }
 {
     let extent = match shard {
         Some(shard) => Extent::Shard(shard),
-        None if chosen.places.len() == chosen.jobs => Extent::Whole,
+        None if chosen.indices.len() == chosen.jobs => Extent::Whole,
         None => Extent::Choice(chosen.jobs as u32),
     };
     let mut line = String::new(alloc);
@@ -76,29 +76,29 @@ fn write_part_report<W: Sink>(
     out: &mut W,
 ) -> Result<(), WriteError>
     ensures all { OnOk result (Appends (W.accepted out.old) (W.accepted out.new)
-        (part_text extent chosen.entry.places.now chosen.entry.rows)) }
+        (part_text extent chosen.entry.indices.now chosen.entry.rows)) }
     ensures counted { OnOk result (W.failure_count out.new ≡ W.failure_count out.old) }
     ensures part { OnErr result (AppendsPrefix (W.accepted out.old) (W.accepted out.new)
-        (part_text extent chosen.entry.places.now chosen.entry.rows)) }
+        (part_text extent chosen.entry.indices.now chosen.entry.rows)) }
     ensures failed { IfErr result (λ error. error ≡ WriteError.Failed
         → HasIncreased (W.failure_count out.old) (W.failure_count out.new)) }
 {
     let report = SavedReport {
         extent,
-        numbers: Numbers::new(job_numbers(alloc, chosen.places)?),
+        numbers: Numbers::new(job_numbers(alloc, chosen.indices)?),
         rows: chosen.rows,
     };
     write_saved_report(alloc, &report, out)
 }
 
 // Returns the numbers of the jobs at these indices, counted from 1.
-fn job_numbers(alloc: Global, places: &[usize]) -> Result<Vec<u32>, AllocError>
-    requires { All (λ place. place < max_jobs) places.now }
-    ensures { IfOk result (λ numbers. numbers.items ≡ job_numbers places.now) }
+fn job_numbers(alloc: Global, indices: &[usize]) -> Result<Vec<u32>, AllocError>
+    requires { All (λ index. index < max_jobs) indices.now }
+    ensures { IfOk result (λ numbers. numbers.items ≡ job_numbers indices.now) }
 {
     let mut numbers = Vec::new(alloc);
-    for at in 0..places.len() {
-        numbers.push(places[at] as u32 + 1)?;
+    for at in 0..indices.len() {
+        numbers.push(indices[at] as u32 + 1)?;
     }
     Ok(numbers)
 }

@@ -30,23 +30,23 @@ fn insert_by_steps<'a>(most: &mut Vec<&'a Row>, row: &'a Row) -> Result<(), Allo
         ≡ take MAX_SHOWN (inserted_by_steps row.now (map (λ row. row.now) most.old.items))) }
     ensures few { OnOk result (length most.new.items ≤ MAX_SHOWN) }
 {
-    let place = rank_by_steps(most.as_slice(), row.steps);
-    if place == MAX_SHOWN {
+    let rank = rank_by_steps(most.as_slice(), row.steps);
+    if rank == MAX_SHOWN {
         return Ok(());
     }
     most.truncate(MAX_SHOWN - 1);
-    most.insert(place, row)?;
+    most.insert(rank, row)?;
     Ok(())
 }
 
 // Returns the length of the longest prefix of `most` in which every row has more steps than `steps`.
 fn rank_by_steps(most: &[&Row], steps: u32) -> usize
-    ensures place { result ≡ prefix_len (λ row. nat_lt steps row.now.steps) most.now }
+    ensures rank { result ≡ prefix_len (λ row. nat_lt steps row.now.steps) most.now }
     ensures within { result ≤ length most.now }
 {
-    for (place, row) in most.iter().enumerate() {
+    for (rank, row) in most.iter().enumerate() {
         if row.steps <= steps {
-            return place;
+            return rank;
         }
     }
     most.len()

@@ -136,18 +136,18 @@ impl<'x, R: Threads + Wait + Sync + Clock, D: Inputs> ListRun<'x, R, D> {
             ..
         } = marked;
         let (alloc, args) = (self.host.alloc, self.args);
-        let places = match selected_indices(alloc, selection.as_slice()) {
-            Ok(places) => places,
+        let indices = match selected_indices(alloc, selection.as_slice()) {
+            Ok(indices) => indices,
             Err(error) => return (to, Err(Stop::from(error))),
         };
         let jobs = jobs.with_budget(args.budget);
         let mut store = RecordingStore::new(self.host.inputs, alloc, args.root);
-        let plan = match gather_jobs_at(alloc, jobs, places.as_slice(), &mut store) {
+        let plan = match gather_jobs_at(alloc, jobs, indices.as_slice(), &mut store) {
             Ok(plan) => plan,
             Err(error) => return (to, Err(Stop::from(error))),
         };
         let unread = store.unreadable_paths();
-        let count = places.as_slice().len();
+        let count = indices.as_slice().len();
         let note = match missing_images_note(alloc, &plan, unread, count, args.root) {
             Ok(note) => note,
             Err(error) => return (to, Err(Stop::from(error))),
@@ -167,7 +167,7 @@ impl<'x, R: Threads + Wait + Sync + Clock, D: Inputs> ListRun<'x, R, D> {
         };
         let planned = PlannedRun {
             reporter: &reporter,
-            places: places.as_slice(),
+            indices: indices.as_slice(),
         };
         self.run_into_files(&planned, frame, to, terminals)
     }
@@ -177,19 +177,19 @@ impl<'x, R: Threads + Wait + Sync + Clock, D: Inputs> ListRun<'x, R, D> {
 pub(crate) fn gather_jobs_at<S: Store>(
     alloc: Global,
     jobs: JobList,
-    places: &[usize],
+    indices: &[usize],
     store: &mut S,
 ) -> Result<Plan, AllocError>
-    requires { All (λ place. place < length jobs) places.now }
+    requires { All (λ index. index < length jobs) indices.now }
     ensures same { S.contents store.new ≡ S.contents store.old }
     ensures jobs { IfOk result (λ plan. plan.jobs ≡ jobs) }
     ensures paths { IfOk result (λ plan. paths_of plan.answers
-        ≡ paths_used (jobs_needed_for jobs places.now)) }
+        ≡ paths_used (jobs_needed_for jobs indices.now)) }
     ensures kept { IfOk result (λ plan. AgreeWithContents (S.contents store.old) plan.answers) }
     ensures faults { IfOk result (λ plan. S.fault_count store.new
         ≡ after_increments (S.fault_count store.old) (unreadable_count plan.answers)) }
 {
-    gather_jobs(alloc, jobs, Vec::from_slice(alloc, places)?, store)
+    gather_jobs(alloc, jobs, Vec::from_slice(alloc, indices)?, store)
 }
 
 // Returns which rows are shown: none with `--quiet`, all with only `--verbose`, and otherwise the failures.

@@ -30,17 +30,17 @@ impl<'x, R: Threads + Wait + Sync + Clock, D: Inputs> ListRun<'x, R, D> {
     pub(crate) fn write_counts<F: Outputs + Drop, O: Sink + Drop, E: Sink + Drop>(
         &self,
         plan: &Plan,
-        places: &[usize],
+        indices: &[usize],
         outlet: Outlet<'_, F::Place, F::File>,
         to: &mut Destinations<F, O, E>,
     ) -> Result<(), Stop>
-        requires within { AreJobIndices plan.now places.now }
-        requires rising { IsStrictlyIncreasing places.now }
+        requires within { AreJobIndices plan.now indices.now }
+        requires rising { IsStrictlyIncreasing indices.now }
         requires open { (path : Option (List ℕ))
             × HasReceived F.pending_path F.File.accepted F.File.failure_count None path [] outlet }
         ensures counted { (path : Option (List ℕ)) (earlier : Option (List CommittedFile))
             → HasReceived F.pending_path F.File.accepted F.File.failure_count earlier path [] outlet.entry
-            → OnOk result (AreCountsWritten self.now.args.now.stacks path plan.now places.now
+            → OnOk result (AreCountsWritten self.now.args.now.stacks path plan.now indices.now
             (with_committed_if_reported earlier (outputs_of F.committed O.accepted E.accepted E.failure_count to.old))
             (outputs_of F.committed O.accepted E.accepted E.failure_count to.new)) }
         ensures requested { (path : Option (List ℕ)) (earlier : Option (List CommittedFile))
@@ -52,7 +52,7 @@ impl<'x, R: Threads + Wait + Sync + Clock, D: Inputs> ListRun<'x, R, D> {
         if let Outlet::Nowhere = outlet {
             return Ok(());
         }
-        match self.counts_text(plan, places) {
+        match self.counts_text(plan, indices) {
             Ok(text) => write_to_outlet(self.host.alloc, to, outlet, text.as_bytes()),
             Err(stop) => {
                 abandon_outlet(&mut to.files, outlet);
@@ -62,26 +62,26 @@ impl<'x, R: Threads + Wait + Sync + Clock, D: Inputs> ListRun<'x, R, D> {
     }
 
     // Returns the text of the table of counts of the jobs at these indices, with call stacks if requested.
-    fn counts_text(&self, plan: &Plan, places: &[usize]) -> Result<String, Stop>
-        requires within { AreJobIndices plan.now places.now }
-        requires rising { IsStrictlyIncreasing places.now }
-        ensures text { IfOk result (λ text. IsCountsText self.now.args.now.stacks plan.now places.now (string_bytes text)) }
+    fn counts_text(&self, plan: &Plan, indices: &[usize]) -> Result<String, Stop>
+        requires within { AreJobIndices plan.now indices.now }
+        requires rising { IsStrictlyIncreasing indices.now }
+        ensures text { IfOk result (λ text. IsCountsText self.now.args.now.stacks plan.now indices.now (string_bytes text)) }
         ensures stopped { IfErr result (IsUncountedRunStop self.now.args.now) }
     {
-        let table = self.table_of_counts(plan, places)?;
+        let table = self.table_of_counts(plan, indices)?;
         Ok(table_text(self.host.alloc, &table)?)
     }
 
     // Returns the table of counts of the jobs at these indices, with call stacks if requested.
-    fn table_of_counts(&self, plan: &Plan, places: &[usize]) -> Result<CountTable, Stop>
-        requires within { AreJobIndices plan.now places.now }
-        requires rising { IsStrictlyIncreasing places.now }
-        ensures table { IfOk result (IsCountsTable self.now.args.now.stacks plan.now places.now) }
+    fn table_of_counts(&self, plan: &Plan, indices: &[usize]) -> Result<CountTable, Stop>
+        requires within { AreJobIndices plan.now indices.now }
+        requires rising { IsStrictlyIncreasing indices.now }
+        ensures table { IfOk result (IsCountsTable self.now.args.now.stacks plan.now indices.now) }
         ensures stopped { IfErr result (IsUncountedRunStop self.now.args.now) }
     {
         let (rt, alloc) = (self.host.rt, self.host.alloc);
         let crew = requested_crew(rt, alloc, self.args);
-        let batch = Batch::new(plan, places);
+        let batch = Batch::new(plan, indices);
         if !self.args.stacks {
             return Ok(count_batch(&crew, &batch)?);
         }

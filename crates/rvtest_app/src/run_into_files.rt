@@ -67,15 +67,15 @@ impl<'x, R: Threads + Wait + Sync + Clock, D: Inputs> ListRun<'x, R, D> {
         requires whole { ForSome frame.old (λ rows. length rows ≡ length planned.now.reporter.now.plan.now.jobs) }
         ensures status { IfOk result.1 (λ status. status ≡ rows_status (judge_view planned.now.reporter.now.judge) (run_rows
             self.now.args.now.stop_after (judge_view planned.now.reporter.now.judge) planned.now.reporter.now.plan.now
-            planned.now.places.now)) }
+            planned.now.indices.now)) }
         ensures outputs_of { OnOk result.1 (IsCountedRunWritten self.now.args.now (reporter_of planned.now.reporter.now)
-            planned.now.places.now frame.shard frame.old (run_rows self.now.args.now.stop_after
-            (judge_view planned.now.reporter.now.judge) planned.now.reporter.now.plan.now planned.now.places.now)
+            planned.now.indices.now frame.shard frame.old (run_rows self.now.args.now.stop_after
+            (judge_view planned.now.reporter.now.judge) planned.now.reporter.now.plan.now planned.now.indices.now)
             (outputs_of F.committed O.accepted E.accepted E.failure_count to) (outputs_of F.committed O.accepted E.accepted E.failure_count result.0)) }
         ensures part { (rows : List ARow) → rows ≡ run_rows self.now.args.now.stop_after
-            (judge_view planned.now.reporter.now.judge) planned.now.reporter.now.plan.now planned.now.places.now
+            (judge_view planned.now.reporter.now.judge) planned.now.reporter.now.plan.now planned.now.indices.now
             → OnErr result.1 ((F.committed result.0.files ≡ F.committed to.files)
-            ⊎ AreRunFilesPartlyCommitted self.now.args.now (reporter_of planned.now.reporter.now) planned.now.places.now frame.shard
+            ⊎ AreRunFilesPartlyCommitted self.now.args.now (reporter_of planned.now.reporter.now) planned.now.indices.now frame.shard
             frame.old rows (F.committed to.files) (F.committed result.0.files)) }
         ensures stopped { IfErr result.1 (IsRunWriteStop self.now.args.now) }
     {
@@ -137,31 +137,31 @@ impl<'x, R: Threads + Wait + Sync + Clock, D: Inputs> ListRun<'x, R, D> {
         to: Destinations<F, O, E>,
     ) -> (Destinations<F, O, E>, Result<u8, Stop>)
         requires rows { IfOk run.ran (λ rows. rows ≡ run_rows self.now.args.now.stop_after (judge_view planned.now.reporter.now.judge)
-            planned.now.reporter.now.plan.now planned.now.places.now) }
-        requires few { IfOk run.ran (λ rows. length rows ≤ length planned.now.places.now) }
+            planned.now.reporter.now.plan.now planned.now.indices.now) }
+        requires few { IfOk run.ran (λ rows. length rows ≤ length planned.now.indices.now) }
         requires texts { IfOk run.ran (λ rows. AreLinesOf (failure_lines (reporter_of planned.now.reporter.now))
-            planned.now.places.now rows run.texts.items) }
+            planned.now.indices.now rows run.texts.items) }
         requires failed { IfErr run.ran (λ error. error ≡ ReportFailed → is_some (outlet_path outlets.report) ≡ true) }
         requires whole { ForSome frame.old (λ rows. length rows ≡ length planned.now.reporter.now.plan.now.jobs) }
         requires path { outlet_path outlets.report ≡ file_path_at (run_report_path self.now.args.now) }
         requires taken { IfOk run.ran (λ rows. HaveRunOutletsReceived F.pending_path F.File.accepted F.File.failure_count (F.committed to.files)
-            self.now.args.now (streamed_rows frame.old (shown_indices planned.now.places.now rows) rows) outlets) }
+            self.now.args.now (streamed_rows frame.old (shown_indices planned.now.indices.now rows) rows) outlets) }
         ensures status { IfOk result.1 (λ status. status ≡ rows_status (judge_view planned.now.reporter.now.judge) (run_rows
             self.now.args.now.stop_after (judge_view planned.now.reporter.now.judge) planned.now.reporter.now.plan.now
-            planned.now.places.now)) }
+            planned.now.indices.now)) }
         ensures outputs_of { (before : CommandOutputs) → OnOk run.ran (IsWrittenToErrorsIf (uses_run_stdout self.now.args.now) (run_output_text
             (row_lines_at (reporter_of planned.now.reporter.now)) (judge_view planned.now.reporter.now.judge)
-            planned.now.reporter.now.plan.now planned.now.places.now (run_rows self.now.args.now.stop_after
-            (judge_view planned.now.reporter.now.judge) planned.now.reporter.now.plan.now planned.now.places.now))
+            planned.now.reporter.now.plan.now planned.now.indices.now (run_rows self.now.args.now.stop_after
+            (judge_view planned.now.reporter.now.judge) planned.now.reporter.now.plan.now planned.now.indices.now))
             before (outputs_of F.committed O.accepted E.accepted E.failure_count to))
-            → OnOk result.1 (IsCountedRunWritten self.now.args.now (reporter_of planned.now.reporter.now) planned.now.places.now
+            → OnOk result.1 (IsCountedRunWritten self.now.args.now (reporter_of planned.now.reporter.now) planned.now.indices.now
             frame.shard frame.old (run_rows self.now.args.now.stop_after (judge_view planned.now.reporter.now.judge)
-            planned.now.reporter.now.plan.now planned.now.places.now) before
+            planned.now.reporter.now.plan.now planned.now.indices.now) before
             (outputs_of F.committed O.accepted E.accepted E.failure_count result.0)) }
         ensures part { OnErr result.1 ((F.committed result.0.files ≡ F.committed to.files)
-            ⊎ AreRunFilesPartlyCommitted self.now.args.now (reporter_of planned.now.reporter.now) planned.now.places.now frame.shard
+            ⊎ AreRunFilesPartlyCommitted self.now.args.now (reporter_of planned.now.reporter.now) planned.now.indices.now frame.shard
             frame.old (run_rows self.now.args.now.stop_after (judge_view planned.now.reporter.now.judge)
-            planned.now.reporter.now.plan.now planned.now.places.now) (F.committed to.files) (F.committed result.0.files)) }
+            planned.now.reporter.now.plan.now planned.now.indices.now) (F.committed to.files) (F.committed result.0.files)) }
         ensures stopped { IfErr result.1 (IsRunWriteStop self.now.args.now) }
     {
         let ShownRun { texts, ran } = run;
@@ -190,21 +190,21 @@ impl<'x, R: Threads + Wait + Sync + Clock, D: Inputs> ListRun<'x, R, D> {
         to: &mut Destinations<F, O, E>,
     ) -> Result<u8, Stop>
         requires rows { rows ≡ run_rows self.now.args.now.stop_after (judge_view planned.now.reporter.now.judge)
-            planned.now.reporter.now.plan.now planned.now.places.now }
-        requires few { length rows ≤ length planned.now.places.now }
-        requires texts { AreLinesOf (failure_lines (reporter_of planned.now.reporter.now)) planned.now.places.now rows texts.items }
+            planned.now.reporter.now.plan.now planned.now.indices.now }
+        requires few { length rows ≤ length planned.now.indices.now }
+        requires texts { AreLinesOf (failure_lines (reporter_of planned.now.reporter.now)) planned.now.indices.now rows texts.items }
         requires whole { ForSome frame.old (λ rows. length rows ≡ length planned.now.reporter.now.plan.now.jobs) }
         requires taken { HaveRunOutletsReceived F.pending_path F.File.accepted F.File.failure_count (F.committed to.old.files) self.now.args.now
-            (streamed_rows frame.old (shown_indices planned.now.places.now rows) rows) outlets }
+            (streamed_rows frame.old (shown_indices planned.now.indices.now rows) rows) outlets }
         ensures status { IfOk result (λ status. status ≡ rows_status (judge_view planned.now.reporter.now.judge) rows) }
         ensures outputs_of { (before : CommandOutputs) → IsWrittenToErrorsIf (uses_run_stdout self.now.args.now) (run_output_text
             (row_lines_at (reporter_of planned.now.reporter.now)) (judge_view planned.now.reporter.now.judge)
-            planned.now.reporter.now.plan.now planned.now.places.now rows)
+            planned.now.reporter.now.plan.now planned.now.indices.now rows)
             before (outputs_of F.committed O.accepted E.accepted E.failure_count to.old)
-            → OnOk result (IsCountedRunWritten self.now.args.now (reporter_of planned.now.reporter.now) planned.now.places.now
+            → OnOk result (IsCountedRunWritten self.now.args.now (reporter_of planned.now.reporter.now) planned.now.indices.now
             frame.shard frame.old rows before (outputs_of F.committed O.accepted E.accepted E.failure_count to.new)) }
         ensures part { OnErr result ((F.committed to.new.files ≡ F.committed to.old.files)
-            ⊎ AreRunFilesPartlyCommitted self.now.args.now (reporter_of planned.now.reporter.now) planned.now.places.now frame.shard
+            ⊎ AreRunFilesPartlyCommitted self.now.args.now (reporter_of planned.now.reporter.now) planned.now.indices.now frame.shard
             frame.old rows (F.committed to.old.files) (F.committed to.new.files)) }
         ensures stopped { IfErr result (IsRunWriteStop self.now.args.now) }
     {
@@ -217,7 +217,7 @@ impl<'x, R: Threads + Wait + Sync + Clock, D: Inputs> ListRun<'x, R, D> {
         let files = Outlets { report, junit };
         match self.write_run_files(&first, frame, rows, texts, files, to) {
             Ok(status) => {
-                self.write_counts(planned.reporter.plan, first.places, counts, to)?;
+                self.write_counts(planned.reporter.plan, first.indices, counts, to)?;
                 Ok(status)
             }
             Err(stop) => {
@@ -237,8 +237,8 @@ impl<'x, R: Threads + Wait + Sync + Clock, D: Inputs> ListRun<'x, R, D> {
         outlets: Outlets<'_, F::Place, F::File>,
         to: &mut Destinations<F, O, E>,
     ) -> Result<u8, Stop>
-        requires counted { length rows ≡ length planned.now.places.now }
-        requires texts { AreLinesOf (failure_lines (reporter_of planned.now.reporter.now)) planned.now.places.now rows texts.items }
+        requires counted { length rows ≡ length planned.now.indices.now }
+        requires texts { AreLinesOf (failure_lines (reporter_of planned.now.reporter.now)) planned.now.indices.now rows texts.items }
         requires whole { ForSome frame.old (λ rows. length rows ≡ length planned.now.reporter.now.plan.now.jobs) }
         requires report { has_no_failure F.File.failure_count outlets.report }
         requires junit { has_no_failure F.File.failure_count outlets.junit }
@@ -246,29 +246,29 @@ impl<'x, R: Threads + Wait + Sync + Clock, D: Inputs> ListRun<'x, R, D> {
         ensures errors { to.new.errors ≡ to.old.errors }
         ensures put { (report_path junit_path : Option (List ℕ))
             → HasReceived F.pending_path F.File.accepted F.File.failure_count (F.committed to.old.files) report_path
-            (streamed_rows frame.old planned.now.places.now rows) outlets.entry.report
+            (streamed_rows frame.old planned.now.indices.now rows) outlets.entry.report
             → HasReceived F.pending_path F.File.accepted F.File.failure_count (F.committed to.old.files) junit_path [] outlets.entry.junit
             → OnOk result (Appends (O.accepted to.old.out) (O.accepted to.new.out)
             (stdout_at junit_path (run_junit self.now.args.now (reporter_of planned.now.reporter.now)
-            planned.now.places.now rows) ++ stdout_at report_path (run_report_text frame.old
-            (length planned.now.reporter.now.plan.now.jobs) planned.now.places.now frame.shard rows))) }
+            planned.now.indices.now rows) ++ stdout_at report_path (run_report_text frame.old
+            (length planned.now.reporter.now.plan.now.jobs) planned.now.indices.now frame.shard rows))) }
         ensures placed { (report_path junit_path : Option (List ℕ))
             → HasReceived F.pending_path F.File.accepted F.File.failure_count (F.committed to.old.files) report_path
-            (streamed_rows frame.old planned.now.places.now rows) outlets.entry.report
+            (streamed_rows frame.old planned.now.indices.now rows) outlets.entry.report
             → HasReceived F.pending_path F.File.accepted F.File.failure_count (F.committed to.old.files) junit_path [] outlets.entry.junit
             → OnOk result (AreFilesCommitted (F.committed to.old.files) (F.committed to.new.files)
             (Some (file_at junit_path (run_junit self.now.args.now (reporter_of planned.now.reporter.now)
-            planned.now.places.now rows) ++ file_at report_path (run_report_text frame.old
-            (length planned.now.reporter.now.plan.now.jobs) planned.now.places.now frame.shard rows)))) }
+            planned.now.indices.now rows) ++ file_at report_path (run_report_text frame.old
+            (length planned.now.reporter.now.plan.now.jobs) planned.now.indices.now frame.shard rows)))) }
         ensures part { (junit_path : Option (List ℕ))
             → HasReceived F.pending_path F.File.accepted F.File.failure_count (F.committed to.old.files) junit_path [] outlets.entry.junit
             → OnErr result (AreFilesPartlyCommitted (F.committed to.old.files) (F.committed to.new.files)
             (Some (file_at junit_path (run_junit self.now.args.now (reporter_of planned.now.reporter.now)
-            planned.now.places.now rows)))) }
+            planned.now.indices.now rows)))) }
         ensures stopped { IfErr result
             (IsOutputWriteStop (outlet_path outlets.entry.report) (outlet_path outlets.entry.junit)) }
     {
-        let (reporter, places) = (planned.reporter, planned.places);
+        let (reporter, indices) = (planned.reporter, planned.indices);
         let status = rows_status(&reporter.judge, rows.as_slice());
         let told = TextReporter {
             verbosity: Verbosity::Failures,
@@ -276,7 +276,7 @@ impl<'x, R: Threads + Wait + Sync + Clock, D: Inputs> ListRun<'x, R, D> {
         };
         let chosen = ChosenRows {
             jobs: reporter.plan.jobs(),
-            places,
+            indices,
             rows,
         };
         let texts = FileTexts {
@@ -285,7 +285,7 @@ impl<'x, R: Threads + Wait + Sync + Clock, D: Inputs> ListRun<'x, R, D> {
                 judge: reporter.judge,
             },
             reporter: &told,
-            places,
+            indices,
             report: report_with_context(chosen, frame),
             texts: texts.as_slice(),
         };

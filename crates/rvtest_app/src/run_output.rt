@@ -80,7 +80,7 @@ pub(crate) fn write_totals_line<W: Sink>(
     let rows = ran?;
     let run = RunRows {
         plan: batch.plan,
-        places: batch.places,
+        indices: batch.places,
         rows: rows.as_slice(),
     };
     let hidden = batch.places.len() - run.rows.len();

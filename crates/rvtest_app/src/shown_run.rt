@@ -70,24 +70,24 @@ impl<'x, R: Threads + Wait + Sync + Clock, D: Inputs> ListRun<'x, R, D> {
         requires judging { judge_view planned.now.reporter.now.judge ≡ K.judging }
         requires keeps { stores_failure_texts self.now.args.now planned.now.reporter.now.verbosity ≡ K.keeps }
         ensures rows { IfOk result.2.ran (λ rows. rows ≡ run_rows self.now.args.now.stop_after
-            (judge_view planned.now.reporter.now.judge) planned.now.reporter.now.plan.now planned.now.places.now) }
-        ensures few { IfOk result.2.ran (λ rows. length rows ≤ length planned.now.places.now) }
+            (judge_view planned.now.reporter.now.judge) planned.now.reporter.now.plan.now planned.now.indices.now) }
+        ensures few { IfOk result.2.ran (λ rows. length rows ≤ length planned.now.indices.now) }
         ensures shown { OnOk result.2.ran (Appends (W.accepted shown.stream) (W.accepted result.0)
             (run_output_text (row_lines_at (reporter_of planned.now.reporter.now))
-            (judge_view planned.now.reporter.now.judge) planned.now.reporter.now.plan.now planned.now.places.now
+            (judge_view planned.now.reporter.now.judge) planned.now.reporter.now.plan.now planned.now.indices.now
             (run_rows self.now.args.now.stop_after (judge_view planned.now.reporter.now.judge)
-            planned.now.reporter.now.plan.now planned.now.places.now))) }
+            planned.now.reporter.now.plan.now planned.now.indices.now))) }
         ensures counted { OnOk result.2.ran (W.failure_count result.0 ≡ W.failure_count shown.stream) }
         ensures report { OnOk result.2.ran (AreRowsWritten V.accepted V.failure_count sink result.1
-            (joined_row_texts (report_row_text rows.now.is_streaming) planned.now.places.now (run_rows self.now.args.now.stop_after
-            (judge_view planned.now.reporter.now.judge) planned.now.reporter.now.plan.now planned.now.places.now))) }
+            (joined_row_texts (report_row_text rows.now.is_streaming) planned.now.indices.now (run_rows self.now.args.now.stop_after
+            (judge_view planned.now.reporter.now.judge) planned.now.reporter.now.plan.now planned.now.indices.now))) }
         ensures sink { is_some result.1 ≡ is_some sink }
         ensures report_failed { IfErr result.2.ran (λ error. error ≡ ReportFailed → is_some sink ≡ true) }
         ensures texts { IfOk result.2.ran (λ rows. AreLinesOf (failure_lines (reporter_of planned.now.reporter.now))
-            planned.now.places.now rows result.2.texts.items) }
+            planned.now.indices.now rows result.2.texts.items) }
     {
         let (rt, alloc) = (self.host.rt, self.host.alloc);
-        let (reporter, places) = (planned.reporter, planned.places);
+        let (reporter, indices) = (planned.reporter, planned.indices);
         let progress = self.run_progress(planned, terminals);
         let counting = ProgressReporter::new(rt, reporter, &progress);
         let RunDisplay {
@@ -105,7 +105,7 @@ impl<'x, R: Threads + Wait + Sync + Clock, D: Inputs> ListRun<'x, R, D> {
             second: self.failure_texts::<K>(reporter),
         };
         let crew = requested_crew(rt, alloc, self.args);
-        let batch = Batch::new(reporter.plan, places);
+        let batch = Batch::new(reporter.plan, indices);
         let limit = FailureLimit {
             judge: reporter.judge,
             failures: self.args.stop_after,
@@ -136,7 +136,7 @@ impl<'x, R: Threads + Wait + Sync + Clock, D: Inputs> ListRun<'x, R, D> {
         planned: &PlannedRun<'m>,
         terminals: Terminals<P>,
     ) -> Progress<'m, P>
-        ensures jobs { result.jobs ≡ length planned.now.places.now }
+        ensures jobs { result.jobs ≡ length planned.now.indices.now }
         ensures judge { judge_view result.judge ≡ (judge_view planned.now.reporter.now.judge) }
         ensures terminal { result.is_terminal ≡ terminals.is_errors_terminal }
     {
@@ -147,7 +147,7 @@ impl<'x, R: Threads + Wait + Sync + Clock, D: Inputs> ListRun<'x, R, D> {
         } = terminals;
         Progress::new(
             self.host.rt,
-            planned.places.len(),
+            planned.indices.len(),
             planned.reporter.judge,
             progress,
             is_errors_terminal,

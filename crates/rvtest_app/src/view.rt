@@ -95,29 +95,29 @@ impl<'x, R: Threads + Wait + Sync, D: Inputs> JobsView<'x, R, D> {
     {
         let (alloc, inputs) = (self.host.alloc, self.host.inputs);
         let marked = selected_indices(alloc, selection)?;
-        let places = marked.as_slice();
+        let indices = marked.as_slice();
         let mut store = RecordingStore::new(inputs, alloc, self.args.root);
-        let plan = gather_jobs_at(alloc, jobs, places, &mut store)?;
-        let note = refused_note(alloc, self.args, &plan, store.unreadable_paths(), places)?;
+        let plan = gather_jobs_at(alloc, jobs, indices, &mut store)?;
+        let note = refused_note(alloc, self.args, &plan, store.unreadable_paths(), indices)?;
         write_message(&mut to.errors, note.as_slice());
-        let text = self.view_of_jobs(&plan, places)?;
+        let text = self.view_of_jobs(&plan, indices)?;
         write_results(&mut to.out, text.as_slice())?;
         Ok(DONE)
     }
 
     // Returns the view of the images of the jobs at these indices of a plan.
-    fn view_of_jobs(&self, plan: &Plan, places: &[usize]) -> Result<Vec<u8>, Stop>
-        requires within { AreJobIndices plan.now places.now }
-        requires rising { IsStrictlyIncreasing places.now }
+    fn view_of_jobs(&self, plan: &Plan, indices: &[usize]) -> Result<Vec<u8>, Stop>
+        requires within { AreJobIndices plan.now indices.now }
+        requires rising { IsStrictlyIncreasing indices.now }
         requires small { AreSmall plan.now.answers }
         ensures shown { IfOk result (λ text. IsViewOfPlan (D.contents self.now.host.now.inputs.now) self.now.args.now
-            self.now.view plan.now places.now text.items) }
+            self.now.view plan.now indices.now text.items) }
         ensures stopped { IfErr result (IsUnshownStop (D.contents self.now.host.now.inputs.now) self.now.args.now
-            self.now.view plan.now places.now) }
+            self.now.view plan.now indices.now) }
     {
-        let files = images_of_jobs(self.host.alloc, plan, places)?;
+        let files = images_of_jobs(self.host.alloc, plan, indices)?;
         let images = files.as_slice();
-        let table = self.table_for_images(plan, places, images)?;
+        let table = self.table_for_images(plan, indices, images)?;
         self.view_of_table(&table, images)
     }
 }

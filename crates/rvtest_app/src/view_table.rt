@@ -35,33 +35,33 @@ impl<'x, R: Threads + Wait + Sync, D: Inputs> JobsView<'x, R, D> {
     pub(crate) fn table_for_images(
         &self,
         plan: &Plan,
-        places: &[usize],
+        indices: &[usize],
         images: &[ImageFile<'_>],
     ) -> Result<CountTable, Stop>
-        requires within { AreJobIndices plan.now places.now }
-        requires rising { IsStrictlyIncreasing places.now }
-        requires images { images_of_files images.now ≡ images_of plan.now.answers (jobs_at plan.now places.now) }
+        requires within { AreJobIndices plan.now indices.now }
+        requires rising { IsStrictlyIncreasing indices.now }
+        requires images { images_of_files images.now ≡ images_of plan.now.answers (jobs_at plan.now indices.now) }
         ensures table { IfOk result (IsTableForView (D.contents self.now.host.now.inputs.now) self.now.view
-            (optional_text self.now.args.now.counts) plan.now places.now) }
+            (optional_text self.now.args.now.counts) plan.now indices.now) }
         ensures stopped { IfErr result (IsNoViewTableStop (D.contents self.now.host.now.inputs.now) self.now.args.now
-            self.now.view (optional_text self.now.args.now.counts) plan.now places.now) }
+            self.now.view (optional_text self.now.args.now.counts) plan.now indices.now) }
     {
         match self.args.counts {
             Some(path) => self.read_matching_table(path, images),
-            None => self.count_jobs(plan, places),
+            None => self.count_jobs(plan, indices),
         }
     }
 
     // Runs the jobs at these indices, and returns the counts that the view needs.
-    fn count_jobs(&self, plan: &Plan, places: &[usize]) -> Result<CountTable, Stop>
-        requires within { AreJobIndices plan.now places.now }
-        requires rising { IsStrictlyIncreasing places.now }
-        ensures counted { IfOk result (IsRunTableForView self.now.view plan.now places.now) }
-        ensures stopped { IfErr result (IsUncountedStop self.now.view plan.now places.now self.now.args.now.list.now) }
+    fn count_jobs(&self, plan: &Plan, indices: &[usize]) -> Result<CountTable, Stop>
+        requires within { AreJobIndices plan.now indices.now }
+        requires rising { IsStrictlyIncreasing indices.now }
+        ensures counted { IfOk result (IsRunTableForView self.now.view plan.now indices.now) }
+        ensures stopped { IfErr result (IsUncountedStop self.now.view plan.now indices.now self.now.args.now.list.now) }
     {
         match self.view {
-            View::Cover { .. } => Ok(counts_of_jobs(self.host, self.args, plan, places)?),
-            View::Profile(_) => counts_with_stacks_of_jobs(self.host, self.args, plan, places),
+            View::Cover { .. } => Ok(counts_of_jobs(self.host, self.args, plan, indices)?),
+            View::Profile(_) => counts_with_stacks_of_jobs(self.host, self.args, plan, indices),
         }
     }
 
@@ -88,14 +88,14 @@ fn counts_of_jobs<R: Threads + Wait + Sync, D>(
     host: &Host<'_, R, D>,
     args: &RunArgs<'_>,
     plan: &Plan,
-    places: &[usize],
+    indices: &[usize],
 ) -> Result<CountTable, AllocError>
-    requires within { AreJobIndices plan.now places.now }
-    requires rising { IsStrictlyIncreasing places.now }
-    ensures { IfOk result (IsTableOfJobsAt plan.now places.now) }
+    requires within { AreJobIndices plan.now indices.now }
+    requires rising { IsStrictlyIncreasing indices.now }
+    ensures { IfOk result (IsTableOfJobsAt plan.now indices.now) }
 {
     let crew = requested_crew(host.rt, host.alloc, args);
-    count_batch(&crew, &Batch::new(plan, places))
+    count_batch(&crew, &Batch::new(plan, indices))
 }
 
 // Runs the jobs at these indices, and returns their counts with the call stacks.
@@ -103,15 +103,15 @@ fn counts_with_stacks_of_jobs<R: Threads + Wait + Sync, D>(
     host: &Host<'_, R, D>,
     args: &RunArgs<'_>,
     plan: &Plan,
-    places: &[usize],
+    indices: &[usize],
 ) -> Result<CountTable, Stop>
-    requires within { AreJobIndices plan.now places.now }
-    requires rising { IsStrictlyIncreasing places.now }
-    ensures stacks { IfOk result (IsTableWithStacks plan.now places.now) }
-    ensures stopped { IfErr result (IsStackSumOfJobsStop plan.now places.now args.now.list.now) }
+    requires within { AreJobIndices plan.now indices.now }
+    requires rising { IsStrictlyIncreasing indices.now }
+    ensures stacks { IfOk result (IsTableWithStacks plan.now indices.now) }
+    ensures stopped { IfErr result (IsStackSumOfJobsStop plan.now indices.now args.now.list.now) }
 {
     let crew = requested_crew(host.rt, host.alloc, args);
-    match count_batch_with_stacks(&crew, &Batch::new(plan, places)) {
+    match count_batch_with_stacks(&crew, &Batch::new(plan, indices)) {
         Ok(table) => Ok(table),
         Err(error) => Err(sum_error_stop(host.alloc, args.list, error)),
     }

@@ -50,8 +50,8 @@ pub(crate) fn write_whole_files<F: Outputs + Drop, O: Sink + Drop, E: Sink + Dro
     ensures stopped { IfErr result
         (IsOutputWriteStop (outlet_path outlets.entry.report) (outlet_path outlets.entry.junit)) }
 {
-    let places = match vec![in alloc; 0usize; rows.as_slice().len()] {
-        Ok(places) => places,
+    let indices = match vec![in alloc; 0usize; rows.as_slice().len()] {
+        Ok(indices) => indices,
         Err(error) => {
             abandon_outlets(&mut to.files, outlets);
             return Err(Stop::from(error));
@@ -61,7 +61,7 @@ pub(crate) fn write_whole_files<F: Outputs + Drop, O: Sink + Drop, E: Sink + Dro
     let texts = FileTexts {
         suite,
         reporter: &lines,
-        places: places.as_slice(),
+        indices: indices.as_slice(),
         report: ReportText::Whole(rows),
         texts: &[],
     };

@@ -89,11 +89,11 @@ fn first_name_mismatch<'a>(rows: &'a [Row], jobs: &'a [Job]) -> Option<NameMisma
     ensures same { result ≡ None → row_names rows.now ≡ job_names jobs.now }
     ensures first { IfSome result (IsFirstNameMismatch (row_names rows.now) (job_names jobs.now)) }
 {
-    for place in 0..rows.len() {
-        let (met, listed) = (rows[place].name.as_str(), jobs[place].name.as_str());
+    for index in 0..rows.len() {
+        let (met, listed) = (rows[index].name.as_str(), jobs[index].name.as_str());
         if met != listed {
             return Some(NameMismatch {
-                number: place + 1,
+                number: index + 1,
                 in_report: met,
                 listed,
             });

@@ -66,7 +66,7 @@ pub(crate) fn write_file<F: Outputs>(
     ensures stopped { IfErr result (IsFileNotCreatedStop path.now) }
 {
     match files.create(alloc, path) {
-        Ok((place, sink)) => finish_file(files, alloc, OpenFile { path, place, sink }, bytes),
+        Ok((destination, sink)) => finish_file(files, alloc, OpenFile { path, destination, sink }, bytes),
         Err(error) => Err(file_error_stop(alloc, path, error)),
     }
 }
@@ -79,7 +79,7 @@ pub(crate) fn finish_file<F: Outputs>(
     bytes: &[u8],
 ) -> Result<(), Stop>
     requires no_failures { F.File.failure_count file.sink ≡ 0 }
-    requires named { file.path.now ≡ F.pending_path file.place }
+    requires named { file.path.now ≡ F.pending_path file.destination }
     ensures placed { IfSome (F.committed files.old) (λ _. F.File.accepted file.entry.sink ≡ Some [])
         → OnOk result (AreFilesCommitted (F.committed files.old) (F.committed files.new)
         (Some (committed_file file.entry.path.now bytes.now ∷ []))) }
@@ -88,22 +88,22 @@ pub(crate) fn finish_file<F: Outputs>(
 {
     let OpenFile {
         path,
-        place,
+        destination,
         mut sink,
     } = file;
     if put_all(&mut sink, bytes).is_err() {
         let reason = sink.last_error();
-        files.abandon(place);
+        files.abandon(destination);
         return Err(unwritten_stop(alloc, path, reason));
     }
     let synced = match files.sync(sink) {
         Ok(synced) => synced,
         Err(error) => {
-            files.abandon(place);
+            files.abandon(destination);
             return Err(file_error_stop(alloc, path, error));
         }
     };
-    match files.place(place, synced) {
+    match files.place(destination, synced) {
         Ok(()) => Ok(()),
         Err(error) => Err(file_error_stop(alloc, path, error)),
     }

@@ -20,11 +20,11 @@ pub loop-i-init : goal.loop-i-init
 loop-i-init g c =
     let line = case_text c.args.suite.now.name.now (judge_view c.args.suite.now.judge) (g.T.RowReporter.line c.args.cases.now.reporter.now) in
     let text = c.args.text.now.items in
-    let places = c.args.cases.now.places.now in
+    let indices = c.args.cases.now.indices.now in
     let rows = c.args.cases.now.rows.now in
     record {
-      partly_written = nothing_under_way (g.W.Sink.accepted c.args.out.now) text (text ++ joined_row_texts line places (take 0 rows))
-          (told_none line text places rows);
+      partly_written = nothing_under_way (g.W.Sink.accepted c.args.out.now) text (text ++ joined_row_texts line indices (take 0 rows))
+          (told_none line text indices rows);
       counted = refl;
     }
 
@@ -33,12 +33,12 @@ returns-in_err-push_case-clause-part g c =
     let error = err_from_is_err_and c.from_residual.result c.from_residual.ensures.1 in
     let line = case_text c.args.suite.now.name.now (judge_view c.args.suite.now.judge) (g.T.RowReporter.line c.args.cases.now.reporter.now) in
     let text = c.args.text.now.items in
-    let places = c.args.cases.now.places.now in
+    let indices = c.args.cases.now.indices.now in
     let rows = c.args.cases.now.rows.now in
     let i = c.loop-i.i in
     rw error.1 (stopped_under_way (g.W.Sink.accepted c.args.out.now) (g.W.Sink.accepted c.loop-i.out) c.loop-i.text.items
-    (text ++ joined_row_texts line places (take i rows)) (concat (drop i (row_text_list line places rows)))
-    (text ++ joined_row_texts line places rows) c.loop-i.invariant.partly_written (told_rest line text places rows i))
+    (text ++ joined_row_texts line indices (take i rows)) (concat (drop i (row_text_list line indices rows)))
+    (text ++ joined_row_texts line indices rows) c.loop-i.invariant.partly_written (told_rest line text indices rows i))
 
 pub returns-in_err-write_if_large-clause-part : goal.returns-in_err-write_if_large-clause-part
 returns-in_err-write_if_large-clause-part g c =
@@ -46,39 +46,39 @@ returns-in_err-write_if_large-clause-part g c =
     c.from_residual-in_err-write_if_large.ensures.1 in
     let line = case_text c.args.suite.now.name.now (judge_view c.args.suite.now.judge) (g.T.RowReporter.line c.args.cases.now.reporter.now) in
     let text = c.args.text.now.items in
-    let places = c.args.cases.now.places.now in
+    let indices = c.args.cases.now.indices.now in
     let rows = c.args.cases.now.rows.now in
     let i = c.loop-i.i in
     let any = some_row rows i (omega arith) in
     let row = get_or rows i any in
     let before = g.W.Sink.accepted c.args.out.now in
     let after = g.W.Sink.accepted c.write_if_large.new.out in
-    let told_so_far = text ++ joined_row_texts line places (take i rows) in
-    let longer = text ++ joined_row_texts line places (take (i + 1) rows) in
-    rw error.1 (beginning_of_longer before after longer (concat (drop (i + 1) (row_text_list line places rows)))
-    (text ++ joined_row_texts line places rows)
-    (failed_under_way before (g.W.Sink.accepted c.loop-i.out) after c.loop-i.text.items (line (get_or places i 0) row)
+    let told_so_far = text ++ joined_row_texts line indices (take i rows) in
+    let longer = text ++ joined_row_texts line indices (take (i + 1) rows) in
+    rw error.1 (beginning_of_longer before after longer (concat (drop (i + 1) (row_text_list line indices rows)))
+    (text ++ joined_row_texts line indices rows)
+    (failed_under_way before (g.W.Sink.accepted c.loop-i.out) after c.loop-i.text.items (line (get_or indices i 0) row)
     c.push_case.new.text.items told_so_far longer c.loop-i.invariant.partly_written
     (c.in_ok-push_case.ensures any) c.in_err-write_if_large.ensures.part
-    (told_behind line text places rows i 0 row (omega arith) (omega arith) (get_or_default rows i any row (omega arith))))
-    (told_rest line text places rows (i + 1)))
+    (told_behind line text indices rows i 0 row (omega arith) (omega arith) (get_or_default rows i any row (omega arith))))
+    (told_rest line text indices rows (i + 1)))
 
 pub loop-i-preserved : goal.loop-i-preserved
 loop-i-preserved g c =
     let line = case_text c.args.suite.now.name.now (judge_view c.args.suite.now.judge) (g.T.RowReporter.line c.args.cases.now.reporter.now) in
     let text = c.args.text.now.items in
-    let places = c.args.cases.now.places.now in
+    let indices = c.args.cases.now.indices.now in
     let rows = c.args.cases.now.rows.now in
     let i = c.loop-i.i in
     let any = some_row rows i (omega arith) in
     let row = get_or rows i any in
     record {
       partly_written = more_under_way (g.W.Sink.accepted c.args.out.now) (g.W.Sink.accepted c.loop-i.out)
-          (g.W.Sink.accepted c.write_if_large.new.out) c.loop-i.text.items (line (get_or places i 0) row)
-          c.push_case.new.text.items c.write_if_large.new.text.items (text ++ joined_row_texts line places (take i rows))
-          (text ++ joined_row_texts line places (take (i + 1) rows)) c.loop-i.invariant.partly_written (c.in_ok-push_case.ensures any)
+          (g.W.Sink.accepted c.write_if_large.new.out) c.loop-i.text.items (line (get_or indices i 0) row)
+          c.push_case.new.text.items c.write_if_large.new.text.items (text ++ joined_row_texts line indices (take i rows))
+          (text ++ joined_row_texts line indices (take (i + 1) rows)) c.loop-i.invariant.partly_written (c.in_ok-push_case.ensures any)
           c.in_ok-write_if_large.ensures.partly_written
-          (told_behind line text places rows i 0 row (omega arith) (omega arith) (get_or_default rows i any row (omega arith)));
+          (told_behind line text indices rows i 0 row (omega arith) (omega arith) (get_or_default rows i any row (omega arith)));
       counted = c.in_ok-write_if_large.ensures.counted ∙ c.loop-i.invariant.counted;
     }
 
@@ -87,5 +87,5 @@ returns-clause-partly_written g c =
     let line = case_text c.args.suite.now.name.now (judge_view c.args.suite.now.judge) (g.T.RowReporter.line c.args.cases.now.reporter.now) in
     let text = c.args.text.now.items in
     subst (λ (rows : List Row). IsPartlyWritten (g.W.Sink.accepted c.args.out.now) (g.W.Sink.accepted c.loop-i.out)
-    c.loop-i.text.items (text ++ joined_row_texts line c.args.cases.now.places.now rows))
+    c.loop-i.text.items (text ++ joined_row_texts line c.args.cases.now.indices.now rows))
     (take_all c.loop-i.i c.args.cases.now.rows.now (omega arith)) c.loop-i.invariant.partly_written

@@ -8,6 +8,6 @@ use Rattle.rv_junit.proofs.case_writes.write_cases.Given as goal
 abbrev pub invariant-loop-i : goal.invariant-loop-i
 invariant-loop-i g l = record {
   partly_written : IsPartlyWritten (g.W.Sink.accepted l.initial.out) (g.W.Sink.accepted l.out) l.text.items
-      (l.initial.text.items ++ joined_row_texts (case_text l.suite.name.now (judge_view l.suite.judge) (g.T.RowReporter.line l.cases.reporter.now)) l.cases.places.now (take l.i l.cases.rows.now));
+      (l.initial.text.items ++ joined_row_texts (case_text l.suite.name.now (judge_view l.suite.judge) (g.T.RowReporter.line l.cases.reporter.now)) l.cases.indices.now (take l.i l.cases.rows.now));
   counted : g.W.Sink.failure_count l.out ≡ g.W.Sink.failure_count l.initial.out;
 }

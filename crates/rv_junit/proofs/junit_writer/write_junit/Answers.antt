@@ -21,7 +21,7 @@ returns-in_err-write_cases-clause-part g c =
     let error = err_from_is_err_and c.from_residual-in_err-write_cases.result
     c.from_residual-in_err-write_cases.ensures.1 in
     rw error.1 (beginning_of_longer _ _ _ suite_end_text _ c.in_err-write_cases.ensures.part
-    (junit_begun class judging (g.T.RowReporter.line c.args.cases.now.reporter.now) c.args.cases.now.places.now rows
+    (junit_begun class judging (g.T.RowReporter.line c.args.cases.now.reporter.now) c.args.cases.now.indices.now rows
     c.into_bytes-text.result.items begun))
 
 pub returns-in_err-push_text-clause-part : goal.returns-in_err-push_text-clause-part
@@ -34,7 +34,7 @@ returns-in_err-push_text-clause-part g c =
     let error = err_from_is_err_and c.from_residual-in_err-push_text.result
     c.from_residual-in_err-push_text.ensures.1 in
     rw error.1 (stopped_under_way _ _ _ _ suite_end_text _ c.in_ok-write_cases.ensures.partly_written
-    (junit_begun class judging (g.T.RowReporter.line c.args.cases.now.reporter.now) c.args.cases.now.places.now rows
+    (junit_begun class judging (g.T.RowReporter.line c.args.cases.now.reporter.now) c.args.cases.now.indices.now rows
     c.into_bytes-text.result.items begun))
 
 pub returns-in_err-put_all-clause-part : goal.returns-in_err-put_all-clause-part
@@ -48,7 +48,7 @@ returns-in_err-put_all-clause-part g c =
     c.from_residual-in_err-put_all.ensures.1 in
     rw error.1 (failed_under_way _ _ _ _ suite_end_text _ _ _ c.in_ok-write_cases.ensures.partly_written
     c.in_ok-push_text.ensures (rw c.as_slice.ensures.value at c.in_err-put_all.ensures.part)
-    (junit_begun class judging (g.T.RowReporter.line c.args.cases.now.reporter.now) c.args.cases.now.places.now rows
+    (junit_begun class judging (g.T.RowReporter.line c.args.cases.now.reporter.now) c.args.cases.now.indices.now rows
     c.into_bytes-text.result.items begun))
 
 pub returns-clause-appended : goal.returns-clause-appended
@@ -58,7 +58,7 @@ returns-clause-appended g c =
     let rows = c.args.cases.now.rows.now in
     let begun = ap (λ v. v.items) c.into_bytes-text.ensures.value ∙ c.in_ok-push_suite_begin.ensures
     ∙ ap (λ xs. xs ++ suite_begin_text class judging rows) c.new-begin.ensures.bytes in
-    rw (junit_begun class judging (g.T.RowReporter.line c.args.cases.now.reporter.now) c.args.cases.now.places.now rows
+    rw (junit_begun class judging (g.T.RowReporter.line c.args.cases.now.reporter.now) c.args.cases.now.indices.now rows
     c.into_bytes-text.result.items begun)
     (ended_under_way _ _ _ _ suite_end_text _ _ c.in_ok-write_cases.ensures.partly_written
     c.in_ok-push_text.ensures (rw c.as_slice.ensures.value at c.in_ok-put_all.ensures.appended))

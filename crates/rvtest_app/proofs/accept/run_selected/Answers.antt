@@ -11,7 +11,7 @@ returns-in-Ok-clause-rows g c =
         unread = c.unreadable_paths.result.now;
         planned = record {
           listed = found.jobs;
-          paths = rw (c.as_slice-2.ensures.value, c.in_ok-places.ensures.value, c.as_slice.ensures.value) at found.paths;
+          paths = rw (c.as_slice-2.ensures.value, c.in_ok-indices.ensures.value, c.as_slice.ensures.value) at found.paths;
           kept = rw (c.new-store.ensures.inputs, c.new-store.ensures.folder) at found.kept;
           noted = ap length c.unreadable_paths.ensures ∙ rw c.new-store.ensures.nothing at found.faults;
         };
@@ -20,12 +20,12 @@ returns-in-Ok-clause-rows g c =
           c.into_vec.ensures,
           c.in-Ok.ensures,
           c.new-batch.ensures.plan,
-          c.new-batch.ensures.places,
+          c.new-batch.ensures.indices,
           c.as_slice-4.ensures.value,
-          c.in_ok-places.ensures.value,
+          c.in_ok-indices.ensures.value,
           c.as_slice.ensures.value,
         ) at c.in_ok-indexed_rows-in-Ok.ensures;
-        noted = rw (c.as_slice-count.ensures.value, c.in_ok-places.ensures.value, c.as_slice.ensures.value) at c.in_ok-note.ensures;
+        noted = rw (c.as_slice-count.ensures.value, c.in_ok-indices.ensures.value, c.as_slice.ensures.value) at c.in_ok-note.ensures;
       };
       told = (refl, rw c.as_slice-3.ensures.value at c.write_message.ensures, refl);
     }

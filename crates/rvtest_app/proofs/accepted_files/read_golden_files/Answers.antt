@@ -15,7 +15,7 @@ loop-target-preserved g c =
           c.loop-target.invariant.goes rest
           (record {
             of = refl;
-            leads = rw c.as_str.ensures at c.in_ok-place.ensures;
+            leads = rw c.as_str.ensures at c.in_ok-resolved.ensures;
             old_contents = rw c.as_str-in-loop-target.ensures at c.in_ok-old.ensures.old;
           })
           c.in_ok-push_file.ensures;

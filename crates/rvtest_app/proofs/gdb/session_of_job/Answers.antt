@@ -6,11 +6,11 @@ use Rattle.rvtest_app.proofs.gdb.session_of_job.Goals as goal
 
 pub invariant_of-result : goal.invariant_of-result
 invariant_of-result g c =
-    let place = c.args.named.place in
+    let index = c.args.named.index in
     let any = single_job [] 0 [] in
     record {
-      same_run = session_starts_there c.in_ok-plan.plan place any _ c.in-Some.session
-          (subst (λ (jobs : List Job). place < length jobs) (sym c.in_ok-plan.ensures.jobs) c.requires)
+      same_run = session_starts_there c.in_ok-plan.plan index any _ c.in-Some.session
+          (subst (λ (jobs : List Job). index < length jobs) (sym c.in_ok-plan.ensures.jobs) c.requires)
           (rw c.in-Some.is at (c.in_ok-session.ensures any));
     }
 

@@ -14,8 +14,8 @@ returns c =
     let plan = c.args.plan.now in
     IfOk-map c.session_at.result _ _
     (λ found over d.
-    let job = slice_index_or plan.jobs c.args.place d in
-    let same = get_or_read plan.jobs c.args.place c.job.result.now c.requires c.job.ensures.value d in
+    let job = slice_index_or plan.jobs c.args.index d in
+    let same = get_or_read plan.jobs c.args.index c.job.result.now c.requires c.job.ensures.value d in
     let path = c.in_ok-path.ensures
     ∙ ap (resolved_path (optional_text c.args.root)) (c.as_str.ensures ∙ ap (λ (j : Job). j.image) same) in
     subst (λ (p : List ℕ). MatchOption found (is_ok (start_state_in plan.answers job) ≡ false) (IsSessionOf plan.answers job p)) path

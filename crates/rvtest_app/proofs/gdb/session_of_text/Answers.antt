@@ -15,7 +15,7 @@ returns-clause-stopped g c =
     (λ refused. inr (record {
       jobs = c.in_ok-named.named.jobs;
       listed = c.in_ok-named.ensures.listed;
-      place = c.in_ok-named.named.place;
+      index = c.in_ok-named.named.index;
       first = c.in_ok-named.ensures.first;
       refused = refused;
     }))) c.session_of_job.ensures.stopped

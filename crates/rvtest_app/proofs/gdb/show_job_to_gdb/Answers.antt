@@ -15,7 +15,7 @@ pub returns-in-Ok-clause-answered : goal.returns-in-Ok-clause-answered
 returns-in-Ok-clause-answered g c =
     let received = rw (c.in-Ok.is, c.limit_memory.ensures) at c.serve.ensures.heard in record {
       spoken = c.if-is_terminal.false;
-      end_text = job_end_text c.in_ok-opened.opened.job.plan c.in_ok-opened.opened.job.unread.items c.in_ok-opened.opened.job.place;
+      end_text = job_end_text c.in_ok-opened.opened.job.plan c.in_ok-opened.opened.job.unread.items c.in_ok-opened.opened.job.index;
       first = c.in_ok-opened.opened.session;
       opened = c.in_ok-opened.ensures.opened;
       received = received.received;

@@ -9,10 +9,10 @@ pub row_from-requires-clause-way : goal.row_from-requires-clause-way
 row_from-requires-clause-way c =
     let end = c.args.job.now in
     λ d. record {
-      first = job_start_state end.plan end.place;
-      starts = starts_there end.plan end.place d end.within (end.runs d);
+      first = job_start_state end.plan end.index;
+      starts = starts_there end.plan end.index d end.within (end.runs d);
       completed = c.requires.completed;
       same = c.in_ok-try_clone.ensures ∙ c.requires.same;
       within = subst (λ (one : Job). c.args.steps ≤ one.budget)
-          (get_or_read end.plan.jobs end.place c.job.result.now end.within c.job.ensures.value d) (omega (arith));
+          (get_or_read end.plan.jobs end.index c.job.result.now end.within c.job.ensures.value d) (omega (arith));
     }

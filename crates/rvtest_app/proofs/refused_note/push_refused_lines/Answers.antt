@@ -6,16 +6,16 @@ use Rattle.rvtest_app.specs.RefusedNotes.{invalid_line, refused_lines}
 use Rattle.rvtest_app.proofs.ViewAnswers.{refused_more}
 use Rattle.rvtest_app.proofs.refused_note.push_refused_lines.Goals as goal
 
-pub loop-place-preserved : goal.loop-place-preserved
-loop-place-preserved c =
+pub loop-index-preserved : goal.loop-index-preserved
+loop-index-preserved c =
     let reporter = c.args.reporter.now in
     let judging = judge_view reporter.judge in
-    let places = c.args.places.now in
-    let i = c.loop-place.place-index in
-    let place = get_or places i 0 in
-    let line = invalid_line judging reporter.plan.now reporter.unread.now (slice_index_or reporter.plan.now.jobs place (single_job [] 0 [])) in
+    let indices = c.args.indices.now in
+    let i = c.loop-index.index-index in
+    let index = get_or indices i 0 in
+    let line = invalid_line judging reporter.plan.now reporter.unread.now (slice_index_or reporter.plan.now.jobs index (single_job [] 0 [])) in
     c.in_ok-push_refused_line.ensures (single_job [] 0 [])
-    ∙ ap (λ text. text ++ line) c.loop-place.invariant
-    ∙ append_assoc _ (refused_lines judging reporter.plan.now reporter.unread.now (take i places)) line
-    ∙ ap (λ lines. c.args.text.now.items ++ lines) (sym (refused_more judging reporter.plan.now reporter.unread.now places i place
-    c.loop-place-test.true (get_or_default places i 0 place c.loop-place-test.true)))
+    ∙ ap (λ text. text ++ line) c.loop-index.invariant
+    ∙ append_assoc _ (refused_lines judging reporter.plan.now reporter.unread.now (take i indices)) line
+    ∙ ap (λ lines. c.args.text.now.items ++ lines) (sym (refused_more judging reporter.plan.now reporter.unread.now indices i index
+    c.loop-index-test.true (get_or_default indices i 0 index c.loop-index-test.true)))

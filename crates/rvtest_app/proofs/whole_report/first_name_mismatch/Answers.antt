@@ -17,25 +17,25 @@ same_bytes : (met listed : List ℕ) → not (bytes_eq met listed) ≡ false →
 same_bytes met listed is = (bytes_eq-Decides met listed).0 (was_true (bytes_eq met listed) is)
 
 -- the first names of two lists, and one more
-one_more : (names all : List (List ℕ)) (place : ℕ) (name : List ℕ) → place < length names → place < length all
-    → take place names ≡ take place all → get_or names place name ≡ name → get_or all place name ≡ name
-    → take (place + 1) names ≡ take (place + 1) all
-one_more names all place name within among same met listed =
-    rw (add-one place, take-suc names place name within, take-suc all place name among, same, met, listed) refl
+one_more : (names all : List (List ℕ)) (index : ℕ) (name : List ℕ) → index < length names → index < length all
+    → take index names ≡ take index all → get_or names index name ≡ name → get_or all index name ≡ name
+    → take (index + 1) names ≡ take (index + 1) all
+one_more names all index name within among same met listed =
+    rw (add-one index, take-suc names index name within, take-suc all index name among, same, met, listed) refl
 
-pub loop-place-preserved : goal.loop-place-preserved
-loop-place-preserved c =
+pub loop-index-preserved : goal.loop-index-preserved
+loop-index-preserved c =
     let rows = c.args.rows.now in
     let jobs = c.args.jobs.now in
-    let place = c.loop-place.place in
+    let index = c.loop-index.index in
     let name = c.as_str-met.result.now in
-    let within = c.loop-place-test.true in
-    let met = get_or-map (λ (row : Row). row.name) rows place c.index-rows-place.result name within
+    let within = c.loop-index-test.true in
+    let met = get_or-map (λ (row : Row). row.name) rows index c.index-rows-index.result name within
     ∙ sym c.as_str-met.ensures in
-    let among : place < length jobs = omega (arith, within, c.requires) in
+    let among : index < length jobs = omega (arith, within, c.requires) in
     let same = same_bytes name c.as_str-listed.result.now (sym c.ne.ensures ∙ c.if-ne.false) in
-    let listed = get_or-map (λ (job : Job). job.name) jobs place c.index-jobs-place.result name among
+    let listed = get_or-map (λ (job : Job). job.name) jobs index c.index-jobs-index.result name among
     ∙ sym c.as_str-listed.ensures ∙ sym same in
-    one_more (row_names rows) (job_names jobs) place name
+    one_more (row_names rows) (job_names jobs) index name
     (rw (length-map rows (λ (row : Row). row.name)) within) (rw (length-map jobs (λ (job : Job). job.name)) among)
-    c.loop-place.invariant met listed
+    c.loop-index.invariant met listed

@@ -10,23 +10,23 @@ use Rattle.rvtest_app.proofs.check_text.CheckedList.push_refused_jobs.Goals as g
 
 pub overflow_add-refused : goal.overflow_add-refused
 overflow_add-refused c =
-    let within = c.loop-place.invariant.within in
-    omega (arith, c.jobs-place-end.ensures.few)
+    let within = c.loop-index.invariant.within in
+    omega (arith, c.jobs-index-end.ensures.few)
 
-pub loop-place-preserved : goal.loop-place-preserved
-loop-place-preserved c =
+pub loop-index-preserved : goal.loop-index-preserved
+loop-index-preserved c =
     let any = single_job [] 0 [] in
     let list = c.args.self.now in
     let plan = list.plan.now in
-    let place = c.loop-place.place in
-    let below : place < length plan.jobs = omega (arith, c.jobs-place-end.ensures.value) in
-    let text = texts_before-more (refused_job_text list.path.now list.lines.now plan list.unread.now) plan.jobs place any
-    _ _ _ below c.loop-place.invariant.text (c.in_ok-is_refused.ensures.text any) in
-    let before = length (filter (is_job_refused plan) (take place plan.jobs)) in
-    let more = length-filter_more (is_job_refused plan) plan.jobs place any below in
+    let index = c.loop-index.index in
+    let below : index < length plan.jobs = omega (arith, c.jobs-index-end.ensures.value) in
+    let text = texts_before-more (refused_job_text list.path.now list.lines.now plan list.unread.now) plan.jobs index any
+    _ _ _ below c.loop-index.invariant.text (c.in_ok-is_refused.ensures.text any) in
+    let before = length (filter (is_job_refused plan) (take index plan.jobs)) in
+    let more = length-filter_more (is_job_refused plan) plan.jobs index any below in
     let refused = c.in_ok-is_refused.ensures.refused any in
-    let within = c.loop-place.invariant.within in
-    let count = c.loop-place.invariant.count in
+    let within = c.loop-index.invariant.within in
+    let count = c.loop-index.invariant.count in
     elim c.if-is_refused.branch [
       | then-is_refused w ↦
           let next = more ∙ ap (λ holds. before + cond holds 1 0) (sym refused ∙ w.if-is_refused.true) in
@@ -48,5 +48,5 @@ pub returns-clause-text : goal.returns-clause-text
 returns-clause-text c =
     let list = c.args.self.now in
     let plan = list.plan.now in
-    texts_before-all (refused_job_text list.path.now list.lines.now plan list.unread.now) plan.jobs c.loop-place.place
-    _ _ (omega (arith, c.jobs-place-end.ensures.value)) c.loop-place.invariant.text
+    texts_before-all (refused_job_text list.path.now list.lines.now plan list.unread.now) plan.jobs c.loop-index.index
+    _ _ (omega (arith, c.jobs-index-end.ensures.value)) c.loop-index.invariant.text

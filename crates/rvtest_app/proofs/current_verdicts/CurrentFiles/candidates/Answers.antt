@@ -11,9 +11,9 @@ loop-job-init g c = rw c.new-candidates.ensures.items
 pub loop-job-preserved : goal.loop-job-preserved
 loop-job-preserved g c =
     one_more_stands (g.D.Inputs.contents c.args.self.now.inputs.now) (optional_text c.args.self.now.folder)
-    c.args.self.now.rows.now c.args.jobs.now c.args.chosen.now c.loop-job.job-index c.len-place.result
+    c.args.self.now.rows.now c.args.jobs.now c.args.chosen.now c.loop-job.job-index c.len-index.result
     c.loop-job.candidates.items c.push_candidate.new.candidates.items c.job-item.result c.in_ok-candidate.candidate
-    c.loop-job.invariant c.loop-job-test.true c.job-item.is (c.len-place.ensures ∙ c.loop-job.candidates.ok.0)
+    c.loop-job.invariant c.loop-job-test.true c.job-item.is (c.len-index.ensures ∙ c.loop-job.candidates.ok.0)
     c.in_ok-candidate.ensures
     c.in_ok-push_candidate.ensures
 

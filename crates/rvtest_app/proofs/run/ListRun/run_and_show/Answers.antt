@@ -30,29 +30,29 @@ pub returns-clause-rows : goal.returns-clause-rows
 returns-clause-rows g c =
     ran_on c.write_totals_line-ran.result c.rows_if_written-ran.result _ c.write_totals_line-ran.ensures.rows
     (ran_on c.rows_if_written-ran.result c.stream_rows-stream.result.2 _ c.rows_if_written-ran.ensures.rows
-    (rw (c.new-batch.ensures.plan, c.new-batch.ensures.places) at c.stream_rows-stream.ensures.rows))
+    (rw (c.new-batch.ensures.plan, c.new-batch.ensures.indices) at c.stream_rows-stream.ensures.rows))
 
 pub returns-clause-few : goal.returns-clause-few
 returns-clause-few g c =
     ran_on c.write_totals_line-ran.result c.rows_if_written-ran.result _ c.write_totals_line-ran.ensures.rows
     (ran_on c.rows_if_written-ran.result c.stream_rows-stream.result.2 _ c.rows_if_written-ran.ensures.rows
-    (rw c.new-batch.ensures.places at c.stream_rows-stream.ensures.few))
+    (rw c.new-batch.ensures.indices at c.stream_rows-stream.ensures.few))
 
 pub returns-clause-shown : goal.returns-clause-shown
 returns-clause-shown g c =
     let planned = c.args.planned.now in
     let plan = planned.reporter.now.plan.now in
-    let places = planned.places.now in
+    let indices = planned.indices.now in
     let judging = judge_view planned.reporter.now.judge in
     let taken = g.W.Sink.accepted in
-    let all = run_rows c.args.self.now.args.now.stop_after judging plan places in
-    let texts = rw (c.new-batch.ensures.plan, c.new-batch.ensures.places, c.new-out.ensures.sink, c.new-counting.ensures)
+    let all = run_rows c.args.self.now.args.now.stop_after judging plan indices in
+    let texts = rw (c.new-batch.ensures.plan, c.new-batch.ensures.indices, c.new-out.ensures.sink, c.new-counting.ensures)
     at c.stream_rows-stream.ensures.all in
-    let line = rw (c.new-batch.ensures.plan, c.new-batch.ensures.places) at c.write_totals_line-ran.ensures.line in
+    let line = rw (c.new-batch.ensures.plan, c.new-batch.ensures.indices) at c.write_totals_line-ran.ensures.line in
     rw c.into_inner-stream.ensures
     (shown_whole c.write_totals_line-ran.result (taken c.args.shown.stream) (taken c.stream_rows-stream.result.0.sink)
-    (taken c.write_totals_line-ran.new.out.sink) (joined_row_texts (row_lines_at (reporter_of planned.reporter.now)) places all)
-    (λ (rows : List Row). run_totals_line judging plan places rows (length places - length rows)) all
+    (taken c.write_totals_line-ran.new.out.sink) (joined_row_texts (row_lines_at (reporter_of planned.reporter.now)) indices all)
+    (λ (rows : List Row). run_totals_line judging plan indices rows (length indices - length rows)) all
     (returns-clause-rows g c)
     (done_on c.write_totals_line-ran.result c.rows_if_written-ran.result _ c.write_totals_line-ran.ensures.rows
     (done_on c.rows_if_written-ran.result c.stream_rows-stream.result.2 _ c.rows_if_written-ran.ensures.rows texts))
@@ -70,12 +70,12 @@ returns-clause-counted g c =
 pub returns-clause-report : goal.returns-clause-report
 returns-clause-report g c =
     let planned = c.args.planned.now in
-    let places = planned.places.now in
-    let all = run_rows c.args.self.now.args.now.stop_after (judge_view planned.reporter.now.judge) planned.reporter.now.plan.now places in
+    let indices = planned.indices.now in
+    let all = run_rows c.args.self.now.args.now.stop_after (judge_view planned.reporter.now.judge) planned.reporter.now.plan.now indices in
     let line = report_row_text c.args.rows.now.is_streaming in
-    let text = joined_row_texts line places all in
+    let text = joined_row_texts line indices all in
     let sender = c.stream_rows-stream.result.1.first in
-    let seen = rw (c.new-batch.ensures.plan, c.new-batch.ensures.places) at c.stream_rows-stream.ensures.seen in
+    let seen = rw (c.new-batch.ensures.plan, c.new-batch.ensures.indices) at c.stream_rows-stream.ensures.seen in
     done_on c.write_totals_line-ran.result c.rows_if_written-ran.result _ c.write_totals_line-ran.ensures.rows
     (sent_on c.rows_if_written-ran.result c.stream_rows-stream.result.2 c.finish-sink.result.1 _ _
     c.rows_if_written-ran.ensures.rows c.rows_if_written-ran.ensures.sent seen
@@ -85,7 +85,7 @@ returns-clause-report g c =
     (c.finish-sink.ensures.all text
     (subst (λ (text : List ℕ). IfSome sender.outbox (λ box. IsSent g.K.StreamSpec.before (g.V.Sink.accepted box.out)
     g.K.StreamSpec.failures (g.V.Sink.failure_count box.out) box.failed box.buffered.items text))
-    (ap (λ (line : ℕ → Row → List ℕ). text_by_index line seen.reported) (sym c.requires.line) ∙ reported_texts _ _ places all seen line)
+    (ap (λ (line : ℕ → Row → List ℕ). text_by_index line seen.reported) (sym c.requires.line) ∙ reported_texts _ _ indices all seen line)
     seen.seen.0))))
 
 pub returns-clause-sink : goal.returns-clause-sink
@@ -99,17 +99,17 @@ returns-clause-report_failed g c =
 pub returns-clause-texts : goal.returns-clause-texts
 returns-clause-texts g c =
     let planned = c.args.planned.now in
-    let places = planned.places.now in
+    let indices = planned.indices.now in
     let judging = judge_view planned.reporter.now.judge in
-    let all = run_rows c.args.self.now.args.now.stop_after judging planned.reporter.now.plan.now places in
+    let all = run_rows c.args.self.now.args.now.stop_after judging planned.reporter.now.plan.now indices in
     let kept = c.stream_rows-stream.result.1.second in
     let lines = failure_lines (reporter_of planned.reporter.now) in
-    let seen = rw (c.new-batch.ensures.plan, c.new-batch.ensures.places, c.new-counting.ensures) at c.stream_rows-stream.ensures.seen in
+    let seen = rw (c.new-batch.ensures.plan, c.new-batch.ensures.indices, c.new-counting.ensures) at c.stream_rows-stream.ensures.seen in
     rw c.into_texts-texts.ensures.items
-    (known_on c.write_totals_line-ran.result c.rows_if_written-ran.result _ (λ rows. AreLinesOf lines places rows kept.texts.items) all
+    (known_on c.write_totals_line-ran.result c.rows_if_written-ran.result _ (λ rows. AreLinesOf lines indices rows kept.texts.items) all
     c.write_totals_line-ran.ensures.rows (returns-clause-rows g c)
     (done_on c.rows_if_written-ran.result c.stream_rows-stream.result.2 _ c.rows_if_written-ran.ensures.rows seen)
     (λ seen. kept_known _ (row_lines_at (reporter_of planned.reporter.now)) lines judging kept.is_closed g.K.StreamSpec.keeps kept.texts.items
-    places all seen c.into_texts-texts.ensures.needed
+    indices all seen c.into_texts-texts.ensures.needed
     (λ keeps. lines_of_kept c.args.self.now.args.now (reporter_of planned.reporter.now) (c.requires.keeps ∙ keeps))
     (rw (sym c.requires.judging) at seen.seen.1)))

@@ -60,7 +60,7 @@ returns-clause-undone g c =
     let plan = c.in-Ok-gather_jobs_at.plan in
     let unread = c.unreadable_paths-unread.result.now in
     let failures = c.args.marked.known in
-    let places = selected_job_indices c.args.marked.selection.items in
+    let indices = selected_job_indices c.args.marked.selection.items in
     let found = c.in-Ok-gather_jobs_at.ensures in
     let behind = option_map (λ (jobs : Bor KnownJobs). jobs.now) c.as_ref.result in
     let known : behind ≡ failures = known_behind c.as_ref.result ∙ c.as_ref.ensures.value in
@@ -68,10 +68,10 @@ returns-clause-undone g c =
     let told_is : told ≡ run_reporter args failures plan unread =
     reported_as_requested args failures behind plan unread c.args.self.now.rule c.requested_verbosity.result c.requires known
     c.requested_verbosity.ensures in
-    let places_are : c.as_slice-4.result.now ≡ places =
+    let places_are : c.as_slice-4.result.now ≡ indices =
     rw (c.as_slice-4.ensures.value, c.in-Ok.ensures.value, c.as_slice.ensures.value) refl in
-    let rows = run_rows args.stop_after (run_judging args failures) plan places in
-    let rows_are = same_rows args.stop_after told.judging (run_judging args failures) plan c.as_slice-4.result.now places
+    let rows = run_rows args.stop_after (run_judging args failures) plan indices in
+    let rows_are = same_rows args.stop_after told.judging (run_judging args failures) plan c.as_slice-4.result.now indices
     (ap (λ (t : RowReporter). t.judging) told_is) places_are in
     OnErr-map c.run_into_files.result.1 _ _
     (⊎_elim inl (λ part. inr (record {
@@ -90,7 +90,7 @@ returns-clause-undone g c =
       };
       rows = rows;
       shown = refl;
-      placed = same_part args told (run_reporter args failures plan unread) c.as_slice-4.result.now places
+      placed = same_part args told (run_reporter args failures plan unread) c.as_slice-4.result.now indices
           c.args.marked.frame.shard c.args.marked.frame.old rows (g.F.Outputs.committed c.args.to.files)
           (g.F.Outputs.committed c.run_into_files.result.0.files) told_is places_are part;
     })))

@@ -20,17 +20,17 @@ write_run_files-requires-clause-counted g c κs within =
     omega (
       arith,
       c.requires.few,
-      ap length c.first_jobs-first.ensures.places,
+      ap length c.first_jobs-first.ensures.indices,
       ap length c.as_slice.ensures,
-      length-take (length c.as_slice.result.now) c.args.planned.now.places.now,
+      length-take (length c.as_slice.result.now) c.args.planned.now.indices.now,
     )
 
 pub write_run_files-requires-clause-texts : goal.write_run_files-requires-clause-texts
 write_run_files-requires-clause-texts g c κs within =
     rw c.first_jobs-first.ensures.reporter
-    (lines_of_first (failure_lines (reporter_of c.args.planned.now.reporter.now)) c.args.planned.now.places.now
-    c.first_jobs-first.result.places.now c.args.rows c.args.texts.items
-    (c.first_jobs-first.ensures.places ∙ ap (λ (rows : List Row). take (length rows) c.args.planned.now.places.now) c.as_slice.ensures)
+    (lines_of_first (failure_lines (reporter_of c.args.planned.now.reporter.now)) c.args.planned.now.indices.now
+    c.first_jobs-first.result.indices.now c.args.rows c.args.texts.items
+    (c.first_jobs-first.ensures.indices ∙ ap (λ (rows : List Row). take (length rows) c.args.planned.now.indices.now) c.as_slice.ensures)
     c.requires.texts)
 
 pub write_counts-requires-clause-open : goal.write_counts-requires-clause-open
@@ -45,11 +45,11 @@ pub returns-in_ok-write_counts-in-Ok-clause-outputs_of : goal.returns-in_ok-writ
 returns-in_ok-write_counts-in-Ok-clause-outputs_of g c = λ before shown.
     let args = c.args.self.now.args.now in
     let reporter = c.args.planned.now.reporter.now in
-    let places = c.args.planned.now.places.now in
+    let indices = c.args.planned.now.indices.now in
     let report_path = run_report_path args in
     let junit_path = optional_text args.junit in
-    let firsts : c.first_jobs-first.result.places.now ≡ shown_indices places c.args.rows =
-    c.first_jobs-first.ensures.places ∙ ap (λ (rows : List Row). take (length rows) places) c.as_slice.ensures in
+    let firsts : c.first_jobs-first.result.indices.now ≡ shown_indices indices c.args.rows =
+    c.first_jobs-first.ensures.indices ∙ ap (λ (rows : List Row). take (length rows) indices) c.as_slice.ensures in
     let told = c.first_jobs-first.ensures.reporter in
     let files = c.in-Ok.ensures in
     let start = outputs_of g.F.Outputs.committed g.O.Sink.accepted g.E.Sink.accepted g.E.Sink.failure_count c.args.to.now in
@@ -60,7 +60,7 @@ returns-in_ok-write_counts-in-Ok-clause-outputs_of g c = λ before shown.
     let same = placed_of_shown _ _ before start shown in
     record {
       middle = with_committed_if_reported before.placed after;
-      put = run_put_where_told args (reporter_of reporter) places c.args.frame.shard c.args.frame.old c.args.rows before after
+      put = run_put_where_told args (reporter_of reporter) indices c.args.frame.shard c.args.frame.old c.args.rows before after
           (record {
             middle = start;
             seen = shown;
@@ -75,18 +75,18 @@ returns-in_ok-write_counts-in-Ok-clause-outputs_of g c = λ before shown.
 pub returns-in_err-write_counts-in-Ok-clause-part : goal.returns-in_err-write_counts-in-Ok-clause-part
 returns-in_err-write_counts-in-Ok-clause-part g c =
     let args = c.args.self.now.args.now in
-    let places = c.args.planned.now.places.now in
+    let indices = c.args.planned.now.indices.now in
     let report_path = run_report_path args in
     let junit_path = optional_text args.junit in
-    let firsts : c.first_jobs-first.result.places.now ≡ shown_indices places c.args.rows =
-    c.first_jobs-first.ensures.places ∙ ap (λ (rows : List Row). take (length rows) places) c.as_slice.ensures in
+    let firsts : c.first_jobs-first.result.indices.now ≡ shown_indices indices c.args.rows =
+    c.first_jobs-first.ensures.indices ∙ ap (λ (rows : List Row). take (length rows) indices) c.as_slice.ensures in
     let report = subst (λ (ps : List ℕ). HasReceived g.F.Outputs.pending_path g.F.File.Sink.accepted g.F.File.Sink.failure_count
     (g.F.Outputs.committed c.args.to.now.files) report_path (streamed_rows c.args.frame.old ps c.args.rows) c.args.outlets.report)
     (sym firsts) c.requires.taken.report in
     let files = rw (c.first_jobs-first.ensures.reporter, firsts)
     at (c.in-Ok.ensures.placed report_path junit_path report c.requires.taken.junit) in
     OnErr-from c.from_residual.result _
-    (part_of_counts args (reporter_of c.args.planned.now.reporter.now) places c.args.frame.shard c.args.frame.old c.args.rows _ _ _
+    (part_of_counts args (reporter_of c.args.planned.now.reporter.now) indices c.args.frame.shard c.args.frame.old c.args.rows _ _ _
     (c.in_err-write_counts-in-Ok.ensures.requested (optional_text args.counts) (g.F.Outputs.committed c.args.to.now.files) c.requires.taken.counts)
     files c.in_err-write_counts-in-Ok.ensures.same)
 
@@ -101,11 +101,11 @@ returns-in_err-write_counts-in-Ok-clause-stopped g c =
 pub returns-in-Err-clause-part : goal.returns-in-Err-clause-part
 returns-in-Err-clause-part g c =
     let args = c.args.self.now.args.now in
-    let firsts : c.first_jobs-first.result.places.now ≡ shown_indices c.args.planned.now.places.now c.args.rows =
-    c.first_jobs-first.ensures.places
-    ∙ ap (λ (rows : List Row). take (length rows) c.args.planned.now.places.now) c.as_slice.ensures in
+    let firsts : c.first_jobs-first.result.indices.now ≡ shown_indices c.args.planned.now.indices.now c.args.rows =
+    c.first_jobs-first.ensures.indices
+    ∙ ap (λ (rows : List Row). take (length rows) c.args.planned.now.indices.now) c.as_slice.ensures in
     rw c.abandon_outlet.ensures
-    (part_of_rows args (reporter_of c.args.planned.now.reporter.now) c.args.planned.now.places.now c.args.frame.shard c.args.frame.old
+    (part_of_rows args (reporter_of c.args.planned.now.reporter.now) c.args.planned.now.indices.now c.args.frame.shard c.args.frame.old
     c.args.rows _ _
     (rw (c.first_jobs-first.ensures.reporter, firsts) at (c.in-Err.ensures.part (optional_text args.junit) c.requires.taken.junit)))
 

@@ -12,7 +12,7 @@ use Rattle.rvtest_app.proofs.view.JobsView.view_of_jobs.Goals as goal
 pub view_of_table-requires : goal.view_of_table-requires
 view_of_table-requires g c =
     table_of_view (g.D.Inputs.contents c.args.self.now.host.now.inputs.now) c.args.self.now.view
-    (optional_text c.args.self.now.args.now.counts) c.args.plan.now c.args.places.now c.in_ok-table.table c.in_ok-table.ensures.table
+    (optional_text c.args.self.now.args.now.counts) c.args.plan.now c.args.indices.now c.in_ok-table.table c.in_ok-table.ensures.table
 
 pub returns-in_err-table-clause-stopped : goal.returns-in_err-table-clause-stopped
 returns-in_err-table-clause-stopped g c =

@@ -17,11 +17,11 @@ returns-in_err-text-clause-stopped g c =
       unread = c.unreadable_paths.result.now;
       planned = record {
         listed = found.jobs;
-        paths = rw (c.as_slice-places.ensures.value, c.in_ok-marked.ensures.value) at found.paths;
+        paths = rw (c.as_slice-indices.ensures.value, c.in_ok-marked.ensures.value) at found.paths;
         kept = rw (c.new-store.ensures.inputs, c.new-store.ensures.folder) at found.kept;
         noted = ap length c.unreadable_paths.ensures ∙ rw c.new-store.ensures.nothing at found.faults;
       };
-      unshown = rw (c.as_slice-places.ensures.value, c.in_ok-marked.ensures.value) at c.in_err-text.ensures.stopped;
+      unshown = rw (c.as_slice-indices.ensures.value, c.in_ok-marked.ensures.value) at c.in_err-text.ensures.stopped;
     })))
 
 pub returns-clause-put : goal.returns-clause-put
@@ -33,7 +33,7 @@ returns-clause-put g c =
         unread = c.unreadable_paths.result.now;
         planned = record {
           listed = found.jobs;
-          paths = rw (c.as_slice-places.ensures.value, c.in_ok-marked.ensures.value) at found.paths;
+          paths = rw (c.as_slice-indices.ensures.value, c.in_ok-marked.ensures.value) at found.paths;
           kept = rw (c.new-store.ensures.inputs, c.new-store.ensures.folder) at found.kept;
           noted = ap length c.unreadable_paths.ensures ∙ rw c.new-store.ensures.nothing at found.faults;
         };
@@ -41,12 +41,12 @@ returns-clause-put g c =
             (record c.args.to.now { errors = c.write_message.new.errors });
         told = (
           refl,
-          rw (c.as_slice.ensures.value, c.in_ok-note.ensures, c.as_slice-places.ensures.value, c.in_ok-marked.ensures.value)
+          rw (c.as_slice.ensures.value, c.in_ok-note.ensures, c.as_slice-indices.ensures.value, c.in_ok-marked.ensures.value)
               at c.write_message.ensures,
           refl,
         );
         text = c.in_ok-text.text.items;
-        of_plan = rw (c.as_slice-places.ensures.value, c.in_ok-marked.ensures.value) at c.in_ok-text.ensures.shown;
+        of_plan = rw (c.as_slice-indices.ensures.value, c.in_ok-marked.ensures.value) at c.in_ok-text.ensures.shown;
         put = (rw c.as_slice-2.ensures.value at c.in_ok-write_results.ensures.put, refl, refl, refl);
       },
     )
