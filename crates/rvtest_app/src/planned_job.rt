@@ -48,7 +48,7 @@ impl EndText for PlannedJob {
             verbosity: Verbosity::All,
             last: None,
         };
-        reporter.push_outcome(alloc, self.steps, &row, text)
+        reporter.push_outcome(alloc, self.index, &row, text)
     }
 }
 
