@@ -170,21 +170,21 @@ const STACKS: &str = "\
 rvcounts 1
 image 428abbe1347171d7e00df3badf31776c1ef4445e0516044cf7a638356db5f470 build/a.elf
 80000074 5 1
-node 0 80000000 1 19 _start
-node 1 00000000 1 12 ?
-node 1 80000060 3 36 sum of all
-node 2 80000060 1 4 sum of all
+spot 0 80000000 1 19 _start
+spot 1 00000000 1 12 ?
+spot 1 80000060 3 36 sum of all
+spot 2 80000060 1 4 sum of all
 done 1 1
 ";
 
 const OTHER: &str = "\
 rvcounts 1
 image 428abbe1347171d7e00df3badf31776c1ef4445e0516044cf7a638356db5f470 build/a.elf
-node 0 80000000 1 1 _start
-node 1 80000060 2 3 sum of all
-node 1 80000090 2 3 main
-node 2 80000060 1 1 sum of all
-node 0 80000060 1 1 sum of all
+spot 0 80000000 1 1 _start
+spot 1 80000060 2 3 sum of all
+spot 1 80000090 2 3 main
+spot 2 80000060 1 1 sum of all
+spot 0 80000060 1 1 sum of all
 done 1 1
 ";
 
@@ -192,13 +192,13 @@ const BOTH_STACKS: &str = "\
 rvcounts 1
 image 428abbe1347171d7e00df3badf31776c1ef4445e0516044cf7a638356db5f470 build/a.elf
 80000074 5 1
-node 0 80000000 2 20 _start
-node 1 00000000 1 12 ?
-node 1 80000060 5 39 sum of all
-node 2 80000060 1 4 sum of all
-node 1 80000090 2 3 main
-node 2 80000060 1 1 sum of all
-node 0 80000060 1 1 sum of all
+spot 0 80000000 2 20 _start
+spot 1 00000000 1 12 ?
+spot 1 80000060 5 39 sum of all
+spot 2 80000060 1 4 sum of all
+spot 1 80000090 2 3 main
+spot 2 80000060 1 1 sum of all
+spot 0 80000060 1 1 sum of all
 done 1 2
 ";
 
@@ -214,7 +214,7 @@ fn adds_stacks(rt: HostRuntime) -> Result<(), Fail> {
 const OTHER_NAME: &str = "\
 rvcounts 1
 image 428abbe1347171d7e00df3badf31776c1ef4445e0516044cf7a638356db5f470 build/a.elf
-node 0 80000060 1 1 add
+spot 0 80000060 1 1 add
 done 1 1
 ";
 

@@ -71,7 +71,7 @@ fn told(alloc: Global, machine: Machine, budget: u32) -> Result<String, AllocErr
     let addresses = count_run(alloc, machine, budget)?;
     for counts in addresses.as_slice() {
         let comma = if text.is_empty() { "" } else { ", " };
-        let (address, begun, taken) = (counts.address, counts.begun, counts.taken);
+        let (address, executed, taken) = (counts.address, counts.executed, counts.taken);
         write!(text, "{comma}{address:08x} {executed} {taken}")?;
     }
     Ok(text)

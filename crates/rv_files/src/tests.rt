@@ -48,7 +48,7 @@ fn answer_text(outcome: Result<(), FileError>) -> &'static str {
 // Two files of one command, of which the second is written before the first is placed: their paths | the outcome of the second | the final
 // contents at the first path.
 const PAIRS: &str = "\
-report|junit|committed|first
+report|junit|placed|first
 report|report|the same place|first
 report|./report|the same place|first
 report|link|the same place|first
@@ -56,7 +56,7 @@ link|report|the same place|first
 report|report.new|the same place|first
 report.new|report|the same place|first
 report|missing/report|failed|first
-/dev/null|/dev/null|committed|
+/dev/null|/dev/null|placed|
 ";
 
 // Writes a second file while a first one is not yet placed, and checks the outcome, and the contents of the first file once it is placed,

@@ -20,60 +20,60 @@ const FILE: &[u8] = b"";
 const TAIL: &str = "\
 rvcounts 1
 image e3b0c44298fc1c149afbf4c8996fb92427ae41e4649b934ca495991b7852b855 build/tail.elf
-node 0 80000000 1 5 _start
-node 0 80000014 1 20 _cstart
-node 1 800000ee 1 58 main
-node 2 8000008a 1 4 leaf
-node 2 80000096 1 7 tailing
-node 3 8000008a 1 4 leaf
-node 2 800000a4 1 20 fib
-node 3 800000a4 2 40 fib
-node 4 800000a4 4 80 fib
-node 5 800000a4 8 160 fib
-node 6 800000a4 16 320 fib
-node 7 800000a4 32 598 fib
-node 8 800000a4 52 830 fib
-node 9 800000a4 44 628 fib
-node 10 800000a4 16 215 fib
-node 11 800000a4 2 26 fib
-node 2 800000d2 1 5 deep
-node 3 800000d2 1 5 deep
-node 4 800000d2 1 5 deep
-node 5 800000d2 1 5 deep
-node 6 800000d2 1 7 deep
-node 7 80000288 1 17 longjmp
-node 2 80000248 1 16 setjmp
-node 2 80000384 1 18 printf
-node 3 800001c0 1 2 __riscv_restore_12
-node 3 800001c8 1 5 __riscv_restore_10
-node 3 800001dc 1 5 __riscv_restore_5
-node 3 800001f0 1 6 __riscv_restore_3
-node 3 80000648 1 385 __d_vfprintf
-node 4 80000068 11 33 put
-node 4 8000014c 1 4 __riscv_save_12
-node 4 8000015c 1 5 __riscv_save_8
-node 4 80000178 1 10 __riscv_save_7
-node 4 800001c8 2 10 __riscv_restore_10
-node 4 800001dc 2 10 __riscv_restore_5
-node 4 800001f0 2 12 __riscv_restore_3
-node 4 800003cc 2 112 __ultoa_invert
-node 5 8000015c 2 14 __riscv_save_8
-node 5 80000178 2 20 __riscv_save_7
-node 5 800024ec 4 204 __udivdi3
-node 5 8000291c 4 188 __umoddi3
-node 1 800001a8 1 6 __riscv_save_1
-node 1 800001f0 1 6 __riscv_restore_3
-node 1 80000208 1 243 memcpy
-node 1 8000022c 1 1219 memset
-node 1 800002cc 1 22 __libc_init_array
-node 2 800001a8 1 6 __riscv_save_1
-node 1 80000354 1 7 exit
-node 2 80000082 1 2 _exit
-node 2 800001a8 1 6 __riscv_save_1
-node 2 800001f0 1 6 __riscv_restore_3
-node 2 800023d0 1 12 __libc_fini_array
-node 3 800001a8 1 6 __riscv_save_1
-node 1 8000037c 1 2 _set_tls
+spot 0 80000000 1 5 _start
+spot 0 80000014 1 20 _cstart
+spot 1 800000ee 1 58 main
+spot 2 8000008a 1 4 leaf
+spot 2 80000096 1 7 tailing
+spot 3 8000008a 1 4 leaf
+spot 2 800000a4 1 20 fib
+spot 3 800000a4 2 40 fib
+spot 4 800000a4 4 80 fib
+spot 5 800000a4 8 160 fib
+spot 6 800000a4 16 320 fib
+spot 7 800000a4 32 598 fib
+spot 8 800000a4 52 830 fib
+spot 9 800000a4 44 628 fib
+spot 10 800000a4 16 215 fib
+spot 11 800000a4 2 26 fib
+spot 2 800000d2 1 5 deep
+spot 3 800000d2 1 5 deep
+spot 4 800000d2 1 5 deep
+spot 5 800000d2 1 5 deep
+spot 6 800000d2 1 7 deep
+spot 7 80000288 1 17 longjmp
+spot 2 80000248 1 16 setjmp
+spot 2 80000384 1 18 printf
+spot 3 800001c0 1 2 __riscv_restore_12
+spot 3 800001c8 1 5 __riscv_restore_10
+spot 3 800001dc 1 5 __riscv_restore_5
+spot 3 800001f0 1 6 __riscv_restore_3
+spot 3 80000648 1 385 __d_vfprintf
+spot 4 80000068 11 33 put
+spot 4 8000014c 1 4 __riscv_save_12
+spot 4 8000015c 1 5 __riscv_save_8
+spot 4 80000178 1 10 __riscv_save_7
+spot 4 800001c8 2 10 __riscv_restore_10
+spot 4 800001dc 2 10 __riscv_restore_5
+spot 4 800001f0 2 12 __riscv_restore_3
+spot 4 800003cc 2 112 __ultoa_invert
+spot 5 8000015c 2 14 __riscv_save_8
+spot 5 80000178 2 20 __riscv_save_7
+spot 5 800024ec 4 204 __udivdi3
+spot 5 8000291c 4 188 __umoddi3
+spot 1 800001a8 1 6 __riscv_save_1
+spot 1 800001f0 1 6 __riscv_restore_3
+spot 1 80000208 1 243 memcpy
+spot 1 8000022c 1 1219 memset
+spot 1 800002cc 1 22 __libc_init_array
+spot 2 800001a8 1 6 __riscv_save_1
+spot 1 80000354 1 7 exit
+spot 2 80000082 1 2 _exit
+spot 2 800001a8 1 6 __riscv_save_1
+spot 2 800001f0 1 6 __riscv_restore_3
+spot 2 800023d0 1 12 __libc_fini_array
+spot 3 800001a8 1 6 __riscv_save_1
+spot 1 8000037c 1 2 _set_tls
 done 1 1
 ";
 
@@ -116,9 +116,9 @@ build/tail.elf: 5661 steps
 const HAND: &str = "\
 rvcounts 1
 image e3b0c44298fc1c149afbf4c8996fb92427ae41e4649b934ca495991b7852b855 build/hand.elf
-node 0 80000000 1 19 _start
-node 1 800000b0 1 12 main
-node 2 80000060 1 36 sum
+spot 0 80000000 1 19 _start
+spot 1 800000b0 1 12 main
+spot 2 80000060 1 36 sum
 done 1 3
 ";
 
@@ -141,12 +141,12 @@ build/hand.elf,main,800000b0,12,48,1
 const MUTUAL: &str = "\
 rvcounts 1
 image e3b0c44298fc1c149afbf4c8996fb92427ae41e4649b934ca495991b7852b855 a,b.elf
-node 0 00000000 1 2 ?
-node 1 00000010 1 1 f
-node 2 00000020 3 4 g\"
-node 3 00000010 3 1 f
-node 1 00000020 1 0 g\"
-node 2 00000010 1 0 f
+spot 0 00000000 1 2 ?
+spot 1 00000010 1 1 f
+spot 2 00000020 3 4 g\"
+spot 3 00000010 3 1 f
+spot 1 00000020 1 0 g\"
+spot 2 00000010 1 0 f
 done 1 1
 ";
 
@@ -167,8 +167,8 @@ image,function,address,self,inclusive,calls
 const WIDE: &str = "\
 rvcounts 1
 image e3b0c44298fc1c149afbf4c8996fb92427ae41e4649b934ca495991b7852b855 a.elf
-node 0 00000000 1 1 once
-node 0 00000010 18446744073709551614 199999999999999 often
+spot 0 00000000 1 1 once
+spot 0 00000010 18446744073709551614 199999999999999 often
 done 1 1
 ";
 
@@ -183,8 +183,8 @@ a.elf: 200000000000000 steps
 const HALF: &str = "\
 rvcounts 1
 image e3b0c44298fc1c149afbf4c8996fb92427ae41e4649b934ca495991b7852b855 a.elf
-node 0 00000000 1 1 once
-node 0 00000010 2 19999 often
+spot 0 00000000 1 1 once
+spot 0 00000010 2 19999 often
 done 1 1
 ";
 

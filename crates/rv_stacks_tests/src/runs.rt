@@ -96,10 +96,10 @@ fn told(alloc: Global, row: &str) -> Result<String, Fail> {
     let mut text = String::new(alloc);
     for spot in spots.as_slice() {
         let comma = if text.is_empty() { "" } else { ", " };
-        let (depth, function, arrivals, steps) = (
+        let (depth, function, calls, steps) = (
             spot.depth,
             spot.function,
-            spot.arrivals,
+            spot.calls,
             spot.steps,
         );
         write!(text, "{comma}{depth} {function:08x} {calls} {steps}")?;
