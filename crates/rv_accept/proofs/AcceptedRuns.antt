@@ -23,14 +23,14 @@ no_row : {A : Type 0} (row : Row) → Some None ≡ Some (Some row) → A
 no_row row is = cc
 
 -- the rows of the numbers from one on that are marked stand where the marks are
-row_among : (row_at : ℕ → Row) (all selection : List Bool) (from place : ℕ) (row : Row)
+row_among : (row_at : ℕ → Row) (all selection : List Bool) (from index : ℕ) (row : Row)
     → ((k : ℕ) → slice_index_or all (from + k) false ≡ slice_index_or selection k false)
     → slice_get (indexed_rows selection (map row_at (filter (λ k. slice_index_or all k false)
-    (range_with_len from (length selection))))) place ≡ Some (Some row)
-    → row ≡ row_at (from + place)
+    (range_with_len from (length selection))))) index ≡ Some (Some row)
+    → row ≡ row_at (from + index)
 unfolding indexed_rows
-row_among row_at all [] from place row same is = cc
-row_among row_at all (marked ∷ selection) from place row same is = go marked head place is
+row_among row_at all [] from index row same is = cc
+row_among row_at all (selected ∷ selection) from index row same is = go selected head index is
     (λ k is. rw (more k) (row_among row_at all selection (from + 1) k row behind is))
   where
     here : from + 0 ≡ from
@@ -39,7 +39,7 @@ row_among row_at all (marked ∷ selection) from place row same is = go marked h
     more : (k : ℕ) → from + suc k ≡ from + 1 + k
     more k = omega arith
 
-    head : slice_index_or all from false ≡ marked
+    head : slice_index_or all from false ≡ selected
     head = rw here at (same 0)
 
     rest : List ℕ
@@ -53,29 +53,29 @@ row_among row_at all (marked ∷ selection) from place row same is = go marked h
         ≡ Some (Some row)
         → ((k : ℕ) → slice_get (indexed_rows selection (map row_at rest)) k ≡ Some (Some row) → row ≡ row_at (from + suc k))
         → row ≡ row_at (from + k)
-    go true is_marked zero is there = rw here (same_row (row_at from) row (rw is_marked at is))
-    go true is_marked (suc k) is there = there k (rw is_marked at is)
-    go false is_marked zero is there = no_row row is
-    go false is_marked (suc k) is there = there k (rw is_marked at is)
+    go true is_selected zero is there = rw here (same_row (row_at from) row (rw is_selected at is))
+    go true is_selected (suc k) is there = there k (rw is_selected at is)
+    go false is_selected zero is there = no_row row is
+    go false is_selected (suc k) is there = there k (rw is_selected at is)
 
 none_more : (k : ℕ) → 0 + k ≡ k
 none_more k = omega arith
 
 -- a row that stands at the place of its job is the row of the job there
-pub row_at_place : (plan : PlanView) (selection : List Bool) (place : ℕ) (row : Row)
-    → slice_get (indexed_rows selection (rows_at plan (selected_indices selection (length selection)))) place ≡ Some (Some row)
-    → row ≡ row_of plan (slice_index_or plan.jobs place (single_job [] 0 []))
+pub row_at_place : (plan : PlanView) (selection : List Bool) (index : ℕ) (row : Row)
+    → slice_get (indexed_rows selection (rows_at plan (selected_indices selection (length selection)))) index ≡ Some (Some row)
+    → row ≡ row_of plan (slice_index_or plan.jobs index (single_job [] 0 []))
 unfolding rows_at
-row_at_place plan selection place row is =
-    let here : 0 + place ≡ place = omega arith in
-    rw here at (row_among (λ k. row_of plan (slice_index_or plan.jobs k (single_job [] 0 []))) selection selection 0 place row
+row_at_place plan selection index row is =
+    let here : 0 + index ≡ index = omega arith in
+    rw here at (row_among (λ k. row_of plan (slice_index_or plan.jobs k (single_job [] 0 []))) selection selection 0 index row
     (λ k. ap (λ k. slice_index_or selection k false) (none_more k)) is)
 
 -- ---- the run
 
-row_behind : (rows : List (Option Row)) (place : ℕ) → slice_get (drop 1 rows) place ≡ slice_get rows (suc place)
-row_behind [] place = refl
-row_behind (row ∷ rows) place = refl
+row_behind : (rows : List (Option Row)) (index : ℕ) → slice_get (drop 1 rows) index ≡ slice_get rows (suc index)
+row_behind [] index = refl
+row_behind (row ∷ rows) index = refl
 
 no : {A : Type 0} → false ≡ true → A
 no is = cc
@@ -85,11 +85,11 @@ none_of None is = refl
 none_of (Some x) is = cc
 
 -- an accepted run has the row that stands there, and its candidate is not left for it
-pub record IsAccepted (asked : Acceptance) (job : Job) (candidates : List Candidate) (rows : List (Option Row)) (place : ℕ)
+pub record IsAccepted (asked : Acceptance) (job : Job) (candidates : List Candidate) (rows : List (Option Row)) (index : ℕ)
     (run : JobRun) : Type 0 where
   pub candidate : Candidate
-  pub stands : slice_get candidates place ≡ Some candidate
-  pub row : slice_get rows place ≡ Some (Some run.row)
+  pub stands : slice_get candidates index ≡ Some candidate
+  pub row : slice_get rows index ≡ Some (Some run.row)
   pub kept : chosen_skip_reason asked candidate.verdict job run.row ≡ None
 
 first_judged : (asked : Acceptance) (job : Job) (candidate : Candidate) (candidates : List Candidate)
@@ -113,34 +113,34 @@ first_judged asked job candidate candidates (Some row ∷ rows) run is accepted 
     go false chosen_is accepted judged = no (rw chosen_is at accepted)
 
 pub accepted_at : (asked : Acceptance) (jobs : List Job) (candidates : List Candidate) (rows : List (Option Row))
-    (place : ℕ) (job : Job) (run : JobRun) → slice_get jobs place ≡ Some job
-    → slice_get (judged_runs asked jobs candidates rows) place ≡ Some (Some run) → is_accepted_run run ≡ true
-    → IsAccepted asked job candidates rows place run
+    (index : ℕ) (job : Job) (run : JobRun) → slice_get jobs index ≡ Some job
+    → slice_get (judged_runs asked jobs candidates rows) index ≡ Some (Some run) → is_accepted_run run ≡ true
+    → IsAccepted asked job candidates rows index run
 unfolding judged_runs
-accepted_at asked [] candidates rows place job run at is accepted = cc
-accepted_at asked (other ∷ jobs) [] rows place job run at is accepted = cc
+accepted_at asked [] candidates rows index job run at is accepted = cc
+accepted_at asked (other ∷ jobs) [] rows index job run at is accepted = cc
 accepted_at asked (other ∷ jobs) (candidate ∷ candidates) rows zero job run at is accepted =
     let same : other ≡ job = cc in
     rw (← same) (first_judged asked other candidate candidates rows run is accepted)
-accepted_at asked (other ∷ jobs) (candidate ∷ candidates) rows (suc place) job run at is accepted =
-    let behind = accepted_at asked jobs candidates (drop 1 rows) place job run at is accepted in
+accepted_at asked (other ∷ jobs) (candidate ∷ candidates) rows (suc index) job run at is accepted =
+    let behind = accepted_at asked jobs candidates (drop 1 rows) index job run at is accepted in
     record {
       candidate = behind.candidate;
       stands = behind.stands;
-      row = rw (row_behind rows place) at behind.row;
+      row = rw (row_behind rows index) at behind.row;
       kept = behind.kept;
     }
 
 -- ---- the job that is meant
 
-pub meant_at : (jobs : List Job) (runs : List (Option JobRun)) (place : ℕ) (job : Job) (run : Option JobRun)
-    → slice_get jobs place ≡ Some job → slice_get runs place ≡ Some run
-    → slice_get (intended_jobs jobs runs) place ≡ Some (intended_job job (accepted_row run))
+pub meant_at : (jobs : List Job) (runs : List (Option JobRun)) (index : ℕ) (job : Job) (run : Option JobRun)
+    → slice_get jobs index ≡ Some job → slice_get runs index ≡ Some run
+    → slice_get (intended_jobs jobs runs) index ≡ Some (intended_job job (accepted_row run))
 unfolding intended_jobs
-meant_at [] runs place job run at ran = cc
-meant_at (other ∷ jobs) [] place job run at ran = cc
+meant_at [] runs index job run at ran = cc
+meant_at (other ∷ jobs) [] index job run at ran = cc
 meant_at (other ∷ jobs) (first ∷ runs) zero job run at ran =
     let same_job : other ≡ job = cc in
     let same_run : first ≡ run = cc in
     rw (same_job, same_run) refl
-meant_at (other ∷ jobs) (first ∷ runs) (suc place) job run at ran = meant_at jobs runs place job run at ran
+meant_at (other ∷ jobs) (first ∷ runs) (suc index) job run at ran = meant_at jobs runs index job run at ran

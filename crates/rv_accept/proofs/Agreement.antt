@@ -22,15 +22,15 @@ text_of (outcome.Agreed text) = text
 text_of _ = []
 
 abbrev Gives : List ℕ → List ℕ → GoldenText → Type 0
-Gives path text claim = is_for_file path claim ≡ true → claim.text ≡ Some text
+Gives path text golden_text = is_for_file path golden_text ≡ true → golden_text.text ≡ Some text
 
 unless_another : (path text first : List ℕ) (golden_texts : List GoldenText) (job : ℕ) (other : Option GoldenText)
     → find (has_other_text path first) golden_texts ≡ other → outcome_unless_another job first other ≡ outcome.Agreed text
     → All (Gives path text) golden_texts
 unfolding text_of
-unless_another path text first golden_texts job None none is = λ place claim below names.
-    rw (sym (ap text_of is)) (given_text first (get_or golden_texts place claim).text
-    (rw names at (none_found (has_other_text path first) golden_texts none place claim below)))
+unless_another path text first golden_texts job None none is = λ index golden_text below names.
+    rw (sym (ap text_of is)) (given_text first (get_or golden_texts index golden_text).text
+    (rw names at (none_found (has_other_text path first) golden_texts none index golden_text below)))
 unless_another path text first golden_texts job (Some other) none is = cc
 
 of_given : (path text : List ℕ) (golden_texts : List GoldenText) (job : ℕ) (first : Option (List ℕ))
@@ -49,33 +49,33 @@ unless_left path text golden_texts (Some left) is = cc
 unless_left path text golden_texts None is = node_of_first path text golden_texts _ is
 
 pub agreed : (path text : List ℕ) (golden_texts : List GoldenText) → outcome_of_golden_file path golden_texts ≡ outcome.Agreed text
-    → All (λ (claim : GoldenText). is_for_file path claim ≡ true → claim.text ≡ Some text) golden_texts
+    → All (λ (golden_text : GoldenText). is_for_file path golden_text ≡ true → golden_text.text ≡ Some text) golden_texts
 unfolding outcome_of_golden_file
 agreed path text golden_texts is = unless_left path text golden_texts _ is
 
 -- ---- no job names the file
 
 unclaimed_first : (path : List ℕ) (golden_texts : List GoldenText) (first : Option GoldenText) → find (is_for_file path) golden_texts ≡ first
-    → outcome_of_first path golden_texts first ≡ outcome.Unclaimed → All (λ claim. is_for_file path claim ≡ false) golden_texts
+    → outcome_of_first path golden_texts first ≡ outcome.Unclaimed → All (λ golden_text. is_for_file path golden_text ≡ false) golden_texts
 unclaimed_first path golden_texts None none is = none_found (is_for_file path) golden_texts none
 unclaimed_first path golden_texts (Some first) found is = go first.text is
   where
     go : (text : Option (List ℕ)) → outcome_of_given_text path golden_texts first.job text ≡ outcome.Unclaimed
-        → All (λ claim. is_for_file path claim ≡ false) golden_texts
+        → All (λ golden_text. is_for_file path golden_text ≡ false) golden_texts
     go None is = cc
     go (Some text) is = at_other (find (has_other_text path text) golden_texts) is
       where
         at_other : (other : Option GoldenText) → outcome_unless_another first.job text other ≡ outcome.Unclaimed
-            → All (λ claim. is_for_file path claim ≡ false) golden_texts
+            → All (λ golden_text. is_for_file path golden_text ≡ false) golden_texts
         at_other None is = cc
         at_other (Some other) is = cc
 
 pub unclaimed : (path : List ℕ) (golden_texts : List GoldenText) → outcome_of_golden_file path golden_texts ≡ outcome.Unclaimed
-    → All (λ (claim : GoldenText). is_for_file path claim ≡ false) golden_texts
+    → All (λ (golden_text : GoldenText). is_for_file path golden_text ≡ false) golden_texts
 unfolding outcome_of_golden_file
 unclaimed path golden_texts is = go (find (is_of_skipped_job path) golden_texts) is
   where
     go : (left : Option GoldenText) → outcome_unless_skipped path golden_texts left ≡ outcome.Unclaimed
-        → All (λ claim. is_for_file path claim ≡ false) golden_texts
+        → All (λ golden_text. is_for_file path golden_text ≡ false) golden_texts
     go (Some left) is = cc
     go None is = unclaimed_first path golden_texts _ refl is

@@ -3,24 +3,24 @@ use Rattle.std.proofs.Common.{◌≡◌, ◌∙◌, ◌<◌, ◌≤◌, ◌+◌,
 use Rattle.std.proofs.Math.ListN.{drop_of_length-le}
 use Rattle.std.proofs.Math.Seq.{drop-cons}
 use Rattle.rv_accept.specs.declared.edits.Edit.{Edit}
-use Rattle.rv_accept.specs.Edits.{edited_rest, piece}
+use Rattle.rv_accept.specs.Edits.{edited_rest, text_range}
 
 -- one edit more is made
 pub edit_more : (from i : ℕ) (text whole done middle made : List ℕ) (edits : List Edit) (edit : Edit)
     → i < length edits → edit ≡ get_or edits i edit
     → done ++ edited_rest from text (drop i edits) ≡ whole
-    → middle ≡ done ++ piece from edit.begin text → made ≡ middle ++ edit.text
+    → middle ≡ done ++ text_range from edit.begin text → made ≡ middle ++ edit.text
     → made ++ edited_rest edit.end text (drop (i + 1) edits) ≡ whole
 unfolding edited_rest
 edit_more from i text whole done middle made edits edit below one before has is =
-    let part = piece from edit.begin text in
+    let kind = text_range from edit.begin text in
     let rest = edited_rest edit.end text (drop (i + 1) edits) in
     let counted : suc i ≡ i + 1 = omega arith in
     let next : drop i edits ≡ edit ∷ drop (i + 1) edits =
     drop-cons edits i edit below ∙ ap (λ n. get_or edits i edit ∷ drop n edits) counted
     ∙ ap (λ (e : Edit). e ∷ drop (i + 1) edits) (sym one) in
-    rw (is, has) (append_assoc (done ++ part) edit.text rest ∙ append_assoc done part (edit.text ++ rest)
-    ∙ ap (λ tail. done ++ tail) (sym (append_assoc part edit.text rest)) ∙ rw next at before)
+    rw (is, has) (append_assoc (done ++ kind) edit.text rest ∙ append_assoc done kind (edit.text ++ rest)
+    ∙ ap (λ tail. done ++ tail) (sym (append_assoc kind edit.text rest)) ∙ rw next at before)
 
 -- no edit is left
 pub edits_end : (from i : ℕ) (text whole done made : List ℕ) (edits : List Edit)

@@ -17,7 +17,7 @@ use Rattle.rv_accept.specs.declared.targets.Target.{Target}
 
 -- some job names the file of a claim
 abbrev OfClaim : List Job → GoldenText → Type 0
-OfClaim jobs claim = list_any (names_golden_file claim.path) jobs ≡ true
+OfClaim jobs golden_text = list_any (names_golden_file golden_text.path) jobs ≡ true
 
 -- some job names the file of a target
 abbrev OfTarget : List Job → Target → Type 0
@@ -33,55 +33,55 @@ or_right false b holds = holds
 same_bytes : (bytes : List ℕ) → bytes_eq bytes bytes ≡ true
 same_bytes bytes = (bytes_eq-Decides bytes bytes).1 refl
 
-if_named : (jobs : List Job) (place : ℕ) (part : GoldenKind) (text path : Option (List ℕ))
+if_named : (jobs : List Job) (index : ℕ) (kind : GoldenKind) (text path : Option (List ℕ))
     → ((named : List ℕ) → path ≡ Some named → list_any (names_golden_file named) jobs ≡ true)
-    → All (OfClaim jobs) (golden_text_if_named place part text path)
-if_named jobs place part text None names = All-nil (OfClaim jobs)
-if_named jobs place part text (Some path) names =
+    → All (OfClaim jobs) (golden_text_if_named index kind text path)
+if_named jobs index kind text None names = All-nil (OfClaim jobs)
+if_named jobs index kind text (Some path) names =
     All-cons (OfClaim jobs) _ [] (names path refl) (All-nil (OfClaim jobs))
 
-of_run : (jobs : List Job) (place : ℕ) (job : Job) (run : Option JobRun)
-    → All (OfClaim (job ∷ jobs)) (golden_texts_of_run place job run)
-of_run jobs place job None = All-nil (OfClaim (job ∷ jobs))
-of_run jobs place job (Some run) = All-append (OfClaim (job ∷ jobs)) _ _
-    (if_named (job ∷ jobs) place _ _ (console_path job.expect_console)
+of_run : (jobs : List Job) (index : ℕ) (job : Job) (run : Option JobRun)
+    → All (OfClaim (job ∷ jobs)) (golden_texts_of_run index job run)
+of_run jobs index job None = All-nil (OfClaim (job ∷ jobs))
+of_run jobs index job (Some run) = All-append (OfClaim (job ∷ jobs)) _ _
+    (if_named (job ∷ jobs) index _ _ (console_path job.expect_console)
     (λ path is. or_left (names_golden_file path job) _
     (or_left (is_same_path path (console_path job.expect_console)) _ (rw is (same_bytes path)))))
-    (if_named (job ∷ jobs) place _ _ job.expect_signature
+    (if_named (job ∷ jobs) index _ _ job.expect_signature
     (λ path is. or_left (names_golden_file path job) _
     (or_right (is_same_path path (console_path job.expect_console)) _ (rw is (same_bytes path)))))
 
 one_more_job : (job : Job) (jobs : List Job) (golden_texts : List GoldenText) → All (OfClaim jobs) golden_texts
     → All (OfClaim (job ∷ jobs)) golden_texts
-one_more_job job jobs golden_texts each = λ place claim below. or_right _ _ (each place claim below)
+one_more_job job jobs golden_texts each = λ index golden_text below. or_right _ _ (each index golden_text below)
 
-of_runs : (place : ℕ) (jobs : List Job) (runs : List (Option JobRun))
-    → All (OfClaim jobs) (golden_texts_of_runs place jobs runs)
+of_runs : (index : ℕ) (jobs : List Job) (runs : List (Option JobRun))
+    → All (OfClaim jobs) (golden_texts_of_runs index jobs runs)
 unfolding golden_texts_of_runs
-of_runs place [] runs = All-nil (OfClaim [])
-of_runs place (job ∷ jobs) [] = All-nil (OfClaim (job ∷ jobs))
-of_runs place (job ∷ jobs) (run ∷ runs) = All-append (OfClaim (job ∷ jobs)) _ _ (of_run jobs place job run)
-    (one_more_job job jobs _ (of_runs (place + 1) jobs runs))
+of_runs index [] runs = All-nil (OfClaim [])
+of_runs index (job ∷ jobs) [] = All-nil (OfClaim (job ∷ jobs))
+of_runs index (job ∷ jobs) (run ∷ runs) = All-append (OfClaim (job ∷ jobs)) _ _ (of_run jobs index job run)
+    (one_more_job job jobs _ (of_runs (index + 1) jobs runs))
 
 one_more_target : (jobs : List Job) (runs : List (Option JobRun)) (golden_texts : List GoldenText) (targets : List Target)
-    (claim : GoldenText) → All (OfTarget jobs) targets → OfClaim jobs claim
-    → All (OfTarget jobs) (with_target runs golden_texts targets claim)
-one_more_target jobs runs golden_texts targets claim each is =
-    go (is_accepted_entry (slice_get runs claim.job) && not (has_target claim.path targets))
+    (golden_text : GoldenText) → All (OfTarget jobs) targets → OfClaim jobs golden_text
+    → All (OfTarget jobs) (with_target runs golden_texts targets golden_text)
+one_more_target jobs runs golden_texts targets golden_text each is =
+    go (is_accepted_entry (slice_get runs golden_text.job) && not (has_target golden_text.path targets))
   where
-    go : (added : Bool) → All (OfTarget jobs) (if added then targets ++ target_of golden_texts claim ∷ [] else targets)
+    go : (added : Bool) → All (OfTarget jobs) (if added then targets ++ target_of golden_texts golden_text ∷ [] else targets)
     go true = All-append (OfTarget jobs) targets _ each
-        (All-cons (OfTarget jobs) (target_of golden_texts claim) [] is (All-nil (OfTarget jobs)))
+        (All-cons (OfTarget jobs) (target_of golden_texts golden_text) [] is (All-nil (OfTarget jobs)))
     go false = each
 
 of_claims : (jobs : List Job) (runs : List (Option JobRun)) (golden_texts rest : List GoldenText) (targets : List Target)
     → All (OfTarget jobs) targets → All (OfClaim jobs) rest
     → All (OfTarget jobs) (fold (with_target runs golden_texts) targets rest)
 of_claims jobs runs golden_texts [] targets each are = each
-of_claims jobs runs golden_texts (claim ∷ rest) targets each are =
-    of_claims jobs runs golden_texts rest (with_target runs golden_texts targets claim)
-    (one_more_target jobs runs golden_texts targets claim each (All-head (OfClaim jobs) claim rest are))
-    (All-tail (OfClaim jobs) claim rest are)
+of_claims jobs runs golden_texts (golden_text ∷ rest) targets each are =
+    of_claims jobs runs golden_texts rest (with_target runs golden_texts targets golden_text)
+    (one_more_target jobs runs golden_texts targets golden_text each (All-head (OfClaim jobs) golden_text rest are))
+    (All-tail (OfClaim jobs) golden_text rest are)
 
 -- a target is a golden file of some job
 pub targets_are_of_jobs : (jobs : List Job) (runs : List (Option JobRun))

@@ -51,10 +51,10 @@ of_not : (b : Bool) → not b ≡ false → b ≡ true
 of_not true is = refl
 of_not false is = cc
 
-past : {X : Type 0} (refused : Bool) (why : ImageError) (next : Result X ImageError) (x : X)
-    → (if refused then Err why else next) ≡ Ok x → (refused ≡ false) × (next ≡ Ok x)
-past true why next x is = cc
-past false why next x is = (refl, is)
+past : {X : Type 0} (refused : Bool) (reason : ImageError) (next : Result X ImageError) (x : X)
+    → (if refused then Err reason else next) ≡ Ok x → (refused ≡ false) × (next ≡ Ok x)
+past true reason next x is = cc
+past false reason next x is = (refl, is)
 
 image_has_magic : (isa : Isa) (file : List ℕ) (image : Image) → image_of isa file ≡ Ok image → has_magic file ≡ true
 unfolding image_of
@@ -64,7 +64,7 @@ image_has_magic isa file image is = of_not (has_magic file) (past (not (has_magi
 reached : {X Y E : Type 0} (first : Result X E) (next : X → Result Y E) (y : Y) → (first >>= next) ≡ Ok y
     → (x : X) × (first ≡ Ok x)
 reached (Ok x) next y is = (x, refl)
-reached (Err why) next y is = cc
+reached (Err reason) next y is = cc
 
 loadable_has_magic : (job : Job) (file : List ℕ) (loadable : LoadableImage) → loadable_image job file ≡ Ok loadable
     → has_magic file ≡ true
@@ -82,7 +82,7 @@ image_that_ran job file ran = go (loadable_image job file) refl ran
         → did_run (outcome_if_loadable job file read).ending ≡ true
         → starts_with nat_eq file (0x7f ∷ 0x45 ∷ 0x4c ∷ 0x46 ∷ []) ≡ true
     go (Ok loadable) was ran = four_bytes file (loadable_has_magic job file loadable was)
-    go (Err why) was ran = cc
+    go (Err reason) was ran = cc
 
 -- ---- the outcome
 

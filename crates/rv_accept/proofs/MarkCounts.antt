@@ -8,14 +8,14 @@ sharing_count : (all : List Job) (chosen : List Bool) (jobs : List Job) (selecti
 unfolding with_sharing_jobs
 sharing_count all chosen [] selection same = refl
 sharing_count all chosen (job ∷ jobs) [] same = cc
-sharing_count all chosen (job ∷ jobs) (marked ∷ selection) same = ap suc (sharing_count all chosen jobs selection (omega (arith, same)))
+sharing_count all chosen (job ∷ jobs) (selected ∷ selection) same = ap suc (sharing_count all chosen jobs selection (omega (arith, same)))
 
-compared_count : (place : ℕ) (jobs : List Job) (selection : List Bool) → length selection ≡ length jobs
-    → length (with_compared_jobs place jobs selection) ≡ length jobs
+compared_count : (index : ℕ) (jobs : List Job) (selection : List Bool) → length selection ≡ length jobs
+    → length (with_compared_jobs index jobs selection) ≡ length jobs
 unfolding with_compared_jobs
-compared_count place [] selection same = refl
-compared_count place (job ∷ jobs) [] same = cc
-compared_count place (job ∷ jobs) (marked ∷ selection) same = ap suc (compared_count (place + 1) jobs selection (omega (arith, same)))
+compared_count index [] selection same = refl
+compared_count index (job ∷ jobs) [] same = cc
+compared_count index (job ∷ jobs) (selected ∷ selection) same = ap suc (compared_count (index + 1) jobs selection (omega (arith, same)))
 
 pub marks_count : (jobs : List Job) (chosen : List Bool) → length chosen ≡ length jobs
     → length (jobs_to_run jobs chosen) ≡ length jobs

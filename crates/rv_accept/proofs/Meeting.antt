@@ -34,7 +34,7 @@ exit_holds None end holds = refl
 exit_holds (Some code) (ending.Exit met) holds = eq-eqb met met refl
 exit_holds (Some code) (ending.Fault kind pc value) holds = holds
 exit_holds (Some code) ending.Budget holds = holds
-exit_holds (Some code) (ending.Refused why) holds = holds
+exit_holds (Some code) (ending.Refused reason) holds = holds
 
 end_holds : (how : Option ExpectedEnd) (end : RowEnd) → has_expected_end how end ≡ true
     → has_expected_end (actual_end how end) end ≡ true
@@ -43,7 +43,7 @@ end_holds (Some expected.Budget) end holds = holds
 end_holds (Some (expected.Fault kind)) (ending.Fault met pc value) holds = eq-eqb _ _ refl
 end_holds (Some (expected.Fault kind)) (ending.Exit met) holds = holds
 end_holds (Some (expected.Fault kind)) ending.Budget holds = holds
-end_holds (Some (expected.Fault kind)) (ending.Refused why) holds = holds
+end_holds (Some (expected.Fault kind)) (ending.Refused reason) holds = holds
 
 both : (a b : Bool) → (a && b) ≡ true → (a ≡ true) × (b ≡ true)
 both true true holds = (refl, refl)
@@ -65,13 +65,13 @@ of_way None (Some (expected.Fault kind)) (ending.Fault met pc value) holds =
     record { ran = refl; code = refl; way = eq-eqb _ _ refl }
 of_way (Some code) None (ending.Fault kind pc value) holds = cc
 of_way (Some code) None ending.Budget holds = cc
-of_way (Some code) None (ending.Refused why) holds = cc
+of_way (Some code) None (ending.Refused reason) holds = cc
 of_way (Some code) (Some how) end holds = cc
 of_way None None end holds = cc
 of_way None (Some expected.Budget) end holds = cc
 of_way None (Some (expected.Fault kind)) (ending.Exit met) holds = cc
 of_way None (Some (expected.Fault kind)) ending.Budget holds = cc
-of_way None (Some (expected.Fault kind)) (ending.Refused why) holds = cc
+of_way None (Some (expected.Fault kind)) (ending.Refused reason) holds = cc
 
 either : (a b : Bool) → (a || b) ≡ true → (a ≡ true) ⊎ (b ≡ true)
 either true b holds = inl refl

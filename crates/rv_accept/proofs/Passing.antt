@@ -21,7 +21,7 @@ use Rattle.rv_accept.specs.Passing.{HasExpectedEnd, is_pass_or_none}
 use Rattle.rv_accept.specs.Runs.{has_replaceable_expectation, chosen_skip_reason, text_skip_reason}
 use Rattle.rv_accept.specs.declared.ends.Acceptance.{Acceptance}
 use Rattle.rv_accept.specs.declared.runs.SkipReason.{SkipReason}
-use Rattle.rv_accept.specs.declared.runs.SkipReason.TheVariants as why
+use Rattle.rv_accept.specs.declared.runs.SkipReason.TheVariants as reasons
 use Rattle.rv_accept.specs.declared.current_verdict.CurrentVerdict.{CurrentVerdict}
 use Rattle.rv_accept.specs.declared.current_verdict.CurrentVerdict.TheVariants as current
 
@@ -36,7 +36,7 @@ exit_there None end = refl
 exit_there (Some code) (ending.Exit met) = refl
 exit_there (Some code) (ending.Fault kind pc value) = refl
 exit_there (Some code) ending.Budget = refl
-exit_there (Some code) (ending.Refused why) = refl
+exit_there (Some code) (ending.Refused reason) = refl
 
 end_there : (how : Option ExpectedEnd) (end : RowEnd) → is_some (actual_end how end) ≡ is_some how
 end_there None end = refl
@@ -44,7 +44,7 @@ end_there (Some expected.Budget) end = refl
 end_there (Some (expected.Fault kind)) (ending.Fault met pc value) = refl
 end_there (Some (expected.Fault kind)) (ending.Exit met) = refl
 end_there (Some (expected.Fault kind)) ending.Budget = refl
-end_there (Some (expected.Fault kind)) (ending.Refused why) = refl
+end_there (Some (expected.Fault kind)) (ending.Refused reason) = refl
 
 console_there : (console : Option ExpectedConsole) (bytes : List ℕ) → is_some (actual_console console bytes) ≡ is_some console
 console_there None bytes = refl
@@ -63,7 +63,7 @@ unasked job end bytes nothing alone =
 
 -- ---- the end is accepted
 
-end_of_why : (accepted : Bool) (text : Option SkipReason) → (if accepted then text else Some why.End) ≡ None → accepted ≡ true
+end_of_why : (accepted : Bool) (text : Option SkipReason) → (if accepted then text else Some reasons.End) ≡ None → accepted ≡ true
 end_of_why true text is = refl
 end_of_why false text is = cc
 

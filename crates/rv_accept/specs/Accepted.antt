@@ -10,12 +10,12 @@ use Rattle.rv_rows.specs.declared_row.RowEnd.TheVariants as ending
 
 -- the new value of `expect_exit`: the actual exit code, if an exit code is expected and the run exited; otherwise the old value
 abbrev pub actual_exit : Option ℕ → RowEnd → Option ℕ
-actual_exit (Some code) (ending.Exit met) = Some met
+actual_exit (Some code) (ending.Exit actual) = Some actual
 actual_exit expected _ = expected
 
 -- the new value of `expect_end`: the actual kind of fault, if a fault is expected and the run faulted; otherwise the old value
 abbrev pub actual_end : Option ExpectedEnd → RowEnd → Option ExpectedEnd
-actual_end (Some (expected.Fault kind)) (ending.Fault met pc value) = Some (expected.Fault met)
+actual_end (Some (expected.Fault kind)) (ending.Fault actual pc value) = Some (expected.Fault actual)
 actual_end expected _ = expected
 
 -- the new value of `expect_console`: the actual console, if the list contains the expected text; otherwise the old value

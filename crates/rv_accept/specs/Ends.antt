@@ -11,21 +11,21 @@ use Rattle.rv_accept.specs.declared.ends.Acceptance.TheVariants as acceptance
 
 -- whether the job ran and ended as expected: with exit 0 if no end is expected
 abbrev pub ended_as_expected : Option ℕ → Option ExpectedEnd → RowEnd → Bool
-ended_as_expected exit how end = did_run end
+ended_as_expected exit expected_end end = did_run end
     && (has_expected_exit exit end
-    && (has_expected_end how end && (is_some exit || (is_some how || exits_with 0 end))))
+    && (has_expected_end expected_end end && (is_some exit || (is_some expected_end || exits_with 0 end))))
 
 -- whether the job exited and expects only an exit code, or faulted and expects only a fault, whatever the code or the kind
 abbrev pub ended_with_expected_kind : Option ℕ → Option ExpectedEnd → RowEnd → Bool
-ended_with_expected_kind (Some code) None (ending.Exit met) = true
-ended_with_expected_kind None (Some (expected.Fault kind)) (ending.Fault met pc value) = true
+ended_with_expected_kind (Some code) None (ending.Exit actual) = true
+ended_with_expected_kind None (Some (expected.Fault kind)) (ending.Fault actual pc value) = true
 ended_with_expected_kind _ _ _ = false
 
 -- whether the end of a run is accepted, given the expected exit code and the expected end: it is as expected, or, if `acceptance` allows
 -- that, an exit or a fault where one is expected
 abbrev pub is_accepted : Acceptance → Option ℕ → Option ExpectedEnd → RowEnd → Bool
-is_accepted acceptance.Expected exit how end = ended_as_expected exit how end
-is_accepted acceptance.ExpectedKind exit how end = ended_as_expected exit how end || ended_with_expected_kind exit how end
+is_accepted acceptance.Expected exit expected_end end = ended_as_expected exit expected_end end
+is_accepted acceptance.ExpectedKind exit expected_end end = ended_as_expected exit expected_end end || ended_with_expected_kind exit expected_end end
 
 -- whether the end of this job's run is accepted
 abbrev pub is_accepted_end : Acceptance → Job → RowEnd → Bool

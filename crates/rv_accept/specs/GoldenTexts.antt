@@ -6,7 +6,7 @@ use Rattle.rv_rows.specs.declared_row.Row.{Row}
 use Rattle.rv_rows.specs.Verdict.{lines_of_signature}
 use Rattle.rv_accept.specs.declared.golden_texts.GoldenText.{GoldenText}
 use Rattle.rv_accept.specs.declared.golden_texts.GoldenKind.{GoldenKind}
-use Rattle.rv_accept.specs.declared.golden_texts.GoldenKind.TheVariants as part
+use Rattle.rv_accept.specs.declared.golden_texts.GoldenKind.TheVariants as kinds
 use Rattle.rv_accept.specs.declared.runs.JobRun.{JobRun}
 
 -- the text if the Bool is true, or else `None`
@@ -15,23 +15,23 @@ text_if accepted text = if accepted then Some text else None
 
 -- the golden text of the job at index `job` for the file at this path, as a list; empty if no path is named
 abbrev pub golden_text_if_named : ℕ → GoldenKind → Option (List ℕ) → Option (List ℕ) → List GoldenText
-golden_text_if_named job part text None = []
-golden_text_if_named job part text (Some path) = record { job = job; part = part; path = path; text = text } ∷ []
+golden_text_if_named job kind text None = []
+golden_text_if_named job kind text (Some path) = record { job = job; kind = kind; path = path; text = text } ∷ []
 
 -- the golden texts of a job, first for its console and then for its signature, if it names golden files for them; they have no text if the
 -- job is not accepted
 abbrev pub golden_texts_of_job : ℕ → Bool → Job → Row → List GoldenText
-golden_texts_of_job place accepted job row =
-    golden_text_if_named place part.Console (text_if accepted row.console) (console_path job.expect_console)
-    ++ golden_text_if_named place part.Signature (text_if accepted (lines_of_signature row.signature)) job.expect_signature
+golden_texts_of_job index accepted job row =
+    golden_text_if_named index kinds.Console (text_if accepted row.console) (console_path job.expect_console)
+    ++ golden_text_if_named index kinds.Signature (text_if accepted (lines_of_signature row.signature)) job.expect_signature
 
 -- the golden texts of a job; empty if it was not run, and without texts if it was skipped
 abbrev pub golden_texts_of_run : ℕ → Job → Option JobRun → List GoldenText
-golden_texts_of_run place job None = []
-golden_texts_of_run place job (Some run) = golden_texts_of_job place (not (is_some run.skip_reason)) job run.row
+golden_texts_of_run index job None = []
+golden_texts_of_run index job (Some run) = golden_texts_of_job index (not (is_some run.skip_reason)) job run.row
 
--- the golden texts of these jobs, in list order; `place` is the index of the first of them in the list
+-- the golden texts of these jobs, in list order; `index` is the index of the first of them in the list
 unfoldable pub golden_texts_of_runs : ℕ → List Job → List (Option JobRun) → List GoldenText
-golden_texts_of_runs place [] runs = []
-golden_texts_of_runs place (job ∷ jobs) [] = []
-golden_texts_of_runs place (job ∷ jobs) (run ∷ runs) = golden_texts_of_run place job run ++ golden_texts_of_runs (place + 1) jobs runs
+golden_texts_of_runs index [] runs = []
+golden_texts_of_runs index (job ∷ jobs) [] = []
+golden_texts_of_runs index (job ∷ jobs) (run ∷ runs) = golden_texts_of_run index job run ++ golden_texts_of_runs (index + 1) jobs runs

@@ -10,7 +10,7 @@ use Rattle.rv_accept.specs.declared.ends.Acceptance.{Acceptance}
 use Rattle.rv_accept.specs.declared.ends.Acceptance.TheVariants as acceptance
 use Rattle.rv_accept.specs.declared.runs.JobRun.{JobRun}
 use Rattle.rv_accept.specs.declared.runs.SkipReason.{SkipReason}
-use Rattle.rv_accept.specs.declared.runs.SkipReason.TheVariants as why
+use Rattle.rv_accept.specs.declared.runs.SkipReason.TheVariants as reasons
 use Rattle.rv_accept.specs.declared.current_verdict.Candidate.{Candidate}
 use Rattle.rv_accept.specs.declared.current_verdict.CurrentVerdict.{CurrentVerdict}
 use Rattle.rv_accept.specs.declared.current_verdict.CurrentVerdict.TheVariants as current
@@ -18,16 +18,16 @@ use Rattle.rv_accept.specs.declared.values.ValueKey.TheVariants as key
 
 -- the reason to skip a job because of its end, or `None` if the end is accepted
 abbrev pub end_skip_reason : Acceptance → Job → RowEnd → Option SkipReason
-end_skip_reason asked job end = if is_accepted_end asked job end then None else Some why.End
+end_skip_reason asked job end = if is_accepted_end asked job end then None else Some reasons.End
 
 -- the reason to skip a job because of its console, or `None`: the list contains the expected text, and the actual console is not UTF-8
 abbrev pub text_skip_reason : Job → Row → Option SkipReason
 text_skip_reason job row =
-    if is_value_changed key.Console job row && not (is_utf8 row.console) then Some why.NotUtf8 else None
+    if is_value_changed key.Console job row && not (is_utf8 row.console) then Some reasons.NotUtf8 else None
 
 -- the reason to skip a job because of its end or its console, or `None` if both can be accepted
 abbrev pub skip_reason : Acceptance → Job → Row → Option SkipReason
-skip_reason asked job row = if is_accepted_end asked job row.ending then text_skip_reason job row else Some why.End
+skip_reason asked job row = if is_accepted_end asked job row.ending then text_skip_reason job row else Some reasons.End
 
 -- whether a job has an expectation whose new value its run provides: an exit, an end, a console or a signature
 abbrev pub has_replaceable_expectation : Job → Bool
@@ -36,12 +36,12 @@ has_replaceable_expectation job = is_some job.expect_exit || (is_some job.expect
 
 -- the reason to skip a job that differs from its `same_as` job: its end, if that is not accepted, or else the difference
 abbrev pub differing_skip_reason : Acceptance → Job → RowEnd → SkipReason
-differing_skip_reason asked job end = if has_replaceable_expectation job && not (is_accepted_end asked job end) then why.End else why.Differs
+differing_skip_reason asked job end = if has_replaceable_expectation job && not (is_accepted_end asked job end) then reasons.End else reasons.Differs
 
 -- the reason to skip a chosen job, or `None` if it currently passes, or fails and its run can be accepted
 abbrev pub chosen_skip_reason : Acceptance → CurrentVerdict → Job → Row → Option SkipReason
 chosen_skip_reason asked current.Passes job row = None
-chosen_skip_reason asked current.Fails job row = if has_replaceable_expectation job then skip_reason asked job row else Some why.End
+chosen_skip_reason asked current.Fails job row = if has_replaceable_expectation job then skip_reason asked job row else Some reasons.End
 chosen_skip_reason asked current.Differs job row = Some (differing_skip_reason asked job row.ending)
 
 -- the reason to skip a job that is not chosen, or `None` if it currently passes or ended exactly as expected
@@ -60,16 +60,16 @@ judged_run asked job candidate row = record {
 
 -- the first row if the job is selected, or else `None`
 abbrev pub row_if_selected : Bool → List Row → Option Row
-row_if_selected marked rows = if marked then slice_get rows 0 else None
+row_if_selected selected rows = if selected then slice_get rows 0 else None
 
 -- the rows of the jobs after this one: all but the first row if the job is selected, or else all
 abbrev pub rows_after : Bool → List Row → List Row
-rows_after marked rows = if marked then drop 1 rows else rows
+rows_after selected rows = if selected then drop 1 rows else rows
 
 -- one entry for each job: its row if it is selected, or else `None`; the second list has the rows of the selected jobs, in order
 unfoldable pub indexed_rows : List Bool → List Row → List (Option Row)
 indexed_rows [] rows = []
-indexed_rows (marked ∷ selection) rows = row_if_selected marked rows ∷ indexed_rows selection (rows_after marked rows)
+indexed_rows (selected ∷ selection) rows = row_if_selected selected rows ∷ indexed_rows selection (rows_after selected rows)
 
 -- the row at an index, or `None` if the index is past the end or has no row
 abbrev pub row_or_none : Option (Option Row) → Option Row

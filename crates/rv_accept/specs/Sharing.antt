@@ -18,8 +18,8 @@ names_golden_file path job = is_same_path path (console_path job.expect_console)
 unfoldable pub is_named_by_selected : List ℕ → List Job → List Bool → Bool
 is_named_by_selected path [] selection = false
 is_named_by_selected path (job ∷ jobs) [] = false
-is_named_by_selected path (job ∷ jobs) (marked ∷ selection) =
-    (marked && names_golden_file path job) || is_named_by_selected path jobs selection
+is_named_by_selected path (job ∷ jobs) (selected ∷ selection) =
+    (selected && names_golden_file path job) || is_named_by_selected path jobs selection
 
 -- whether there is a path and one of the selected jobs names the golden file there
 abbrev pub is_file_of_selected : List Job → List Bool → Option (List ℕ) → Bool
@@ -35,27 +35,27 @@ shares_with_selected jobs selection job = is_file_of_selected jobs selection (co
 unfoldable pub with_sharing_jobs : List Job → List Bool → List Job → List Bool → List Bool
 with_sharing_jobs all chosen [] selection = []
 with_sharing_jobs all chosen (job ∷ jobs) [] = []
-with_sharing_jobs all chosen (job ∷ jobs) (marked ∷ selection) =
-    (marked || shares_with_selected all chosen job) ∷ with_sharing_jobs all chosen jobs selection
+with_sharing_jobs all chosen (job ∷ jobs) (selected ∷ selection) =
+    (selected || shares_with_selected all chosen job) ∷ with_sharing_jobs all chosen jobs selection
 
--- whether the second index exists and equals `place`
+-- whether the second index exists and equals `index`
 abbrev pub is_index : ℕ → Option ℕ → Bool
-is_index place None = false
-is_index place (Some named) = place == named
+is_index index None = false
+is_index index (Some named) = index == named
 
--- whether one of the selected jobs names the job at the index `place` by `same_as`
+-- whether one of the selected jobs names the job at the index `index` by `same_as`
 unfoldable pub is_compared_with : ℕ → List Job → List Bool → Bool
-is_compared_with place [] selection = false
-is_compared_with place (job ∷ jobs) [] = false
-is_compared_with place (job ∷ jobs) (marked ∷ selection) =
-    (marked && is_index place job.same_as) || is_compared_with place jobs selection
+is_compared_with index [] selection = false
+is_compared_with index (job ∷ jobs) [] = false
+is_compared_with index (job ∷ jobs) (selected ∷ selection) =
+    (selected && is_index index job.same_as) || is_compared_with index jobs selection
 
--- for each job, whether it is selected or a later selected job names it by `same_as`; `place` is the index of the first job
+-- for each job, whether it is selected or a later selected job names it by `same_as`; `index` is the index of the first job
 unfoldable pub with_compared_jobs : ℕ → List Job → List Bool → List Bool
-with_compared_jobs place [] selection = []
-with_compared_jobs place (job ∷ jobs) [] = []
-with_compared_jobs place (job ∷ jobs) (marked ∷ selection) =
-    (marked || is_compared_with place jobs selection) ∷ with_compared_jobs (place + 1) jobs selection
+with_compared_jobs index [] selection = []
+with_compared_jobs index (job ∷ jobs) [] = []
+with_compared_jobs index (job ∷ jobs) (selected ∷ selection) =
+    (selected || is_compared_with index jobs selection) ∷ with_compared_jobs (index + 1) jobs selection
 
 -- for each job, whether it must run: it is chosen, it shares a golden file with a chosen job, or one of these jobs names it by `same_as`
 abbrev pub jobs_to_run : List Job → List Bool → List Bool

@@ -19,15 +19,15 @@ has_target path targets = list_any (λ target. bytes_eq path target.path) target
 
 -- the golden file of a golden text, with the outcome for this file
 abbrev pub target_of : List GoldenText → GoldenText → Target
-target_of golden_texts claim = record {
-  path = claim.path;
-  job = claim.job;
-  part = claim.part;
-  outcome = outcome_of_golden_file claim.path golden_texts;
+target_of golden_texts golden_text = record {
+  path = golden_text.path;
+  job = golden_text.job;
+  kind = golden_text.kind;
+  outcome = outcome_of_golden_file golden_text.path golden_texts;
 }
 
 -- the list with the golden file of this golden text added, if the text's job is accepted and the list does not have the file yet
 abbrev pub with_target : List (Option JobRun) → List GoldenText → List Target → GoldenText → List Target
-with_target runs golden_texts targets claim =
-    if is_accepted_entry (slice_get runs claim.job) && not (has_target claim.path targets)
-    then targets ++ target_of golden_texts claim ∷ [] else targets
+with_target runs golden_texts targets golden_text =
+    if is_accepted_entry (slice_get runs golden_text.job) && not (has_target golden_text.path targets)
+    then targets ++ target_of golden_texts golden_text ∷ [] else targets

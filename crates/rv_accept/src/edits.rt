@@ -1,7 +1,7 @@
 //! Texts with some ranges replaced.
 
 ghost use Rattle.std.specs.Prelude.{◌≡◌, IfOk, drop};
-ghost use Rattle.rv_accept.specs.Edits.{edited_rest, piece};
+ghost use Rattle.rv_accept.specs.Edits.{edited_rest, text_range};
 
 use rv_rows::Bytes;
 use std::alloc::{AllocError, Global};
@@ -21,7 +21,7 @@ pub fn edited_text(alloc: Global, text: &[u8], edits: &[Edit]) -> Result<Vec<u8>
     let mut edited = Vec::new(alloc);
     let mut from = 0;
     for edit in edits {
-        edited.extend_from_slice(piece(text, from, edit.begin))?;
+        edited.extend_from_slice(text_range(text, from, edit.begin))?;
         edited.extend_from_slice(edit.text.as_slice())?;
         from = edit.end;
     }
@@ -30,8 +30,8 @@ pub fn edited_text(alloc: Global, text: &[u8], edits: &[Edit]) -> Result<Vec<u8>
 }
 
 // Returns the bytes of a text from the offset `from` up to the offset `to`.
-fn piece(text: &[u8], from: usize, to: usize) -> &[u8]
-    ensures { result.now ≡ piece from to text.now }
+fn text_range(text: &[u8], from: usize, to: usize) -> &[u8]
+    ensures { result.now ≡ text_range from to text.now }
 {
     let rest = text_from(text, from);
     &rest[..to.saturating_sub(from).min(rest.len())]

@@ -31,7 +31,7 @@ pub fn outcome_of_golden_file(
     ensures { IfOk result (λ outcome. outcome ≡ outcome_of_golden_file path.now golden_texts.now) }
 {
     match first_skipped_text(path, golden_texts) {
-        Some(claim) => Ok(GoldenFileOutcome::SkippedBy(claim.job)),
+        Some(golden_text) => Ok(GoldenFileOutcome::SkippedBy(golden_text.job)),
         None => outcome_of_first(alloc, path, golden_texts),
     }
 }
@@ -74,18 +74,18 @@ fn outcome_of_given_text(
 
 // Returns the first golden text for the file at the path whose job was skipped, or `None` if there is none.
 fn first_skipped_text<'a>(path: &str, golden_texts: &'a [GoldenText]) -> Option<&'a GoldenText>
-    ensures { option_map (λ claim. claim.now) result ≡ find (is_of_skipped_job path.now) golden_texts.now }
+    ensures { option_map (λ golden_text. golden_text.now) result ≡ find (is_of_skipped_job path.now) golden_texts.now }
 {
     golden_texts
         .iter()
-        .find(|claim| is_of_skipped_job(path, claim))
+        .find(|golden_text| is_of_skipped_job(path, golden_text))
 }
 
 /// Returns the first golden text for the file at the path, or `None` if there is none.
 pub fn first_text_for_file<'a>(path: &str, golden_texts: &'a [GoldenText]) -> Option<&'a GoldenText>
-    ensures { option_map (λ claim. claim.now) result ≡ find (is_for_file path.now) golden_texts.now }
+    ensures { option_map (λ golden_text. golden_text.now) result ≡ find (is_for_file path.now) golden_texts.now }
 {
-    golden_texts.iter().find(|claim| is_for_file(path, claim))
+    golden_texts.iter().find(|golden_text| is_for_file(path, golden_text))
 }
 
 /// Returns the first golden text for the file at the path that differs from `text`, or `None` if there is none.
@@ -94,33 +94,33 @@ pub fn first_other_text<'a>(
     text: &[u8],
     golden_texts: &'a [GoldenText],
 ) -> Option<&'a GoldenText>
-    ensures { option_map (λ claim. claim.now) result
+    ensures { option_map (λ golden_text. golden_text.now) result
         ≡ find (has_other_text path.now text.now) golden_texts.now }
 {
     golden_texts
         .iter()
-        .find(|claim| has_other_text(path, text, claim))
+        .find(|golden_text| has_other_text(path, text, golden_text))
 }
 
 // Whether this golden text is for the file at the path.
-fn is_for_file(path: &str, claim: &GoldenText) -> bool
-    ensures { result ≡ is_for_file path.now claim.now }
+fn is_for_file(path: &str, golden_text: &GoldenText) -> bool
+    ensures { result ≡ is_for_file path.now golden_text.now }
 {
-    path == claim.path.as_str()
+    path == golden_text.path.as_str()
 }
 
 // Whether this golden text is for the file at the path, and its job was skipped, so that there is no text.
-fn is_of_skipped_job(path: &str, claim: &GoldenText) -> bool
-    ensures { result ≡ is_of_skipped_job path.now claim.now }
+fn is_of_skipped_job(path: &str, golden_text: &GoldenText) -> bool
+    ensures { result ≡ is_of_skipped_job path.now golden_text.now }
 {
-    is_for_file(path, claim) && claim.text.is_none()
+    is_for_file(path, golden_text) && golden_text.text.is_none()
 }
 
 // Whether this golden text is for the file at the path, and its text is missing or differs from `text`.
-fn has_other_text(path: &str, text: &[u8], claim: &GoldenText) -> bool
-    ensures { result ≡ has_other_text path.now text.now claim.now }
+fn has_other_text(path: &str, text: &[u8], golden_text: &GoldenText) -> bool
+    ensures { result ≡ has_other_text path.now text.now golden_text.now }
 {
-    is_for_file(path, claim) && !is_text(text, &claim.text)
+    is_for_file(path, golden_text) && !is_text(text, &golden_text.text)
 }
 
 // Whether `given` is a text and equals `text`.

@@ -25,7 +25,7 @@ pub enum GoldenKind {
 pub struct GoldenText {
     /// The index of the job in the list, counted from 0.
     pub job: usize,
-    pub part: GoldenKind,
+    pub kind: GoldenKind,
     pub path: Text,
     /// `None` if the job was skipped.
     pub text: Option<Bytes>,
@@ -36,19 +36,19 @@ pub struct GoldenText {
 fn push_golden_texts(
     alloc: Global,
     golden_texts: &mut Vec<GoldenText>,
-    place: usize,
+    index: usize,
     is_accepted: bool,
-    ran: (&Job, &Row),
+    job_and_row: (&Job, &Row),
 ) -> Result<(), AllocError>
-    ensures { OnOk result (golden_texts.new.items ≡ golden_texts.old.items ++ golden_texts_of_job place is_accepted ran.entry.0.now ran.entry.1.now) }
+    ensures { OnOk result (golden_texts.new.items ≡ golden_texts.old.items ++ golden_texts_of_job index is_accepted job_and_row.entry.0.now job_and_row.entry.1.now) }
 {
-    let (job, row) = ran;
+    let (job, row) = job_and_row;
     if let Some(path) = console_path(job) {
         let text = console_if_accepted(alloc, is_accepted, row)?;
         push_golden_text(
             alloc,
             golden_texts,
-            (place, GoldenKind::Console),
+            (index, GoldenKind::Console),
             path,
             text,
         )?;
@@ -58,7 +58,7 @@ fn push_golden_texts(
         push_golden_text(
             alloc,
             golden_texts,
-            (place, GoldenKind::Signature),
+            (index, GoldenKind::Signature),
             path.as_str(),
             text,
         )?;
@@ -79,22 +79,22 @@ pub fn golden_texts_of_runs(
     Ok(golden_texts)
 }
 
-// Appends the golden texts of these jobs, in list order. `place` is the index of the first of them in the list.
+// Appends the golden texts of these jobs, in list order. `index` is the index of the first of them in the list.
 #[tactic(auto, unfolding(crate::specs::GoldenTexts::golden_texts_of_runs))]
 fn push_golden_texts_of_runs(
     alloc: Global,
     golden_texts: &mut Vec<GoldenText>,
-    place: usize,
+    index: usize,
     jobs: &[Job],
     runs: &[Option<JobRun>],
 ) -> Result<(), AllocError>
-    requires { place + length jobs.now < 2 ^ 64 }
-    ensures { OnOk result (golden_texts.new.items ≡ golden_texts.old.items ++ golden_texts_of_runs place jobs.now runs.now) }
+    requires { index + length jobs.now < 2 ^ 64 }
+    ensures { OnOk result (golden_texts.new.items ≡ golden_texts.old.items ++ golden_texts_of_runs index jobs.now runs.now) }
 {
     match (jobs, runs) {
         ([job, jobs @ ..], [run, runs @ ..]) => {
-            push_golden_texts_of_run(alloc, golden_texts, place, job, run)?;
-            push_golden_texts_of_runs(alloc, golden_texts, place + 1, jobs, runs)
+            push_golden_texts_of_run(alloc, golden_texts, index, job, run)?;
+            push_golden_texts_of_runs(alloc, golden_texts, index + 1, jobs, runs)
         }
         ([], _) => Ok(()),
         ([_job, _jobs @ ..], []) => Ok(()),
@@ -105,17 +105,17 @@ fn push_golden_texts_of_runs(
 fn push_golden_texts_of_run(
     alloc: Global,
     golden_texts: &mut Vec<GoldenText>,
-    place: usize,
+    index: usize,
     job: &Job,
     run: &Option<JobRun>,
 ) -> Result<(), AllocError>
-    ensures { OnOk result (golden_texts.new.items ≡ golden_texts.old.items ++ golden_texts_of_run place job.now run.now) }
+    ensures { OnOk result (golden_texts.new.items ≡ golden_texts.old.items ++ golden_texts_of_run index job.now run.now) }
 {
     match run {
         Some(run) => push_golden_texts(
             alloc,
             golden_texts,
-            place,
+            index,
             run.skip_reason.is_none(),
             (job, &run.row),
         ),
@@ -133,21 +133,21 @@ pub fn console_path(job: &Job) -> Option<&str>
     }
 }
 
-// Appends the golden text for the file at the path: `of` is the index of its job and the kind of result that it contains.
+// Appends the golden text for the file at the path: `job_and_kind` is the index of its job and the kind of result that it contains.
 fn push_golden_text(
     alloc: Global,
     golden_texts: &mut Vec<GoldenText>,
-    of: (usize, GoldenKind),
+    job_and_kind: (usize, GoldenKind),
     path: &str,
     text: Option<Bytes>,
 ) -> Result<(), AllocError>
-    ensures { OnOk result (golden_texts.new.items ≡ golden_texts.old.items ++ golden_text_if_named of.0 of.1 text (Some path.now)) }
+    ensures { OnOk result (golden_texts.new.items ≡ golden_texts.old.items ++ golden_text_if_named job_and_kind.0 job_and_kind.1 text (Some path.now)) }
 {
-    let (job, part) = of;
+    let (job, kind) = job_and_kind;
     let path = Text::copy(alloc, path)?;
     golden_texts.push(GoldenText {
         job,
-        part,
+        kind,
         path,
         text,
     })?;

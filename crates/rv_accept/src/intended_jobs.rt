@@ -86,7 +86,7 @@ fn actual_exit(expected: Option<u32>, ending: RowEnd) -> Option<u32>
     ensures { result ≡ actual_exit expected ending }
 {
     match (expected, ending) {
-        (Some(_), RowEnd::Exit(met)) => Some(met),
+        (Some(_), RowEnd::Exit(actual)) => Some(actual),
         _ => expected,
     }
 }
@@ -96,7 +96,7 @@ fn actual_end(expected: Option<ExpectedEnd>, ending: RowEnd) -> Option<ExpectedE
     ensures { result ≡ actual_end expected ending }
 {
     match (expected, ending) {
-        (Some(ExpectedEnd::Fault(_)), RowEnd::Fault(met, ..)) => Some(ExpectedEnd::Fault(met)),
+        (Some(ExpectedEnd::Fault(_)), RowEnd::Fault(actual, ..)) => Some(ExpectedEnd::Fault(actual)),
         _ => expected,
     }
 }

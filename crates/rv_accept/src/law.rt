@@ -33,7 +33,7 @@ pub fn accepted_jobs_meet_their_expectations()
 /// Proves that a golden file gets a text only if every job that names the file gives it this text; so none of these jobs was skipped.
 pub fn an_agreed_text_is_given_by_each_job()
     ensures { (path text : List ℕ) (golden_texts : List AClaim) → outcome_of_golden_file path golden_texts ≡ outcome.Agreed text
-        → All (λ claim. IsTrue (is_for_file path claim) → claim.text ≡ Some text) golden_texts }
+        → All (λ golden_text. IsTrue (is_for_file path golden_text) → golden_text.text ≡ Some text) golden_texts }
 {}
 
 /// Proves that a chosen job that is not skipped does not fail in a later run: its verdict is pass, or none if it has no expectations. This

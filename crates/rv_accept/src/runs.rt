@@ -53,39 +53,39 @@ pub fn indexed_rows(
     selection: &[bool],
     rows: Vec<Row>,
 ) -> Result<Vec<Option<Row>>, AllocError>
-    ensures { IfOk result (λ placed. placed.items ≡ indexed_rows selection.now rows.items) }
+    ensures { IfOk result (λ indexed. indexed.items ≡ indexed_rows selection.now rows.items) }
 {
-    let mut placed = Vec::new(alloc);
+    let mut indexed = Vec::new(alloc);
     let mut rows = rows.into_iter();
-    push_indexed_rows(&mut placed, selection, &mut rows)?;
-    Ok(placed)
+    push_indexed_rows(&mut indexed, selection, &mut rows)?;
+    Ok(indexed)
 }
 
 // Appends one entry for each job: its row if it is selected, or else `None`. `rows` are the rows of the selected jobs, in order.
 #[tactic(auto, unfolding(crate::specs::Runs::indexed_rows))]
 fn push_indexed_rows(
-    placed: &mut Vec<Option<Row>>,
+    indexed: &mut Vec<Option<Row>>,
     selection: &[bool],
     rows: &mut IntoIter<Row>,
 ) -> Result<(), AllocError>
-    ensures { OnOk result (placed.new.items ≡ placed.old.items ++ indexed_rows selection.now (into_iter_items rows.old)) }
+    ensures { OnOk result (indexed.new.items ≡ indexed.old.items ++ indexed_rows selection.now (into_iter_items rows.old)) }
 {
     match selection {
-        [marked, selection @ ..] => {
-            let row = next_row_if_selected(*marked, rows);
-            placed.push(row)?;
-            push_indexed_rows(placed, selection, rows)
+        [selected, selection @ ..] => {
+            let row = next_row_if_selected(*selected, rows);
+            indexed.push(row)?;
+            push_indexed_rows(indexed, selection, rows)
         }
         [] => Ok(()),
     }
 }
 
 // Returns the next row if the job is selected, or else `None`, and then leaves the rows unchanged.
-fn next_row_if_selected(is_marked: bool, rows: &mut IntoIter<Row>) -> Option<Row>
-    ensures row { result ≡ row_if_selected is_marked (into_iter_items rows.old) }
-    ensures rest { into_iter_items rows.new ≡ rows_after is_marked (into_iter_items rows.old) }
+fn next_row_if_selected(is_selected: bool, rows: &mut IntoIter<Row>) -> Option<Row>
+    ensures row { result ≡ row_if_selected is_selected (into_iter_items rows.old) }
+    ensures rest { into_iter_items rows.new ≡ rows_after is_selected (into_iter_items rows.old) }
 {
-    if is_marked { rows.next() } else { None }
+    if is_selected { rows.next() } else { None }
 }
 
 /// Returns for each job its run, accepted or skipped, or `None` if it has no row. `candidates` says for each job whether it is chosen and
@@ -230,8 +230,8 @@ fn has_replaceable_expectation(job: &Job) -> bool
 fn skip_reason(acceptance: Acceptance, job: &Job, row: &Row) -> Option<SkipReason>
     ensures { result ≡ skip_reason acceptance job.now row.now }
 {
-    if let Some(why) = end_skip_reason(acceptance, job, row.ending) {
-        Some(why)
+    if let Some(reason) = end_skip_reason(acceptance, job, row.ending) {
+        Some(reason)
     } else if is_value_changed(ValueKey::Console, job, row) && !is_utf8(row.console.as_slice()) {
         Some(SkipReason::NotUtf8)
     } else {

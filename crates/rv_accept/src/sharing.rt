@@ -20,67 +20,67 @@ pub fn jobs_to_run(alloc: Global, jobs: &[Job], chosen: &[bool]) -> Result<Vec<b
     Ok(selection)
 }
 
-// Appends for each job whether it is selected or a later selected job names it by `same_as`. `place` is the index of the first job.
+// Appends for each job whether it is selected or a later selected job names it by `same_as`. `index` is the index of the first job.
 #[tactic(auto, unfolding(crate::specs::Sharing::with_compared_jobs))]
 fn push_with_compared_jobs(
     out: &mut Vec<bool>,
-    place: usize,
+    index: usize,
     jobs: &[Job],
     selection: &[bool],
 ) -> Result<(), AllocError>
-    requires { place + length jobs.now < 2 ^ 64 }
-    ensures { OnOk result (out.new.items ≡ out.old.items ++ with_compared_jobs place jobs.now selection.now) }
+    requires { index + length jobs.now < 2 ^ 64 }
+    ensures { OnOk result (out.new.items ≡ out.old.items ++ with_compared_jobs index jobs.now selection.now) }
 {
     match (jobs, selection) {
-        ([_job, jobs @ ..], [marked, selection @ ..]) => {
-            out.push(*marked || is_compared_with(place, jobs, selection))?;
-            push_with_compared_jobs(out, place + 1, jobs, selection)
+        ([_job, jobs @ ..], [selected, selection @ ..]) => {
+            out.push(*selected || is_compared_with(index, jobs, selection))?;
+            push_with_compared_jobs(out, index + 1, jobs, selection)
         }
         ([], _) => Ok(()),
         ([_job, _jobs @ ..], []) => Ok(()),
     }
 }
 
-// Whether one of the selected jobs names the job at the index `place` by `same_as`.
+// Whether one of the selected jobs names the job at the index `index` by `same_as`.
 #[tactic(auto, unfolding(crate::specs::Sharing::is_compared_with))]
-fn is_compared_with(place: usize, jobs: &[Job], selection: &[bool]) -> bool
-    ensures { result ≡ is_compared_with place jobs.now selection.now }
+fn is_compared_with(index: usize, jobs: &[Job], selection: &[bool]) -> bool
+    ensures { result ≡ is_compared_with index jobs.now selection.now }
 {
     match (jobs, selection) {
-        ([job, jobs @ ..], [marked, selection @ ..]) => {
-            (*marked && is_index(place, job.same_as)) || is_compared_with(place, jobs, selection)
+        ([job, jobs @ ..], [selected, selection @ ..]) => {
+            (*selected && is_index(index, job.same_as)) || is_compared_with(index, jobs, selection)
         }
         ([], _) => false,
         ([_job, _jobs @ ..], []) => false,
     }
 }
 
-// Whether `named` is an index and equals `place`.
-fn is_index(place: usize, named: Option<usize>) -> bool
-    ensures { result ≡ is_index place named }
+// Whether `named` is an index and equals `index`.
+fn is_index(index: usize, named: Option<usize>) -> bool
+    ensures { result ≡ is_index index named }
 {
     match named {
-        Some(named) => place == named,
+        Some(named) => index == named,
         None => false,
     }
 }
 
-// Appends for each job whether it is chosen or shares a golden file with a chosen job. `all` has all jobs of the list, and which of them
+// Appends for each job whether it is chosen or shares a golden file with a chosen job. `list_and_selection` has all jobs of the list, and which of them
 // are chosen.
 #[tactic(auto, unfolding(crate::specs::Sharing::with_sharing_jobs))]
 fn push_with_sharing_jobs(
     selection: &mut Vec<bool>,
-    all: (&[Job], &[bool]),
+    list_and_selection: (&[Job], &[bool]),
     jobs: &[Job],
     chosen: &[bool],
 ) -> Result<(), AllocError>
     ensures { OnOk result (selection.new.items
-        ≡ selection.old.items ++ with_sharing_jobs all.entry.0.now all.entry.1.now jobs.now chosen.now) }
+        ≡ selection.old.items ++ with_sharing_jobs list_and_selection.entry.0.now list_and_selection.entry.1.now jobs.now chosen.now) }
 {
     match (jobs, chosen) {
         ([job, jobs @ ..], [is_chosen, chosen @ ..]) => {
-            selection.push(*is_chosen || shares_with_selected(all.0, all.1, job))?;
-            push_with_sharing_jobs(selection, all, jobs, chosen)
+            selection.push(*is_chosen || shares_with_selected(list_and_selection.0, list_and_selection.1, job))?;
+            push_with_sharing_jobs(selection, list_and_selection, jobs, chosen)
         }
         ([], _) => Ok(()),
         ([_job, _jobs @ ..], []) => Ok(()),
@@ -111,8 +111,8 @@ fn is_named_by_selected(path: &str, jobs: &[Job], selection: &[bool]) -> bool
     ensures { result ≡ is_named_by_selected path.now jobs.now selection.now }
 {
     match (jobs, selection) {
-        ([job, jobs @ ..], [marked, selection @ ..]) => {
-            (*marked && names_golden_file(path, job)) || is_named_by_selected(path, jobs, selection)
+        ([job, jobs @ ..], [selected, selection @ ..]) => {
+            (*selected && names_golden_file(path, job)) || is_named_by_selected(path, jobs, selection)
         }
         ([], _) => false,
         ([_job, _jobs @ ..], []) => false,

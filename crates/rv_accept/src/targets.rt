@@ -16,7 +16,7 @@ pub struct Target {
     /// The index of the first accepted job that names it, counted from 0.
     pub job: usize,
     /// Which result of that job's run it contains.
-    pub part: GoldenKind,
+    pub kind: GoldenKind,
     /// What happens to it.
     pub outcome: GoldenFileOutcome,
 }
@@ -30,8 +30,8 @@ pub fn targets_of(
     ensures { IfOk result (λ targets. targets.items ≡ fold (with_target runs.now golden_texts.now) [] golden_texts.now) }
 {
     let mut targets = Vec::new(alloc);
-    for claim in golden_texts {
-        add_target(alloc, runs, golden_texts, &mut targets, claim)?;
+    for golden_text in golden_texts {
+        add_target(alloc, runs, golden_texts, &mut targets, golden_text)?;
     }
     Ok(targets)
 }
@@ -42,14 +42,14 @@ fn add_target(
     runs: &[Option<JobRun>],
     golden_texts: &[GoldenText],
     targets: &mut Vec<Target>,
-    claim: &GoldenText,
+    golden_text: &GoldenText,
 ) -> Result<(), AllocError>
-    ensures { OnOk result (targets.new.items ≡ with_target runs.now golden_texts.now targets.old.items claim.now) }
+    ensures { OnOk result (targets.new.items ≡ with_target runs.now golden_texts.now targets.old.items golden_text.now) }
 {
-    if is_accepted_entry(runs.get(claim.job))
-        && !has_target(claim.path.as_str(), targets.as_slice())
+    if is_accepted_entry(runs.get(golden_text.job))
+        && !has_target(golden_text.path.as_str(), targets.as_slice())
     {
-        targets.push(target_of(alloc, claim, golden_texts)?)?;
+        targets.push(target_of(alloc, golden_text, golden_texts)?)?;
     }
     Ok(())
 }
@@ -57,16 +57,16 @@ fn add_target(
 // Returns the golden file of a golden text, with the outcome for this file.
 fn target_of(
     alloc: Global,
-    claim: &GoldenText,
+    golden_text: &GoldenText,
     golden_texts: &[GoldenText],
 ) -> Result<Target, AllocError>
-    ensures { IfOk result (λ target. target ≡ target_of golden_texts.now claim.now) }
+    ensures { IfOk result (λ target. target ≡ target_of golden_texts.now golden_text.now) }
 {
     Ok(Target {
-        path: Text::copy(alloc, claim.path.as_str())?,
-        job: claim.job,
-        part: claim.part,
-        outcome: outcome_of_golden_file(alloc, claim.path.as_str(), golden_texts)?,
+        path: Text::copy(alloc, golden_text.path.as_str())?,
+        job: golden_text.job,
+        kind: golden_text.kind,
+        outcome: outcome_of_golden_file(alloc, golden_text.path.as_str(), golden_texts)?,
     })
 }
 

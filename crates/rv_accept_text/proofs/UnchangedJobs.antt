@@ -30,7 +30,7 @@ same_exit None end holds = refl
 same_exit (Some code) (ending.Exit met) holds = rw (eqb-true met code holds) refl
 same_exit (Some code) (ending.Fault kind pc value) holds = refl
 same_exit (Some code) ending.Budget holds = refl
-same_exit (Some code) (ending.Refused why) holds = refl
+same_exit (Some code) (ending.Refused reason) holds = refl
 
 same_end : (how : Option ExpectedEnd) (end : RowEnd) → has_expected_end how end ≡ true → actual_end how end ≡ how
 same_end None end holds = refl
@@ -39,7 +39,7 @@ same_end (Some (expected.Fault kind)) (ending.Fault met pc value) holds =
     rw (same_true the_type (search rules) kind met holds) refl
 same_end (Some (expected.Fault kind)) (ending.Exit met) holds = refl
 same_end (Some (expected.Fault kind)) ending.Budget holds = refl
-same_end (Some (expected.Fault kind)) (ending.Refused why) holds = refl
+same_end (Some (expected.Fault kind)) (ending.Refused reason) holds = refl
 
 same_console : (console : Option ExpectedConsole) (bytes : List ℕ) → has_expected_text console bytes ≡ true
     → actual_console console bytes ≡ console
@@ -69,18 +69,18 @@ same_job job row none =
 
 -- ---- one run
 
-meant_if_left : (job : Job) (run : JobRun) (why : Option SkipReason) → change_skip_reason job run.row ≡ why
-    → intended_job job (row_if_accepted (skipped_run why run)) ≡ job
-meant_if_left job run why is = go run.is_chosen run.skip_reason refl refl
+meant_if_left : (job : Job) (run : JobRun) (reason : Option SkipReason) → change_skip_reason job run.row ≡ reason
+    → intended_job job (row_if_accepted (skipped_run reason run)) ≡ job
+meant_if_left job run reason is = go run.is_chosen run.skip_reason refl refl
   where
     go : (chosen : Bool) (left : Option SkipReason) → run.is_chosen ≡ chosen → run.skip_reason ≡ left
-        → intended_job job (row_if_accepted (skipped_run why run)) ≡ job
+        → intended_job job (row_if_accepted (skipped_run reason run)) ≡ job
     go false left chosen_is left_is = rw chosen_is refl
     go true (Some other) chosen_is left_is = rw (chosen_is, left_is) refl
-    go true None chosen_is left_is = at_why why is
+    go true None chosen_is left_is = at_why reason is
       where
-        at_why : (why : Option SkipReason) → change_skip_reason job run.row ≡ why
-            → intended_job job (row_if_accepted (skipped_run why run)) ≡ job
+        at_why : (reason : Option SkipReason) → change_skip_reason job run.row ≡ reason
+            → intended_job job (row_if_accepted (skipped_run reason run)) ≡ job
         at_why None is = rw (chosen_is, left_is) (same_job job run.row is)
         at_why (Some other) is = rw (chosen_is, left_is) refl
 

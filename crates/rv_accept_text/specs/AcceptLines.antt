@@ -8,9 +8,9 @@ use Rattle.rv_accept.specs.declared.runs.JobRun.{JobRun}
 use Rattle.rv_accept_text.specs.FileLines.{file_line, skipped_file_line}
 use Rattle.rv_accept_text.specs.GoldenFiles.{is_skipped, new_text}
 use Rattle.rv_accept_text.specs.JobLines.{skipped_job_line, value_line}
-use Rattle.rv_accept_text.specs.declared.accepting.AcceptSummary.{AcceptSummary}
-use Rattle.rv_accept_text.specs.declared.accepting.Writing.{Writing}
-use Rattle.rv_accept_text.specs.declared.accepting.Writing.TheVariants as writing
+use Rattle.rv_accept_text.specs.declared.accept_summary.AcceptSummary.{AcceptSummary}
+use Rattle.rv_accept_text.specs.declared.accept_summary.Writing.{Writing}
+use Rattle.rv_accept_text.specs.declared.accept_summary.Writing.TheVariants as writing
 use Rattle.rv_accept_text.specs.declared.golden_file.GoldenFile.{GoldenFile}
 use Rattle.rv_accept_text.specs.declared.golden_file.ListFile.{ListFile}
 use Rattle.rv_accept_text.specs.declared.new_list.ChangedValue.{ChangedValue}
@@ -24,8 +24,8 @@ value_line_of path value _ _ = []
 
 -- the lines about one changed value of the list
 abbrev pub value_line_in : AcceptSummary → ChangedValue → List ℕ
-value_line_in told value = value_line_of told.list.path.now value (slice_get told.list.jobs.now value.job)
-    (slice_get told.runs.now value.job)
+value_line_in summary value = value_line_of summary.list.path.now value (slice_get summary.list.jobs.now value.job)
+    (slice_get summary.runs.now value.job)
 
 -- a line for each chosen job that was skipped; `list` has all jobs of the list
 unfoldable pub skipped_job_lines : List Job → List Job → List (Option JobRun) → List ℕ
@@ -35,10 +35,10 @@ skipped_job_lines list (job ∷ jobs) (run ∷ runs) = skipped_job_line list job
 
 -- the lines that `accept` prints: about changed golden files, changed values of the list, skipped jobs, and skipped golden files
 abbrev pub accept_lines : AcceptSummary → List ℕ
-accept_lines told = flat_map (file_line told.list) told.files.now
-    ++ flat_map (value_line_in told) told.new.now.values.items
-    ++ skipped_job_lines told.list.jobs.now told.list.jobs.now told.runs.now
-    ++ flat_map (skipped_file_line told.list told.golden_texts.now) told.files.now
+accept_lines summary = flat_map (file_line summary.list) summary.files.now
+    ++ flat_map (value_line_in summary) summary.new.now.values.items
+    ++ skipped_job_lines summary.list.jobs.now summary.list.jobs.now summary.runs.now
+    ++ flat_map (skipped_file_line summary.list summary.golden_texts.now) summary.files.now
 
 -- ---- the last line
 
@@ -53,7 +53,7 @@ address_if false = 0
 
 -- the number of files that change: the golden files that are written, and the list if it has a new text
 abbrev pub changed_count : AcceptSummary → ℕ
-changed_count told = count_by (is_changed told.list) told.files.now + address_if (is_some told.new.now.text)
+changed_count summary = count_by (is_changed summary.list) summary.files.now + address_if (is_some summary.new.now.text)
 
 -- whether there is a run, and its job is chosen and was skipped
 abbrev pub is_skipped_job : Option JobRun → Bool
@@ -62,7 +62,7 @@ is_skipped_job (Some run) = run.is_chosen && is_some run.skip_reason
 
 -- the number of chosen jobs that were skipped plus the number of golden files that were skipped
 abbrev pub skipped_count : AcceptSummary → ℕ
-skipped_count told = count_by is_skipped_job told.runs.now + count_by (is_skipped told.list) told.files.now
+skipped_count summary = count_by is_skipped_job summary.runs.now + count_by (is_skipped summary.list) summary.files.now
 
 -- ` written, ` if files were written, or else ` would be written, `
 abbrev pub writing_word : Writing → List ℕ
@@ -71,4 +71,4 @@ writing_word writing.CheckOnly = codes " would be written, "
 
 -- the last line of `accept`: how many files were written, or would be written, and how many jobs and files were skipped
 abbrev pub count_line : Writing → ℕ → ℕ → List ℕ
-count_line how changed left = count_text changed (codes "file") ++ writing_word how ++ decimal left ++ codes " skipped\n"
+count_line writing changed skipped = count_text changed (codes "file") ++ writing_word writing ++ decimal skipped ++ codes " skipped\n"

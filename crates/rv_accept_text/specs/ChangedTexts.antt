@@ -6,19 +6,19 @@ use Rattle.std.specs.Str.{is_utf8}
 use Rattle.rv_job_text.specs.ConsoleLines.{console_lines}
 use Rattle.rv_rows.specs.Printable.{printable_text, printable_value}
 
--- the rest of a line that shows the offset `place`, and the old and the new text from there
+-- the rest of a line that shows the offset `offset`, and the old and the new text from there
 abbrev pub values_from : ℕ → List ℕ → List ℕ → List ℕ
-values_from place old new = codes ": byte " ++ decimal place ++ codes ": \"" ++ printable_value (drop place old)
-    ++ codes "\" -> \"" ++ printable_value (drop place new) ++ codes "\"\n"
+values_from offset old new = codes ": byte " ++ decimal offset ++ codes ": \"" ++ printable_value (drop offset old)
+    ++ codes "\" -> \"" ++ printable_value (drop offset new) ++ codes "\"\n"
 
 -- the rest of a line that shows the offset of the first difference between the old and the new text, and the text from there in both
 unfoldable pub byte_change : List ℕ → List ℕ → List ℕ
 byte_change old new = values_from (common_prefix_len nat_eq old new) old new
 
--- the rest of a line that shows the offset `place`, and the text from there in both
+-- the rest of a line that shows the offset `offset`, and the text from there in both
 abbrev pub values_of_both : ℕ → List ℕ → List ℕ → List ℕ
-values_of_both place one other = codes " at byte " ++ decimal place ++ codes ": \"" ++ printable_value (drop place one)
-    ++ codes "\" and \"" ++ printable_value (drop place other) ++ codes "\"\n"
+values_of_both offset one other = codes " at byte " ++ decimal offset ++ codes ": \"" ++ printable_value (drop offset one)
+    ++ codes "\" and \"" ++ printable_value (drop offset other) ++ codes "\"\n"
 
 -- the rest of a line that shows the offset of the first difference between two texts, and the text from there in both
 unfoldable pub byte_difference : List ℕ → List ℕ → List ℕ

@@ -7,7 +7,7 @@ use Rattle.rv_rows.specs.Numbers.{count_text}
 use Rattle.rv_accept.specs.GoldenOutcomes.{has_other_text, is_for_file}
 use Rattle.rv_accept.specs.declared.golden_texts.GoldenText.{GoldenText}
 use Rattle.rv_accept.specs.declared.golden_texts.GoldenKind.{GoldenKind}
-use Rattle.rv_accept.specs.declared.golden_texts.GoldenKind.TheVariants as part
+use Rattle.rv_accept.specs.declared.golden_texts.GoldenKind.TheVariants as kinds
 use Rattle.rv_accept.specs.declared.golden_outcomes.GoldenFileOutcome.{GoldenFileOutcome}
 use Rattle.rv_accept.specs.declared.golden_outcomes.GoldenFileOutcome.TheVariants as outcome
 use Rattle.rv_accept.specs.declared.targets.Target.{Target}
@@ -16,30 +16,30 @@ use Rattle.rv_accept_text.specs.GoldenFiles.{is_skipped, new_text}
 use Rattle.rv_accept_text.specs.declared.golden_file.GoldenFile.{GoldenFile}
 use Rattle.rv_accept_text.specs.declared.golden_file.ListFile.{ListFile}
 
--- the name of the job at the index `place`, or an empty text if there is no such job
+-- the name of the job at the index `index`, or an empty text if there is no such job
 abbrev pub job_name : List Job → ℕ → List ℕ
-job_name jobs place = unwrap_or (option_map (λ job. job.name) (slice_get jobs place)) []
+job_name jobs index = unwrap_or (option_map (λ job. job.name) (slice_get jobs index)) []
 
 -- `console of ` or `signature of `, by the kind of result that a golden file contains
 abbrev pub golden_kind_text : GoldenKind → List ℕ
-golden_kind_text part.Console = codes "console of "
-golden_kind_text part.Signature = codes "signature of "
+golden_kind_text kinds.Console = codes "console of "
+golden_kind_text kinds.Signature = codes "signature of "
 
 -- ---- written files
 
 -- the beginning of the line about a golden file: the sign, its path, and that it has the console or the signature of a job
 abbrev pub file_prefix : List ℕ → List Job → Target → List ℕ
-file_prefix sign jobs target = sign ++ printable_text target.path ++ codes ": " ++ golden_kind_text target.part
+file_prefix sign jobs target = sign ++ printable_text target.path ++ codes ": " ++ golden_kind_text target.kind
     ++ printable_text (job_name jobs target.job)
 
 -- the differences between the old and the new contents of a golden file: of a console by lines or bytes, of a signature by words
 abbrev pub golden_change : GoldenKind → List ℕ → List ℕ → List ℕ → List ℕ
-golden_change part.Console path old new = text_change (printable_text path) old new
-golden_change part.Signature path old new = word_change old new
+golden_change kinds.Console path old new = text_change (printable_text path) old new
+golden_change kinds.Signature path old new = word_change old new
 
 -- the lines about a golden file that changes
 abbrev pub changed_file_line : List Job → Target → List ℕ → List ℕ → List ℕ
-changed_file_line jobs target old new = file_prefix (codes "~ ") jobs target ++ golden_change target.part target.path old new
+changed_file_line jobs target old new = file_prefix (codes "~ ") jobs target ++ golden_change target.kind target.path old new
 
 -- the line about a golden file that is created
 abbrev pub created_file_line : List Job → Target → List ℕ → List ℕ
@@ -68,8 +68,8 @@ text_or_empty text = unwrap_or text []
 
 -- the reason that two jobs give a golden file different texts, and where the texts differ
 abbrev pub disagreeing_texts : List Job → GoldenText → GoldenText → List ℕ
-disagreeing_texts jobs first other = golden_kind_text first.part ++ printable_text (job_name jobs first.job) ++ codes " and "
-    ++ golden_kind_text other.part ++ printable_text (job_name jobs other.job) ++ codes " differ"
+disagreeing_texts jobs first other = golden_kind_text first.kind ++ printable_text (job_name jobs first.job) ++ codes " and "
+    ++ golden_kind_text other.kind ++ printable_text (job_name jobs other.job) ++ codes " differ"
     ++ byte_difference (text_or_empty first.text) (text_or_empty other.text)
 
 -- the reason that two jobs give a golden file different texts, or only a line end if there is no second job

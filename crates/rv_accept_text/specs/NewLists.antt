@@ -6,12 +6,12 @@ use Rattle.rv_accept.specs.Runs.{is_accepted_run}
 use Rattle.rv_accept.specs.Values.{is_value_changed}
 use Rattle.rv_accept.specs.declared.runs.JobRun.{JobRun}
 use Rattle.rv_accept.specs.declared.runs.SkipReason.{SkipReason}
-use Rattle.rv_accept.specs.declared.runs.SkipReason.TheVariants as why
+use Rattle.rv_accept.specs.declared.runs.SkipReason.TheVariants as reasons
 use Rattle.rv_accept.specs.declared.values.ValueKey.TheVariants as key
 
--- the run, with `why` as its reason to be skipped if it was accepted, and otherwise unchanged
+-- the run, with `reason` as its reason to be skipped if it was accepted, and otherwise unchanged
 abbrev pub skipped_run : Option SkipReason → JobRun → JobRun
-skipped_run why run = if is_accepted_run run then record run { skip_reason = why } else run
+skipped_run reason run = if is_accepted_run run then record run { skip_reason = reason } else run
 
 -- the run at an index, or `None` if the index is past the end or has no run
 abbrev pub run_or_none : Option (Option JobRun) → Option JobRun
@@ -21,21 +21,21 @@ run_or_none (Some run) = run
 -- the runs, each accepted one skipped if it has a reason in the first list
 unfoldable pub skipped_runs : List (Option SkipReason) → List (Option JobRun) → List (Option JobRun)
 skipped_runs [] runs = []
-skipped_runs (why ∷ whys) runs = option_map (skipped_run why) (run_or_none (slice_get runs 0)) ∷ skipped_runs whys (drop 1 runs)
+skipped_runs (reason ∷ reason_list) runs = option_map (skipped_run reason) (run_or_none (slice_get runs 0)) ∷ skipped_runs reason_list (drop 1 runs)
 
 -- the runs are `before`, except that some accepted runs were skipped, in one or two steps
 pub data AreSkippedFrom (before : List (Option JobRun)) : List (Option JobRun) → Type 0 where
-  one_step : (whys : List (Option SkipReason)) → AreSkippedFrom before (skipped_runs whys before)
-  two_steps : (whys more : List (Option SkipReason)) → AreSkippedFrom before (skipped_runs more (skipped_runs whys before))
+  one_step : (reason_list : List (Option SkipReason)) → AreSkippedFrom before (skipped_runs reason_list before)
+  two_steps : (reason_list more : List (Option SkipReason)) → AreSkippedFrom before (skipped_runs more (skipped_runs reason_list before))
 
 -- ---- jobs with changed values, if the list is not changed
 
 -- the reason to skip a job, which names its first changed value, or `None` if no value changes
 abbrev pub change_skip_reason : Job → Row → Option SkipReason
 change_skip_reason job row =
-    if is_value_changed key.Exit job row then Some (why.NotEditable key.Exit)
-    else if is_value_changed key.End job row then Some (why.NotEditable key.End)
-    else if is_value_changed key.Console job row then Some (why.NotEditable key.Console) else None
+    if is_value_changed key.Exit job row then Some (reasons.NotEditable key.Exit)
+    else if is_value_changed key.End job row then Some (reasons.NotEditable key.End)
+    else if is_value_changed key.Console job row then Some (reasons.NotEditable key.Console) else None
 
 -- the reason to skip a job, which names its first changed value, or `None` if no value changes or the job was not run
 abbrev pub change_skip_reason_if_run : Job → Option JobRun → Option SkipReason

@@ -37,24 +37,24 @@ pub(crate) fn push_byte_change(out: &mut Vec<u8>, old: &[u8], new: &[u8]) -> Res
     push_values_from(out, common_prefix_len(old, new), old, new)
 }
 
-// Appends the rest of a line that shows the offset `place`, and the old and the new text from there.
+// Appends the rest of a line that shows the offset `offset`, and the old and the new text from there.
 fn push_values_from<'x>(
     out: &mut Vec<u8>,
-    place: usize,
+    offset: usize,
     old: &'x [u8],
     new: &'x [u8],
 ) -> Result<(), AllocError>
-    ensures { OnOk result (out.new.items ≡ out.old.items ++ values_from place old.now new.now) }
+    ensures { OnOk result (out.new.items ≡ out.old.items ++ values_from offset old.now new.now) }
 {
     push_spans(
         out,
         &[
             Span::Text(": byte "),
-            Span::Number(place as u64),
+            Span::Number(offset as u64),
             Span::Text(": \""),
-            Span::Value(tail_from(old, place)),
+            Span::Value(tail_from(old, offset)),
             Span::Text("\" -> \""),
-            Span::Value(tail_from(new, place)),
+            Span::Value(tail_from(new, offset)),
             Span::Text("\"\n"),
         ],
     )
@@ -72,24 +72,24 @@ pub(crate) fn push_byte_difference(
     push_values_of_both(out, common_prefix_len(one, other), one, other)
 }
 
-// Appends the rest of a line that shows the offset `place`, and the text from there in both.
+// Appends the rest of a line that shows the offset `offset`, and the text from there in both.
 fn push_values_of_both<'x>(
     out: &mut Vec<u8>,
-    place: usize,
+    offset: usize,
     one: &'x [u8],
     other: &'x [u8],
 ) -> Result<(), AllocError>
-    ensures { OnOk result (out.new.items ≡ out.old.items ++ values_of_both place one.now other.now) }
+    ensures { OnOk result (out.new.items ≡ out.old.items ++ values_of_both offset one.now other.now) }
 {
     push_spans(
         out,
         &[
             Span::Text(" at byte "),
-            Span::Number(place as u64),
+            Span::Number(offset as u64),
             Span::Text(": \""),
-            Span::Value(tail_from(one, place)),
+            Span::Value(tail_from(one, offset)),
             Span::Text("\" and \""),
-            Span::Value(tail_from(other, place)),
+            Span::Value(tail_from(other, offset)),
             Span::Text("\"\n"),
         ],
     )
@@ -112,16 +112,16 @@ fn push_word_change_at<'x>(
 ) -> Result<(), AllocError>
     ensures { OnOk result (out.new.items ≡ out.old.items ++ word_change_at len old.now new.now) }
 {
-    let place = len - len % WORD_LINE_LEN;
+    let offset = len - len % WORD_LINE_LEN;
     push_spans(
         out,
         &[
             Span::Text(": word "),
             Span::Number((len / WORD_LINE_LEN) as u64),
             Span::Text(": "),
-            Span::Printable(digits_at(tail_from(old, place))),
+            Span::Printable(digits_at(tail_from(old, offset))),
             Span::Text(" -> "),
-            Span::Printable(digits_at(tail_from(new, place))),
+            Span::Printable(digits_at(tail_from(new, offset))),
             Span::Text("\n"),
         ],
     )

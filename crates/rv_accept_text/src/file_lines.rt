@@ -55,20 +55,20 @@ fn push_changed_file_line(
     ensures { OnOk result (out.new.items ≡ out.old.items ++ changed_file_line jobs.now target.now old.now text.now) }
 {
     push_file_prefix(out, "~ ", jobs, target)?;
-    push_golden_change(out, target.part, target.path.as_str(), old, text)
+    push_golden_change(out, target.kind, target.path.as_str(), old, text)
 }
 
 // Appends the differences between the old and the new contents of a golden file: of a console by lines or bytes, of a signature by words.
 fn push_golden_change(
     out: &mut Vec<u8>,
-    part: GoldenKind,
+    kind: GoldenKind,
     path: &str,
     old: &[u8],
     text: &[u8],
 ) -> Result<(), AllocError>
-    ensures { OnOk result (out.new.items ≡ out.old.items ++ golden_change part path.now old.now text.now) }
+    ensures { OnOk result (out.new.items ≡ out.old.items ++ golden_change kind path.now old.now text.now) }
 {
-    match part {
+    match kind {
         GoldenKind::Console => push_text_change(out, Span::Printable(path.as_bytes()), old, text),
         GoldenKind::Signature => push_word_change(out, old, text),
     }
@@ -109,17 +109,17 @@ fn push_file_prefix<'x>(
             Span::Text(sign),
             Span::Printable(target.path.as_str().as_bytes()),
             Span::Text(": "),
-            Span::Text(golden_kind_text(target.part)),
+            Span::Text(golden_kind_text(target.kind)),
             Span::Printable(job_name(jobs, target.job).as_bytes()),
         ],
     )
 }
 
 // Returns `console of ` or `signature of `, by the kind of result that a golden file contains.
-fn golden_kind_text(part: GoldenKind) -> &'static str
-    ensures { result.now ≡ golden_kind_text part }
+fn golden_kind_text(kind: GoldenKind) -> &'static str
+    ensures { result.now ≡ golden_kind_text kind }
 {
-    match part {
+    match kind {
         GoldenKind::Console => "console of ",
         GoldenKind::Signature => "signature of ",
     }
@@ -216,7 +216,7 @@ fn push_other_text_reason(
     other: Option<&GoldenText>,
 ) -> Result<(), AllocError>
     ensures { OnOk result (out.new.items
-        ≡ out.old.items ++ other_text_reason jobs.now first.now (option_map (λ claim. claim.now) other.entry)) }
+        ≡ out.old.items ++ other_text_reason jobs.now first.now (option_map (λ golden_text. golden_text.now) other.entry)) }
 {
     match other {
         Some(other) => push_disagreeing_texts(out, jobs, first, other),
@@ -236,10 +236,10 @@ fn push_disagreeing_texts(
     push_spans(
         out,
         &[
-            Span::Text(golden_kind_text(first.part)),
+            Span::Text(golden_kind_text(first.kind)),
             Span::Printable(job_name(jobs, first.job).as_bytes()),
             Span::Text(" and "),
-            Span::Text(golden_kind_text(other.part)),
+            Span::Text(golden_kind_text(other.kind)),
             Span::Printable(job_name(jobs, other.job).as_bytes()),
             Span::Text(" differ"),
         ],

@@ -15,11 +15,11 @@ use rv_rows::{
 };
 use std::alloc::{AllocError, Global};
 
-/// Returns the name of the job at the index `place`, or an empty text if there is no such job.
-pub(crate) fn job_name(jobs: &[Job], place: usize) -> &str
-    ensures { result.now ≡ job_name jobs.now place }
+/// Returns the name of the job at the index `index`, or an empty text if there is no such job.
+pub(crate) fn job_name(jobs: &[Job], index: usize) -> &str
+    ensures { result.now ≡ job_name jobs.now index }
 {
-    match jobs.get(place) {
+    match jobs.get(index) {
         Some(job) => job.name.as_str(),
         None => "",
     }
@@ -191,11 +191,11 @@ fn push_skipped_line(
 ) -> Result<(), AllocError>
     ensures { OnOk result (out.new.items ≡ out.old.items ++ skipped_line_of list.now job.now run.now.row run.now.skipped) }
 {
-    let Some(why) = run.skip_reason else {
+    let Some(reason) = run.skip_reason else {
         return Ok(());
     };
     push_skipped_prefix(out, job.name.as_str())?;
-    push_skip_reason(alloc, out, why, (list, job), &run.row)?;
+    push_skip_reason(alloc, out, reason, (list, job), &run.row)?;
     push_text(out, "\n")
 }
 
@@ -203,15 +203,15 @@ fn push_skipped_line(
 fn push_skip_reason(
     alloc: Global,
     out: &mut Vec<u8>,
-    why: SkipReason,
+    reason: SkipReason,
     of: (&[Job], &Job),
     row: &Row,
 ) -> Result<(), AllocError>
     ensures { OnOk result (out.new.items
-        ≡ out.old.items ++ skip_reason_text why of.entry.0.now of.entry.1.now row.now) }
+        ≡ out.old.items ++ skip_reason_text reason of.entry.0.now of.entry.1.now row.now) }
 {
     let (list, job) = of;
-    match why {
+    match reason {
         SkipReason::End => push_unexpected_end(out, job, row.ending),
         SkipReason::Differs => push_difference(out, list, job),
         SkipReason::NotUtf8 => push_text(
@@ -251,7 +251,7 @@ fn compared_job_name<'x>(list: &'x [Job], job: &Job) -> &'x str
     ensures { result.now ≡ compared_job_name list.now job.now }
 {
     match job.same_as {
-        Some(place) => job_name(list, place),
+        Some(index) => job_name(list, index),
         None => "",
     }
 }
@@ -325,6 +325,6 @@ fn push_actual_end(out: &mut Vec<u8>, ending: RowEnd) -> Result<(), AllocError>
             &[Span::Text("fault "), Span::Text(kind.name())],
         ),
         RowEnd::Budget => push_text(out, "budget"),
-        RowEnd::Refused(why) => push_spans(out, &[Span::Text("refused "), Span::Text(why.name())]),
+        RowEnd::Refused(reason) => push_spans(out, &[Span::Text("refused "), Span::Text(reason.name())]),
     }
 }

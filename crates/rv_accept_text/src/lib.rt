@@ -4,14 +4,14 @@
 //! reports each change, each rejected job and file, and their numbers.
 #![tactic(auto)]
 
-mod accepting;
+mod accept_summary;
 mod changed_text;
 mod file_lines;
 mod golden_file;
 mod job_lines;
 mod new_list;
 
-pub use accepting::{AcceptSummary, Writing};
+pub use accept_summary::{AcceptSummary, Writing};
 pub use golden_file::{GoldenFile, ListFile};
 pub use new_list::{ChangedValue, NewList, accept_values};
 

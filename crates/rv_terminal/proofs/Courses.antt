@@ -29,7 +29,7 @@ pub course_begun : (colors : Colors) (before : Option (List ℕ)) → IsOutputSt
 unfolding colored
 course_begun colors.Plain before = tt
 course_begun colors.Colored None = tt
-course_begun colors.Colored (Some before) = record { text = []; shown = sym (append-nil before); place = refl }
+course_begun colors.Colored (Some before) = record { text = []; shown = sym (append-nil before); position = refl }
 
 -- ---- the results of what went out
 
@@ -56,14 +56,14 @@ module _ (here : LinePosition) (before old more : List ℕ) (shown : IsColoredUp
       ap (λ xs. xs ++ colored here more) shown.shown
       ∙ (append_assoc before (colored line_start shown.text) (colored here more)
       ∙ ap (λ xs. before ++ xs)
-      (ap (λ place. colored line_start shown.text ++ colored place more) shown.place
+      (ap (λ position. colored line_start shown.text ++ colored position more) shown.position
       ∙ sym (colored_append line_start shown.text more)))
 
   pub shown_further : IsColoredUpTo (fold position_after here more) before (old ++ colored here more)
   shown_further = record {
     text = shown.text ++ more;
     shown = longer;
-    place = ap (λ place. fold position_after place more) shown.place
+    position = ap (λ position. fold position_after position more) shown.position
         ∙ sym (fold-append position_after line_start shown.text more);
   }
 

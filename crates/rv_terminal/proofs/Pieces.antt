@@ -26,7 +26,7 @@ pub next_place : (here there : LinePosition) (text : List ℕ) (at count : ℕ) 
     → there ≡ fold position_after here (take at text)
     → fold position_after there (take count (rest_of text at)) ≡ fold position_after here (take (at + count) text)
 next_place here there text at count within is =
-    ap (λ place. fold position_after place (take count (rest_of text at))) is
+    ap (λ position. fold position_after position (take count (rest_of text at))) is
     ∙ (sym (fold-append position_after here (take at text) (take count (rest_of text at)))
     ∙ ap (fold position_after here) (sym (longer_is text at count within)))
 

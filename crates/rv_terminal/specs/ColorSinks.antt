@@ -109,7 +109,7 @@ AreFailuresCounted _ failures below = failures ≡ below
 pub record IsColoredUpTo (here : LinePosition) (before out : List ℕ) : Type 0 where
   pub text : List ℕ
   pub shown : out ≡ before ++ colored line_start text
-  pub place : here ≡ fold position_after line_start text
+  pub position : here ≡ fold position_after line_start text
 
 -- `out` is `before` followed by a text in its colours and a prefix of an escape sequence
 pub record IsColoredWithPrefix (before out : List ℕ) : Type 0 where

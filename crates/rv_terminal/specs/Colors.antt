@@ -3,7 +3,7 @@ use Rattle.std.specs.Prelude.{◌==◌, ◌||◌, ◌+◌, ℕ, Bool, true, fals
 use Rattle.rv_terminal.specs.declared.line_position.Mark.{Mark}
 use Rattle.rv_terminal.specs.declared.line_position.Mark.TheVariants as mark
 use Rattle.rv_terminal.specs.declared.line_position.LinePosition.{LinePosition}
-use Rattle.rv_terminal.specs.declared.line_position.LinePosition.TheVariants as place
+use Rattle.rv_terminal.specs.declared.line_position.LinePosition.TheVariants as position
 
 -- ---- marks
 
@@ -78,10 +78,10 @@ margin_mark spaces byte =
 
 -- the mark before a byte that does not begin an escape sequence: a word's colour ends before a space, and every colour before a line feed
 abbrev pub line_mark : LinePosition → ℕ → Mark
-line_mark (place.Margin spaces) byte = margin_mark spaces byte
-line_mark place.Word byte = if is_space byte || is_line_feed byte then mark.End else mark.Nothing
-line_mark place.Line byte = if is_line_feed byte then mark.End else mark.Nothing
-line_mark place.Rest byte = mark.Nothing
+line_mark (position.Margin spaces) byte = margin_mark spaces byte
+line_mark position.Word byte = if is_space byte || is_line_feed byte then mark.End else mark.Nothing
+line_mark position.Line byte = if is_line_feed byte then mark.End else mark.Nothing
+line_mark position.Rest byte = mark.Nothing
 
 -- the mark before a byte; also a byte of the text that begins an escape sequence has a mark before it, which distinguishes this sequence
 -- from the marks
@@ -90,20 +90,20 @@ mark_before here byte = if is_escape byte then mark.End else line_mark here byte
 
 -- the position after the first byte of a line that is not a space, given how many spaces are before it
 abbrev pub position_after_first : ℕ → ℕ → LinePosition
-position_after_first spaces byte = if is_empty (margin_mark spaces byte) then place.Rest
-    else if is_minus byte || is_plus byte then place.Line else place.Word
+position_after_first spaces byte = if is_empty (margin_mark spaces byte) then position.Rest
+    else if is_minus byte || is_plus byte then position.Line else position.Word
 
 -- the position after a byte of a line that is neither a line feed nor an escape
 abbrev pub position_in_line : LinePosition → ℕ → LinePosition
-position_in_line (place.Margin spaces) byte = if is_space byte
-    then (if nat_lt spaces margin then place.Margin (spaces + 1) else place.Rest) else position_after_first spaces byte
-position_in_line place.Word byte = if is_space byte then place.Rest else place.Word
+position_in_line (position.Margin spaces) byte = if is_space byte
+    then (if nat_lt spaces margin then position.Margin (spaces + 1) else position.Rest) else position_after_first spaces byte
+position_in_line position.Word byte = if is_space byte then position.Rest else position.Word
 position_in_line here byte = here
 
 -- the position after a byte: a line feed begins a new line, and after an escape sequence of the text the rest of the line is not coloured
 abbrev pub position_after : LinePosition → ℕ → LinePosition
-position_after here byte = if is_line_feed byte then place.Margin 0
-    else if is_escape byte then place.Rest else position_in_line here byte
+position_after here byte = if is_line_feed byte then position.Margin 0
+    else if is_escape byte then position.Rest else position_in_line here byte
 
 -- ---- coloured texts
 
@@ -114,7 +114,7 @@ colored here (byte ∷ rest) = mark_text (mark_before here byte) ++ byte ∷ col
 
 -- the position at which a text begins: the start of a line
 abbrev pub line_start : LinePosition
-line_start = place.Margin 0
+line_start = position.Margin 0
 
 -- ---- removing the colours
 

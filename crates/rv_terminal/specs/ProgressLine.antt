@@ -33,9 +33,9 @@ erasing_text is_shown = if is_shown then 13 ∷ 27 ∷ codes "[K" else []
 
 -- the text, or an empty text if the Bool says that other output ends in the middle of a line
 abbrev pub text_unless_blocked : Bool → List ℕ → List ℕ
-text_unless_blocked is_held text = if is_held then [] else text
+text_unless_blocked is_blocked text = if is_blocked then [] else text
 
 -- the bytes of the progress line around other output, if the line was shown: it is removed before the output and shown again after it,
 -- unless the output ends in the middle of a line; empty if it was not shown
 abbrev pub text_around_write : Bool → Bool → List ℕ → List ℕ
-text_around_write was_shown is_held counts = if was_shown then erasing_text was_shown ++ text_unless_blocked is_held counts else []
+text_around_write was_shown is_blocked counts = if was_shown then erasing_text was_shown ++ text_unless_blocked is_blocked counts else []

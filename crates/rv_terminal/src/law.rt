@@ -7,5 +7,5 @@ ghost use Rattle.rv_terminal.specs.declared.line_position.LinePosition.{LinePosi
 /// Removing the marks from a coloured text returns the plain text, whatever the position in a line at which the text begins. So two
 /// different texts are also different with their colours.
 pub fn colors_can_be_taken_out()
-    ensures { (place : LinePosition) (text : List ℕ) → uncolored InText (colored place text) ≡ text }
+    ensures { (position : LinePosition) (text : List ℕ) → uncolored InText (colored position text) ≡ text }
 {}

@@ -103,7 +103,7 @@ impl LinePosition {
             }
             LinePosition::Margin(spaces) => position_after_first(spaces, byte),
             LinePosition::Word if byte == b' ' => LinePosition::Rest,
-            place => place,
+            position => position,
         }
     }
 
@@ -111,11 +111,11 @@ impl LinePosition {
     pub(crate) fn after_bytes(self, bytes: &[u8]) -> LinePosition
         ensures { result ≡ fold position_after self bytes.now }
     {
-        let mut place = self;
+        let mut position = self;
         for byte in bytes {
-            place = place.behind(*byte);
+            position = position.behind(*byte);
         }
-        place
+        position
     }
 }
 

@@ -59,21 +59,21 @@ pub(crate) fn write_in_state<S: Sink>(
             Ok(count) => (count, OutputState::Plain),
             Err(_) => (0, OutputState::Plain),
         },
-        OutputState::Colored(place) => write_colored(sink, place, bytes),
+        OutputState::Colored(position) => write_colored(sink, position, bytes),
         OutputState::Failed => (0, OutputState::Failed),
     }
 }
 
 // Writes the bytes with their marks, piece by piece, until all are written or a write fails. Returns how many were written, and the new
 // state of the output.
-fn write_colored<S: Sink>(sink: &mut S, place: LinePosition, bytes: &[u8]) -> (usize, OutputState)
+fn write_colored<S: Sink>(sink: &mut S, position: LinePosition, bytes: &[u8]) -> (usize, OutputState)
     requires { 0 < length bytes.now }
     ensures within { result.0 ≤ length bytes.now }
-    ensures put { IsWrittenFrom place result.1 (take result.0 bytes.now) (S.accepted sink.old) (S.accepted sink.new) }
-    ensures counted { S.failure_count sink.new ≡ sink_failures (state.Colored place) result.1 result.0 (S.failure_count sink.old) }
+    ensures put { IsWrittenFrom position result.1 (take result.0 bytes.now) (S.accepted sink.old) (S.accepted sink.new) }
+    ensures counted { S.failure_count sink.new ≡ sink_failures (state.Colored position) result.1 result.0 (S.failure_count sink.old) }
 {
     let mut at = 0;
-    let mut here = place;
+    let mut here = position;
     while at < bytes.len() {
         let rest = &bytes[at..];
         match write_span(sink, here, rest) {
@@ -88,29 +88,29 @@ fn write_colored<S: Sink>(sink: &mut S, place: LinePosition, bytes: &[u8]) -> (u
 }
 
 // Writes the mark before the first byte, and then leading bytes up to the next mark. Returns how many bytes were written.
-fn write_span<S: Sink>(sink: &mut S, place: LinePosition, bytes: &[u8]) -> Result<usize, SinkFailed>
+fn write_span<S: Sink>(sink: &mut S, position: LinePosition, bytes: &[u8]) -> Result<usize, SinkFailed>
     requires { 0 < length bytes.now }
     ensures within { IfOk result (λ count. (1 ≤ count) × (count ≤ length bytes.now)) }
-    ensures colored { IfOk result (λ count. Appends (S.accepted sink.old) (S.accepted sink.new) (colored place (take count bytes.now))) }
+    ensures colored { IfOk result (λ count. Appends (S.accepted sink.old) (S.accepted sink.new) (colored position (take count bytes.now))) }
     ensures part { IfErr result (λ _. AppendsPrefix (S.accepted sink.old) (S.accepted sink.new)
-        (mark_text (mark_before place (slice_index bytes.now 0)))) }
+        (mark_text (mark_before position (slice_index bytes.now 0)))) }
     ensures counted { IfOk result (λ _. S.failure_count sink.new ≡ S.failure_count sink.old) }
     ensures failure { IfErr result (λ _. S.failure_count sink.new ≡ one_more (S.failure_count sink.old)) }
 {
-    let mark = place.mark_before(bytes[0]);
+    let mark = position.mark_before(bytes[0]);
     put_all(sink, mark.text().as_bytes())?;
-    sink.put(&bytes[..span_len(place, bytes)])
+    sink.put(&bytes[..span_len(position, bytes)])
 }
 
 // Returns the number of leading bytes that have no mark between them. There may be a mark before the first byte.
-fn span_len(place: LinePosition, bytes: &[u8]) -> usize
+fn span_len(position: LinePosition, bytes: &[u8]) -> usize
     requires { 0 < length bytes.now }
     ensures within { (1 ≤ result) × (result ≤ length bytes.now) }
     ensures marked { (count : ℕ) → 1 ≤ count → count ≤ result
-        → colored place (take count bytes.now) ≡ mark_text (mark_before place (slice_index bytes.now 0)) ++ take count bytes.now }
+        → colored position (take count bytes.now) ≡ mark_text (mark_before position (slice_index bytes.now 0)) ++ take count bytes.now }
 {
     let mut at = 1;
-    let mut here = place.behind(bytes[0]);
+    let mut here = position.behind(bytes[0]);
     while at < bytes.len() && here.mark_before(bytes[at]).is_empty() {
         here = here.behind(bytes[at]);
         at += 1;

@@ -25,7 +25,7 @@ pub(crate) struct Line<W: Drop> {
     out: W,
     is_shown: bool,
     // Other output on the terminal ends in the middle of a line.
-    is_held: bool,
+    is_blocked: bool,
 }
 
 impl<W: Write + Drop> Line<W> {
@@ -33,12 +33,12 @@ impl<W: Write + Drop> Line<W> {
     pub(crate) fn new(out: W) -> Line<W>
         ensures out { result.out ≡ out }
         ensures shown { result.is_shown ≡ false }
-        ensures held { result.is_held ≡ false }
+        ensures held { result.is_blocked ≡ false }
     {
         Line {
             out,
             is_shown: false,
-            is_held: false,
+            is_blocked: false,
         }
     }
 
@@ -56,13 +56,13 @@ impl<W: Write + Drop> Line<W> {
     /// earlier ones.
     pub(crate) fn show_counts(&mut self, alloc: Global, counts: Counts) -> Result<(), WriteError>
         // In the middle of a line of other output, nothing is written.
-        ensures unchanged { IsTrue self.old.is_held → self.new ≡ self.old }
-        ensures held { self.new.is_held ≡ self.old.is_held }
-        ensures shown { OnOk result (self.new.is_shown ≡ (self.old.is_shown || not self.old.is_held)) }
+        ensures unchanged { IsTrue self.old.is_blocked → self.new ≡ self.old }
+        ensures held { self.new.is_blocked ≡ self.old.is_blocked }
+        ensures shown { OnOk result (self.new.is_shown ≡ (self.old.is_shown || not self.old.is_blocked)) }
         ensures written { OnOk result (Appends (W.contents self.old.out) (W.contents self.new.out)
-            (text_unless_blocked self.old.is_held (counts_text counts.tally.done counts.jobs counts.tally.failed))) }
+            (text_unless_blocked self.old.is_blocked (counts_text counts.tally.done counts.jobs counts.tally.failed))) }
     {
-        if self.is_held {
+        if self.is_blocked {
             return Ok(());
         }
         let mut text = Vec::new(alloc);
@@ -80,8 +80,8 @@ impl<W: Write + Drop> Line<W> {
 
     /// Removes the line if it is shown; returns an error if the terminal did not accept all bytes.
     pub(crate) fn remove(&mut self) -> Result<(), WriteError>
-        ensures away { self.new.is_shown ≡ false }
-        ensures held { self.new.is_held ≡ self.old.is_held }
+        ensures removed { self.new.is_shown ≡ false }
+        ensures held { self.new.is_blocked ≡ self.old.is_blocked }
         ensures written { OnOk result
             (Appends (W.contents self.old.out) (W.contents self.new.out) (erasing_text self.old.is_shown)) }
     {
@@ -95,19 +95,19 @@ impl<W: Write + Drop> Line<W> {
     /// Records that `text`, which is other output, was written to the terminal. Until such output ends with a line feed, no progress line
     /// is shown.
     pub(crate) fn record_other_text(&mut self, text: &[u8])
-        ensures held { self.new.is_held ≡ is_mid_line self.old.is_held (last_byte text.now) }
+        ensures held { self.new.is_blocked ≡ is_mid_line self.old.is_blocked (last_byte text.now) }
         ensures shown { self.new.is_shown ≡ self.old.is_shown }
         ensures out { self.new.out ≡ self.old.out }
     {
         if let Some(last) = text.last() {
-            self.is_held = *last != b'\n';
+            self.is_blocked = *last != b'\n';
         }
     }
 
     // Writes bytes to the terminal and flushes it; returns an error if either fails.
     fn write_and_flush(&mut self, bytes: &[u8]) -> Result<(), WriteError>
         ensures shown { self.new.is_shown ≡ self.old.is_shown }
-        ensures held { self.new.is_held ≡ self.old.is_held }
+        ensures held { self.new.is_blocked ≡ self.old.is_blocked }
         ensures written { OnOk result
             (Appends (W.contents self.old.out) (W.contents self.new.out) bytes.now) }
     {

@@ -35,15 +35,15 @@ impl<'a, 'k, R: Wait, S: Sink + Drop, W: Write + Drop> TerminalSink<'a, 'k, R, S
         progress: &'a Progress<'k, W>,
     ) -> TerminalSink<'a, 'k, R, S, W>
         ensures sink { result.sink ≡ sink }
-        ensures beside { IsSome result.progress ↔ IsTrue (is_terminal && progress.now.is_terminal) }
-        ensures line { IfSome result.progress (λ beside. beside.now ≡ progress.now) }
+        ensures same_terminal { IsSome result.progress ↔ IsTrue (is_terminal && progress.now.is_terminal) }
+        ensures line { IfSome result.progress (λ same_terminal. same_terminal.now ≡ progress.now) }
     {
-        let is_beside = is_terminal && progress.is_terminal();
+        let is_same_terminal = is_terminal && progress.is_terminal();
         TerminalSink {
             rt,
             alloc,
             sink,
-            progress: if is_beside { Some(progress) } else { None },
+            progress: if is_same_terminal { Some(progress) } else { None },
         }
     }
 
@@ -96,11 +96,11 @@ impl<'a, 'k, R: Wait, S: Sink + Drop, W: Write + Drop> TerminalSink<'a, 'k, R, S
         ensures kept { IfErr result.put (λ _. Keeps (S.accepted self.old.sink) (S.accepted self.new.sink)) }
         ensures failure { IfErr result.put (λ _. S.failure_count self.new.sink ≡ one_more (S.failure_count self.old.sink)) }
         ensures held { MatchResult result.put
-            (λ count. line.new.is_held ≡ is_mid_line line.old.is_held (last_byte (take count bytes.now)))
-            (λ _. line.new.is_held ≡ line.old.is_held) }
-        ensures shown { OnOk result.line (line.new.is_shown ≡ (line.old.is_shown && not line.new.is_held)) }
+            (λ count. line.new.is_blocked ≡ is_mid_line line.old.is_blocked (last_byte (take count bytes.now)))
+            (λ _. line.new.is_blocked ≡ line.old.is_blocked) }
+        ensures shown { OnOk result.line (line.new.is_shown ≡ (line.old.is_shown && not line.new.is_blocked)) }
         ensures written { OnOk result.line (Appends (W.contents line.old.out) (W.contents line.new.out)
-            (text_around_write line.old.is_shown line.new.is_held
+            (text_around_write line.old.is_shown line.new.is_blocked
             (counts_text tally.done progress.now.jobs tally.failed))) }
     {
         let counts = progress.counts_of(tally);
@@ -131,11 +131,11 @@ fn write_beside_line<S: Sink, W: Write + Drop>(
     ensures kept { IfErr result.put (λ _. Keeps (S.accepted sink.old) (S.accepted sink.new)) }
     ensures failure { IfErr result.put (λ _. S.failure_count sink.new ≡ one_more (S.failure_count sink.old)) }
     ensures held { MatchResult result.put
-        (λ count. line.new.is_held ≡ is_mid_line line.old.is_held (last_byte (take count bytes.now)))
-        (λ _. line.new.is_held ≡ line.old.is_held) }
-    ensures shown { OnOk result.line (line.new.is_shown ≡ (line.old.is_shown && not line.new.is_held)) }
+        (λ count. line.new.is_blocked ≡ is_mid_line line.old.is_blocked (last_byte (take count bytes.now)))
+        (λ _. line.new.is_blocked ≡ line.old.is_blocked) }
+    ensures shown { OnOk result.line (line.new.is_shown ≡ (line.old.is_shown && not line.new.is_blocked)) }
     ensures written { OnOk result.line (Appends (W.contents line.old.out) (W.contents line.new.out)
-        (text_around_write line.old.is_shown line.new.is_held
+        (text_around_write line.old.is_shown line.new.is_blocked
         (counts_text counts.tally.done counts.jobs counts.tally.failed))) }
 {
     if !line.is_shown() {
@@ -161,7 +161,7 @@ fn write_and_record<S: Sink, W: Write + Drop>(
     sink: &mut S,
     bytes: &[u8],
 ) -> Result<usize, SinkFailed>
-    requires away { line.old.is_shown ≡ false }
+    requires removed { line.old.is_shown ≡ false }
     requires some { 0 < length bytes.now }
     ensures within { IfOk result (λ count. (1 ≤ count) × (count ≤ length bytes.now)) }
     ensures taken { IfOk result (λ count. Appends (S.accepted sink.old) (S.accepted sink.new) (take count bytes.now)) }
@@ -171,8 +171,8 @@ fn write_and_record<S: Sink, W: Write + Drop>(
     ensures shown { line.new.is_shown ≡ line.old.is_shown }
     ensures out { line.new.out ≡ line.old.out }
     ensures held { MatchResult result
-        (λ count. line.new.is_held ≡ is_mid_line line.old.is_held (last_byte (take count bytes.now)))
-        (λ _. line.new.is_held ≡ line.old.is_held) }
+        (λ count. line.new.is_blocked ≡ is_mid_line line.old.is_blocked (last_byte (take count bytes.now)))
+        (λ _. line.new.is_blocked ≡ line.old.is_blocked) }
 {
     let put = sink.put(bytes);
     if let Ok(count) = put {

@@ -11,7 +11,7 @@ use Rattle.rv_accept.specs.declared.golden_texts.GoldenText.{GoldenText}
 use Rattle.rv_accept.specs.declared.edits.Edit.{Edit}
 use Rattle.rv_accept.specs.declared.runs.JobRun.{JobRun}
 use Rattle.rv_accept_text.specs.NewLists.{AreSkippedFrom}
-use Rattle.rv_accept_text.specs.declared.accepting.AcceptSummary.{AcceptSummary}
+use Rattle.rv_accept_text.specs.declared.accept_summary.AcceptSummary.{AcceptSummary}
 use Rattle.rv_accept_text.specs.declared.golden_file.GoldenFile.{GoldenFile}
 use Rattle.rv_accept_text.specs.declared.golden_file.ListFile.{ListFile}
 use Rattle.rv_accept_text.specs.declared.new_list.NewList.{NewList}
@@ -34,7 +34,7 @@ pub outcome_told : (contents : Option FileContents) (args : AcceptArgs) (list : 
     → (new.text ≡ None → intended_jobs list.jobs.now new.runs.items ≡ list.jobs.now)
     → IsAcceptSummaryOf list new.runs.items golden_texts files new told
     → IsAcceptOutcome contents args list.text.now list.jobs.now judged told
-outcome_told contents args list judged golden_texts files new told path left are golden edited meant unchanged of = record {
+outcome_told contents args list judged golden_texts files new told path left are golden edited intended unchanged of = record {
   path = rw of.0 path;
   text = rw of.0 refl;
   listed = rw of.0 refl;
@@ -42,7 +42,7 @@ outcome_told contents args list judged golden_texts files new told path left are
   golden_texts = rw (of.2, of.1) are;
   files = rw (of.3, of.2, of.1) golden;
   edited = rw of.4 edited;
-  intended = rw (of.4, of.1) meant;
+  intended = rw (of.4, of.1) intended;
   unchanged = rw (of.4, of.1) unchanged;
 }
 

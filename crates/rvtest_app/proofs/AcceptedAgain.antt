@@ -24,7 +24,7 @@ use Rattle.rv_accept.specs.declared.runs.JobRun.{JobRun}
 use Rattle.rv_accept.specs.declared.targets.Target.{Target}
 use Rattle.rv_accept_text.proofs.Public.{accepted_from_the_first, list_is_no_image}
 use Rattle.rv_accept_text.specs.GoldenFiles.{elf_magic, is_protected, is_skipped, is_skipped_with}
-use Rattle.rv_accept_text.specs.declared.accepting.AcceptSummary.{AcceptSummary}
+use Rattle.rv_accept_text.specs.declared.accept_summary.AcceptSummary.{AcceptSummary}
 use Rattle.rv_accept_text.specs.declared.golden_file.GoldenFile.{GoldenFile}
 use Rattle.rv_files.specs.Files.{FileContents}
 use Rattle.rvtest_cli.specs.declared.accept.AcceptArgs.{AcceptArgs}
@@ -267,10 +267,10 @@ module _ (args : AcceptArgs) (before after : FileContents) (bytes : List ℕ) (j
         (or_left (is_same_path path (console_path job.expect_console)) _ (rw named (same_bytes path)))
         (console_is_target index jobs told.runs.now job run path at ran accepted named)
         (λ none. true_or_false (bytes_eq path path) (same_bytes path)
-        (console_claim_among (λ (claim : GoldenText). is_for_file path claim ≡ false) index jobs told.runs.now job run path
+        (console_claim_among (λ (golden_text : GoldenText). is_for_file path golden_text ≡ false) index jobs told.runs.now job run path
         (unclaimed path golden_texts none) at ran accepted named))
         (λ other is. some_same other run.row.console (sym
-        (console_claim_among (λ (claim : GoldenText). is_for_file path claim ≡ true → claim.text ≡ Some other) index jobs told.runs.now
+        (console_claim_among (λ (golden_text : GoldenText). is_for_file path golden_text ≡ true → golden_text.text ≡ Some other) index jobs told.runs.now
         job run path (agreed path other golden_texts is) at ran accepted named (same_bytes path))))
         left
 
@@ -280,10 +280,10 @@ module _ (args : AcceptArgs) (before after : FileContents) (bytes : List ℕ) (j
         (or_right (is_same_path path (console_path job.expect_console)) _ (rw named (same_bytes path)))
         (signature_is_target index jobs told.runs.now job run path at ran accepted named)
         (λ none. true_or_false (bytes_eq path path) (same_bytes path)
-        (signature_claim_among (λ (claim : GoldenText). is_for_file path claim ≡ false) index jobs told.runs.now job run path
+        (signature_claim_among (λ (golden_text : GoldenText). is_for_file path golden_text ≡ false) index jobs told.runs.now job run path
         (unclaimed path golden_texts none) at ran accepted named))
         (λ other is. some_same other (lines_of_signature run.row.signature) (sym
-        (signature_claim_among (λ (claim : GoldenText). is_for_file path claim ≡ true → claim.text ≡ Some other) index jobs
+        (signature_claim_among (λ (golden_text : GoldenText). is_for_file path golden_text ≡ true → golden_text.text ≡ Some other) index jobs
         told.runs.now job run path (agreed path other golden_texts is) at ran accepted named (same_bytes path))))
         left
 
@@ -324,9 +324,9 @@ new_job : (jobs others : List Job) (runs : List (Option JobRun)) (index : ℕ) (
     → is_accepted_run run ≡ true → slice_get others index ≡ Some other
     → other ≡ accepted_job job run.row.ending run.row.console
 new_job jobs others runs index job other run are at ran accepted stands =
-    let meant = meant_at jobs runs index job (Some run) at ran in
+    let intended = meant_at jobs runs index job (Some run) at ran in
     some_same other (accepted_job job run.row.ending run.row.console)
-    (sym stands ∙ ap (λ jobs. slice_get jobs index) are ∙ meant
+    (sym stands ∙ ap (λ jobs. slice_get jobs index) are ∙ intended
     ∙ ap (λ row. Some (intended_job job row)) (accepted_row_of run accepted))
 
 -- what was read of the accepted job's files was read of the job's

@@ -55,7 +55,7 @@ no_counts_put stacks path plan indices before after none written = rw none writt
 
 -- ---- the rows that were put before the counts
 
-pub placed_of_shown : (is_beside : Bool) (text : List ℕ) (before after : CommandOutputs) → IsWrittenToErrorsIf is_beside text before after
+pub placed_of_shown : (to_stderr : Bool) (text : List ℕ) (before after : CommandOutputs) → IsWrittenToErrorsIf to_stderr text before after
     → after.placed ≡ before.placed
 placed_of_shown true text before after is = is.2
 placed_of_shown false text before after is = is.3

@@ -210,14 +210,14 @@ module _ {V : Type 0} (taken : V → Option (List ℕ)) (failed : V → ℕ) whe
 
 -- ---- where a run is shown
 
-pub shown_on_errors : {X G : Type 0} (ran : Result X G) (is_beside : Bool) (text : List ℕ) (before after : CommandOutputs) → is_beside ≡ true
+pub shown_on_errors : {X G : Type 0} (ran : Result X G) (to_stderr : Bool) (text : List ℕ) (before after : CommandOutputs) → to_stderr ≡ true
     → after.out ≡ before.out → OnOk ran (Appends before.errors after.errors text) → OnOk ran (after.failures ≡ before.failures)
-    → after.placed ≡ before.placed → OnOk ran (IsWrittenToErrorsIf is_beside text before after)
-shown_on_errors (Err stop) is_beside text before after is out appended counted placed = tt
-shown_on_errors (Ok rows) is_beside text before after is out appended counted placed = rw is (out, inl (appended, counted), placed)
+    → after.placed ≡ before.placed → OnOk ran (IsWrittenToErrorsIf to_stderr text before after)
+shown_on_errors (Err stop) to_stderr text before after is out appended counted placed = tt
+shown_on_errors (Ok rows) to_stderr text before after is out appended counted placed = rw is (out, inl (appended, counted), placed)
 
-pub shown_on_out : {X G : Type 0} (ran : Result X G) (is_beside : Bool) (text : List ℕ) (before after : CommandOutputs) → is_beside ≡ false
+pub shown_on_out : {X G : Type 0} (ran : Result X G) (to_stderr : Bool) (text : List ℕ) (before after : CommandOutputs) → to_stderr ≡ false
     → OnOk ran (Appends before.out after.out text) → after.errors ≡ before.errors → after.failures ≡ before.failures
-    → after.placed ≡ before.placed → OnOk ran (IsWrittenToErrorsIf is_beside text before after)
-shown_on_out (Err stop) is_beside text before after is appended errors failures placed = tt
-shown_on_out (Ok rows) is_beside text before after is appended errors failures placed = rw is (appended, errors, failures, placed)
+    → after.placed ≡ before.placed → OnOk ran (IsWrittenToErrorsIf to_stderr text before after)
+shown_on_out (Err stop) to_stderr text before after is appended errors failures placed = tt
+shown_on_out (Ok rows) to_stderr text before after is appended errors failures placed = rw is (appended, errors, failures, placed)

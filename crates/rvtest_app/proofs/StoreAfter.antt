@@ -11,7 +11,7 @@ use Rattle.rv_accept.specs.declared.golden_outcomes.GoldenFileOutcome.{GoldenFil
 use Rattle.rv_accept.specs.declared.golden_outcomes.GoldenFileOutcome.TheVariants as outcome
 use Rattle.rv_accept.specs.declared.targets.Target.{Target}
 use Rattle.rv_accept_text.specs.GoldenFiles.{text_if_changed, elf_magic, is_image_path, is_protected, is_skipped, is_skipped_with, new_text, new_text_of}
-use Rattle.rv_accept_text.specs.declared.accepting.AcceptSummary.{AcceptSummary}
+use Rattle.rv_accept_text.specs.declared.accept_summary.AcceptSummary.{AcceptSummary}
 use Rattle.rv_accept_text.specs.declared.golden_file.GoldenFile.{GoldenFile}
 use Rattle.rv_accept_text.specs.declared.golden_file.ListFile.{ListFile}
 use Rattle.rv_files.specs.Files.{FileContents}

@@ -6,7 +6,7 @@ use Rattle.std.specs.Prelude.{is_some, option_map}
 use Rattle.std.specs.List.{count_by, flat_map}
 use Rattle.rv_accept_text.specs.GoldenFiles.{new_text}
 use Rattle.rv_accept_text.specs.AcceptLines.{changed_count, is_changed, address_if}
-use Rattle.rv_accept_text.specs.declared.accepting.AcceptSummary.{AcceptSummary}
+use Rattle.rv_accept_text.specs.declared.accept_summary.AcceptSummary.{AcceptSummary}
 use Rattle.rv_accept_text.specs.declared.golden_file.GoldenFile.{GoldenFile}
 use Rattle.rv_accept_text.specs.declared.golden_file.ListFile.{ListFile}
 use Rattle.rv_files.specs.CommittedFiles.{CommittedFile}

@@ -4,7 +4,7 @@ use Rattle.std.specs.List.{All, Any}
 use Rattle.rv_accept.specs.Sharing.{names_golden_file}
 use Rattle.rv_accept.specs.Targets.{is_accepted_entry}
 use Rattle.rv_accept_text.specs.GoldenFiles.{is_skipped}
-use Rattle.rv_accept_text.specs.declared.accepting.AcceptSummary.{AcceptSummary}
+use Rattle.rv_accept_text.specs.declared.accept_summary.AcceptSummary.{AcceptSummary}
 use Rattle.rv_accept_text.specs.declared.golden_file.GoldenFile.{GoldenFile}
 use Rattle.rv_files.specs.Files.{FileContents}
 use Rattle.rvtest_cli.specs.declared.run.RunArgs.{RunArgs}

@@ -18,8 +18,8 @@ use Rattle.rv_accept.specs.declared.targets.Target.{Target}
 use Rattle.rv_accept_text.specs.GoldenFiles.{new_text}
 use Rattle.rv_accept_text.specs.NewLists.{AreSkippedFrom}
 use Rattle.rv_accept_text.specs.AcceptLines.{changed_count, count_line, skipped_count, accept_lines}
-use Rattle.rv_accept_text.specs.declared.accepting.AcceptSummary.{AcceptSummary}
-use Rattle.rv_accept_text.specs.declared.accepting.Writing.TheVariants as writing
+use Rattle.rv_accept_text.specs.declared.accept_summary.AcceptSummary.{AcceptSummary}
+use Rattle.rv_accept_text.specs.declared.accept_summary.Writing.TheVariants as writing
 use Rattle.rv_accept_text.specs.declared.golden_file.GoldenFile.{GoldenFile}
 use Rattle.rv_accept_text.specs.declared.golden_file.ListFile.{ListFile}
 use Rattle.rv_accept_text.specs.declared.new_list.NewList.{NewList}

@@ -20,12 +20,12 @@ abbrev pub junit_of_report : {T : Type 0} → (T → ℕ → Row → List ℕ) �
 junit_of_report line texts = junit_text texts.suite.name.now (judge_view texts.suite.judge)
     (row_text_list (line texts.reporter.now) texts.indices.now (report_rows texts.report)) (report_rows texts.report)
 
--- the text `shown` was written, to standard error if `is_beside` is true and otherwise to standard output; then the report and the JUnit
+-- the text `shown` was written, to standard error if `to_stderr` is true and otherwise to standard output; then the report and the JUnit
 -- XML were written to their paths
-pub record IsOutputWrittenTo (is_beside : Bool) (report_path junit_path : Option (List ℕ)) (shown report junit : List ℕ)
+pub record IsOutputWrittenTo (to_stderr : Bool) (report_path junit_path : Option (List ℕ)) (shown report junit : List ℕ)
     (before after : CommandOutputs) : Type 0 where
   pub middle : CommandOutputs
-  pub seen : IsWrittenToErrorsIf is_beside shown before middle
+  pub seen : IsWrittenToErrorsIf to_stderr shown before middle
   pub out : Appends middle.out after.out (stdout_at junit_path junit ++ stdout_at report_path report)
   pub quiet : (after.errors ≡ middle.errors) × (after.failures ≡ middle.failures)
   pub placed : AreFilesCommitted middle.placed after.placed (Some (file_at junit_path junit ++ file_at report_path report))

@@ -316,7 +316,7 @@ fn changes_of_runs<R, D: Inputs>(
         (fold (with_target outcomes.new.runs.items outcomes.golden_texts.items) [] outcomes.golden_texts.items) outcomes.files.items) }
     ensures edited { IfOk result (λ outcomes. IfSome outcomes.new.text
         (λ new. (edits : List AnEdit) × (new.items ≡ edited_rest 0 list.now.text.now edits))) }
-    ensures meant { IfOk result (λ outcomes. IfSome outcomes.new.text
+    ensures intended { IfOk result (λ outcomes. IfSome outcomes.new.text
         (λ text. job_list_of text.items ≡ Ok (intended_jobs list.now.jobs.now outcomes.new.runs.items))) }
     ensures unchanged { IfOk result (λ outcomes. outcomes.new.text ≡ None
         → intended_jobs list.now.jobs.now outcomes.new.runs.items ≡ list.now.jobs.now) }

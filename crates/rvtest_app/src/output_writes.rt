@@ -20,18 +20,18 @@ use rv_junit::Cases;
 use rv_rows::RowReporter;
 use std::alloc::Global;
 
-/// Writes the output of a command to standard error if `is_beside` is true, and otherwise to standard output.
+/// Writes the output of a command to standard error if `to_stderr` is true, and otherwise to standard output.
 pub(crate) fn write_shown<F: Outputs + Drop, O: Sink + Drop, E: Sink + Drop>(
     to: &mut Destinations<F, O, E>,
     text: &[u8],
-    is_beside: bool,
+    to_stderr: bool,
 ) -> Result<(), Stop>
     ensures files { to.new.files ≡ to.old.files }
-    ensures shown { OnOk result (IsWrittenToErrorsIf is_beside text.now
+    ensures shown { OnOk result (IsWrittenToErrorsIf to_stderr text.now
         (outputs_of F.committed O.accepted E.accepted E.failure_count to.old) (outputs_of F.committed O.accepted E.accepted E.failure_count to.new)) }
     ensures stopped { IfErr result (λ stop. stop ≡ Stop.WriteFailed) }
 {
-    if is_beside {
+    if to_stderr {
         write_message(&mut to.errors, text);
         return Ok(());
     }

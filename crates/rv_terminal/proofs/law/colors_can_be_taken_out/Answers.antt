@@ -5,5 +5,5 @@ use Rattle.rv_terminal.proofs.law.colors_can_be_taken_out.Goals as goal
 
 pub returns : goal.returns
 unfolding uncolored
-returns c = λ place text.
-    ap (uncolored InText) (sym (append-nil (colored place text))) ∙ (text_out place text [] ∙ append-nil text)
+returns c = λ position text.
+    ap (uncolored InText) (sym (append-nil (colored position text))) ∙ (text_out position text [] ∙ append-nil text)

@@ -9,8 +9,8 @@ pub loop-at-init : goal.loop-at-init
 loop-at-init c = record {
   least = omega arith;
   within = omega (arith, c.requires);
-  here = c.behind-here.ensures ∙ sym (fold_more position_after c.args.place c.args.bytes.now 0 0 c.requires);
-  marked = marked_one c.args.place c.args.bytes.now c.requires;
+  here = c.behind-here.ensures ∙ sym (fold_more position_after c.args.position c.args.bytes.now 0 0 c.requires);
+  marked = marked_one c.args.position c.args.bytes.now c.requires;
 }
 
 pub loop-at-preserved : goal.loop-at-preserved
@@ -21,10 +21,10 @@ loop-at-preserved c =
     record {
       least = omega arith;
       within = omega (arith, c.loop-at-test.true);
-      here = c.behind-here-in-loop-at.ensures ∙ ap (λ place. position_after place (slice_index bytes at)) here
-          ∙ sym (fold_more position_after c.args.place bytes at 0 c.loop-at-test.true);
-      marked = marked_more c.args.place bytes at c.loop-at.invariant.least c.loop-at-test.true
+      here = c.behind-here-in-loop-at.ensures ∙ ap (λ position. position_after position (slice_index bytes at)) here
+          ∙ sym (fold_more position_after c.args.position bytes at 0 c.loop-at-test.true);
+      marked = marked_more c.args.position bytes at c.loop-at.invariant.least c.loop-at-test.true
           c.loop-at.invariant.marked
-          (sym (ap (λ place. is_empty (mark_before place (slice_index bytes at))) here)
+          (sym (ap (λ position. is_empty (mark_before position (slice_index bytes at))) here)
           ∙ sym (c.is_empty.ensures ∙ ap is_empty c.mark_before.ensures) ∙ c.if-is_empty.true);
     }

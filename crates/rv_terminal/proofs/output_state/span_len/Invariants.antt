@@ -7,9 +7,9 @@ abbrev pub invariant-loop-at : goal.invariant-loop-at
 invariant-loop-at l = record {
   least : 1 ≤ l.at;
   within : l.at ≤ length l.bytes;
-  here : l.here ≡ fold position_after l.fn.place (take l.at l.bytes);
-  marked : (count : ℕ) → 1 ≤ count → count ≤ l.at → colored l.fn.place (take count l.bytes)
-      ≡ mark_text (mark_before l.fn.place (slice_index l.bytes 0)) ++ take count l.bytes;
+  here : l.here ≡ fold position_after l.fn.position (take l.at l.bytes);
+  marked : (count : ℕ) → 1 ≤ count → count ≤ l.at → colored l.fn.position (take count l.bytes)
+      ≡ mark_text (mark_before l.fn.position (slice_index l.bytes 0)) ++ take count l.bytes;
 }
 
 abbrev pub decreases-loop-at : goal.decreases-loop-at

@@ -22,9 +22,9 @@ loop-at-preserved g c =
     record {
       within = omega (arith, length-take {A = ℕ}, length-drop {A = ℕ}, c.in-Ok.ensures.within);
       here = c.after_bytes-here.ensures
-          ∙ next_place c.args.place c.loop-at.here bytes c.loop-at.at c.in-Ok.count invariant.within invariant.here;
+          ∙ next_place c.args.position c.loop-at.here bytes c.loop-at.at c.in-Ok.count invariant.within invariant.here;
       shown = next_piece (g.S.Sink.accepted c.args.sink.now) (g.S.Sink.accepted c.loop-at.sink)
-          (g.S.Sink.accepted c.write_span.new.sink) c.args.place c.loop-at.here bytes c.loop-at.at c.in-Ok.count
+          (g.S.Sink.accepted c.write_span.new.sink) c.args.position c.loop-at.here bytes c.loop-at.at c.in-Ok.count
           invariant.within invariant.here invariant.shown c.in-Ok.ensures.colored;
       counted = c.in-Ok.ensures.counted ∙ invariant.counted;
     }

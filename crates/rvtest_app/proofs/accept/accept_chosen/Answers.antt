@@ -31,7 +31,7 @@ returns-clause-accepted g c =
       outcome = rw (c.as_slice.ensures.value, c.as_slice-2.ensures.value)
           at (outcome_told contents c.args.args.now _ _ outcomes.golden_texts.items outcomes.files.items outcomes.new put.told refl
           c.in_ok-outcomes.ensures.runs c.in_ok-outcomes.ensures.golden_texts
-          c.in_ok-outcomes.ensures.files c.in_ok-outcomes.ensures.edited c.in_ok-outcomes.ensures.meant
+          c.in_ok-outcomes.ensures.files c.in_ok-outcomes.ensures.edited c.in_ok-outcomes.ensures.intended
           c.in_ok-outcomes.ensures.unchanged put.of);
       put = put.put;
     })

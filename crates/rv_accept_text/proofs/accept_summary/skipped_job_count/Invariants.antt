@@ -1,7 +1,7 @@
 use Rattle.std.proofs.Common.{◌≡◌, ◌≤◌, take}
 use Rattle.std.specs.Prelude.{count_by}
 use Rattle.rv_accept_text.specs.AcceptLines.{is_skipped_job}
-use Rattle.rv_accept_text.proofs.accepting.skipped_job_count.Given as goal
+use Rattle.rv_accept_text.proofs.accept_summary.skipped_job_count.Given as goal
 
 abbrev pub invariant-loop-run : goal.invariant-loop-run
 invariant-loop-run l = record {

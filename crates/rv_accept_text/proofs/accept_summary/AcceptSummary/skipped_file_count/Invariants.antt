@@ -1,7 +1,7 @@
 use Rattle.std.proofs.Common.{◌≡◌, ◌≤◌, take}
 use Rattle.std.specs.Prelude.{count_by}
 use Rattle.rv_accept_text.specs.GoldenFiles.{is_skipped}
-use Rattle.rv_accept_text.proofs.accepting.AcceptSummary.skipped_file_count.Given as goal
+use Rattle.rv_accept_text.proofs.accept_summary.AcceptSummary.skipped_file_count.Given as goal
 
 abbrev pub invariant-loop-file : goal.invariant-loop-file
 invariant-loop-file l = record {

@@ -1,7 +1,7 @@
 use Rattle.std.proofs.Common.{◌≡◌, ◌≤◌, take}
 use Rattle.std.specs.Prelude.{count_by}
 use Rattle.rv_accept_text.specs.AcceptLines.{is_changed}
-use Rattle.rv_accept_text.proofs.accepting.AcceptSummary.changed_count.Given as goal
+use Rattle.rv_accept_text.proofs.accept_summary.AcceptSummary.changed_count.Given as goal
 
 abbrev pub invariant-loop-file : goal.invariant-loop-file
 invariant-loop-file l = record {
