@@ -19,7 +19,7 @@ unfolding selection_by_criteria
 beside_count contents None pattern args rule jobs selection notes are =
     ap (λ o. length (unwrap_or o [])) are.0 ∙ length-map jobs _
 beside_count contents (Some path) pattern args rule jobs selection notes are =
-    ap length are.chosen.marked ∙ length-map jobs _
+    ap length are.chosen.selected ∙ length-map jobs _
 
 wanted_count : (contents : Option FileContents) (args : RunArgs) (rule : Rule) (jobs : List Job) (selection : List Bool)
     (notes : List ℕ) → AreRequested contents args rule jobs (Some selection) notes → length selection ≡ length jobs

@@ -22,7 +22,7 @@ use Rattle.rv_choice.specs.UnknownName.{unknown_name}
 pub record AreChosenFrom (path : List ℕ) (failed : ChosenNames) (missing : ℕ) (pattern : Option Re) (args : RunArgs)
     (jobs : List Job) (selection : Option (List Bool)) (notes : List ℕ) : Type 0 where
   pub told : notes ≡ failed_job_notes path jobs failed missing
-  pub marked : IfSome selection (λ selection. selection
+  pub selected : IfSome selection (λ selection. selection
       ≡ selection_by_criteria (requested_names args.only.items) pattern (Some failed) jobs)
   pub none : (selection ≡ None) ↔ ((failed ≡ []) × (args.only.items ≡ []) × (pattern ≡ None))
 

@@ -47,7 +47,7 @@ below_length pieces s r i v at e here =
 
 pub once_each : (pieces : ℕ) (s : St) (r : Runs pieces s) (p : ℕ) → p < 64
     → total (λ v. times p v.places) s.views ≤ 1
-once_each pieces s r p h = omega (arith, r.indices_held p h, r.single p h)
+once_each pieces s r p h = omega (arith, r.indices_held p h, r.index_words p h)
 
 -- word 0 is at most pieces + 64
 pub bounded : (pieces : ℕ) (s : St) (r : Runs pieces s) → length r.history ≤ pieces + 64
@@ -56,8 +56,8 @@ bounded pieces s r = omega (
   history_past pieces r.history r.is_history,
   views_weigh (one_past pieces) s.views r.history r.held,
   total_le (λ (v : View). past_last_count pieces v.draws) (λ (v : View). length v.places) s.views
-      (λ k v at. (r.each k v at).few),
-  places_few s.views (λ j v at. (r.each j v at).places) (once_each pieces s r),
+      (λ k v at. (r.views k v at).few),
+  places_few s.views (λ j v at. (r.views j v at).places) (once_each pieces s r),
 )
 
 fits_longer : (pieces : ℕ) (h : List Entry) (e : Entry) (v : View) → Fits pieces h v
@@ -87,7 +87,7 @@ pub opens : (pieces : ℕ) (ws : List ℕ) → length ws ≡ 65 → get_or ws 0 
 opens pieces ws wide zeroth first others = record {
   history = [];
   is_history = λ j e at. absurd (some-ne-none e (sym at));
-  wide = wide;
+  word_count = wide;
   drawn = zeroth;
   held = λ e. refl;
   indices_held = λ p h. dite (ℕ_discrete 0 p)
@@ -96,7 +96,7 @@ opens pieces ws wide zeroth first others = record {
   single =
       λ p h. dite (ℕ_discrete 0 p) (λ e. subst (λ (q : ℕ). get_or ws (q + 1) 0 ≤ 1) e (omega (arith, first)))
       (λ ne. let o = others (p + 1) (omega arith) (omega arith) in omega arith);
-  each = λ i v at. ⊎_elim (λ (t : get_elem? [] i ≡ some v). absurd (some-ne-none v (sym t)))
+  views = λ i v at. ⊎_elim (λ (t : get_elem? [] i ≡ some v). absurd (some-ne-none v (sym t)))
       (λ (t : (i ≡ 0) × (first_view pieces ≡ v)). subst (Fits pieces []) t.1
       (record {
         places = λ p in-it. let e = in_one 0 p in-it in
@@ -117,7 +117,7 @@ draws pieces slots id m most going sits s r _ at small =
     let n : ℕ = get_or s.words 0 0 in
     let e = entry (first_pass_index v.places) n in
     let w = view v.pieces v.places (v.draws ++ e ∷ []) v.noted in
-    let fits = r.each id v at in
+    let fits = r.views id v at in
     let long : length r.history ≡ n = sym r.drawn in
     let next : (n + 1) % 2 ^ 64 ≡ n + 1 = omega (arith, bounded pieces s r, r.drawn) in
     let h' = r.history ++ e ∷ [] in (
@@ -127,10 +127,10 @@ draws pieces slots id m most going sits s r _ at small =
       record {
         history = h';
         is_history = history-snoc r.history e r.is_history r.drawn;
-        wide = length-set s.words 0 ((n + 1) % 2 ^ 64) ∙ r.wide;
+        word_count = length-set s.words 0 ((n + 1) % 2 ^ 64) ∙ r.word_count;
         drawn = omega (
           arith,
-          get_or-set_same s.words 0 ((n + 1) % 2 ^ 64) 0 (omega (arith, r.wide)),
+          get_or-set_same s.words 0 ((n + 1) % 2 ^ 64) 0 (omega (arith, r.word_count)),
           length-append r.history (e ∷ []),
           next,
           r.drawn,
@@ -148,12 +148,12 @@ draws pieces slots id m most going sits s r _ at small =
           r.indices_held p h,
           get_or-set_other s.words 0 (p + 1) ((n + 1) % 2 ^ 64) 0 (λ z. omega arith),
         );
-        single = λ p h. omega (
+        index_words = λ p h. omega (
           arith,
-          r.single p h,
+          r.index_words p h,
           get_or-set_other s.words 0 (p + 1) ((n + 1) % 2 ^ 64) 0 (λ z. omega arith),
         );
-        each = each_set pieces h' s.views id w (λ i u a. fits_longer pieces r.history e u (r.each i u a)) (record {
+        views = each_set pieces h' s.views id w (λ i u a. fits_longer pieces r.history e u (r.views i u a)) (record {
           places = fits.places;
           own = λ x i. ⊎_elim (λ (t : IsIn x v.draws). fits.own x t)
               (λ (t : IsIn x (e ∷ [])). subst (λ (y : Entry). IsIn y.place v.places) (in_one e x t)
@@ -194,12 +194,12 @@ looks pieces slots id m s r _ at small = (
     history = r.history;
     is_history = r.is_history;
     draws = in_history pieces s r id m.0 at;
-    noted = (r.each id m.0 at).noted;
+    noted = (r.views id m.0 at).noted;
     once = λ p. dite (dec_lt p 64)
         (λ h. let a = term_le (λ (u : View). times p u.places) s.views id m.0 at in
         omega (arith, once_each pieces s r p h))
         (λ n. none_beyond m.0.places p
-        (λ q i. let h = (r.each id m.0 at).places q i in λ e. n (subst (λ (z : ℕ). z < 64) e h)));
+        (λ q i. let h = (r.views id m.0 at).places q i in λ e. n (subst (λ (z : ℕ). z < 64) e h)));
   },
 )
   where
@@ -220,7 +220,7 @@ sits pieces slots id m p k low is s r _ at small =
     let v = m.0 in
     let n : ℕ = get_or s.words k 0 in
     let found : get_or s.words (p + 1) 0 ≡ n = ap (λ (i : ℕ). get_or s.words i 0) (sym is) in
-    let fits = r.each id v at in
+    let fits = r.views id v at in
     dite (ℕ_discrete n 0)
     (λ free.
     let w = view v.pieces ((k - 1) ∷ v.places) v.draws v.noted in
@@ -231,13 +231,13 @@ sits pieces slots id m p k low is s r _ at small =
       record {
         history = r.history;
         is_history = r.is_history;
-        wide = length-set s.words k 1 ∙ r.wide;
+        word_count = length-set s.words k 1 ∙ r.word_count;
         drawn = get_or-set_other s.words k 0 1 0 (λ z. omega arith) ∙ r.drawn;
         held = λ x. omega (arith, total-set (λ (u : View). entry_count x u.draws) s.views id v w at, r.held x);
         indices_held = λ q h. dite (ℕ_discrete (k - 1) q)
             (λ e. let here : get_or (set s.words k 1) (q + 1) 0 ≡ 1 =
             ap (λ (i : ℕ). get_or (set s.words k 1) i 0) (omega arith)
-            ∙ get_or-set_same s.words k 1 0 (omega (arith, r.wide)) in
+            ∙ get_or-set_same s.words k 1 0 (omega (arith, r.word_count)) in
             let before : get_or s.words (q + 1) 0 ≡ 0 = ap (λ (i : ℕ). get_or s.words i 0) (omega arith)
             ∙ free in
             let one : one_at q (k - 1) ≡ 1 = ap (λ (z : ℕ). one_at q z) e ∙ one_at-same q in
@@ -249,12 +249,12 @@ sits pieces slots id m p k low is s r _ at small =
               r.indices_held q h,
               get_or-set_other s.words k (q + 1) 1 0 (λ z. ne (omega arith)),
             ));
-        single = λ q h. dite (ℕ_discrete (q + 1) k)
+        index_words = λ q h. dite (ℕ_discrete (q + 1) k)
             (λ e. let here : get_or (set s.words k 1) (q + 1) 0 ≡ 1 =
             ap (λ (i : ℕ). get_or (set s.words k 1) i 0) e
-            ∙ get_or-set_same s.words k 1 0 (omega (arith, r.wide)) in omega arith)
-            (λ ne. omega (arith, r.single q h, get_or-set_other s.words k (q + 1) 1 0 ne));
-        each = each_set pieces r.history s.views id w r.each (record {
+            ∙ get_or-set_same s.words k 1 0 (omega (arith, r.word_count)) in omega arith)
+            (λ ne. omega (arith, r.index_words q h, get_or-set_other s.words k (q + 1) 1 0 ne));
+        views = each_set pieces r.history s.views id w r.views (record {
           places = λ q i. place_low q i;
           own = λ e i. let t = fits.own e i in (suc t.0, t.1);
           few = omega (arith, fits.few);
@@ -263,7 +263,7 @@ sits pieces slots id m p k low is s r _ at small =
       },
       record { slots = refl; free = λ _. refl; taken = λ ne. absurd (ne free) },
     ))
-    (λ taken. let one : n ≡ 1 = omega (arith, r.single p low) in (
+    (λ taken. let one : n ≡ 1 = omega (arith, r.index_words p low) in (
       v,
       keeps,
       tt,
@@ -273,7 +273,7 @@ sits pieces slots id m p k low is s r _ at small =
   where
     place_low : (q : ℕ) → IsIn q ((k - 1) ∷ m.0.places) → q < 64
     place_low q (zero, e) = let e' : k - 1 ≡ q = some-injective (k - 1) q e in omega arith
-    place_low q (suc j, e) = (r.each id m.0 at).places q (j, e)
+    place_low q (suc j, e) = (r.views id m.0 at).places q (j, e)
 
 unseated_fits : (pieces : ℕ) (h : List Entry) (v : View) → Fits pieces h (new_seat_view v)
 unseated_fits pieces h v =
@@ -293,7 +293,7 @@ splits pieces id v w no_place no_draw notes s r at =
     subst (λ (vs : List View). Runs pieces (state s.words s.homes (vs ++ w ∷ []))) (sym same) (record {
       history = r.history;
       is_history = r.is_history;
-      wide = r.wide;
+      word_count = r.word_count;
       drawn = r.drawn;
       held = λ x. omega (
         arith,
@@ -307,8 +307,8 @@ splits pieces id v w no_place no_draw notes s r at =
         ap (times p) no_place,
         r.indices_held p h,
       );
-      single = r.single;
-      each = each_snoc pieces r.history s.views w r.each (record {
+      index_words = r.index_words;
+      views = each_snoc pieces r.history s.views w r.views (record {
         places = λ p i. absurd (in_none p (subst (λ (l : List ℕ). IsIn p l) no_place i));
         own = λ e i. absurd (in_none e (subst (λ (l : List Entry). IsIn e l) no_draw i));
         few = omega (arith, ap (past_last_count pieces) no_draw);
@@ -333,23 +333,23 @@ joins pieces id v other w s r at apart there =
     let was : get_elem? s.views other ≡ some w =
     ⊎_elim (λ (t : (other ≡ id) × (b ≡ w)). absurd (apart t.0))
     (λ (t : (other ≢ id) × (get_elem? s.views other ≡ some w)). t.1) (at_set s.views id other b w there) in
-    let fv = r.each id v at in
-    let fw = r.each other w was in
+    let fv = r.views id v at in
+    let fw = r.views other w was in
     let moved : (g : View → ℕ) → g b ≡ g v + g w → g empty_view ≡ 0
     → total g (set vs other empty_view) ≡ total g s.views = λ g e z.
     omega (arith, total-set g s.views id v b at, total-set g vs other w empty_view there, e, z) in
     record {
       history = r.history;
       is_history = r.is_history;
-      wide = r.wide;
+      word_count = r.word_count;
       drawn = r.drawn;
       held = λ x. moved (λ (u : View). entry_count x u.draws) (total-append (one_for x) v.draws w.draws) refl
           ∙ r.held x;
       indices_held = λ p h. moved (λ (u : View). times p u.places) (total-append (one_at p) v.places w.places) refl
           ∙ r.indices_held p h;
-      single = r.single;
-      each = each_set pieces r.history vs other empty_view
-          (each_set pieces r.history s.views id b r.each (record {
+      index_words = r.index_words;
+      views = each_set pieces r.history vs other empty_view
+          (each_set pieces r.history s.views id b r.views (record {
             places =
                 λ p i. ⊎_elim (λ (t : IsIn p v.places). fv.places p t) (λ (t : IsIn p w.places). fw.places p t)
                 (in_append v.places w.places p i);
@@ -385,7 +385,7 @@ pub whole : (pieces : ℕ) (s : St) (r : Runs pieces s) (id : ℕ) (v : View) �
 whole pieces s r id v at all x =
     let empty : (k : ℕ) (u : View) → k ≢ id → get_elem? s.views k ≡ some u → entry_count x u.draws ≡ 0 =
     λ k u ne there.
-    let fu = r.each k u there in
+    let fu = r.views k u there in
     let none_here : (p : ℕ) → IsIn p u.places → ⊥ = λ p i.
     let low = fu.places p i in
     let word : get_or s.words (p + 1) 0 ≡ 1 =
@@ -394,7 +394,7 @@ whole pieces s r id v at all x =
       times_in p u.places i,
       term_le (λ (y : View). times p y.places) s.views k u there,
       r.indices_held p low,
-      r.single p low,
+      r.index_words p low,
     ) in
     omega (
       arith,
@@ -402,7 +402,7 @@ whole pieces s r id v at all x =
       times_in p v.places (all p low word),
       terms_le (λ (y : View). times p y.places) s.views id k v u ne at there,
       r.indices_held p low,
-      r.single p low,
+      r.index_words p low,
     ) in
     ap (entry_count x) (no_draws u.draws (λ e i. none_here e.place (fu.own e i))) in
     sym (only_term (λ (u : View). entry_count x u.draws) s.views id v at empty) ∙ r.held x

@@ -41,13 +41,13 @@ drew_pass m m' n bits ended now p d stop =
     let is : m' ≡ (w, m.1) = λ i. (d.drawn i, d.slots i) in
     subst (λ (x : SeatState). IsValidPass x bits now) (sym is) (record {
       no_slot = p.no_slot;
-      sits = p.sits;
-      low = p.low;
+      has_index = p.has_index;
+      below_64 = p.below_64;
       set = p.set;
       clear = p.clear;
       own = λ x i. ⊎_elim (λ (t : IsIn x m.0.draws). p.own x t)
           (λ (t : IsIn x (e ∷ [])). subst (λ (y : Entry). IsIn y.place m.0.places) (in_one e x t)
-          (first_in m.0.places p.sits)) (in_append m.0.draws (e ∷ []) x i);
+          (first_in m.0.places p.has_index)) (in_append m.0.draws (e ∷ []) x i);
       stopped = stop;
     })
 
@@ -98,8 +98,8 @@ opening_free (suc (suc p)) h l = row_at 63 p
 pub opened_pass : (pieces : ℕ) (m : SeatState) → m ≡ (first_view pieces, []) → IsValidPass m 1 false
 opened_pass pieces m e = subst (λ (x : SeatState). IsValidPass x 1 false) (sym e) (record {
   no_slot = refl;
-  sits = omega arith;
-  low = λ p i. let z = in_one 0 p i in omega arith;
+  has_index = omega arith;
+  below_64 = λ p i. let z = in_one 0 p i in omega arith;
   set = λ p i. let z = in_one 0 p i in subst (λ (q : ℕ). bit_at 1 q ≡ 1) z (bit_at-pow_same 0);
   clear = λ p b. dite (ℕ_discrete p 0) (λ z. (0, ap some (sym z)))
       (λ ne. let z = bit_at-pow_other 0 p ne in absurd (omega arith));
@@ -123,8 +123,8 @@ joined_pass m n m' bits more e f now p q same is stop =
     let qs = n.0.places in
     subst (λ (x : SeatState). IsValidPass x (bit_or bits more) now) (sym is) (record {
       no_slot = p.no_slot;
-      sits = omega (arith, length-append ps qs, p.sits);
-      low = λ x i. ⊎_elim (λ (t : IsIn x ps). p.low x t) (λ (t : IsIn x qs). q.low x t) (in_append ps qs x i);
+      has_index = omega (arith, length-append ps qs, p.has_index);
+      below_64 = λ x i. ⊎_elim (λ (t : IsIn x ps). p.below_64 x t) (λ (t : IsIn x qs). q.below_64 x t) (in_append ps qs x i);
       set = λ x i. ⊎_elim (λ (t : IsIn x ps). omega (arith, bit_at_or bits more x, p.set x t, bit_low more x))
           (λ (t : IsIn x qs). omega (arith, bit_at_or bits more x, q.set x t, bit_low bits x)) (in_append ps qs x i);
       clear = λ x b. dite (ℕ_discrete (bit_at bits x) 1) (λ y. in_left ps qs x (p.clear x y))
@@ -147,8 +147,8 @@ pub noted_pass : (m m' : SeatState) (bits : ℕ) (ended : Bool) → IsValidPass 
     → m'.0.pieces ≡ m.0.pieces → m'.0.places ≡ m.0.places → m'.0.draws ≡ m.0.draws → IsValidPass m' bits ended
 noted_pass m m' bits ended p slots pieces places draws = record {
   no_slot = slots ∙ p.no_slot;
-  sits = subst (λ (l : List ℕ). 0 < length l) (sym places) p.sits;
-  low = subst (λ (l : List ℕ). (x : ℕ) → IsIn x l → x < 64) (sym places) p.low;
+  has_index = subst (λ (l : List ℕ). 0 < length l) (sym places) p.has_index;
+  below_64 = subst (λ (l : List ℕ). (x : ℕ) → IsIn x l → x < 64) (sym places) p.below_64;
   set = subst (λ (l : List ℕ). (x : ℕ) → IsIn x l → bit_at bits x ≡ 1) (sym places) p.set;
   clear = subst (λ (l : List ℕ). (x : ℕ) → bit_at bits x ≡ 1 → IsIn x l) (sym places) p.clear;
   own = subst (λ (t : List ℕ × List Entry). (e : Entry) → IsIn e t.1 → IsIn e.place t.0)
@@ -173,8 +173,8 @@ seated_pass m pieces place bits low was e =
     let is : bits ≡ 2 ^ place = was ∙ small_power place low in
     subst (λ (t : SeatState × ℕ). IsValidPass t.0 t.1 false) (λ i. (sym e i, sym is i)) (record {
       no_slot = refl;
-      sits = omega arith;
-      low = λ p i. let z = in_one place p i in omega arith;
+      has_index = omega arith;
+      below_64 = λ p i. let z = in_one place p i in omega arith;
       set = λ p i. let z = in_one place p i in subst (λ (q : ℕ). bit_at (2 ^ place) q ≡ 1) z (bit_at-pow_same place);
       clear = λ p b. dite (ℕ_discrete p place) (λ z. (0, ap some (sym z)))
           (λ ne. let z = bit_at-pow_other place p ne in absurd (omega arith));

@@ -107,7 +107,7 @@ pub record Fits (pieces : ℕ) (history : List Entry) (v : View) : Type 0 where
 pub record Runs (pieces : ℕ) (s : State (Unit {0}) View) : Type 0 where
   pub history : List Entry
   pub is_history : IsHistory history
-  pub wide : length s.words ≡ 65
+  pub word_count : length s.words ≡ 65
   -- word 0 is the length of the history
   pub drawn : slice_index s.words 0 ≡ length history
   -- an entry occurs in all views together as often as in the history: a drawn entry is held once, by one view, any other by none
@@ -115,8 +115,8 @@ pub record Runs (pieces : ℕ) (s : State (Unit {0}) View) : Type 0 where
   -- the word of an index is 1 if one view holds the index, once, and 0 if none does
   pub indices_held : (p : ℕ) → p < 64
       → total (λ v. times p v.places) s.views ≡ slice_index s.words (p + 1)
-  pub single : (p : ℕ) → p < 64 → slice_index s.words (p + 1) ≤ 1
-  pub each : (i : ℕ) (v : View) → get_elem? s.views i ≡ some v → Fits pieces history v
+  pub index_words : (p : ℕ) → p < 64 → slice_index s.words (p + 1) ≤ 1
+  pub views : (i : ℕ) (v : View) → get_elem? s.views i ≡ some v → Fits pieces history v
 
 -- ---- what a seat learns from a step
 

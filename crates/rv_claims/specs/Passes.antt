@@ -55,8 +55,8 @@ IsWholeHistory draws = (history : List Entry) × IsHistory history × HaveSameDr
 -- whether it drew a number past the last chunk
 pub record IsValidPass (me : SeatState) (bits : ℕ) (ended : Bool) : Type 0 where
   pub no_slot : slots_of me ≡ []
-  pub sits : 0 < length (view_of me).places
-  pub low : (p : ℕ) → IsIn p (view_of me).places → p < 64
+  pub has_index : 0 < length (view_of me).places
+  pub below_64 : (p : ℕ) → IsIn p (view_of me).places → p < 64
   pub set : (p : ℕ) → IsIn p (view_of me).places → bit_at bits p ≡ 1
   pub clear : (p : ℕ) → bit_at bits p ≡ 1 → IsIn p (view_of me).places
   pub own : (e : Entry) → IsIn e (view_of me).draws → IsIn e.place (view_of me).places

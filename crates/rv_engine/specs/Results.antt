@@ -67,7 +67,7 @@ HasReceivedUntil is_result jobs group has_received stops next (Some Failed) = Ha
 pub record IsInOrder {H : Type 0} (is_result : ℕ → H → Type 0) (jobs group : ℕ) (has_received : List H → Type 0) (stops : Type 0)
     (next : ℕ) (ended : Option End) (pending : List (Option (Vec H Global))) : Type 0 where
   pub received : HasReceivedUntil is_result jobs group has_received stops next ended
-  pub waiting : ArePending is_result jobs group pending
+  pub pending : ArePending is_result jobs group pending
 
 -- with `Continue`, a listener has received the results of all chunks before `next`; with `Stop`, it has received the results of some number
 -- of first jobs and stopped the run

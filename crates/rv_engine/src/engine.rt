@@ -73,7 +73,7 @@ pub fn run_jobs<
         in_order: Mutex::new(DeliveryState::<J, H, L>::new(listener, pending)),
     };
     let ran = run_workers(crew, &shop, pieces);
-    let (listener, rest) = shop.in_order.into_inner().into_parts();
+    let (listener, rest) = shop.delivery.into_inner().into_parts();
     match ran {
         Ok(()) => deliver_remaining::<J, H, R, W, L>(crew, work, listener, rest),
         Err(error) => (listener, Err(error)),

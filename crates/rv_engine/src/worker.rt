@@ -50,7 +50,7 @@ impl<
                 piece,
                 &mut worker_state,
             );
-            let mut in_order = self.in_order.lock(self.rt);
+            let mut in_order = self.delivery.lock(self.rt);
             match made {
                 Ok(results) => if let Flow::Stop = in_order.receive_chunk(piece, results) {
                     return Ok(());
@@ -66,6 +66,6 @@ impl<
 
     // Makes the other workers stop after their current chunks.
     fn abort(&self) {
-        self.in_order.lock(self.rt).abort();
+        self.delivery.lock(self.rt).abort();
     }
 }

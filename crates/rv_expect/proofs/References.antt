@@ -216,11 +216,11 @@ short_text : (text : List ℕ) → length text < 9 → 0 < length text → IsFir
 short_text text short some = record {
   words = [];
   rest = text;
-  fit = tt;
+  are_words = tt;
   text = refl;
   line = refl;
   there = λ e. absurd (omega (arith, ap length e));
-  bad = λ w more fits e. absurd (omega (arith, ap length e, length-append (word_line w) more, nine_bytes w));
+  has_no_word = λ w more fits e. absurd (omega (arith, ap length e, length-append (word_line w) more, nine_bytes w));
 }
 
 with_line_is : (line rest : List ℕ) (w : Option ℕ) (r : Reference) → length line ≡ 9 → word_of_line line ≡ w
@@ -228,11 +228,11 @@ with_line_is : (line rest : List ℕ) (w : Option ℕ) (r : Reference) → lengt
 with_line_is line rest None r nine is h = record {
   words = [];
   rest = line ++ rest;
-  fit = tt;
+  are_words = tt;
   text = refl;
   line = refl;
   there = λ e. absurd (omega (arith, ap length e, length-append line rest));
-  bad = λ w more fits e. bad_line line rest w more nine is fits e;
+  has_no_word = λ w more fits e. bad_line line rest w more nine is fits e;
 }
 with_line_is line rest (Some w) (Words words) nine is h =
     let it = word_in-some line w is in
@@ -248,11 +248,11 @@ with_line_is line rest (Some w) (BadLine number) nine is h =
     record {
       words = w ∷ bad.words;
       rest = bad.rest;
-      fit = (it.1, bad.fit);
+      are_words = (it.1, bad.are_words);
       text = cc;
       line = omega arith;
       there = bad.there;
-      bad = bad.bad;
+      has_no_word = bad.has_no_word;
     }
 
 pub reads : (text : List ℕ) → IsReferenceOf (read_reference text) text

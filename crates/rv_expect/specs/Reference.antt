@@ -52,11 +52,11 @@ IsWord word = word < 2 ^ 32
 pub record IsFirstBadLine (number : ℕ) (bytes : List ℕ) : Type 0 where
   pub words : List ℕ
   pub rest : List ℕ
-  pub fit : AllByRecursion IsWord words
+  pub are_words : AllByRecursion IsWord words
   pub text : bytes ≡ flat_map word_line words ++ rest
   pub line : number ≡ length words + 1
   pub there : rest ≡ [] → ⊥
-  pub bad : (word : ℕ) (more : List ℕ) → IsWord word → rest ≡ word_line word ++ more → ⊥
+  pub has_no_word : (word : ℕ) (more : List ℕ) → IsWord word → rest ≡ word_line word ++ more → ⊥
 
 -- the text consists of the lines of these words, or this is the number of its first line without a word
 abbrev pub IsReferenceOf : Reference → List ℕ → Type 0

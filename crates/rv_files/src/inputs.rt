@@ -47,10 +47,10 @@ impl<'a, R: Files> Inputs for SystemInputs<'a, R> {
 
         // The bytes are those of some file of the system.
         ensures opened { IfOk result (λ bytes. (file : R.File)
-            × IfSome (R.File.remaining file) (λ known. bytes.items ≡ take most known)) }
+            × IfSome (R.File.remaining file) (λ known. bytes.items ≡ take limit known)) }
     {
         match fs::open(self.files, path) {
-            Ok(mut file) => read_at_most(alloc, &mut file, most),
+            Ok(mut file) => read_at_most(alloc, &mut file, limit),
             Err(error) => Err(InputError::Failed(error.kind())),
         }
     }

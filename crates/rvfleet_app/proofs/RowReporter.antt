@@ -43,26 +43,26 @@ error_is_memory words kind taken (inr among) (inr some) =
     absurd (true≢false (sym some ∙ ap is_some (nothing_asked words kind among)))
 
 -- what asks for nothing that the program does is refused as bad words
-pub bad_words : (request : Option Request) (known : Option FileContents) (before after : Option (List ℕ))
+pub bad_words : (request : Option Request) (contents : Option FileContents) (before after : Option (List ℕ))
     (failures_before failures_after : ℕ) (status : ℕ)
     → status ≡ 2 → is_request_rejected request ≡ true → IsLineWritten before after failures_before failures_after bad_arguments_line
-    → ReportsReason request known before after failures_before failures_after status
-bad_words request known before after failures_before failures_after status two bad line = record {
+    → ReportsReason request contents before after failures_before failures_after status
+bad_words request contents before after failures_before failures_after status two bad line = record {
   quiet = λ low. elim low [ inl nought ↦ absurd (omega arith) | inr one ↦ absurd (omega arith) ];
   refused = λ _. inl (bad, line);
   failed = λ three. absurd (omega arith);
 }
 
 -- an error of the command line is told
-pub error_told : (words : List Text) (known : Option FileContents) (before after : Option (List ℕ))
+pub error_told : (words : List Text) (contents : Option FileContents) (before after : Option (List ℕ))
     (failures_before failures_after : ℕ) (status : ℕ) (kind : ErrorKind)
     → (kind ≡ OutOfMemory → status ≡ 3) → (kind ≡ OutOfMemory) ⊎ IsAmong kind (fault_of fleet_app words)
     → (status ≡ 0 → IsQuiet before after failures_before failures_after)
     → (status ≡ 2 → IsLineWritten before after failures_before failures_after bad_arguments_line)
     → (status ≡ 3 → ReportsFailure None before after failures_before failures_after)
     → status ≡ 0 ⊎ status ≡ 2 ⊎ status ≡ 3
-    → ReportsReason (request_without_errors words) known before after failures_before failures_after status
-error_told words known before after failures_before failures_after status kind memory why quiet refused failed range =
+    → ReportsReason (request_without_errors words) contents before after failures_before failures_after status
+error_told words contents before after failures_before failures_after status kind memory why quiet refused failed range =
     record {
       quiet = λ low. elim low [
         | inl nought ↦ quiet nought

@@ -28,17 +28,17 @@ is_request_rejected (Some (one path budget digits)) = is_bad_image_request path 
 is_request_rejected (Some (run path workers group)) = is_bad_path path
 is_request_rejected None = true
 
--- the request runs the list at a path, and some contents that the store may have there are a list with this error; `known` are the store's
+-- the request runs the list at a path, and some contents that the store may have there are a list with this error; `contents` are the store's
 -- contents, if they are known
 abbrev pub IsListErrorOf : Option Request → Option FileContents → JobError → Type 0
-IsListErrorOf (Some (raw budget)) known error = ⊥
-IsListErrorOf (Some (one path budget digits)) known error = ⊥
-IsListErrorOf (Some (run path workers group)) known error = IsPossibleListError known path error
-IsListErrorOf None known error = ⊥
+IsListErrorOf (Some (raw budget)) contents error = ⊥
+IsListErrorOf (Some (one path budget digits)) contents error = ⊥
+IsListErrorOf (Some (run path workers group)) contents error = IsPossibleListError contents path error
+IsListErrorOf None contents error = ⊥
 
 -- the request runs the list at a path, and some contents that the store may have there are a list with an error
 abbrev pub HasListError : Option Request → Stored → Type 0
-HasListError request store = (error : JobError) × IsListErrorOf request store.known error
+HasListError request store = (error : JobError) × IsListErrorOf request store.contents error
 
 -- ---- the rows of a request
 
@@ -64,7 +64,7 @@ AreImageRows store path budget digits rows = (script : List ℕ) × ((script_byt
 -- `rows` are the rows of the jobs of a list that the store may have at the path
 abbrev pub AreListRows : Stored → List ℕ → List Row → Type 0
 AreListRows store path rows =
-    (jobs : List Job) × (IsPossibleList store.known path jobs × AreJobRows store jobs rows)
+    (jobs : List Job) × (IsPossibleList store.contents path jobs × AreJobRows store jobs rows)
 
 -- `rows` are the rows in the report of a request, given the bytes of the input and the contents that the store may have
 abbrev pub AreRows : Option Request → Option (List ℕ) → Stored → List Row → Type 0
@@ -118,10 +118,10 @@ pub record Answers (request : Option Request) (input : Option (List ℕ)) (store
 -- a line was written that says why a request is rejected: invalid arguments, or the error of its list
 abbrev pub ReportsRejection : Option Request → Option FileContents
     → Option (List ℕ) → Option (List ℕ) → ℕ → ℕ → Type 0
-ReportsRejection request known before after failures_before failures_after =
+ReportsRejection request contents before after failures_before failures_after =
     ((is_request_rejected request ≡ true)
     × IsLineWritten before after failures_before failures_after bad_arguments_line)
-    ⊎ ((error : JobError) × (IsListErrorOf request known error
+    ⊎ ((error : JobError) × (IsListErrorOf request contents error
     × IsLineWritten before after failures_before failures_after (fault_line error)))
 
 -- whether the program can have this failure while it handles the request; without a request, only while it writes the help
@@ -143,9 +143,9 @@ IsQuiet before after failures_before failures_after =
     Keeps before after × (failures_after ≡ failures_before)
 
 -- if the status is 2 or 3, a line was written that says why; if it is 0 or 1, nothing was written
-pub record ReportsReason (request : Option Request) (known : Option FileContents)
+pub record ReportsReason (request : Option Request) (contents : Option FileContents)
     (before after : Option (List ℕ)) (failures_before failures_after : ℕ) (status : ℕ)
     : Type 0 where
   pub quiet : status ≡ 0 ⊎ status ≡ 1 → IsQuiet before after failures_before failures_after
-  pub refused : status ≡ 2 → ReportsRejection request known before after failures_before failures_after
+  pub refused : status ≡ 2 → ReportsRejection request contents before after failures_before failures_after
   pub failed : status ≡ 3 → ReportsFailure request before after failures_before failures_after

@@ -9,7 +9,7 @@ max_read = 1048577
 
 -- `bytes` are the first bytes of the input, at most `max_read` of them; any bytes if the input is not known
 abbrev pub IsInputBeginning : Option (List ℕ) → List ℕ → Type 0
-IsInputBeginning input bytes = IfSome input (λ known. bytes ≡ take max_read known)
+IsInputBeginning input bytes = IfSome input (λ contents. bytes ≡ take max_read contents)
 
 -- `rows` has only the row of the flat image at the beginning of the input, run within this budget
 abbrev pub AreRawRows : Option (List ℕ) → ℕ → List Row → Type 0

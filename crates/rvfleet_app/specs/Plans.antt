@@ -14,19 +14,19 @@ use Rattle.rvfleet_app.specs.declared.error.ListError.TheVariants.{Failed, Refus
 
 -- a store's contents, if they are known, and its number of unreadable files before and after the run
 pub record Stored : Type 0 where
-  pub known : Option FileContents
+  pub contents : Option FileContents
   pub before : ℕ
   pub after : ℕ
 
 -- a store with these contents, if they are known, and these numbers of unreadable files before and after the run
 abbrev pub stored_contents : Option FileContents → ℕ → ℕ → Stored
-stored_contents known before after = record { known = known; before = before; after = after }
+stored_contents contents before after = record { contents = contents; before = before; after = after }
 
 -- the plan has the jobs of `list` and, for each of their paths, a result that the store may return; each unreadable file is counted
 pub record IsPossiblePlan (store : Stored) (list : List Job) (plan : PlanView) : Type 0 where
   pub jobs : plan.jobs ≡ list
   pub paths : paths_of plan.answers ≡ paths_used list
-  pub kept : AgreeWithContents store.known plan.answers
+  pub kept : AgreeWithContents store.contents plan.answers
   pub faults : store.after ≡ after_increments store.before (unreadable_count plan.answers)
 
 -- `rows` are the rows of a plan of these jobs, with results that the store may return for their paths
@@ -35,15 +35,15 @@ AreJobRows store jobs rows = (plan : PlanView) × (IsPossiblePlan store jobs pla
 
 -- `jobs` are the jobs of a list that the store may have at the path
 abbrev pub IsPossibleList : Option FileContents → List ℕ → List Job → Type 0
-IsPossibleList known path jobs =
-    (list : List ℕ) × (AgreesWithContents known path (Content list) × (job_list_of list ≡ Ok jobs))
+IsPossibleList contents path jobs =
+    (list : List ℕ) × (AgreesWithContents contents path (Content list) × (job_list_of list ≡ Ok jobs))
 
 -- the store may have a list with this error at the path
 abbrev pub IsPossibleListError : Option FileContents → List ℕ → JobError → Type 0
-IsPossibleListError known path error =
-    (list : List ℕ) × (AgreesWithContents known path (Content list) × (job_list_of list ≡ Err error))
+IsPossibleListError contents path error =
+    (list : List ℕ) × (AgreesWithContents contents path (Content list) × (job_list_of list ≡ Err error))
 
 -- if reading a list ended because of an error in the list, the store may have a list with this error at the path
 abbrev pub IsListFault : Option FileContents → List ℕ → ListError → Type 0
-IsListFault known path (Refused error) = IsPossibleListError known path error
-IsListFault known path (Failed failure) = Unit {0}
+IsListFault contents path (Refused error) = IsPossibleListError contents path error
+IsListFault contents path (Failed failure) = Unit {0}

@@ -14,15 +14,15 @@ any_of_paths : (read : List (List ℕ)) (files : List InputPath)
 any_of_paths read [] = refl
 any_of_paths read (file ∷ files) = ap (λ rest. is_golden_input read file || rest) (any_of_paths read files)
 
-pub accept_apart : (placed : Option (List CommittedFile)) (args : AcceptArgs) (jobs : List Job) (selection : List Bool)
+pub accept_apart : (committed : Option (List CommittedFile)) (args : AcceptArgs) (jobs : List Job) (selection : List Bool)
     (list inputs : List (List ℕ)) (files : List InputPath)
     → input_paths files ≡ golden_paths_of_selected (optional_text args.run.root) jobs selection
-    → IfSome placed (λ _. list ≡ args.run.list.now ∷ [])
-    → IfSome placed (λ _. inputs ≡ inputs_of_accept args jobs)
-    → IfSome placed (λ _. IsNoInput (inputs_of_accept args jobs) args.run.list.now)
-    → IfSome placed (λ _. list_any (is_golden_input list) files ≡ false)
-    → IfSome placed (λ _. list_any (is_golden_input inputs) files ≡ false)
-    → IfSome placed (λ _. AreAcceptFilesNoInputs args jobs selection)
+    → IfSome committed (λ _. list ≡ args.run.list.now ∷ [])
+    → IfSome committed (λ _. inputs ≡ inputs_of_accept args jobs)
+    → IfSome committed (λ _. IsNoInput (inputs_of_accept args jobs) args.run.list.now)
+    → IfSome committed (λ _. list_any (is_golden_input list) files ≡ false)
+    → IfSome committed (λ _. list_any (is_golden_input inputs) files ≡ false)
+    → IfSome committed (λ _. AreAcceptFilesNoInputs args jobs selection)
 accept_apart None args jobs selection list inputs files are is_list are_inputs unread no_list no_input = tt
 accept_apart (Some earlier) args jobs selection list inputs files are is_list are_inputs unread no_list no_input = record {
   list = unread;

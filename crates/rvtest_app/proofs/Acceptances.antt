@@ -50,7 +50,7 @@ outcome_told contents args list judged golden_texts files new told path left are
 pub bare_count : {E : Type 0} (read : Result (List Job) E) (jobs again bare : List Job) (chosen selection : List Bool)
     → read ≡ Ok jobs → read ≡ Ok again → bare ≡ map without_expectations again → length chosen ≡ length jobs
     → selection ≡ jobs_to_run jobs chosen → length selection ≡ length bare
-bare_count read jobs again bare chosen selection listed more are counted marked =
+bare_count read jobs again bare chosen selection listed more are counted selected =
     let same : jobs ≡ again = cc (listed, more) in
-    ap length marked ∙ marks_count jobs chosen counted
+    ap length selected ∙ marks_count jobs chosen counted
     ∙ rw (are, length-map again without_expectations, same) refl

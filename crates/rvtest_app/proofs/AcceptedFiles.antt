@@ -63,9 +63,9 @@ nothing_placed (Some earlier) = sym (ap Some (append-nil earlier))
 pub committed_if_reported : (before middle after : Option (List CommittedFile)) (first second : List CommittedFile)
     → AreFilesCommitted before middle (Some first) → AreFilesCommitted middle after (Some second)
     → AreFilesCommitted before after (Some (first ++ second))
-committed_if_reported None middle after first second placed more = tt
-committed_if_reported (Some earlier) middle after first second placed more =
-    (rw placed at more) ∙ ap Some (append_assoc earlier first second)
+committed_if_reported None middle after first second committed more = tt
+committed_if_reported (Some earlier) middle after first second committed more =
+    (rw committed at more) ∙ ap Some (append_assoc earlier first second)
 
 -- of files in their order, those that the first so many make, and the next one
 pub one_more_made : {X : Type 0} (made : X → List CommittedFile) (files : List X) (index : ℕ) (file : X)
@@ -79,6 +79,6 @@ pub placed_one_more : {X : Type 0} (made : X → List CommittedFile) (files : Li
     (before middle after : Option (List CommittedFile)) → index < length files → get_or files index file ≡ file
     → AreFilesCommitted before middle (Some (flat_map made (take index files))) → AreFilesCommitted middle after (Some (made file))
     → AreFilesCommitted before after (Some (flat_map made (take (index + 1) files)))
-placed_one_more made files index file before middle after within is placed more =
+placed_one_more made files index file before middle after within is committed more =
     subst (λ all. AreFilesCommitted before after (Some all)) (sym (one_more_made made files index file within is))
-    (committed_if_reported before middle after (flat_map made (take index files)) (made file) placed more)
+    (committed_if_reported before middle after (flat_map made (take index files)) (made file) committed more)

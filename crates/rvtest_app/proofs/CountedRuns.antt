@@ -26,18 +26,18 @@ use Rattle.rvtest_app.specs.declared.outlets.Outlet.TheVariants as outlet
 
 module _ {P W : Type 0} (pending_path : P → List ℕ) (taken : W → Option (List ℕ)) (failed : W → ℕ) where
   -- one that is somewhere is for a path
-  pub path_given : (placed : Option (List CommittedFile)) (path : Option (List ℕ)) (o : Outlet P W) (text : List ℕ)
-      → HasReceived pending_path taken failed placed path text o → (o ≡ outlet.Nowhere → ⊥) → is_some path ≡ true
-  path_given placed path outlet.Nowhere text has somewhere = absurd (somewhere refl)
-  path_given placed path outlet.Out text has somewhere = rw has refl
-  path_given placed path (outlet.File file) text has somewhere = rw has.0 refl
+  pub path_given : (committed : Option (List CommittedFile)) (path : Option (List ℕ)) (o : Outlet P W) (text : List ℕ)
+      → HasReceived pending_path taken failed committed path text o → (o ≡ outlet.Nowhere → ⊥) → is_some path ≡ true
+  path_given committed path outlet.Nowhere text has somewhere = absurd (somewhere refl)
+  path_given committed path outlet.Out text has somewhere = rw has refl
+  path_given committed path (outlet.File file) text has somewhere = rw has.0 refl
 
   -- what is said of it where nothing is told of files
-  pub untold : (placed : Option (List CommittedFile)) (path : Option (List ℕ)) (o : Outlet P W) (text : List ℕ)
-      → HasReceived pending_path taken failed placed path text o → HasReceived pending_path taken failed None path text o
-  untold placed path outlet.Nowhere text has = has
-  untold placed path outlet.Out text has = has
-  untold placed path (outlet.File file) text has = (has.0, (has.1.0, (tt, has.1.1.1, has.1.1.2)))
+  pub untold : (committed : Option (List CommittedFile)) (path : Option (List ℕ)) (o : Outlet P W) (text : List ℕ)
+      → HasReceived pending_path taken failed committed path text o → HasReceived pending_path taken failed None path text o
+  untold committed path outlet.Nowhere text has = has
+  untold committed path outlet.Out text has = has
+  untold committed path (outlet.File file) text has = (has.0, (has.1.0, (tt, has.1.1.1, has.1.1.2)))
 
 -- ---- counts
 
@@ -56,26 +56,26 @@ no_counts_put stacks path plan indices before after none written = rw none writt
 -- ---- the rows that were put before the counts
 
 pub placed_of_shown : (to_stderr : Bool) (text : List ℕ) (before after : CommandOutputs) → IsWrittenToErrorsIf to_stderr text before after
-    → after.placed ≡ before.placed
+    → after.committed ≡ before.committed
 placed_of_shown true text before after is = is.2
 placed_of_shown false text before after is = is.3
 
 placed_behind_same : (earlier before after files : Option (List CommittedFile)) → before ≡ earlier
     → AreFilesCommitted before after files → AreFilesCommitted before (committed_if_reported earlier after) files
 placed_behind_same None before after files same are = rw same tt
-placed_behind_same (Some placed) before after files same are = are
+placed_behind_same (Some committed) before after files same are = are
 
 pub run_put_where_told : (args : RunArgs) (reporter : RowReporter) (indices : List ℕ) (shard : Option Shard)
     (old : Option (List Row)) (rows : List Row) (before after : CommandOutputs) → IsRunWritten args reporter indices shard old rows before after
-    → IsRunWritten args reporter indices shard old rows before (with_committed_if_reported before.placed after)
+    → IsRunWritten args reporter indices shard old rows before (with_committed_if_reported before.committed after)
 run_put_where_told args reporter indices shard old rows before after put = record {
   middle = put.middle;
   seen = put.seen;
   out = put.out;
   quiet = put.quiet;
-  placed = placed_behind_same before.placed put.middle.placed after.placed
+  committed = placed_behind_same before.committed put.middle.committed after.committed
       (Some (junit_file args reporter indices rows ++ report_file args reporter indices shard old rows))
-      (placed_of_shown _ _ before put.middle put.seen) put.placed;
+      (placed_of_shown _ _ before put.middle put.seen) put.committed;
 }
 
 -- ---- what is left
@@ -85,7 +85,7 @@ pub part_of_rows : (args : RunArgs) (reporter : RowReporter) (indices : List ℕ
     (old : Option (List Row)) (rows : List Row) (before after : Option (List CommittedFile))
     → AreFilesPartlyCommitted before after (Some (junit_file args reporter indices rows))
     → (after ≡ before) ⊎ AreRunFilesPartlyCommitted args reporter indices shard old rows before after
-part_of_rows args reporter indices shard old rows before after = ⊎_elim inl (λ placed. inr (inl placed))
+part_of_rows args reporter indices shard old rows before after = ⊎_elim inl (λ committed. inr (inl committed))
 
 given_text : (args : RunArgs) → is_some (optional_text args.counts) ≡ true → is_some args.counts ≡ true
 given_text args = of args.counts
@@ -96,11 +96,11 @@ given_text args = of args.counts
 
 -- where the counts did not
 pub part_of_counts : (args : RunArgs) (reporter : RowReporter) (indices : List ℕ) (shard : Option Shard)
-    (old : Option (List Row)) (rows : List Row) (before after placed : Option (List CommittedFile))
+    (old : Option (List Row)) (rows : List Row) (before after committed : Option (List CommittedFile))
     → is_some (optional_text args.counts) ≡ true
     → AreFilesCommitted before after (Some (junit_file args reporter indices rows ++ report_file args reporter indices shard old rows))
-    → placed ≡ after → (placed ≡ before) ⊎ AreRunFilesPartlyCommitted args reporter indices shard old rows before placed
-part_of_counts args reporter indices shard old rows before after placed given files same =
+    → committed ≡ after → (committed ≡ before) ⊎ AreRunFilesPartlyCommitted args reporter indices shard old rows before committed
+part_of_counts args reporter indices shard old rows before after committed given files same =
     inr (inr (given_text args given, rw same files))
 
 -- ---- why

@@ -36,32 +36,32 @@ module _ {P W : Type 0} (pending_path : P → List ℕ) (taken : W → Option (L
   unfailed_after (outlet.File before) outlet.Nowhere text put none = elim put [ ]
   unfailed_after (outlet.File before) outlet.Out text put none = elim put [ ]
 
-  pub no_failures : (placed : Option (List CommittedFile)) (path : Option (List ℕ)) (text : List ℕ) (o : Outlet P W)
-      → HasReceived pending_path taken failed placed path text o → has_no_failure failed o
-  no_failures placed path text outlet.Nowhere has = tt
-  no_failures placed path text outlet.Out has = tt
-  no_failures placed path text (outlet.File file) has = has.1.1.1
+  pub no_failures : (committed : Option (List CommittedFile)) (path : Option (List ℕ)) (text : List ℕ) (o : Outlet P W)
+      → HasReceived pending_path taken failed committed path text o → has_no_failure failed o
+  no_failures committed path text outlet.Nowhere has = tt
+  no_failures committed path text outlet.Out has = tt
+  no_failures committed path text (outlet.File file) has = has.1.1.1
 
   -- what goes to standard output is told by the path
-  pub stdout_told : (placed : Option (List CommittedFile)) (path : Option (List ℕ)) (had : List ℕ) (o : Outlet P W) (text : List ℕ)
-      → HasReceived pending_path taken failed placed path had o → text_if_stdout o text ≡ stdout_at path text
-  stdout_told placed path had outlet.Nowhere text has = rw has refl
-  stdout_told placed path had outlet.Out text has = rw has refl
-  stdout_told placed path had (outlet.File file) text has = rw (has.0, has.1.0) refl
+  pub stdout_told : (committed : Option (List CommittedFile)) (path : Option (List ℕ)) (had : List ℕ) (o : Outlet P W) (text : List ℕ)
+      → HasReceived pending_path taken failed committed path had o → text_if_stdout o text ≡ stdout_at path text
+  stdout_told committed path had outlet.Nowhere text has = rw has refl
+  stdout_told committed path had outlet.Out text has = rw has refl
+  stdout_told committed path had (outlet.File file) text has = rw (has.0, has.1.0) refl
 
   -- an outlet is standard output where its path stands for that
-  pub out_told : (placed : Option (List CommittedFile)) (path : Option (List ℕ)) (o : Outlet P W) (text : List ℕ)
-      → HasReceived pending_path taken failed placed path text o → is_stdout_outlet o ≡ is_stdout_at path
-  out_told placed path outlet.Nowhere text has = rw has refl
-  out_told placed path outlet.Out text has = rw has refl
-  out_told placed path (outlet.File file) text has = rw (has.0, has.1.0) refl
+  pub out_told : (committed : Option (List CommittedFile)) (path : Option (List ℕ)) (o : Outlet P W) (text : List ℕ)
+      → HasReceived pending_path taken failed committed path text o → is_stdout_outlet o ≡ is_stdout_at path
+  out_told committed path outlet.Nowhere text has = rw has refl
+  out_told committed path outlet.Out text has = rw has refl
+  out_told committed path (outlet.File file) text has = rw (has.0, has.1.0) refl
 
   -- the file of an outlet is named by the path
-  pub path_told : (placed : Option (List CommittedFile)) (path : Option (List ℕ)) (o : Outlet P W) (text : List ℕ)
-      → HasReceived pending_path taken failed placed path text o → outlet_path o ≡ file_path_at path
-  path_told placed path outlet.Nowhere text has = rw has refl
-  path_told placed path outlet.Out text has = rw has refl
-  path_told placed path (outlet.File file) text has = rw (has.0, has.1.0, has.1.1.2) refl
+  pub path_told : (committed : Option (List CommittedFile)) (path : Option (List ℕ)) (o : Outlet P W) (text : List ℕ)
+      → HasReceived pending_path taken failed committed path text o → outlet_path o ≡ file_path_at path
+  path_told committed path outlet.Nowhere text has = rw has refl
+  path_told committed path outlet.Out text has = rw has refl
+  path_told committed path (outlet.File file) text has = rw (has.0, has.1.0, has.1.1.2) refl
 
   taken_text : (before after : Option (List ℕ)) (had text : List ℕ) → before ≡ Some had → Appends before after text
       → after ≡ Some (had ++ text)
@@ -70,14 +70,14 @@ module _ {P W : Type 0} (pending_path : P → List ℕ) (taken : W → Option (L
   taken_text (Some bytes) (Some now) had text is more = grind (arith, common_steps)
 
   -- an outlet that took a text took another behind it
-  pub taken_more : (placed : Option (List CommittedFile)) (path : Option (List ℕ)) (had text : List ℕ) (before after : Outlet P W)
-      → HasReceived pending_path taken failed placed path had before → IsWrittenToOutlet taken failed before after text
-      → outlet_path after ≡ outlet_path before → HasReceived pending_path taken failed placed path (had ++ text) after
-  taken_more placed path had text outlet.Nowhere outlet.Nowhere has put named = has
-  taken_more placed path had text outlet.Out outlet.Out has put named = has
+  pub taken_more : (committed : Option (List CommittedFile)) (path : Option (List ℕ)) (had text : List ℕ) (before after : Outlet P W)
+      → HasReceived pending_path taken failed committed path had before → IsWrittenToOutlet taken failed before after text
+      → outlet_path after ≡ outlet_path before → HasReceived pending_path taken failed committed path (had ++ text) after
+  taken_more committed path had text outlet.Nowhere outlet.Nowhere has put named = has
+  taken_more committed path had text outlet.Out outlet.Out has put named = has
   taken_more None path had text (outlet.File before) (outlet.File after) has put named =
       rw put.0 (has.0, (has.1.0, (tt, put.1.1 ∙ has.1.1.1, same_inside _ _ named ∙ has.1.1.2)))
-  taken_more (Some placed) path had text (outlet.File before) (outlet.File after) has put named =
+  taken_more (Some committed) path had text (outlet.File before) (outlet.File after) has put named =
       rw put.0 (
         has.0,
         (
@@ -89,27 +89,27 @@ module _ {P W : Type 0} (pending_path : P → List ℕ) (taken : W → Option (L
           ),
         ),
       )
-  taken_more placed path had text outlet.Nowhere outlet.Out has put named = elim put [ ]
-  taken_more placed path had text outlet.Nowhere (outlet.File after) has put named = elim put [ ]
-  taken_more placed path had text outlet.Out outlet.Nowhere has put named = elim put [ ]
-  taken_more placed path had text outlet.Out (outlet.File after) has put named = elim put [ ]
-  taken_more placed path had text (outlet.File before) outlet.Nowhere has put named = elim put [ ]
-  taken_more placed path had text (outlet.File before) outlet.Out has put named = elim put [ ]
+  taken_more committed path had text outlet.Nowhere outlet.Out has put named = elim put [ ]
+  taken_more committed path had text outlet.Nowhere (outlet.File after) has put named = elim put [ ]
+  taken_more committed path had text outlet.Out outlet.Nowhere has put named = elim put [ ]
+  taken_more committed path had text outlet.Out (outlet.File after) has put named = elim put [ ]
+  taken_more committed path had text (outlet.File before) outlet.Nowhere has put named = elim put [ ]
+  taken_more committed path had text (outlet.File before) outlet.Out has put named = elim put [ ]
 
   -- the file that an outlet makes is told by the path
-  pub file_told : (placed : List CommittedFile) (path : Option (List ℕ)) (had : List ℕ) (before after : Outlet P W) (text : List ℕ)
-      → HasReceived pending_path taken failed (Some placed) path had before → IsWrittenToOutlet taken failed before after text
+  pub file_told : (committed : List CommittedFile) (path : Option (List ℕ)) (had : List ℕ) (before after : Outlet P W) (text : List ℕ)
+      → HasReceived pending_path taken failed (Some committed) path had before → IsWrittenToOutlet taken failed before after text
       → files_of pending_path taken after ≡ Some (file_at path (had ++ text))
-  file_told placed path had outlet.Nowhere outlet.Nowhere text has put = rw has refl
-  file_told placed path had outlet.Out outlet.Out text has put = rw has refl
-  file_told placed path had (outlet.File before) (outlet.File after) text has put =
+  file_told committed path had outlet.Nowhere outlet.Nowhere text has put = rw has refl
+  file_told committed path had outlet.Out outlet.Out text has put = rw has refl
+  file_told committed path had (outlet.File before) (outlet.File after) text has put =
       rw (taken_text (taken before.sink) (taken after.sink) had text has.1.1.0 put.1.0, put.0, has.0, has.1.0) refl
-  file_told placed path had outlet.Nowhere outlet.Out text has put = elim put [ ]
-  file_told placed path had outlet.Nowhere (outlet.File after) text has put = elim put [ ]
-  file_told placed path had outlet.Out outlet.Nowhere text has put = elim put [ ]
-  file_told placed path had outlet.Out (outlet.File after) text has put = elim put [ ]
-  file_told placed path had (outlet.File before) outlet.Nowhere text has put = elim put [ ]
-  file_told placed path had (outlet.File before) outlet.Out text has put = elim put [ ]
+  file_told committed path had outlet.Nowhere outlet.Out text has put = elim put [ ]
+  file_told committed path had outlet.Nowhere (outlet.File after) text has put = elim put [ ]
+  file_told committed path had outlet.Out outlet.Nowhere text has put = elim put [ ]
+  file_told committed path had outlet.Out (outlet.File after) text has put = elim put [ ]
+  file_told committed path had (outlet.File before) outlet.Nowhere text has put = elim put [ ]
+  file_told committed path had (outlet.File before) outlet.Out text has put = elim put [ ]
 
   -- both files stand in their places, where it is told which do
   pub both_placed : (before after : Option (List CommittedFile)) (had : List ℕ) (junit_path report_path : Option (List ℕ))
@@ -120,10 +120,10 @@ module _ {P W : Type 0} (pending_path : P → List ℕ) (taken : W → Option (L
       → AreFilesCommitted before after (joined_files (files_of pending_path taken junit_after) (files_of pending_path taken report_after))
       → AreFilesCommitted before after (Some (file_at junit_path junit_text ++ file_at report_path (had ++ report_text)))
   both_placed None after had junit_path report_path junit junit_after report report_after jt rt hj hr pj pr are = tt
-  both_placed (Some placed) after had junit_path report_path junit junit_after report report_after jt rt hj hr pj pr are =
+  both_placed (Some committed) after had junit_path report_path junit junit_after report report_after jt rt hj hr pj pr are =
       rw (
-        file_told placed junit_path [] junit junit_after jt hj pj,
-        file_told placed report_path had report report_after rt hr pr,
+        file_told committed junit_path [] junit junit_after jt hj pj,
+        file_told committed report_path had report report_after rt hr pr,
       ) at are
 
   -- the first file stands in its place alone, where it is told which do
@@ -132,8 +132,8 @@ module _ {P W : Type 0} (pending_path : P → List ℕ) (taken : W → Option (L
       → AreFilesPartlyCommitted before after (files_of pending_path taken o_after)
       → AreFilesPartlyCommitted before after (Some (file_at path text))
   first_placed None after path o o_after text has put are = inr tt
-  first_placed (Some placed) after path o o_after text has put are =
-      rw (file_told placed path [] o o_after text has put) at are
+  first_placed (Some committed) after path o o_after text has put are =
+      rw (file_told committed path [] o o_after text has put) at are
 
 -- files of equal texts
 pub placed_same : (before after : Option (List CommittedFile)) (junit_path report_path : Option (List ℕ))

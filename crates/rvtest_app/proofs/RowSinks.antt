@@ -105,23 +105,23 @@ module _ {P V : Type 0} (pending_path : P → List ℕ) (taken : V → Option (L
   still_whole (outlet.File before) outlet.Out text put none = elim put [ ]
 
   -- the outlet of the report has received the rows that were streamed, the others nothing
-  pub taken_of_run : {G : Type 0} (placed : Option (List CommittedFile)) (args : RunArgs) (old : Option (List Row)) (is_streaming : Bool)
+  pub taken_of_run : {G : Type 0} (committed : Option (List CommittedFile)) (args : RunArgs) (old : Option (List Row)) (is_streaming : Bool)
       (indices : List ℕ) (all : List Row) (ran : Result (List Row) G) (shell : Outlet P (Unit {0})) (before after : Option V)
       (whole_before whole_after junit counts : Outlet P V)
-      → HaveRunOutletsReceived pending_path taken failed placed args [] (record { report = whole_before; junit = junit; counts = counts })
+      → HaveRunOutletsReceived pending_path taken failed committed args [] (record { report = whole_before; junit = junit; counts = counts })
       → AreOutletParts shell before whole_before → AreOutletParts shell after whole_after → is_some old ≡ not is_streaming
       → IfOk ran (λ rows. rows ≡ all)
       → OnOk ran (AreRowsWritten taken failed before after (joined_row_texts (report_row_text is_streaming) indices all))
-      → IfOk ran (λ rows. HaveRunOutletsReceived pending_path taken failed placed args (streamed_rows old (shown_indices indices rows) rows)
+      → IfOk ran (λ rows. HaveRunOutletsReceived pending_path taken failed committed args (streamed_rows old (shown_indices indices rows) rows)
       (record { report = whole_after; junit = junit; counts = counts }))
-  taken_of_run placed args old is_streaming indices all (Err stop) shell before after wb wa junit counts has was is streams same written = tt
-  taken_of_run placed args old is_streaming indices all (Ok rows) shell before after wb wa junit counts has was is streams same written =
+  taken_of_run committed args old is_streaming indices all (Err stop) shell before after wb wa junit counts has was is streams same written = tt
+  taken_of_run committed args old is_streaming indices all (Ok rows) shell before after wb wa junit counts has was is streams same written =
       let text = streamed_rows old (shown_indices indices all) all in
       let put = written_into taken failed shell before after wb wa text was is
       (subst (AreRowsWritten taken failed before after) (streamed old is_streaming indices all (negated (is_some old) is_streaming streams))
       written) in
       rw same (record {
-        report = taken_more pending_path taken failed placed (run_report_path args) [] text wb wa has.report put
+        report = taken_more pending_path taken failed committed (run_report_path args) [] text wb wa has.report put
             (same_path shell before after wb wa was is);
         junit = has.junit;
         counts = has.counts;
@@ -212,12 +212,12 @@ module _ {V : Type 0} (taken : V → Option (List ℕ)) (failed : V → ℕ) whe
 
 pub shown_on_errors : {X G : Type 0} (ran : Result X G) (to_stderr : Bool) (text : List ℕ) (before after : CommandOutputs) → to_stderr ≡ true
     → after.out ≡ before.out → OnOk ran (Appends before.errors after.errors text) → OnOk ran (after.failures ≡ before.failures)
-    → after.placed ≡ before.placed → OnOk ran (IsWrittenToErrorsIf to_stderr text before after)
-shown_on_errors (Err stop) to_stderr text before after is out appended counted placed = tt
-shown_on_errors (Ok rows) to_stderr text before after is out appended counted placed = rw is (out, inl (appended, counted), placed)
+    → after.committed ≡ before.committed → OnOk ran (IsWrittenToErrorsIf to_stderr text before after)
+shown_on_errors (Err stop) to_stderr text before after is out appended counted committed = tt
+shown_on_errors (Ok rows) to_stderr text before after is out appended counted committed = rw is (out, inl (appended, counted), committed)
 
 pub shown_on_out : {X G : Type 0} (ran : Result X G) (to_stderr : Bool) (text : List ℕ) (before after : CommandOutputs) → to_stderr ≡ false
     → OnOk ran (Appends before.out after.out text) → after.errors ≡ before.errors → after.failures ≡ before.failures
-    → after.placed ≡ before.placed → OnOk ran (IsWrittenToErrorsIf to_stderr text before after)
-shown_on_out (Err stop) to_stderr text before after is appended errors failures placed = tt
-shown_on_out (Ok rows) to_stderr text before after is appended errors failures placed = rw is (appended, errors, failures, placed)
+    → after.committed ≡ before.committed → OnOk ran (IsWrittenToErrorsIf to_stderr text before after)
+shown_on_out (Err stop) to_stderr text before after is appended errors failures committed = tt
+shown_on_out (Ok rows) to_stderr text before after is appended errors failures committed = rw is (appended, errors, failures, committed)

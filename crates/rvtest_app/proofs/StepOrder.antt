@@ -12,17 +12,17 @@ use Rattle.rvtest_app.specs.ReportSummary.{AreSortedBySteps, inserted_by_steps, 
 
 -- ---- the same rows
 
-placed-permutes : (more : Bool) (row first : Row) (behind placed : List Row) → IsPermutation (row ∷ behind) placed →
-    IsPermutation (row ∷ first ∷ behind) (cond more (first ∷ placed) (row ∷ first ∷ behind))
-placed-permutes false row first behind placed same = IsPermutation-refl (row ∷ first ∷ behind)
-placed-permutes true row first behind placed same =
-    IsPermutation-trans (row ∷ first ∷ behind) (first ∷ row ∷ behind) (first ∷ placed)
-    (IsPermutation-middle (row ∷ []) first behind) (IsPermutation-cons first (row ∷ behind) placed same)
+committed-permutes : (more : Bool) (row first : Row) (behind committed : List Row) → IsPermutation (row ∷ behind) committed →
+    IsPermutation (row ∷ first ∷ behind) (cond more (first ∷ committed) (row ∷ first ∷ behind))
+committed-permutes false row first behind committed same = IsPermutation-refl (row ∷ first ∷ behind)
+committed-permutes true row first behind committed same =
+    IsPermutation-trans (row ∷ first ∷ behind) (first ∷ row ∷ behind) (first ∷ committed)
+    (IsPermutation-middle (row ∷ []) first behind) (IsPermutation-cons first (row ∷ behind) committed same)
 
 inserted-permutes : (row : Row) (rows : List Row) → IsPermutation (row ∷ rows) (inserted_by_steps row rows)
 inserted-permutes row [] = IsPermutation-refl (row ∷ [])
 inserted-permutes row (first ∷ behind) =
-    placed-permutes (nat_lt row.steps first.steps) row first behind (inserted_by_steps row behind)
+    committed-permutes (nat_lt row.steps first.steps) row first behind (inserted_by_steps row behind)
     (inserted-permutes row behind)
 
 -- ---- the most first
@@ -78,13 +78,13 @@ swapped : (keeps_row keeps_first : Bool) (row first : Row) (rows : List Row) →
 swapped false keeps_first row first rows apart = refl
 swapped true keeps_first row first rows apart = rw (apart refl) refl
 
-placed-stable : (steps : ℕ) (row first : Row) (behind placed : List Row) →
-    filter (λ row. row.steps == steps) placed ≡ filter (λ row. row.steps == steps) (row ∷ behind) →
+committed-stable : (steps : ℕ) (row first : Row) (behind committed : List Row) →
+    filter (λ row. row.steps == steps) committed ≡ filter (λ row. row.steps == steps) (row ∷ behind) →
     (more : Bool) → nat_lt row.steps first.steps ≡ more →
-    filter (λ row. row.steps == steps) (cond more (first ∷ placed) (row ∷ first ∷ behind))
+    filter (λ row. row.steps == steps) (cond more (first ∷ committed) (row ∷ first ∷ behind))
     ≡ filter (λ row. row.steps == steps) (row ∷ first ∷ behind)
-placed-stable steps row first behind placed same false order = refl
-placed-stable steps row first behind placed same true order =
+committed-stable steps row first behind committed same false order = refl
+committed-stable steps row first behind committed same true order =
     let fewer : row.steps < first.steps = ltb-true row.steps first.steps order in
     ap (λ kept. cond (first.steps == steps) (first ∷ kept) kept) same
     ∙ swapped (row.steps == steps) (first.steps == steps) row first (filter (λ row. row.steps == steps) behind)
@@ -95,7 +95,7 @@ inserted-stable : (steps : ℕ) (row : Row) (rows : List Row) →
     filter (λ row. row.steps == steps) (inserted_by_steps row rows) ≡ filter (λ row. row.steps == steps) (row ∷ rows)
 inserted-stable steps row [] = refl
 inserted-stable steps row (first ∷ behind) =
-    placed-stable steps row first behind (inserted_by_steps row behind) (inserted-stable steps row behind)
+    committed-stable steps row first behind (inserted_by_steps row behind) (inserted-stable steps row behind)
     (nat_lt row.steps first.steps) refl
 
 -- ---- all rows

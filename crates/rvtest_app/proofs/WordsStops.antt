@@ -65,7 +65,7 @@ help_requested args (error.Message fault text) before after among written = ask_
 pub words_answered : (contents : Option FileContents) (input : Option (List ℕ)) (is_terminal is_colored : Bool) (args : List (List ℕ))
     (told : ArgsError) (answer : Result ℕ Stop) (before after : CommandOutputs) → IsErrorOfKinds (args_error_kinds args) told
     → IfOk answer (λ status. status ≡ 0) → OnOk answer (IsHelpWritten told before.out after.out)
-    → (after.errors ≡ before.errors) × (after.failures ≡ before.failures) × (after.placed ≡ before.placed)
+    → (after.errors ≡ before.errors) × (after.failures ≡ before.failures) × (after.committed ≡ before.committed)
     → IfOk answer (λ status. IsCarriedOut contents input is_terminal is_colored args status before after)
 words_answered contents input is_terminal is_colored args told (Ok status) before after among zero written same =
     inr (inr (help_requested args told before.out after.out among written, zero), same.0, same.1, same.2)

@@ -76,15 +76,15 @@ put_of_unplaced report junit answer = IfErr-map answer _ _
 
 -- outlets are for the paths that words give
 module _ {P W : Type 0} (pending_path : P → List ℕ) (taken : W → Option (List ℕ)) (failed : W → ℕ) where
-  pub output_of_put : {X : Type 0} (placed : Option (List CommittedFile)) (report_path junit_path : Option (List ℕ))
+  pub output_of_put : {X : Type 0} (committed : Option (List CommittedFile)) (report_path junit_path : Option (List ℕ))
       (report junit : Outlet P W) (answer : Result X Stop)
-      → HasReceived pending_path taken failed placed report_path [] report
-      → HasReceived pending_path taken failed placed junit_path [] junit
+      → HasReceived pending_path taken failed committed report_path [] report
+      → HasReceived pending_path taken failed committed junit_path [] junit
       → IfErr answer (IsOutputWriteStop (outlet_path report) (outlet_path junit))
       → IfErr answer (IsOutputStop report_path junit_path)
-  output_of_put placed report_path junit_path report junit answer for_report for_junit stopped = rw (
-    path_told pending_path taken failed placed report_path report [] for_report,
-    path_told pending_path taken failed placed junit_path junit [] for_junit,
+  output_of_put committed report_path junit_path report junit answer for_report for_junit stopped = rw (
+    path_told pending_path taken failed committed report_path report [] for_report,
+    path_told pending_path taken failed committed junit_path junit [] for_junit,
   ) at stopped
 
 -- ---- runs

@@ -20,29 +20,29 @@ written_nowhere path text outputs_of none = rw none (record {
   out = appends_nothing outputs_of.out;
   errors = refl;
   failures = refl;
-  placed = no_file outputs_of.placed outputs_of.placed refl;
+  committed = no_file outputs_of.committed outputs_of.committed refl;
 })
 
 -- a text went to standard output
 pub written_out : (path : Option (List ℕ)) (text : List ℕ) (before after : CommandOutputs) → path ≡ Some (codes "-")
     → Appends before.out after.out text → after.errors ≡ before.errors → after.failures ≡ before.failures
-    → after.placed ≡ before.placed → IsWrittenAt path text before after
-written_out path text before after is out errors failures placed = rw is (record {
+    → after.committed ≡ before.committed → IsWrittenAt path text before after
+written_out path text before after is out errors failures committed = rw is (record {
   out = out;
   errors = errors;
   failures = failures;
-  placed = no_file before.placed after.placed placed;
+  committed = no_file before.committed after.committed committed;
 })
 
 -- a text went to a file
 pub written_file : (path : Option (List ℕ)) (name text : List ℕ) (before after : CommandOutputs) → path ≡ Some name
     → is_stdout name ≡ false → after.out ≡ before.out → after.errors ≡ before.errors → after.failures ≡ before.failures
-    → AreFilesCommitted before.placed after.placed (Some (committed_file name text ∷ [])) → IsWrittenAt path text before after
-written_file path name text before after is file out errors failures placed = rw is (record {
+    → AreFilesCommitted before.committed after.committed (Some (committed_file name text ∷ [])) → IsWrittenAt path text before after
+written_file path name text before after is file out errors failures committed = rw is (record {
   out = rw file (subst (λ (o : Option (List ℕ)). Appends before.out o []) (sym out) (appends_nothing before.out));
   errors = errors;
   failures = failures;
-  placed = rw file placed;
+  committed = rw file committed;
 })
 
 -- ---- where it was told which files stood in their places before
@@ -50,7 +50,7 @@ written_file path name text before after is file out errors failures placed = rw
 placed_where_told : (earlier before after files : Option (List CommittedFile)) → AreFilesCommitted before after files
     → AreFilesCommitted (committed_if_reported earlier before) after files
 placed_where_told None before after files are = tt
-placed_where_told (Some placed) before after files are = are
+placed_where_told (Some committed) before after files are = are
 
 -- a text that was written there
 pub written_where_told : (earlier : Option (List CommittedFile)) (path : Option (List ℕ)) (text : List ℕ) (before after : CommandOutputs)
@@ -59,11 +59,11 @@ written_where_told earlier path text before after written = record {
   out = written.out;
   errors = written.errors;
   failures = written.failures;
-  placed = placed_where_told earlier before.placed after.placed (Some (file_at path text)) written.placed;
+  committed = placed_where_told earlier before.committed after.committed (Some (file_at path text)) written.committed;
 }
 
 -- a file that took no bytes, where it is told what it took
-pub untold_or_empty : (placed : Option (List CommittedFile)) (P : Type 0) → P → IfSome placed (λ _. P)
+pub untold_or_empty : (committed : Option (List CommittedFile)) (P : Type 0) → P → IfSome committed (λ _. P)
 untold_or_empty None P p = tt
 untold_or_empty (Some files) P p = p
 
@@ -72,11 +72,11 @@ pub written_file_where_told : {X Y : Type 0} (r : Result X Y) (earlier : Option 
     (name text : List ℕ) (before after : CommandOutputs) (Empty : Type 0) → path ≡ Some name → is_stdout name ≡ false
     → after.out ≡ before.out → after.errors ≡ before.errors → after.failures ≡ before.failures
     → IfSome earlier (λ _. Empty)
-    → (IfSome before.placed (λ _. Empty)
-    → OnOk r (AreFilesCommitted before.placed after.placed (Some (committed_file name text ∷ []))))
+    → (IfSome before.committed (λ _. Empty)
+    → OnOk r (AreFilesCommitted before.committed after.committed (Some (committed_file name text ∷ []))))
     → OnOk r (IsWrittenAt path text (with_committed_if_reported earlier before) after)
-written_file_where_told r None path name text before after Empty is file out errors failures empty placed =
+written_file_where_told r None path name text before after Empty is file out errors failures empty committed =
     OnOk-from r _ (written_file path name text (with_committed_if_reported None before) after is file out errors failures tt)
-written_file_where_told r (Some files) path name text before after Empty is file out errors failures empty placed =
+written_file_where_told r (Some files) path name text before after Empty is file out errors failures empty committed =
     OnOk-map r _ _ (λ p. written_file path name text before after is file out errors failures p)
-    (placed (untold_or_empty before.placed Empty empty))
+    (committed (untold_or_empty before.committed Empty empty))

@@ -142,7 +142,7 @@ IsAcceptanceWritten false told status before after =
     (status ≡ accept_status (skipped_count told) 0)
     × Appends before.out after.out (accept_lines told ++ count_line writing.Written (changed_count told) (skipped_count told))
     × (after.errors ≡ before.errors) × (after.failures ≡ before.failures)
-    × AreFilesCommitted before.placed after.placed (Some (written_files told))
+    × AreFilesCommitted before.committed after.committed (Some (written_files told))
 
 -- the summary consists of this list, these runs, golden texts and golden files, and this new list
 abbrev pub IsAcceptSummaryOf : ListFile → List (Option JobRun) → List GoldenText → List GoldenFile → NewList → AcceptSummary → Type 0
@@ -161,7 +161,7 @@ pub record IsOutcomeWritten (check : Bool) (list : ListFile) (runs : List (Optio
 -- committed files
 pub record AreOutsideFilesReported (before after : CommandOutputs) : Type 0 where
   pub outside : List ℕ
-  pub inside : IfSome before.placed (λ _. outside ≡ [])
+  pub inside : IfSome before.committed (λ _. outside ≡ [])
   pub told : IsOnlyErrorOutput outside before after
 
 -- `judged` has the run of each job with a row, accepted or skipped according to whether the job is chosen and to the current verdict on it

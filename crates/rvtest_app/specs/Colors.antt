@@ -41,4 +41,4 @@ pub record IsColoredOutput (colors : Colors) (before plain after : CommandOutput
   pub out : IsColoredAs colors before.out plain.out after.out
   pub errors : after.errors ≡ plain.errors
   pub failures : after.failures ≡ plain.failures
-  pub placed : after.placed ≡ plain.placed
+  pub committed : after.committed ≡ plain.committed

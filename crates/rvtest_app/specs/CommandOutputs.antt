@@ -15,36 +15,36 @@ pub record CommandOutputs : Type 0 where
   -- the number of failed writes to standard error
   pub failures : ℕ
   -- the files that were committed, in order
-  pub placed : Option (List CommittedFile)
+  pub committed : Option (List CommittedFile)
 
 -- the outputs of a command as its destinations report them: standard output, standard error, the number of failed writes to standard error,
 -- and the committed files
 abbrev pub outputs_of : {F O E : Type 0} → (F → Option (List CommittedFile)) → (O → Option (List ℕ)) → (E → Option (List ℕ))
     → (E → ℕ) → Destinations F O E → CommandOutputs
-outputs_of placed taken told failed to = record {
+outputs_of committed taken told failed to = record {
   out = taken to.out;
   errors = told to.errors;
   failures = failed to.errors;
-  placed = placed to.files;
+  committed = committed to.files;
 }
 
--- `placed`, the committed files, if the first argument, the files committed earlier, was reported; otherwise `None`
+-- `committed`, the committed files, if the first argument, the files committed earlier, was reported; otherwise `None`
 abbrev pub committed_if_reported : Option (List CommittedFile) → Option (List CommittedFile) → Option (List CommittedFile)
-committed_if_reported None placed = None
-committed_if_reported (Some earlier) placed = placed
+committed_if_reported None committed = None
+committed_if_reported (Some earlier) committed = committed
 
 -- the outputs `now`, whose committed files are set to `None` if `earlier`, the files committed earlier, was not reported
 abbrev pub with_committed_if_reported : Option (List CommittedFile) → CommandOutputs → CommandOutputs
-with_committed_if_reported earlier now = record now { placed = committed_if_reported earlier now.placed }
+with_committed_if_reported earlier now = record now { committed = committed_if_reported earlier now.committed }
 
 -- the text was written to standard output, and nothing else was output
 abbrev pub IsOnlyStandardOutput : List ℕ → CommandOutputs → CommandOutputs → Type 0
 IsOnlyStandardOutput text before after =
     Appends before.out after.out text × (after.errors ≡ before.errors) × (after.failures ≡ before.failures)
-    × (after.placed ≡ before.placed)
+    × (after.committed ≡ before.committed)
 
 -- the text was written to standard error, or a prefix of it if a write failed, and nothing else was output
 abbrev pub IsOnlyErrorOutput : List ℕ → CommandOutputs → CommandOutputs → Type 0
 IsOnlyErrorOutput text before after =
     (after.out ≡ before.out) × IsMessageWritten before.errors after.errors before.failures after.failures text
-    × (after.placed ≡ before.placed)
+    × (after.committed ≡ before.committed)

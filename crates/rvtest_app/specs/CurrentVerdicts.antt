@@ -93,7 +93,7 @@ IsCurrentVerdictIfRun contents root rows job (Some row) stands = IsCurrentVerdic
 -- whether the `Option` has a value, and the value is true
 abbrev pub is_true : Option Bool → Bool
 is_true None = false
-is_true (Some marked) = marked
+is_true (Some selected) = selected
 
 -- whether the selection `selection` selects the job at index `index`; false if the index is out of range
 abbrev pub is_selected : List Bool → ℕ → Bool

@@ -57,7 +57,7 @@ pub record IsMergedJunitAlone (contents : Option FileContents) (args : MergeArgs
   pub read : AreTextsAt contents args.parts.items texts
   pub rows : List Row
   pub parts : AreParts rows texts
-  pub placed : AreFilesCommitted before after (Some (file_at (optional_text args.junit) (merged_junit args rows)))
+  pub committed : AreFilesCommitted before after (Some (file_at (optional_text args.junit) (merged_junit args rows)))
 
 -- after an error, `merge` has committed no file, or only the JUnit document
 abbrev pub IsAbortedMergeAt : Option FileContents → MergeArgs → Option (List CommittedFile) → Option (List CommittedFile) → Type 0

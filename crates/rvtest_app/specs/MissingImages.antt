@@ -32,7 +32,7 @@ are_images_missing jobs unread = list_all (is_image_missing unread) jobs
 -- current one
 abbrev pub paths_text : Option (List ℕ) → List ℕ
 paths_text None = codes "no image was found: relative paths are resolved against the current directory; use --root DIR to resolve them against DIR"
-paths_text (Some folder) = codes "no image was found: relative paths are resolved against " ++ printable_text folder ++ codes " (--root)"
+paths_text (Some root) = codes "no image was found: relative paths are resolved against " ++ printable_text root ++ codes " (--root)"
 
 -- the note of `run` that no image was found, if all jobs run (`count` of them) and every image is missing; otherwise empty
 abbrev pub missing_images_note : List Job → List UnreadablePath → ℕ → Option (List ℕ) → List ℕ

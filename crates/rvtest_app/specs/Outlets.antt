@@ -69,11 +69,11 @@ module _ {P W : Type 0} where
   -- the outlet is for this path and, if committed files are reported, its file has received this text so far and no write failed
   abbrev pub HasReceived : (P → List ℕ) → (W → Option (List ℕ)) → (W → ℕ) → Option (List CommittedFile)
       → Option (List ℕ) → List ℕ → Outlet P W → Type 0
-  HasReceived pending_path taken failed placed path text outlet.Nowhere = path ≡ None
-  HasReceived pending_path taken failed placed path text outlet.Out = path ≡ Some (codes "-")
-  HasReceived pending_path taken failed placed path text (outlet.File file) =
+  HasReceived pending_path taken failed committed path text outlet.Nowhere = path ≡ None
+  HasReceived pending_path taken failed committed path text outlet.Out = path ≡ Some (codes "-")
+  HasReceived pending_path taken failed committed path text (outlet.File file) =
       (path ≡ Some (pending_path file.destination)) × ((is_stdout (pending_path file.destination) ≡ false)
-      × (IfSome placed (λ _. taken file.sink ≡ Some text) × (failed file.sink ≡ 0)
+      × (IfSome committed (λ _. taken file.sink ≡ Some text) × (failed file.sink ≡ 0)
       × (file.path.now ≡ pending_path file.destination)))
 
   -- the text was written to the outlet, and no write failed

@@ -28,7 +28,7 @@ pub record IsOutputWrittenTo (to_stderr : Bool) (report_path junit_path : Option
   pub seen : IsWrittenToErrorsIf to_stderr shown before middle
   pub out : Appends middle.out after.out (stdout_at junit_path junit ++ stdout_at report_path report)
   pub quiet : (after.errors ≡ middle.errors) × (after.failures ≡ middle.failures)
-  pub placed : AreFilesCommitted middle.placed after.placed (Some (file_at junit_path junit ++ file_at report_path report))
+  pub committed : AreFilesCommitted middle.committed after.committed (Some (file_at junit_path junit ++ file_at report_path report))
 
 -- the text `shown` was written, to standard error if one of the paths is `-` and otherwise to standard output; then the report and the
 -- JUnit XML were written to their paths

@@ -36,7 +36,7 @@ input_paths read = map (λ (one : InputPath). path_buf_bytes one.path) read
 
 -- the identities of the files in `read` are these paths, provided that the committed files are reported
 abbrev pub AreFilesOf : Option (List CommittedFile) → List (List ℕ) → InputFiles → Type 0
-AreFilesOf placed paths read = IfSome placed (λ _. read.identities.items ≡ paths)
+AreFilesOf committed paths read = IfSome committed (λ _. read.identities.items ≡ paths)
 
 -- whether one of the identities in `files` is `identity`
 abbrev pub is_among : List (List ℕ) → List ℕ → Bool
@@ -162,8 +162,8 @@ inputs_of_accept args jobs = failed_report_path args.run ++ flat_map (image_path
 unfoldable pub golden_paths_of_selected : Option (List ℕ) → List Job → List Bool → List (List ℕ)
 golden_paths_of_selected root [] selection = []
 golden_paths_of_selected root (job ∷ jobs) [] = []
-golden_paths_of_selected root (job ∷ jobs) (marked ∷ selection) =
-    (if marked then golden_paths_of_job root job else []) ++ golden_paths_of_selected root jobs selection
+golden_paths_of_selected root (job ∷ jobs) (selected ∷ selection) =
+    (if selected then golden_paths_of_job root job else []) ++ golden_paths_of_selected root jobs selection
 
 -- whether the path is one of the paths in `read`, the inputs
 abbrev pub is_read : List (List ℕ) → List ℕ → Bool

@@ -80,4 +80,4 @@ IsCarriedOut contents input is_terminal is_colored args status before after =
     ((request : Request) × ((request_of_args args ≡ Some (value_of_request request))
     × IsDoneInColors contents input is_terminal is_colored request status before after))
     ⊎ (IsOnlyUsageOrHelp args status × (after.errors ≡ before.errors) × (after.failures ≡ before.failures)
-    × (after.placed ≡ before.placed))
+    × (after.committed ≡ before.committed))

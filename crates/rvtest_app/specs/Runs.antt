@@ -61,7 +61,7 @@ pub record AreRequestedJobs (contents : Option FileContents) (args : RunArgs) (j
   pub listed : job_list_of bytes ≡ Ok jobs
   pub sharded : IsShardOf args.shard shard
   pub stamped : IfSome shard (λ shard. (shard.stamp ≡ stamp_for args.stamp bytes) × (shard.jobs ≡ length jobs))
-  pub marked : IsRequestedSelection contents shard args jobs selection notes
+  pub selected : IsRequestedSelection contents shard args jobs selection notes
   pub into : AreOldRows contents args jobs old
 
 -- the requested jobs and the known failures were found, and at least one job is selected to run
@@ -208,7 +208,7 @@ pub record IsRunPartlyCommitted (contents : Option FileContents) (args : RunArgs
       unread
   pub rows : List Row
   pub shown : rows ≡ run_rows args.stop_after (run_judging args failures) plan indices
-  pub placed : AreRunFilesPartlyCommitted args (run_reporter args failures plan unread) indices shard old rows before after
+  pub committed : AreRunFilesPartlyCommitted args (run_reporter args failures plan unread) indices shard old rows before after
 
 -- after an error, a run of the jobs at these indices has committed no file, or only some of the requested output files
 abbrev pub IsAbortedRunOfJobs : Option FileContents → RunArgs → Option KnownJobs → List Job → List ℕ → Option Shard

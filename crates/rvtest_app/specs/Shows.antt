@@ -37,7 +37,7 @@ pub record IsShowWritten (contents : Option FileContents) (args : ShowArgs) (sta
 pub record IsShownJunit (contents : Option FileContents) (args : ShowArgs) (before after : Option (List CommittedFile)) : Type 0 where
   pub found : PartialReport
   pub read : IsReportReadAt contents args.partial args.report.now found
-  pub placed : AreFilesCommitted before after (Some (file_at (optional_text args.junit) (shown_junit args found.report.rows)))
+  pub committed : AreFilesCommitted before after (Some (file_at (optional_text args.junit) (shown_junit args found.report.rows)))
 
 -- after an error, `show` has committed no file, or only the JUnit document
 abbrev pub IsAbortedShowAt : Option FileContents → ShowArgs → Option (List CommittedFile) → Option (List CommittedFile) → Type 0

@@ -18,7 +18,7 @@ pub record IsWrittenAt (path : Option (List ℕ)) (text : List ℕ) (before afte
   pub out : Appends before.out after.out (stdout_at path text)
   pub errors : after.errors ≡ before.errors
   pub failures : after.failures ≡ before.failures
-  pub placed : AreFilesCommitted before.placed after.placed (Some (file_at path text))
+  pub committed : AreFilesCommitted before.committed after.committed (Some (file_at path text))
 
 -- why a command stopped: if the Bool is true, a write to standard output failed, and otherwise the file for the path could not be created
 abbrev pub IsUnwrittenByStop : Bool → List ℕ → Stop → Type 0

@@ -71,7 +71,7 @@ struct BareJobs {
 
 // What the runs of the jobs change: the texts for golden files, the golden files, and the new list.
 #[derive(Drop)]
-struct Outcomes {
+struct AcceptChanges {
     golden_texts: Vec<GoldenText>,
     files: Vec<GoldenFile>,
     new: NewList,
@@ -129,8 +129,8 @@ fn accept_chosen<
     ensures kept { (F.committed to.new.files ≡ F.committed to.old.files) ⊎ IfSome (F.committed to.old.files) (λ _. AreAcceptFilesNoInputs
         args.now list.now.jobs (jobs_to_run list.now.jobs chosen.now)) }
 {
-    let marked = checked_jobs(host, args, list, chosen, to)?;
-    let rows = run_selected(host, args, marked, to)?;
+    let selected = checked_jobs(host, args, list, chosen, to)?;
+    let rows = run_selected(host, args, selected, to)?;
     let list = ListFile {
         path: args.run.list,
         text: list.text.as_slice(),
@@ -151,8 +151,8 @@ fn checked_jobs<R, D, F: Outputs + Drop, O: Sink + Drop, E: Sink + Drop>(
 ) -> Result<BareJobs, Stop>
     requires counted { length chosen.now ≡ length list.now.jobs }
     requires listed { job_list_of list.now.text.items ≡ Ok list.now.jobs }
-    ensures jobs { IfOk result (λ marked. marked.jobs ≡ map without_expectations list.now.jobs) }
-    ensures selection { IfOk result (λ marked. marked.selection.items
+    ensures jobs { IfOk result (λ selected. selected.jobs ≡ map without_expectations list.now.jobs) }
+    ensures selection { IfOk result (λ selected. selected.selection.items
         ≡ jobs_to_run list.now.jobs chosen.now) }
     ensures files { to.new.files ≡ to.old.files }
     ensures outside { OnOk result (AreOutsideFilesReported (outputs_of F.committed O.accepted E.accepted E.failure_count to.old)
@@ -161,11 +161,11 @@ fn checked_jobs<R, D, F: Outputs + Drop, O: Sink + Drop, E: Sink + Drop>(
         args.now list.now.jobs (jobs_to_run list.now.jobs chosen.now))) }
     ensures stopped { IfErr result IsAcceptOverwriteStop }
 {
-    let marked = selected_jobs(host.alloc, args, list, chosen)?;
-    let (jobs, selection) = (list.jobs.as_slice(), marked.selection.as_slice());
+    let selected = selected_jobs(host.alloc, args, list, chosen)?;
+    let (jobs, selection) = (list.jobs.as_slice(), selected.selection.as_slice());
     let outside = reject_accept_overwrites(&to.files, host.alloc, args, jobs, selection)?;
     write_message(&mut to.errors, outside.as_slice());
-    Ok(marked)
+    Ok(selected)
 }
 
 // Returns the runs of the jobs, each accepted or skipped by the verdict on its row; `None` for a job that did not run.
@@ -179,13 +179,13 @@ fn judge_rows<R, D: Inputs>(
     ensures { IfOk result (λ runs. AreJudgedRuns (D.contents host.now.inputs.now) args.now jobs.now chosen.now
         rows.items runs.items) }
 {
-    let standpoint = CurrentFiles {
+    let current_files = CurrentFiles {
         inputs: host.inputs,
         alloc: host.alloc,
-        folder: args.run.root,
+        root: args.run.root,
         rows: rows.as_slice(),
     };
-    let candidates = standpoint.candidates(jobs, chosen)?;
+    let candidates = current_files.candidates(jobs, chosen)?;
     let acceptance = acceptance_of(args.ends);
     judged_runs(host.alloc, acceptance, jobs, candidates.as_slice(), rows)
 }
@@ -241,8 +241,8 @@ fn selected_jobs(
 ) -> Result<BareJobs, Stop>
     requires counted { length chosen.now ≡ length list.now.jobs }
     requires listed { job_list_of list.now.text.items ≡ Ok list.now.jobs }
-    ensures jobs { IfOk result (λ marked. marked.jobs ≡ map without_expectations list.now.jobs) }
-    ensures selection { IfOk result (λ marked. marked.selection.items
+    ensures jobs { IfOk result (λ selected. selected.jobs ≡ map without_expectations list.now.jobs) }
+    ensures selection { IfOk result (λ selected. selected.selection.items
         ≡ jobs_to_run list.now.jobs chosen.now) }
     ensures memory { IfErr result (λ stop. stop ≡ Stop.OutOfMemory) }
 {
@@ -262,12 +262,12 @@ fn run_selected<
 >(
     host: &Host<'_, R, D>,
     args: &AcceptArgs<'_>,
-    marked: BareJobs,
+    selected: BareJobs,
     to: &mut Destinations<F, O, E>,
 ) -> Result<Vec<Option<Row>>, Stop>
     ensures files { to.new.files ≡ to.old.files }
     ensures rows { IfOk result (λ rows. HaveSelectedRun (D.contents host.now.inputs.now)
-        (optional_text args.now.run.root) marked.jobs marked.selection.items rows.items
+        (optional_text args.now.run.root) selected.jobs selected.selection.items rows.items
         (outputs_of F.committed O.accepted E.accepted E.failure_count to.old) (outputs_of F.committed O.accepted E.accepted E.failure_count to.new)) }
     ensures stopped { IfErr result (λ stop. (stop ≡ Stop.OutOfMemory) ⊎ (stop ≡ Stop.NoWorker)) }
 {
@@ -275,7 +275,7 @@ fn run_selected<
         jobs,
         selection,
         ..
-    } = marked;
+    } = selected;
     let (alloc, root) = (host.alloc, args.run.root);
     let indices = selected_indices(alloc, selection.as_slice())?;
     let mut store = RecordingStore::new(host.inputs, alloc, root);
@@ -307,7 +307,7 @@ fn changes_of_runs<R, D: Inputs>(
     args: &AcceptArgs<'_>,
     list: &ListFile<'_>,
     runs: Vec<Option<JobRun>>,
-) -> Result<Outcomes, Stop>
+) -> Result<AcceptChanges, Stop>
     ensures runs { IfOk result (λ outcomes. AreSkippedFrom runs.items outcomes.new.runs.items) }
     ensures golden_texts { IfOk result (λ outcomes. outcomes.golden_texts.items
         ≡ golden_texts_of_runs 0 list.now.jobs.now outcomes.new.runs.items) }
@@ -328,7 +328,7 @@ fn changes_of_runs<R, D: Inputs>(
     let golden_texts = golden_texts_of_runs(alloc, list.jobs, new.runs.as_slice())?;
     let targets = targets_of(alloc, new.runs.as_slice(), golden_texts.as_slice())?;
     let files = read_golden_files(host.inputs, alloc, args.run.root, targets)?;
-    Ok(Outcomes {
+    Ok(AcceptChanges {
         golden_texts,
         files,
         new,
@@ -340,7 +340,7 @@ fn write_accepted<'x, R, D: Inputs, F: Outputs + Drop, O: Sink + Drop, E: Sink +
     host: &Host<'_, R, D>,
     args: &AcceptArgs<'_>,
     list: &ListFile<'x>,
-    outcomes: &'x Outcomes,
+    outcomes: &'x AcceptChanges,
     to: &mut Destinations<F, O, E>,
 ) -> Result<u8, Stop>
     ensures low { IfOk result (λ status. status ≤ 1) }

@@ -117,8 +117,8 @@ fn push_golden_of_selected<'a>(
         ≡ input_paths golden.old.items ++ golden_paths_of_selected (optional_text root.entry) jobs.now selection.now) }
 {
     match (jobs, selection) {
-        ([job, jobs @ ..], [marked, selection @ ..]) => {
-            if *marked {
+        ([job, jobs @ ..], [selected, selection @ ..]) => {
+            if *selected {
                 push_golden_paths(alloc, golden, root, job)?;
             }
             push_golden_of_selected(alloc, golden, root, jobs, selection)

@@ -19,20 +19,20 @@ use rv_files::{
 use std::alloc::{AllocError, Global};
 use std::io::ErrorKind;
 
-/// Returns the golden files of the targets, with their current contents. Their paths are resolved against `folder` if given.
+/// Returns the golden files of the targets, with their current contents. Their paths are resolved against `root` if given.
 pub(crate) fn read_golden_files<D: Inputs>(
     inputs: &D,
     alloc: Global,
-    folder: Option<&str>,
+    root: Option<&str>,
     targets: Vec<Target>,
 ) -> Result<Vec<GoldenFile>, Stop>
-    ensures read { IfOk result (λ files. AreGoldenFiles (D.contents inputs.now) (optional_text folder.entry) targets.items files.items) }
+    ensures read { IfOk result (λ files. AreGoldenFiles (D.contents inputs.now) (optional_text root.entry) targets.items files.items) }
     ensures stopped { IfErr result
-        (IsTargetsUnreadStop (D.contents inputs.now) (optional_text folder.entry) targets.items) }
+        (IsTargetsUnreadStop (D.contents inputs.now) (optional_text root.entry) targets.items) }
 {
     let mut files = Vec::new(alloc);
     for target in targets {
-        let resolved = golden_file_path(alloc, folder, target.path.as_str())?;
+        let resolved = golden_file_path(alloc, root, target.path.as_str())?;
         let old = read_golden_file(inputs, alloc, resolved.as_str())?;
         push_file(
             &mut files,
@@ -54,15 +54,15 @@ fn push_file(files: &mut Vec<GoldenFile>, file: GoldenFile) -> Result<(), AllocE
     Ok(())
 }
 
-/// Returns the path of a golden file, resolved against `folder` if given.
+/// Returns the path of a golden file, resolved against `root` if given.
 pub(crate) fn golden_file_path(
     alloc: Global,
-    folder: Option<&str>,
+    root: Option<&str>,
     path: &str,
 ) -> Result<Text, AllocError>
-    ensures { IfOk result (λ resolved. resolved ≡ resolved_path (optional_text folder.entry) path.now) }
+    ensures { IfOk result (λ resolved. resolved ≡ resolved_path (optional_text root.entry) path.now) }
 {
-    let resolved = resolved_path(alloc, folder, path)?;
+    let resolved = resolved_path(alloc, root, path)?;
     Text::copy(alloc, resolved.as_str())
 }
 
@@ -160,7 +160,7 @@ pub(crate) fn write_accepted_files<F: Outputs>(
     alloc: Global,
     accepting: &AcceptSummary<'_>,
 ) -> Result<(), Stop>
-    ensures placed { OnOk result (AreFilesCommitted (F.committed files.old) (F.committed files.new) (Some (written_files accepting.now))) }
+    ensures committed { OnOk result (AreFilesCommitted (F.committed files.old) (F.committed files.new) (Some (written_files accepting.now))) }
     ensures stopped { IfErr result
         (IsStopForSomeFile IsFileNotCreatedStop accepting.now.list.path.now accepting.now.files.now) }
 {

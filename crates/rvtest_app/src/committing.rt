@@ -34,7 +34,7 @@ pub(crate) fn commit_outlets<F: Outputs>(
 ) -> Result<(), Stop>
     requires report { has_no_failure F.File.failure_count outlets.report }
     requires junit { has_no_failure F.File.failure_count outlets.junit }
-    ensures placed { OnOk result (AreFilesCommitted (F.committed files.old) (F.committed files.new)
+    ensures committed { OnOk result (AreFilesCommitted (F.committed files.old) (F.committed files.new)
         (joined_files (files_of F.pending_path F.File.accepted outlets.entry.junit)
         (files_of F.pending_path F.File.accepted outlets.entry.report))) }
     ensures part { OnErr result (AreFilesPartlyCommitted (F.committed files.old) (F.committed files.new)
@@ -123,7 +123,7 @@ fn commit_both<F: Outputs>(
     first: Option<SyncedFile<'_, F::Place, F::Synced>>,
     second: Option<SyncedFile<'_, F::Place, F::Synced>>,
 ) -> Result<(), Stop>
-    ensures placed { OnOk result (AreFilesCommitted (F.committed files.old) (F.committed files.new)
+    ensures committed { OnOk result (AreFilesCommitted (F.committed files.old) (F.committed files.new)
         (joined_files (synced_files F.pending_path F.synced_bytes first.entry)
         (synced_files F.pending_path F.synced_bytes second.entry))) }
     ensures part { OnErr result (AreFilesPartlyCommitted (F.committed files.old) (F.committed files.new)
@@ -146,7 +146,7 @@ fn commit_synced<F: Outputs>(
     alloc: Global,
     synced: Option<SyncedFile<'_, F::Place, F::Synced>>,
 ) -> Result<(), Stop>
-    ensures placed { OnOk result (AreFilesCommitted (F.committed files.old) (F.committed files.new)
+    ensures committed { OnOk result (AreFilesCommitted (F.committed files.old) (F.committed files.new)
         (synced_files F.pending_path F.synced_bytes synced.entry)) }
     ensures same { OnErr result (F.committed files.new ≡ F.committed files.old) }
     ensures stopped { IfErr result (IsUncommittedStop (synced_path synced.entry)) }

@@ -26,7 +26,7 @@ pub(crate) struct CurrentFiles<'x, D> {
     pub inputs: &'x D,
     pub alloc: Global,
     /// The directory against which the paths of golden files are resolved.
-    pub folder: Option<&'x str>,
+    pub root: Option<&'x str>,
     /// The row of each job of the list; `None` for a job that was not run.
     pub rows: &'x [Option<Row>],
 }
@@ -39,7 +39,7 @@ impl<'x, D: Inputs> CurrentFiles<'x, D> {
         chosen: &[bool],
     ) -> Result<Vec<Candidate>, AllocError>
         ensures { IfOk result (λ candidates. AreCandidates (D.contents self.now.inputs.now)
-            (optional_text self.now.folder) self.now.rows.now jobs.now chosen.now candidates.items) }
+            (optional_text self.now.root) self.now.rows.now jobs.now chosen.now candidates.items) }
     {
         let mut candidates = Vec::new(self.alloc);
         for job in jobs {
@@ -57,7 +57,7 @@ impl<'x, D: Inputs> CurrentFiles<'x, D> {
         job: &Job,
         chosen: &[bool],
     ) -> Result<Candidate, AllocError>
-        ensures { IfOk result (IsCandidateAt (D.contents self.now.inputs.now) (optional_text self.now.folder)
+        ensures { IfOk result (IsCandidateAt (D.contents self.now.inputs.now) (optional_text self.now.root)
             self.now.rows.now chosen.now index job.now) }
     {
         let is_chosen = is_selected(chosen, index);
@@ -78,7 +78,7 @@ impl<'x, D: Inputs> CurrentFiles<'x, D> {
 
     // Returns the verdict on a job with this row, given its golden files as they are now.
     fn current_verdict(&self, job: &Job, row: &Row) -> Result<CurrentVerdict, AllocError>
-        ensures { IfOk result (IsCurrentVerdict (D.contents self.now.inputs.now) (optional_text self.now.folder)
+        ensures { IfOk result (IsCurrentVerdict (D.contents self.now.inputs.now) (optional_text self.now.root)
             self.now.rows.now job.now row.now) }
     {
         let console = self.golden_text(path_to_read(job, row, console_path(job)))?;
@@ -127,7 +127,7 @@ impl<'x, D: Inputs> CurrentFiles<'x, D> {
 
     // Returns the contents of the golden file at a path; `None` if no path is given, or the file cannot be read or is too long.
     fn golden_text(&self, path: Option<&str>) -> Result<Option<Vec<u8>>, AllocError>
-        ensures { IfOk result (λ text. IsGoldenText (D.contents self.now.inputs.now) (optional_text self.now.folder)
+        ensures { IfOk result (λ text. IsGoldenText (D.contents self.now.inputs.now) (optional_text self.now.root)
             (option_map (λ path. path.now) path.entry) (option_map (λ bytes. bytes.items) text)) }
     {
         match path {
@@ -140,9 +140,9 @@ impl<'x, D: Inputs> CurrentFiles<'x, D> {
     // long.
     fn text_of_path(&self, path: &str) -> Result<Option<Vec<u8>>, AllocError>
         ensures { IfOk result (λ text. AreContentsUpToLimit (D.contents self.now.inputs.now)
-            (resolved_path (optional_text self.now.folder) path.now) (option_map (λ bytes. bytes.items) text)) }
+            (resolved_path (optional_text self.now.root) path.now) (option_map (λ bytes. bytes.items) text)) }
     {
-        let resolved = golden_file_path(self.alloc, self.folder, path)?;
+        let resolved = golden_file_path(self.alloc, self.root, path)?;
         self.text_at(resolved.as_str())
     }
 
@@ -173,7 +173,7 @@ fn is_selected(selection: &[bool], index: usize) -> bool
     ensures { result ≡ is_selected selection.now index }
 {
     match selection.get(index) {
-        Some(marked) => *marked,
+        Some(selected) => *selected,
         None => false,
     }
 }

@@ -54,11 +54,11 @@ fn push_paths_line(told: &mut Vec<u8>, root: Option<&str>) -> Result<(), AllocEr
     ensures { OnOk result (told.new.items ≡ told.old.items ++ line (paths_text (optional_text root.entry))) }
 {
     match root {
-        Some(folder) => push_spans(
+        Some(root) => push_spans(
             told,
             &[
                 Span::Text("no image was found: relative paths are resolved against "),
-                Span::Printable(folder.as_bytes()),
+                Span::Printable(root.as_bytes()),
                 Span::Text(" (--root)\n"),
             ],
         ),

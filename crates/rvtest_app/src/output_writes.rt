@@ -55,7 +55,7 @@ pub(crate) fn put_files<F: Outputs + Drop, O: Sink + Drop, E: Sink + Drop, T: Ro
         → HasReceived F.pending_path F.File.accepted F.File.failure_count (F.committed to.old.files) junit_path [] outlets.entry.junit
         → OnOk result (Appends (O.accepted to.old.out) (O.accepted to.new.out)
         (stdout_at junit_path (junit_of_report T.line texts.entry) ++ stdout_at report_path (report_text_of texts.entry.report))) }
-    ensures placed { (had : List ℕ) (report_path junit_path : Option (List ℕ))
+    ensures committed { (had : List ℕ) (report_path junit_path : Option (List ℕ))
         → HasReceived F.pending_path F.File.accepted F.File.failure_count (F.committed to.old.files) report_path had outlets.entry.report
         → HasReceived F.pending_path F.File.accepted F.File.failure_count (F.committed to.old.files) junit_path [] outlets.entry.junit
         → OnOk result (AreFilesCommitted (F.committed to.old.files) (F.committed to.new.files)

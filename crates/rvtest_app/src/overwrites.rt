@@ -193,17 +193,17 @@ fn push_input_path(text: &mut Vec<u8>, path: &str) -> Result<(), AllocError>
     )
 }
 
-/// Appends the input that `role` describes, with its path resolved against `folder` if given.
+/// Appends the input that `role` describes, with its path resolved against `root` if given.
 pub(crate) fn push_input<'a>(
     alloc: Global,
     read: &mut Vec<InputPath<'a>>,
-    folder: Option<&str>,
+    root: Option<&str>,
     path: &str,
     role: InputRole<'a>,
 ) -> Result<(), AllocError>
-    ensures { OnOk result (input_paths read.new.items ≡ input_paths read.old.items ++ resolved_path (optional_text folder.entry) path.now ∷ []) }
+    ensures { OnOk result (input_paths read.new.items ≡ input_paths read.old.items ++ resolved_path (optional_text root.entry) path.now ∷ []) }
 {
-    let path = resolved_path(alloc, folder, path)?;
+    let path = resolved_path(alloc, root, path)?;
     read.push(InputPath { path, role })?;
     Ok(())
 }

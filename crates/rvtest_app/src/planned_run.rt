@@ -16,11 +16,11 @@ pub(crate) struct RequestedJobs {
     pub(crate) jobs: JobList,
     /// `None` if no job is to run.
     pub(crate) selection: Option<Vec<bool>>,
-    pub(crate) frame: ReportContext,
+    pub(crate) context: ReportContext,
     /// The notes about the choice.
     pub(crate) notes: Vec<u8>,
     ghost counted: { ForSome selection (λ selection. length selection.items ≡ length jobs) },
-    ghost whole: { ForSome frame.old (λ rows. length rows ≡ length jobs) },
+    ghost whole: { ForSome context.old (λ rows. length rows ≡ length jobs) },
 }
 
 /// The jobs of a list, the selection of those to run, and which are known to fail.
@@ -28,11 +28,11 @@ pub(crate) struct RequestedJobs {
 pub(crate) struct SelectedJobs {
     pub(crate) jobs: JobList,
     pub(crate) selection: Vec<bool>,
-    pub(crate) frame: ReportContext,
+    pub(crate) context: ReportContext,
     /// The jobs that are known to fail, with `--known`.
     pub(crate) known: Option<KnownJobs>,
     ghost counted: { length selection.items ≡ length jobs },
-    ghost whole: { ForSome frame.old (λ rows. length rows ≡ length jobs) },
+    ghost whole: { ForSome context.old (λ rows. length rows ≡ length jobs) },
 }
 
 /// The jobs at some indices of a plan, and how their rows are reported.

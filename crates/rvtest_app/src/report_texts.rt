@@ -93,15 +93,15 @@ fn write_whole_report<W: Sink>(
 }
 
 /// Returns the report to write: the old report, updated with these rows, if there is one; otherwise a report of these rows alone.
-pub(crate) fn report_with_context(chosen: ChosenRows<'_>, frame: ReportContext) -> ReportText<'_>
-    requires { ForSome frame.old (λ rows. length rows ≡ chosen.jobs) }
+pub(crate) fn report_with_context(chosen: ChosenRows<'_>, context: ReportContext) -> ReportText<'_>
+    requires { ForSome context.old (λ rows. length rows ≡ chosen.jobs) }
     ensures text { report_text_of result
-        ≡ run_report_text frame.old chosen.entry.jobs chosen.entry.indices.now frame.shard chosen.entry.rows }
+        ≡ run_report_text context.old chosen.entry.jobs chosen.entry.indices.now context.shard chosen.entry.rows }
     ensures rest { report_rest_of result
-        ≡ run_report_rest frame.old chosen.entry.jobs chosen.entry.indices.now frame.shard chosen.entry.rows }
+        ≡ run_report_rest context.old chosen.entry.jobs chosen.entry.indices.now context.shard chosen.entry.rows }
     ensures rows { report_rows result ≡ chosen.entry.rows }
 {
-    let ReportContext { shard, old } = frame;
+    let ReportContext { shard, old } = context;
     match old {
         Some(old) => ReportText::Into(IntoRows { chosen, old }),
         None => ReportText::Chosen(chosen, shard),

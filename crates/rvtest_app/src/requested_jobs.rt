@@ -30,7 +30,7 @@ impl<'x, R, D: Inputs> ListRun<'x, R, D> {
         requires { self.now.rule ≡ failure_rule self.now.args.now.lenient }
         ensures requested { IfOk result (λ requested. AreRequestedJobs (D.contents self.now.host.now.inputs.now)
             self.now.args.now requested.jobs (option_map (λ selection. selection.items) requested.selection)
-            requested.frame.shard requested.frame.old requested.notes.items) }
+            requested.context.shard requested.context.old requested.notes.items) }
         ensures stopped { IfErr result
             (IsJobRequestStop (D.contents self.now.host.now.inputs.now) self.now.args.now) }
     {
@@ -67,8 +67,8 @@ impl<'x, R, D: Inputs> ListRun<'x, R, D> {
     ) -> Result<RequestedJobs, Stop>
         requires shard { (0 < shard.number) × (shard.number ≤ shard.shards) }
         requires counted { ForSome old (λ rows. length rows ≡ length jobs) }
-        ensures old { IfOk result (λ requested. requested.frame.old ≡ old) }
-        ensures marked { IfOk result (λ requested. (requested.jobs ≡ jobs) × (requested.frame.shard ≡ Some shard)
+        ensures old { IfOk result (λ requested. requested.context.old ≡ old) }
+        ensures selected { IfOk result (λ requested. (requested.jobs ≡ jobs) × (requested.context.shard ≡ Some shard)
             × (option_map (λ selection. selection.items) requested.selection
             ≡ Some (shard_selection shard.shards shard.number (length jobs))) × (requested.notes.items ≡ [])) }
         ensures memory { IfErr result (λ stop. stop ≡ Stop.OutOfMemory) }
@@ -78,7 +78,7 @@ impl<'x, R, D: Inputs> ListRun<'x, R, D> {
         Ok(RequestedJobs {
             jobs,
             selection: Some(selection),
-            frame: ReportContext {
+            context: ReportContext {
                 shard: Some(shard),
                 old,
             },
@@ -94,8 +94,8 @@ impl<'x, R, D: Inputs> ListRun<'x, R, D> {
         old: Option<Rows>,
     ) -> Result<RequestedJobs, Stop>
         requires { ForSome old (λ rows. length rows ≡ length jobs) }
-        ensures old { IfOk result (λ requested. requested.frame.old ≡ old) }
-        ensures chosen { IfOk result (λ requested. (requested.jobs ≡ jobs) × (requested.frame.shard ≡ None)
+        ensures old { IfOk result (λ requested. requested.context.old ≡ old) }
+        ensures chosen { IfOk result (λ requested. (requested.jobs ≡ jobs) × (requested.context.shard ≡ None)
             × IsChoice (D.contents self.now.host.now.inputs.now) self.now.args.now self.now.rule jobs
             (option_map (λ selection. selection.items) requested.selection) requested.notes.items) }
         ensures stopped { IfErr result
@@ -112,7 +112,7 @@ impl<'x, R, D: Inputs> ListRun<'x, R, D> {
         Ok(RequestedJobs {
             jobs,
             selection,
-            frame: ReportContext { shard: None, old },
+            context: ReportContext { shard: None, old },
             notes,
         })
     }

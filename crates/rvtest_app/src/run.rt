@@ -75,7 +75,7 @@ where
     let RequestedJobs {
         jobs,
         selection,
-        frame,
+        context,
         notes,
         ..
     } = match run.requested_jobs(ChoosingCommand::Run) {
@@ -92,13 +92,13 @@ where
     write_message(&mut to.errors, notes.as_slice());
     match selection {
         Some(selection) => {
-            let marked = SelectedJobs {
+            let selected = SelectedJobs {
                 jobs,
                 selection,
-                frame,
+                context,
                 known,
             };
-            run.run_selected_jobs(marked, to, terminals)
+            run.run_selected_jobs(selected, to, terminals)
         }
         None => (to, Ok(DONE)),
     }
@@ -113,7 +113,7 @@ impl<'x, R: Threads + Wait + Sync + Clock, D: Inputs> ListRun<'x, R, D> {
         P: Write + Drop + Send,
     >(
         &self,
-        marked: SelectedJobs,
+        selected: SelectedJobs,
         to: Destinations<F, O, E>,
         terminals: Terminals<P>,
     ) -> (Destinations<F, O, E>, Result<u8, Stop>)
@@ -121,20 +121,20 @@ impl<'x, R: Threads + Wait + Sync + Clock, D: Inputs> ListRun<'x, R, D> {
         F::File: Send,
         requires { self.now.rule ≡ failure_rule self.now.args.now.lenient }
         ensures run { IfOk result.1 (λ status. IsRunOfSelected (D.contents self.now.host.now.inputs.now) self.now.args.now
-            marked.known marked.jobs (Some marked.selection.items) marked.frame.shard marked.frame.old status
+            selected.known selected.jobs (Some selected.selection.items) selected.context.shard selected.context.old status
             (outputs_of F.committed O.accepted E.accepted E.failure_count to) (outputs_of F.committed O.accepted E.accepted E.failure_count result.0)) }
         ensures undone { OnErr result.1 (IsAbortedRunOfJobs (D.contents self.now.host.now.inputs.now) self.now.args.now
-            marked.known marked.jobs (selected_job_indices marked.selection.items) marked.frame.shard marked.frame.old
+            selected.known selected.jobs (selected_job_indices selected.selection.items) selected.context.shard selected.context.old
             (F.committed to.files) (F.committed result.0.files)) }
         ensures stopped { IfErr result.1 (IsRunWriteStop self.now.args.now) }
     {
         let SelectedJobs {
             jobs,
             selection,
-            frame,
+            context,
             known,
             ..
-        } = marked;
+        } = selected;
         let (alloc, args) = (self.host.alloc, self.args);
         let indices = match selected_indices(alloc, selection.as_slice()) {
             Ok(indices) => indices,
@@ -169,7 +169,7 @@ impl<'x, R: Threads + Wait + Sync + Clock, D: Inputs> ListRun<'x, R, D> {
             reporter: &reporter,
             indices: indices.as_slice(),
         };
-        self.run_into_files(&planned, frame, to, terminals)
+        self.run_into_files(&planned, context, to, terminals)
     }
 }
 

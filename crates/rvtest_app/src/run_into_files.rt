@@ -58,25 +58,25 @@ impl<'x, R: Threads + Wait + Sync + Clock, D: Inputs> ListRun<'x, R, D> {
     >(
         &self,
         planned: &PlannedRun<'_>,
-        frame: ReportContext,
+        context: ReportContext,
         to: Destinations<F, O, E>,
         terminals: Terminals<P>,
     ) -> (Destinations<F, O, E>, Result<u8, Stop>)
     where
         F::File: Send,
-        requires whole { ForSome frame.old (λ rows. length rows ≡ length planned.now.reporter.now.plan.now.jobs) }
+        requires whole { ForSome context.old (λ rows. length rows ≡ length planned.now.reporter.now.plan.now.jobs) }
         ensures status { IfOk result.1 (λ status. status ≡ rows_status (judge_view planned.now.reporter.now.judge) (run_rows
             self.now.args.now.stop_after (judge_view planned.now.reporter.now.judge) planned.now.reporter.now.plan.now
             planned.now.indices.now)) }
         ensures outputs_of { OnOk result.1 (IsCountedRunWritten self.now.args.now (reporter_of planned.now.reporter.now)
-            planned.now.indices.now frame.shard frame.old (run_rows self.now.args.now.stop_after
+            planned.now.indices.now context.shard context.old (run_rows self.now.args.now.stop_after
             (judge_view planned.now.reporter.now.judge) planned.now.reporter.now.plan.now planned.now.indices.now)
             (outputs_of F.committed O.accepted E.accepted E.failure_count to) (outputs_of F.committed O.accepted E.accepted E.failure_count result.0)) }
         ensures part { (rows : List ARow) → rows ≡ run_rows self.now.args.now.stop_after
             (judge_view planned.now.reporter.now.judge) planned.now.reporter.now.plan.now planned.now.indices.now
             → OnErr result.1 ((F.committed result.0.files ≡ F.committed to.files)
-            ⊎ AreRunFilesPartlyCommitted self.now.args.now (reporter_of planned.now.reporter.now) planned.now.indices.now frame.shard
-            frame.old rows (F.committed to.files) (F.committed result.0.files)) }
+            ⊎ AreRunFilesPartlyCommitted self.now.args.now (reporter_of planned.now.reporter.now) planned.now.indices.now context.shard
+            context.old rows (F.committed to.files) (F.committed result.0.files)) }
         ensures stopped { IfErr result.1 (IsRunWriteStop self.now.args.now) }
     {
         let (alloc, args) = (self.host.alloc, self.args);
@@ -90,7 +90,7 @@ impl<'x, R: Threads + Wait + Sync + Clock, D: Inputs> ListRun<'x, R, D> {
             Err(stop) => return (to, Err(stop)),
         };
         let rows = ReportRowReporter {
-            is_streaming: frame.old.is_none(),
+            is_streaming: context.old.is_none(),
         };
         let (report, sink) = report.split_sink();
         let Destinations { files, out, errors } = to;
@@ -108,7 +108,7 @@ impl<'x, R: Threads + Wait + Sync + Clock, D: Inputs> ListRun<'x, R, D> {
                 counts,
             };
             let to = Destinations { files, out, errors };
-            self.finish_run(planned, frame, run, outlets, to)
+            self.finish_run(planned, context, run, outlets, to)
         } else {
             let shown = RunDisplay {
                 stream: out,
@@ -123,7 +123,7 @@ impl<'x, R: Threads + Wait + Sync + Clock, D: Inputs> ListRun<'x, R, D> {
                 counts,
             };
             let to = Destinations { files, out, errors };
-            self.finish_run(planned, frame, run, outlets, to)
+            self.finish_run(planned, context, run, outlets, to)
         }
     }
 
@@ -131,7 +131,7 @@ impl<'x, R: Threads + Wait + Sync + Clock, D: Inputs> ListRun<'x, R, D> {
     fn finish_run<F: Outputs + Drop, O: Sink + Drop, E: Sink + Drop>(
         &self,
         planned: &PlannedRun<'_>,
-        frame: ReportContext,
+        context: ReportContext,
         run: ShownRun,
         outlets: RunOutlets<'_, F::Place, F::File>,
         to: Destinations<F, O, E>,
@@ -142,10 +142,10 @@ impl<'x, R: Threads + Wait + Sync + Clock, D: Inputs> ListRun<'x, R, D> {
         requires texts { IfOk run.ran (λ rows. AreLinesOf (failure_lines (reporter_of planned.now.reporter.now))
             planned.now.indices.now rows run.texts.items) }
         requires failed { IfErr run.ran (λ error. error ≡ ReportFailed → is_some (outlet_path outlets.report) ≡ true) }
-        requires whole { ForSome frame.old (λ rows. length rows ≡ length planned.now.reporter.now.plan.now.jobs) }
+        requires whole { ForSome context.old (λ rows. length rows ≡ length planned.now.reporter.now.plan.now.jobs) }
         requires path { outlet_path outlets.report ≡ file_path_at (run_report_path self.now.args.now) }
         requires taken { IfOk run.ran (λ rows. HaveRunOutletsReceived F.pending_path F.File.accepted F.File.failure_count (F.committed to.files)
-            self.now.args.now (streamed_rows frame.old (shown_indices planned.now.indices.now rows) rows) outlets) }
+            self.now.args.now (streamed_rows context.old (shown_indices planned.now.indices.now rows) rows) outlets) }
         ensures status { IfOk result.1 (λ status. status ≡ rows_status (judge_view planned.now.reporter.now.judge) (run_rows
             self.now.args.now.stop_after (judge_view planned.now.reporter.now.judge) planned.now.reporter.now.plan.now
             planned.now.indices.now)) }
@@ -155,12 +155,12 @@ impl<'x, R: Threads + Wait + Sync + Clock, D: Inputs> ListRun<'x, R, D> {
             (judge_view planned.now.reporter.now.judge) planned.now.reporter.now.plan.now planned.now.indices.now))
             before (outputs_of F.committed O.accepted E.accepted E.failure_count to))
             → OnOk result.1 (IsCountedRunWritten self.now.args.now (reporter_of planned.now.reporter.now) planned.now.indices.now
-            frame.shard frame.old (run_rows self.now.args.now.stop_after (judge_view planned.now.reporter.now.judge)
+            context.shard context.old (run_rows self.now.args.now.stop_after (judge_view planned.now.reporter.now.judge)
             planned.now.reporter.now.plan.now planned.now.indices.now) before
             (outputs_of F.committed O.accepted E.accepted E.failure_count result.0)) }
         ensures part { OnErr result.1 ((F.committed result.0.files ≡ F.committed to.files)
-            ⊎ AreRunFilesPartlyCommitted self.now.args.now (reporter_of planned.now.reporter.now) planned.now.indices.now frame.shard
-            frame.old (run_rows self.now.args.now.stop_after (judge_view planned.now.reporter.now.judge)
+            ⊎ AreRunFilesPartlyCommitted self.now.args.now (reporter_of planned.now.reporter.now) planned.now.indices.now context.shard
+            context.old (run_rows self.now.args.now.stop_after (judge_view planned.now.reporter.now.judge)
             planned.now.reporter.now.plan.now planned.now.indices.now) (F.committed to.files) (F.committed result.0.files)) }
         ensures stopped { IfErr result.1 (IsRunWriteStop self.now.args.now) }
     {
@@ -168,7 +168,7 @@ impl<'x, R: Threads + Wait + Sync + Clock, D: Inputs> ListRun<'x, R, D> {
         let mut to = to;
         match ran {
             Ok(rows) => {
-                let status = self.write_all_files(planned, frame, rows, texts, outlets, &mut to);
+                let status = self.write_all_files(planned, context, rows, texts, outlets, &mut to);
                 (to, status)
             }
             Err(error) => {
@@ -183,7 +183,7 @@ impl<'x, R: Threads + Wait + Sync + Clock, D: Inputs> ListRun<'x, R, D> {
     fn write_all_files<F: Outputs + Drop, O: Sink + Drop, E: Sink + Drop>(
         &self,
         planned: &PlannedRun<'_>,
-        frame: ReportContext,
+        context: ReportContext,
         rows: Rows,
         texts: Vec<Option<Vec<u8>>>,
         outlets: RunOutlets<'_, F::Place, F::File>,
@@ -193,19 +193,19 @@ impl<'x, R: Threads + Wait + Sync + Clock, D: Inputs> ListRun<'x, R, D> {
             planned.now.reporter.now.plan.now planned.now.indices.now }
         requires few { length rows ≤ length planned.now.indices.now }
         requires texts { AreLinesOf (failure_lines (reporter_of planned.now.reporter.now)) planned.now.indices.now rows texts.items }
-        requires whole { ForSome frame.old (λ rows. length rows ≡ length planned.now.reporter.now.plan.now.jobs) }
+        requires whole { ForSome context.old (λ rows. length rows ≡ length planned.now.reporter.now.plan.now.jobs) }
         requires taken { HaveRunOutletsReceived F.pending_path F.File.accepted F.File.failure_count (F.committed to.old.files) self.now.args.now
-            (streamed_rows frame.old (shown_indices planned.now.indices.now rows) rows) outlets }
+            (streamed_rows context.old (shown_indices planned.now.indices.now rows) rows) outlets }
         ensures status { IfOk result (λ status. status ≡ rows_status (judge_view planned.now.reporter.now.judge) rows) }
         ensures outputs_of { (before : CommandOutputs) → IsWrittenToErrorsIf (uses_run_stdout self.now.args.now) (run_output_text
             (row_lines_at (reporter_of planned.now.reporter.now)) (judge_view planned.now.reporter.now.judge)
             planned.now.reporter.now.plan.now planned.now.indices.now rows)
             before (outputs_of F.committed O.accepted E.accepted E.failure_count to.old)
             → OnOk result (IsCountedRunWritten self.now.args.now (reporter_of planned.now.reporter.now) planned.now.indices.now
-            frame.shard frame.old rows before (outputs_of F.committed O.accepted E.accepted E.failure_count to.new)) }
+            context.shard context.old rows before (outputs_of F.committed O.accepted E.accepted E.failure_count to.new)) }
         ensures part { OnErr result ((F.committed to.new.files ≡ F.committed to.old.files)
-            ⊎ AreRunFilesPartlyCommitted self.now.args.now (reporter_of planned.now.reporter.now) planned.now.indices.now frame.shard
-            frame.old rows (F.committed to.old.files) (F.committed to.new.files)) }
+            ⊎ AreRunFilesPartlyCommitted self.now.args.now (reporter_of planned.now.reporter.now) planned.now.indices.now context.shard
+            context.old rows (F.committed to.old.files) (F.committed to.new.files)) }
         ensures stopped { IfErr result (IsRunWriteStop self.now.args.now) }
     {
         let RunOutlets {
@@ -215,7 +215,7 @@ impl<'x, R: Threads + Wait + Sync + Clock, D: Inputs> ListRun<'x, R, D> {
         } = outlets;
         let first = planned.first_jobs(rows.as_slice().len());
         let files = Outlets { report, junit };
-        match self.write_run_files(&first, frame, rows, texts, files, to) {
+        match self.write_run_files(&first, context, rows, texts, files, to) {
             Ok(status) => {
                 self.write_counts(planned.reporter.plan, first.indices, counts, to)?;
                 Ok(status)
@@ -231,7 +231,7 @@ impl<'x, R: Threads + Wait + Sync + Clock, D: Inputs> ListRun<'x, R, D> {
     fn write_run_files<F: Outputs + Drop, O: Sink + Drop, E: Sink + Drop>(
         &self,
         planned: &PlannedRun<'_>,
-        frame: ReportContext,
+        context: ReportContext,
         rows: Rows,
         texts: Vec<Option<Vec<u8>>>,
         outlets: Outlets<'_, F::Place, F::File>,
@@ -239,27 +239,27 @@ impl<'x, R: Threads + Wait + Sync + Clock, D: Inputs> ListRun<'x, R, D> {
     ) -> Result<u8, Stop>
         requires counted { length rows ≡ length planned.now.indices.now }
         requires texts { AreLinesOf (failure_lines (reporter_of planned.now.reporter.now)) planned.now.indices.now rows texts.items }
-        requires whole { ForSome frame.old (λ rows. length rows ≡ length planned.now.reporter.now.plan.now.jobs) }
+        requires whole { ForSome context.old (λ rows. length rows ≡ length planned.now.reporter.now.plan.now.jobs) }
         requires report { has_no_failure F.File.failure_count outlets.report }
         requires junit { has_no_failure F.File.failure_count outlets.junit }
         ensures status { IfOk result (λ status. status ≡ rows_status (judge_view planned.now.reporter.now.judge) rows) }
         ensures errors { to.new.errors ≡ to.old.errors }
         ensures put { (report_path junit_path : Option (List ℕ))
             → HasReceived F.pending_path F.File.accepted F.File.failure_count (F.committed to.old.files) report_path
-            (streamed_rows frame.old planned.now.indices.now rows) outlets.entry.report
+            (streamed_rows context.old planned.now.indices.now rows) outlets.entry.report
             → HasReceived F.pending_path F.File.accepted F.File.failure_count (F.committed to.old.files) junit_path [] outlets.entry.junit
             → OnOk result (Appends (O.accepted to.old.out) (O.accepted to.new.out)
             (stdout_at junit_path (run_junit self.now.args.now (reporter_of planned.now.reporter.now)
-            planned.now.indices.now rows) ++ stdout_at report_path (run_report_text frame.old
-            (length planned.now.reporter.now.plan.now.jobs) planned.now.indices.now frame.shard rows))) }
-        ensures placed { (report_path junit_path : Option (List ℕ))
+            planned.now.indices.now rows) ++ stdout_at report_path (run_report_text context.old
+            (length planned.now.reporter.now.plan.now.jobs) planned.now.indices.now context.shard rows))) }
+        ensures committed { (report_path junit_path : Option (List ℕ))
             → HasReceived F.pending_path F.File.accepted F.File.failure_count (F.committed to.old.files) report_path
-            (streamed_rows frame.old planned.now.indices.now rows) outlets.entry.report
+            (streamed_rows context.old planned.now.indices.now rows) outlets.entry.report
             → HasReceived F.pending_path F.File.accepted F.File.failure_count (F.committed to.old.files) junit_path [] outlets.entry.junit
             → OnOk result (AreFilesCommitted (F.committed to.old.files) (F.committed to.new.files)
             (Some (file_at junit_path (run_junit self.now.args.now (reporter_of planned.now.reporter.now)
-            planned.now.indices.now rows) ++ file_at report_path (run_report_text frame.old
-            (length planned.now.reporter.now.plan.now.jobs) planned.now.indices.now frame.shard rows)))) }
+            planned.now.indices.now rows) ++ file_at report_path (run_report_text context.old
+            (length planned.now.reporter.now.plan.now.jobs) planned.now.indices.now context.shard rows)))) }
         ensures part { (junit_path : Option (List ℕ))
             → HasReceived F.pending_path F.File.accepted F.File.failure_count (F.committed to.old.files) junit_path [] outlets.entry.junit
             → OnErr result (AreFilesPartlyCommitted (F.committed to.old.files) (F.committed to.new.files)
@@ -286,7 +286,7 @@ impl<'x, R: Threads + Wait + Sync + Clock, D: Inputs> ListRun<'x, R, D> {
             },
             reporter: &told,
             indices,
-            report: report_with_context(chosen, frame),
+            report: report_with_context(chosen, context),
             texts: texts.as_slice(),
         };
         put_files(self.host.alloc, to, outlets, texts)?;

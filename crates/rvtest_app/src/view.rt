@@ -94,8 +94,8 @@ impl<'x, R: Threads + Wait + Sync, D: Inputs> JobsView<'x, R, D> {
             self.now.view jobs (selected_job_indices selection.now)) }
     {
         let (alloc, inputs) = (self.host.alloc, self.host.inputs);
-        let marked = selected_indices(alloc, selection)?;
-        let indices = marked.as_slice();
+        let selected = selected_indices(alloc, selection)?;
+        let indices = selected.as_slice();
         let mut store = RecordingStore::new(inputs, alloc, self.args.root);
         let plan = gather_jobs_at(alloc, jobs, indices, &mut store)?;
         let note = refused_note(alloc, self.args, &plan, store.unreadable_paths(), indices)?;

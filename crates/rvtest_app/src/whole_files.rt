@@ -37,7 +37,7 @@ pub(crate) fn write_whole_files<F: Outputs + Drop, O: Sink + Drop, E: Sink + Dro
         → OnOk result (Appends (O.accepted to.old.out) (O.accepted to.new.out)
         (stdout_at junit_path (failures_junit suite.entry.name.now (judge_view suite.entry.judge) rows)
         ++ stdout_at report_path (report_text rows))) }
-    ensures placed { (report_path junit_path : Option (List ℕ))
+    ensures committed { (report_path junit_path : Option (List ℕ))
         → HasReceived F.pending_path F.File.accepted F.File.failure_count (F.committed to.old.files) report_path [] outlets.entry.report
         → HasReceived F.pending_path F.File.accepted F.File.failure_count (F.committed to.old.files) junit_path [] outlets.entry.junit
         → OnOk result (AreFilesCommitted (F.committed to.old.files) (F.committed to.new.files)

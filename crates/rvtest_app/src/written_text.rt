@@ -60,7 +60,7 @@ pub(crate) fn write_file<F: Outputs>(
     path: &str,
     bytes: &[u8],
 ) -> Result<(), Stop>
-    ensures placed { OnOk result (AreFilesCommitted (F.committed files.old) (F.committed files.new)
+    ensures committed { OnOk result (AreFilesCommitted (F.committed files.old) (F.committed files.new)
         (Some (committed_file path.now bytes.now ∷ []))) }
     ensures same { OnErr result (F.committed files.new ≡ F.committed files.old) }
     ensures stopped { IfErr result (IsFileNotCreatedStop path.now) }
@@ -80,7 +80,7 @@ pub(crate) fn finish_file<F: Outputs>(
 ) -> Result<(), Stop>
     requires no_failures { F.File.failure_count file.sink ≡ 0 }
     requires named { file.path.now ≡ F.pending_path file.destination }
-    ensures placed { IfSome (F.committed files.old) (λ _. F.File.accepted file.entry.sink ≡ Some [])
+    ensures committed { IfSome (F.committed files.old) (λ _. F.File.accepted file.entry.sink ≡ Some [])
         → OnOk result (AreFilesCommitted (F.committed files.old) (F.committed files.new)
         (Some (committed_file file.entry.path.now bytes.now ∷ []))) }
     ensures same { OnErr result (F.committed files.new ≡ F.committed files.old) }

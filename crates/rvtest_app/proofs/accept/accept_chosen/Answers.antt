@@ -21,10 +21,10 @@ returns-clause-accepted g c =
     IfOk-map c.write_accepted.result _ _
     (λ status put. record {
       first = outputs_of g.F.Outputs.committed g.O.Sink.accepted g.E.Sink.accepted g.E.Sink.failure_count c.checked_jobs.new.to;
-      outside = c.in_ok-marked.ensures.outside;
+      outside = c.in_ok-selected.ensures.outside;
       rows = c.in_ok-rows.rows.items;
       middle = outputs_of g.F.Outputs.committed g.O.Sink.accepted g.E.Sink.accepted g.E.Sink.failure_count c.run_selected.new.to;
-      ran = rw (c.in_ok-marked.ensures.jobs, c.in_ok-marked.ensures.selection) at c.in_ok-rows.ensures.rows;
+      ran = rw (c.in_ok-selected.ensures.jobs, c.in_ok-selected.ensures.selection) at c.in_ok-rows.ensures.rows;
       judged = c.in_ok-runs.runs.items;
       judging = rw c.as_slice-2.ensures.value at c.in_ok-runs.ensures;
       told = put.told;

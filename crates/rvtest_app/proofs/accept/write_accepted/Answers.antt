@@ -36,7 +36,7 @@ returns-clause-put g c = rw c.if-args.false (record {
     Appends-trans _ _ _ _ _ c.in_ok-write_lines.ensures.put c.in_ok-write_count_line-2.ensures.put,
     refl,
     refl,
-    c.in_ok-write_accepted_files.ensures.placed,
+    c.in_ok-write_accepted_files.ensures.committed,
   );
 })
 

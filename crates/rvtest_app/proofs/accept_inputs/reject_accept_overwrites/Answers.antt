@@ -16,9 +16,9 @@ returns-in_err-reject_list_overwrite-clause-stopped g c =
 
 pub returns-clause-apart : goal.returns-clause-apart
 returns-clause-apart g c =
-    let placed = g.F.Outputs.committed c.args.files.now in
+    let committed = g.F.Outputs.committed c.args.files.now in
     on_ok c.outside_notes.result _
-    (accept_apart placed c.args.args.now c.args.jobs.now c.args.selection.now c.in_ok-reads.reads.list.identities.items
+    (accept_apart committed c.args.args.now c.args.jobs.now c.args.selection.now c.in_ok-reads.reads.list.identities.items
     c.in_ok-reads.reads.inputs.identities.items c.push_golden_of_selected.new.golden.items
     (rw c.new-golden.ensures.items at c.in_ok-push_golden_of_selected.ensures) c.in_ok-reads.ensures.list
     c.in_ok-reads.ensures.inputs

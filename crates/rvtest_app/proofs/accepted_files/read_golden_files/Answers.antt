@@ -7,7 +7,7 @@ use Rattle.rvtest_app.proofs.accepted_files.read_golden_files.Goals as goal
 pub loop-target-preserved : goal.loop-target-preserved
 loop-target-preserved g c =
     let contents = g.D.Inputs.contents c.args.inputs.now in
-    let root = optional_text c.args.folder in
+    let root = optional_text c.args.root in
     let rest = c.in-Some.ensures.steps.0 in
     record {
       goes = one_more_file contents root c.args.targets.items (into_iter_items c.loop-target.target-iterator)
@@ -26,6 +26,6 @@ loop-target-preserved g c =
 
 pub returns-clause-read : goal.returns-clause-read
 returns-clause-read g c =
-    all_files (g.D.Inputs.contents c.args.inputs.now) (optional_text c.args.folder) c.args.targets.items
+    all_files (g.D.Inputs.contents c.args.inputs.now) (optional_text c.args.root) c.args.targets.items
     (into_iter_items c.loop-target.target-iterator) c.loop-target.files.items c.loop-target.invariant.goes
     (none_left _ (into_iter_len c.loop-target.target-iterator) c.loop-target.invariant.counted c.in-None.ensures.steps.0)

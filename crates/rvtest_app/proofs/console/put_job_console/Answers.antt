@@ -16,7 +16,7 @@ returns-clause-put g c = record {
     out = g.O.Sink.accepted c.write_results.new.out;
     errors = g.E.Sink.accepted c.args.to.now.errors;
     failures = g.E.Sink.failure_count c.args.to.now.errors;
-    placed = g.F.Outputs.committed c.args.to.now.files;
+    committed = g.F.Outputs.committed c.args.to.now.files;
   };
   put = (c.in_ok-write_results.ensures.put, refl, refl, refl);
   told = (refl, c.write_message.ensures, refl);

@@ -16,7 +16,7 @@ returns-clause-put g c = record {
     out = g.O.Sink.accepted c.args.to.now.out;
     errors = g.E.Sink.accepted c.write_message.new.errors;
     failures = g.E.Sink.failure_count c.write_message.new.errors;
-    placed = g.F.Outputs.committed c.args.to.now.files;
+    committed = g.F.Outputs.committed c.args.to.now.files;
   };
   told = (refl, c.write_message.ensures, refl);
   put = (c.in_ok-write_results.ensures.put, refl, refl, refl);

@@ -21,11 +21,11 @@ pub returns-in_err-write_merged-clause-undone : goal.returns-in_err-write_merged
 returns-in_err-write_merged-clause-undone g c =
     let parts = rw c.as_slice.ensures.value at c.in_ok-merged.ensures.parts in
     OnErr-from c.from_residual-in_err-write_merged.result _
-    (⊎_elim inl (λ placed. inr (record {
+    (⊎_elim inl (λ committed. inr (record {
       texts = map (λ text. text.items) c.in_ok-texts.texts.items;
       read = c.in_ok-texts.ensures.read;
       rows = c.in_ok-merged.merged.rows;
       parts = parts;
-      placed = placed;
+      committed = committed;
     }))
     c.in_err-write_merged.ensures.part)

@@ -3,12 +3,12 @@ use Rattle.rvtest_app.proofs.PutTexts.{both_placed, first_placed}
 use Rattle.rvtest_app.proofs.Results.{OnErr-map, OnOk-map}
 use Rattle.rvtest_app.proofs.output_writes.put_files.Goals as goal
 
-pub returns-in-Ok-clause-placed : goal.returns-in-Ok-clause-placed
-returns-in-Ok-clause-placed g c = λ had report_path junit_path report junit.
+pub returns-in-Ok-clause-committed : goal.returns-in-Ok-clause-committed
+returns-in-Ok-clause-committed g c = λ had report_path junit_path report junit.
     OnOk-map c.commit_outlets.result _ _
     (both_placed g.F.Outputs.pending_path g.F.File.Sink.accepted g.F.File.Sink.failure_count _ _ had junit_path report_path
     c.args.outlets.junit _ c.args.outlets.report _ _ _ junit report c.in-Ok.ensures.junit c.in-Ok.ensures.report)
-    c.commit_outlets.ensures.placed
+    c.commit_outlets.ensures.committed
 
 pub returns-in-Ok-clause-part : goal.returns-in-Ok-clause-part
 returns-in-Ok-clause-part g c = λ junit_path junit.

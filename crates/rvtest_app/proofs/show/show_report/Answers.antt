@@ -11,9 +11,9 @@ returns-in_err-found-clause-stopped g c =
 pub returns-in_err-write_summarized_report-clause-undone : goal.returns-in_err-write_summarized_report-clause-undone
 returns-in_err-write_summarized_report-clause-undone g c =
     OnErr-from c.from_residual-in_err-write_summarized_report.result _
-    (⊎_elim inl (λ placed. inr (record {
+    (⊎_elim inl (λ committed. inr (record {
       found = c.in_ok-found.found;
       read = c.in_ok-found.ensures.read;
-      placed = placed;
+      committed = committed;
     }))
     (rw c.in_ok-summarized.ensures.report at c.in_err-write_summarized_report.ensures.part))

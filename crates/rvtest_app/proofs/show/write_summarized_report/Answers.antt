@@ -26,8 +26,8 @@ returns-in-Ok-clause-put g c =
     ) at c.in-Ok.ensures.shown in
     let out = rw (c.as_bytes.ensures.value, c.suite_name.ensures, c.report_judge.ensures)
     at (c.write_whole_files.ensures.put report_path junit_path (rw same report) (rw same junit)) in
-    let placed = rw (c.as_bytes.ensures.value, c.suite_name.ensures, c.report_judge.ensures)
-    at (c.write_whole_files.ensures.placed report_path junit_path (rw same report) (rw same junit)) in
+    let committed = rw (c.as_bytes.ensures.value, c.suite_name.ensures, c.report_judge.ensures)
+    at (c.write_whole_files.ensures.committed report_path junit_path (rw same report) (rw same junit)) in
     let errors = c.write_whole_files.ensures.errors in
     OnOk-both c.write_whole_files.result _ _ _
     (λ p q. record {
@@ -35,9 +35,9 @@ returns-in-Ok-clause-put g c =
       seen = seen;
       out = p;
       quiet = (ap g.E.Sink.accepted errors, ap g.E.Sink.failure_count errors);
-      placed = q;
+      committed = q;
     })
-    out placed
+    out committed
 
 pub returns-in-Ok-clause-part : goal.returns-in-Ok-clause-part
 returns-in-Ok-clause-part g c =

@@ -10,11 +10,11 @@ returns-clause-put g c = λ report_path junit_path report junit.
     (c.as_slice-2.ensures.len ∙ c.in-Ok.ensures.len ∙ ap length c.as_slice.ensures) in
     rw told at (c.put_files.ensures.put [] report_path junit_path report junit)
 
-pub returns-clause-placed : goal.returns-clause-placed
-returns-clause-placed g c = λ report_path junit_path report junit.
+pub returns-clause-committed : goal.returns-clause-committed
+returns-clause-committed g c = λ report_path junit_path report junit.
     let told = texts_of_rows (failed_line (judge_view c.args.suite.judge)) c.as_slice-2.result.now c.args.rows
     (c.as_slice-2.ensures.len ∙ c.in-Ok.ensures.len ∙ ap length c.as_slice.ensures) in
-    rw told at (c.put_files.ensures.placed [] report_path junit_path report junit)
+    rw told at (c.put_files.ensures.committed [] report_path junit_path report junit)
 
 pub returns-clause-part : goal.returns-clause-part
 returns-clause-part g c = λ junit_path junit.

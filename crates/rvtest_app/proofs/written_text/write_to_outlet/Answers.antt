@@ -17,4 +17,4 @@ pub returns-in-File-clause-written : goal.returns-in-File-clause-written
 returns-in-File-clause-written g c = λ path earlier has.
     let taken = rw c.in-File.is at has in
     written_file_where_told c.finish_file.result earlier path _ _ _ _ _ taken.0 taken.1.0 refl refl refl taken.1.1.0
-    (λ told. rw taken.1.1.2 at (c.finish_file.ensures.placed told))
+    (λ told. rw taken.1.1.2 at (c.finish_file.ensures.committed told))

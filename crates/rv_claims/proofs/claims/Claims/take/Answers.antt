@@ -15,7 +15,7 @@ fetch_add-number-requires c =
       draws _ _ _ c.pass.inside.seat.me (omega (arith, c.self.invariant.0, c.self.invariant.3))
           (subst (λ (k : ℕ). past_last_count k v.draws ≡ 0) key
           (none_past _ (sym c.pass.invariant.stopped ∙ c.if-pass.false)))
-          c.pass.invariant.sits,
+          c.pass.invariant.has_index,
     )
 
 pub invariant_of-pass : goal.invariant_of-pass

@@ -12,7 +12,7 @@ returns-in-Some c =
     let there = stands s.map c.args.addr 1 place.at 0 c.args.addr place.at place.writable is_index
     (omega arith) (omega arith) (omega arith) in
     let byte = get_or_read s.bytes.items place.at c.index.result.now
-    (omega (arith, is_index.ends, c.self.invariant.bytes)) c.index.ensures 0 in
+    (omega (arith, is_index.within, c.self.invariant.bytes)) c.index.ensures 0 in
     rw (← c.self.view_is)
     (ap Some (byte ∙ ap (λ i. get_or s.bytes.items i 0) (sym there.1))
     ∙ sym (get-memory_of s.map s.bytes.items c.args.addr

@@ -12,7 +12,7 @@ returns-in-Some c =
     let there = stands s.map c.args.addr 1 place.at 0 c.args.addr place.at place.writable is_index
     (omega arith) (omega arith) (omega arith) in
     let mark = get_or_read s.marks.items place.at c.index.result.now
-    (omega (arith, is_index.ends, c.self.invariant.marks)) c.index.ensures 0 in
+    (omega (arith, is_index.within, c.self.invariant.marks)) c.index.ensures 0 in
     rw (← c.self.view_is)
     (ap (λ m. eqb m s.generation) (mark ∙ ap (λ i. get_or s.marks.items i 0) (sym there.1))
     ∙ sym (is_stored s.map s.marks.items s.generation c.args.addr there.0))

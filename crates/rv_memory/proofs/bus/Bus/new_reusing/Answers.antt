@@ -9,10 +9,10 @@ invariant_of-result c = record {
   marks = search rules;
   older = λ k. let below = c.next_generation-marks.ensures.older k in omega arith;
   generation = let below = c.next_generation-marks.ensures.older 0 in omega arith;
-  taken = search rules;
-  short = search rules;
+  script_position = search rules;
+  script_fits = search rules;
   room = search rules;
-  full = search rules;
+  output_fits = search rules;
 }
 
 pub returns : goal.returns

@@ -31,10 +31,10 @@ invariant_of-self c =
       marks = ap length marks ∙ length-with_marks_at _ _ _ _ ∙ c.self.invariant.marks;
       older = rw marks (older-with_marks_at _ _ _ _ c.self.invariant.older);
       generation = c.self.invariant.generation;
-      taken = c.self.invariant.taken;
-      short = c.self.invariant.short;
+      script_position = c.self.invariant.script_position;
+      script_fits = c.self.invariant.script_fits;
       room = c.self.invariant.room;
-      full = c.self.invariant.full;
+      output_fits = c.self.invariant.output_fits;
     }
 
 pub returns : goal.returns

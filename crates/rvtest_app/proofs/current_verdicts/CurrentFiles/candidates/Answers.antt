@@ -5,12 +5,12 @@ use Rattle.rvtest_app.proofs.current_verdicts.CurrentFiles.candidates.Goals as g
 
 pub loop-job-init : goal.loop-job-init
 loop-job-init g c = rw c.new-candidates.ensures.items
-    (none_stand (g.D.Inputs.contents c.args.self.now.inputs.now) (optional_text c.args.self.now.folder)
+    (none_stand (g.D.Inputs.contents c.args.self.now.inputs.now) (optional_text c.args.self.now.root)
     c.args.self.now.rows.now c.args.jobs.now c.args.chosen.now)
 
 pub loop-job-preserved : goal.loop-job-preserved
 loop-job-preserved g c =
-    one_more_stands (g.D.Inputs.contents c.args.self.now.inputs.now) (optional_text c.args.self.now.folder)
+    one_more_stands (g.D.Inputs.contents c.args.self.now.inputs.now) (optional_text c.args.self.now.root)
     c.args.self.now.rows.now c.args.jobs.now c.args.chosen.now c.loop-job.job-index c.len-index.result
     c.loop-job.candidates.items c.push_candidate.new.candidates.items c.job-item.result c.in_ok-candidate.candidate
     c.loop-job.invariant c.loop-job-test.true c.job-item.is (c.len-index.ensures ∙ c.loop-job.candidates.ok.0)
@@ -20,6 +20,6 @@ loop-job-preserved g c =
 pub returns : goal.returns
 returns g c =
     let over = c.loop-job-test.false in
-    all_stand (g.D.Inputs.contents c.args.self.now.inputs.now) (optional_text c.args.self.now.folder)
+    all_stand (g.D.Inputs.contents c.args.self.now.inputs.now) (optional_text c.args.self.now.root)
     c.args.self.now.rows.now c.args.jobs.now c.args.chosen.now c.loop-job.job-index c.loop-job.candidates.items
     c.loop-job.invariant (omega (arith, over))

@@ -23,7 +23,7 @@ finish_run-requires-clause-taken g c κs within =
     let run = c.run_and_show-errors in
     rw c.in-Ok.ensures.same
     (taken_of_run g.F.Outputs.pending_path g.F.File.Sink.accepted g.F.File.Sink.failure_count (g.F.Outputs.committed c.args.to.files) args
-    c.args.frame.old c.is_none.result planned.indices.now all run.result.2.ran c.split_sink-report.result.0 c.split_sink-report.result.1
+    c.args.context.old c.is_none.result planned.indices.now all run.result.2.ran c.split_sink-report.result.0 c.split_sink-report.result.1
     run.result.1 outlets.report c.with_sink.result outlets.junit outlets.counts c.in-Ok.ensures.open c.split_sink-report.ensures.parts
     c.with_sink.ensures c.is_none.ensures run.ensures.rows run.ensures.report)
 
@@ -36,7 +36,7 @@ finish_run-requires-else-uses_run_stdout-clause-taken g c κs within =
     let run = c.run_and_show-out in
     rw c.in-Ok.ensures.same
     (taken_of_run g.F.Outputs.pending_path g.F.File.Sink.accepted g.F.File.Sink.failure_count (g.F.Outputs.committed c.args.to.files) args
-    c.args.frame.old c.is_none.result planned.indices.now all run.result.2.ran c.split_sink-report.result.0 c.split_sink-report.result.1
+    c.args.context.old c.is_none.result planned.indices.now all run.result.2.ran c.split_sink-report.result.0 c.split_sink-report.result.1
     run.result.1 outlets.report c.with_sink-else-uses_run_stdout.result outlets.junit outlets.counts c.in-Ok.ensures.open
     c.split_sink-report.ensures.parts c.with_sink-else-uses_run_stdout.ensures c.is_none.ensures run.ensures.rows run.ensures.report)
 

@@ -32,7 +32,7 @@ returns-clause-run g c =
           c.as_slice.ensures.value,
           c.with_budget-jobs.ensures.jobs,
         ) at found.paths;
-        kept = rw (c.new-store.ensures.inputs, c.new-store.ensures.folder) at found.kept;
+        kept = rw (c.new-store.ensures.inputs, c.new-store.ensures.root) at found.kept;
         noted = ap length c.unreadable_paths-unread.ensures ∙ rw c.new-store.ensures.nothing at found.faults;
       };
       rows = _;
@@ -59,8 +59,8 @@ returns-clause-undone g c =
     let args = c.args.self.now.args.now in
     let plan = c.in-Ok-gather_jobs_at.plan in
     let unread = c.unreadable_paths-unread.result.now in
-    let failures = c.args.marked.known in
-    let indices = selected_job_indices c.args.marked.selection.items in
+    let failures = c.args.selected.known in
+    let indices = selected_job_indices c.args.selected.selection.items in
     let found = c.in-Ok-gather_jobs_at.ensures in
     let behind = option_map (λ (jobs : Bor KnownJobs). jobs.now) c.as_ref.result in
     let known : behind ≡ failures = known_behind c.as_ref.result ∙ c.as_ref.ensures.value in
@@ -85,13 +85,13 @@ returns-clause-undone g c =
           c.as_slice.ensures.value,
           c.with_budget-jobs.ensures.jobs,
         ) at found.paths;
-        kept = rw (c.new-store.ensures.inputs, c.new-store.ensures.folder) at found.kept;
+        kept = rw (c.new-store.ensures.inputs, c.new-store.ensures.root) at found.kept;
         noted = ap length c.unreadable_paths-unread.ensures ∙ rw c.new-store.ensures.nothing at found.faults;
       };
       rows = rows;
       shown = refl;
-      placed = same_part args told (run_reporter args failures plan unread) c.as_slice-4.result.now indices
-          c.args.marked.frame.shard c.args.marked.frame.old rows (g.F.Outputs.committed c.args.to.files)
+      committed = same_part args told (run_reporter args failures plan unread) c.as_slice-4.result.now indices
+          c.args.selected.context.shard c.args.selected.context.old rows (g.F.Outputs.committed c.args.to.files)
           (g.F.Outputs.committed c.run_into_files.result.0.files) told_is places_are part;
     })))
     (c.run_into_files.ensures.part rows rows_are)

@@ -55,20 +55,20 @@ returns-in_ok-write_counts-in-Ok-clause-outputs_of g c = λ before shown.
     let start = outputs_of g.F.Outputs.committed g.O.Sink.accepted g.E.Sink.accepted g.E.Sink.failure_count c.args.to.now in
     let after = outputs_of g.F.Outputs.committed g.O.Sink.accepted g.E.Sink.accepted g.E.Sink.failure_count c.write_run_files.new.to in
     let report = subst (λ (ps : List ℕ). HasReceived g.F.Outputs.pending_path g.F.File.Sink.accepted g.F.File.Sink.failure_count
-    (g.F.Outputs.committed c.args.to.now.files) report_path (streamed_rows c.args.frame.old ps c.args.rows) c.args.outlets.report)
+    (g.F.Outputs.committed c.args.to.now.files) report_path (streamed_rows c.args.context.old ps c.args.rows) c.args.outlets.report)
     (sym firsts) c.requires.taken.report in
     let same = placed_of_shown _ _ before start shown in
     record {
-      middle = with_committed_if_reported before.placed after;
-      put = run_put_where_told args (reporter_of reporter) indices c.args.frame.shard c.args.frame.old c.args.rows before after
+      middle = with_committed_if_reported before.committed after;
+      put = run_put_where_told args (reporter_of reporter) indices c.args.context.shard c.args.context.old c.args.rows before after
           (record {
             middle = start;
             seen = shown;
             out = rw (told, firsts) at (files.put report_path junit_path report c.requires.taken.junit);
             quiet = (ap g.E.Sink.accepted files.errors, ap g.E.Sink.failure_count files.errors);
-            placed = rw (told, firsts) at (files.placed report_path junit_path report c.requires.taken.junit);
+            committed = rw (told, firsts) at (files.committed report_path junit_path report c.requires.taken.junit);
           });
-      counted = rw firsts at (c.in_ok-write_counts-in-Ok.ensures.counted (optional_text args.counts) before.placed
+      counted = rw firsts at (c.in_ok-write_counts-in-Ok.ensures.counted (optional_text args.counts) before.committed
           (rw same at c.requires.taken.counts));
     }
 
@@ -81,12 +81,12 @@ returns-in_err-write_counts-in-Ok-clause-part g c =
     let firsts : c.first_jobs-first.result.indices.now ≡ shown_indices indices c.args.rows =
     c.first_jobs-first.ensures.indices ∙ ap (λ (rows : List Row). take (length rows) indices) c.as_slice.ensures in
     let report = subst (λ (ps : List ℕ). HasReceived g.F.Outputs.pending_path g.F.File.Sink.accepted g.F.File.Sink.failure_count
-    (g.F.Outputs.committed c.args.to.now.files) report_path (streamed_rows c.args.frame.old ps c.args.rows) c.args.outlets.report)
+    (g.F.Outputs.committed c.args.to.now.files) report_path (streamed_rows c.args.context.old ps c.args.rows) c.args.outlets.report)
     (sym firsts) c.requires.taken.report in
     let files = rw (c.first_jobs-first.ensures.reporter, firsts)
-    at (c.in-Ok.ensures.placed report_path junit_path report c.requires.taken.junit) in
+    at (c.in-Ok.ensures.committed report_path junit_path report c.requires.taken.junit) in
     OnErr-from c.from_residual.result _
-    (part_of_counts args (reporter_of c.args.planned.now.reporter.now) indices c.args.frame.shard c.args.frame.old c.args.rows _ _ _
+    (part_of_counts args (reporter_of c.args.planned.now.reporter.now) indices c.args.context.shard c.args.context.old c.args.rows _ _ _
     (c.in_err-write_counts-in-Ok.ensures.requested (optional_text args.counts) (g.F.Outputs.committed c.args.to.now.files) c.requires.taken.counts)
     files c.in_err-write_counts-in-Ok.ensures.same)
 
@@ -105,7 +105,7 @@ returns-in-Err-clause-part g c =
     c.first_jobs-first.ensures.indices
     ∙ ap (λ (rows : List Row). take (length rows) c.args.planned.now.indices.now) c.as_slice.ensures in
     rw c.abandon_outlet.ensures
-    (part_of_rows args (reporter_of c.args.planned.now.reporter.now) c.args.planned.now.indices.now c.args.frame.shard c.args.frame.old
+    (part_of_rows args (reporter_of c.args.planned.now.reporter.now) c.args.planned.now.indices.now c.args.context.shard c.args.context.old
     c.args.rows _ _
     (rw (c.first_jobs-first.ensures.reporter, firsts) at (c.in-Err.ensures.part (optional_text args.junit) c.requires.taken.junit)))
 

@@ -9,27 +9,27 @@ use Rattle.rvtest_app.proofs.run.ListRun.write_run_files.Goals as goal
 pub returns-clause-put : goal.returns-clause-put
 returns-clause-put g c = λ report_path junit_path report junit.
     let planned = c.args.planned.now in
-    let ahead = streamed_rows c.args.frame.old planned.indices.now c.args.rows in
+    let ahead = streamed_rows c.args.context.old planned.indices.now c.args.rows in
     out_same _ _ junit_path report_path _ _ _ _
     (rw c.report_with_context.ensures.rows at (c.in_ok-put_files.ensures.put ahead report_path junit_path report junit))
     (same_junit _ _ (judge_view planned.reporter.now.judge) _ _ planned.indices.now c.args.rows
     (c.as_bytes.ensures.value ∙ c.suite_name.ensures)
     refl)
     (c.report_with_context.ensures.text
-    ∙ ap (λ jobs. run_report_text c.args.frame.old jobs planned.indices.now c.args.frame.shard c.args.rows) c.jobs.ensures.value)
+    ∙ ap (λ jobs. run_report_text c.args.context.old jobs planned.indices.now c.args.context.shard c.args.rows) c.jobs.ensures.value)
 
-pub returns-clause-placed : goal.returns-clause-placed
-returns-clause-placed g c = λ report_path junit_path report junit.
+pub returns-clause-committed : goal.returns-clause-committed
+returns-clause-committed g c = λ report_path junit_path report junit.
     let planned = c.args.planned.now in
-    let ahead = streamed_rows c.args.frame.old planned.indices.now c.args.rows in
+    let ahead = streamed_rows c.args.context.old planned.indices.now c.args.rows in
     placed_same _ _ junit_path report_path _ _ _ _
-    (rw c.report_with_context.ensures.rows at (c.in_ok-put_files.ensures.placed ahead report_path junit_path report junit))
+    (rw c.report_with_context.ensures.rows at (c.in_ok-put_files.ensures.committed ahead report_path junit_path report junit))
     (same_junit _ _ (judge_view planned.reporter.now.judge) _ _ planned.indices.now c.args.rows
     (c.as_bytes.ensures.value ∙ c.suite_name.ensures)
     refl)
     (ap (λ rest. ahead ++ rest) (c.report_with_context.ensures.rest
-    ∙ ap (λ jobs. run_report_rest c.args.frame.old jobs planned.indices.now c.args.frame.shard c.args.rows) c.jobs.ensures.value)
-    ∙ run_report_split c.args.frame.old _ planned.indices.now c.args.frame.shard c.args.rows planned.rising planned.within
+    ∙ ap (λ jobs. run_report_rest c.args.context.old jobs planned.indices.now c.args.context.shard c.args.rows) c.jobs.ensures.value)
+    ∙ run_report_split c.args.context.old _ planned.indices.now c.args.context.shard c.args.rows planned.rising planned.within
     c.requires.counted)
 
 pub returns-in_err-put_files-clause-part : goal.returns-in_err-put_files-clause-part

@@ -16,8 +16,8 @@ returns-in-Some-clause-put g c =
     (λ status put. record {
       jobs = c.in_ok-requested.requested.jobs;
       selection = Some c.in-Some.selection.items;
-      shard = c.in_ok-requested.requested.frame.shard;
-      old = c.in_ok-requested.requested.frame.old;
+      shard = c.in_ok-requested.requested.context.shard;
+      old = c.in_ok-requested.requested.context.old;
       notes = c.in_ok-requested.requested.notes.items;
       requested_jobs = rw c.in-Some.is at c.in_ok-requested.ensures.requested;
       middle = outputs_of g.F.Outputs.committed g.O.Sink.accepted g.E.Sink.accepted g.E.Sink.failure_count
@@ -38,8 +38,8 @@ returns-in-Some-clause-stopped g c =
     (λ stop is. inr (inr (record {
       jobs = c.in_ok-requested.requested.jobs;
       selection = c.in-Some.selection.items;
-      shard = c.in_ok-requested.requested.frame.shard;
-      old = c.in_ok-requested.requested.frame.old;
+      shard = c.in_ok-requested.requested.context.shard;
+      old = c.in_ok-requested.requested.context.old;
       notes = c.in_ok-requested.requested.notes.items;
       requested_jobs = rw c.in-Some.is at c.in_ok-requested.ensures.requested;
       unviewed = is;
@@ -50,8 +50,8 @@ pub returns-clause-put : goal.returns-clause-put
 returns-clause-put g c = record {
   jobs = c.in_ok-requested.requested.jobs;
   selection = None;
-  shard = c.in_ok-requested.requested.frame.shard;
-  old = c.in_ok-requested.requested.frame.old;
+  shard = c.in_ok-requested.requested.context.shard;
+  old = c.in_ok-requested.requested.context.old;
   notes = c.in_ok-requested.requested.notes.items;
   requested_jobs = rw c.in-None.is at c.in_ok-requested.ensures.requested;
   middle = outputs_of g.F.Outputs.committed g.O.Sink.accepted g.E.Sink.accepted g.E.Sink.failure_count

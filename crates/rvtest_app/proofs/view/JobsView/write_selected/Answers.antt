@@ -17,11 +17,11 @@ returns-in_err-text-clause-stopped g c =
       unread = c.unreadable_paths.result.now;
       planned = record {
         listed = found.jobs;
-        paths = rw (c.as_slice-indices.ensures.value, c.in_ok-marked.ensures.value) at found.paths;
-        kept = rw (c.new-store.ensures.inputs, c.new-store.ensures.folder) at found.kept;
+        paths = rw (c.as_slice-indices.ensures.value, c.in_ok-selected.ensures.value) at found.paths;
+        kept = rw (c.new-store.ensures.inputs, c.new-store.ensures.root) at found.kept;
         noted = ap length c.unreadable_paths.ensures ∙ rw c.new-store.ensures.nothing at found.faults;
       };
-      unshown = rw (c.as_slice-indices.ensures.value, c.in_ok-marked.ensures.value) at c.in_err-text.ensures.stopped;
+      unshown = rw (c.as_slice-indices.ensures.value, c.in_ok-selected.ensures.value) at c.in_err-text.ensures.stopped;
     })))
 
 pub returns-clause-put : goal.returns-clause-put
@@ -33,20 +33,20 @@ returns-clause-put g c =
         unread = c.unreadable_paths.result.now;
         planned = record {
           listed = found.jobs;
-          paths = rw (c.as_slice-indices.ensures.value, c.in_ok-marked.ensures.value) at found.paths;
-          kept = rw (c.new-store.ensures.inputs, c.new-store.ensures.folder) at found.kept;
+          paths = rw (c.as_slice-indices.ensures.value, c.in_ok-selected.ensures.value) at found.paths;
+          kept = rw (c.new-store.ensures.inputs, c.new-store.ensures.root) at found.kept;
           noted = ap length c.unreadable_paths.ensures ∙ rw c.new-store.ensures.nothing at found.faults;
         };
         middle = outputs_of g.F.Outputs.committed g.O.Sink.accepted g.E.Sink.accepted g.E.Sink.failure_count
             (record c.args.to.now { errors = c.write_message.new.errors });
         told = (
           refl,
-          rw (c.as_slice.ensures.value, c.in_ok-note.ensures, c.as_slice-indices.ensures.value, c.in_ok-marked.ensures.value)
+          rw (c.as_slice.ensures.value, c.in_ok-note.ensures, c.as_slice-indices.ensures.value, c.in_ok-selected.ensures.value)
               at c.write_message.ensures,
           refl,
         );
         text = c.in_ok-text.text.items;
-        of_plan = rw (c.as_slice-indices.ensures.value, c.in_ok-marked.ensures.value) at c.in_ok-text.ensures.shown;
+        of_plan = rw (c.as_slice-indices.ensures.value, c.in_ok-selected.ensures.value) at c.in_ok-text.ensures.shown;
         put = (rw c.as_slice-2.ensures.value at c.in_ok-write_results.ensures.put, refl, refl, refl);
       },
     )
