@@ -73,7 +73,7 @@ fn machine_of(alloc: Global, isa: Isa, program: &str) -> Result<Machine, Fail> {
 }
 
 // Returns the frames at the end of a run within a budget, in the form that a row has.
-fn told(alloc: Global, machine: Machine, budget: u32) -> Result<String, AllocError> {
+fn frames_text(alloc: Global, machine: Machine, budget: u32) -> Result<String, AllocError> {
     let mut text = String::new(alloc);
     let calls = calls_of_run(alloc, machine, budget)?;
     for frame in calls.frames.as_slice() {
@@ -93,7 +93,7 @@ fn check(alloc: Global, row: &str) -> Result<(), Fail> {
     };
     let budget = cell_of(row, 2).parse::<u32>()?;
     let machine = machine_of(alloc, isa, cell_of(row, 3))?;
-    agree(row, told(alloc, machine, budget)?.as_str(), cell_of(row, 4))
+    agree(row, frames_text(alloc, machine, budget)?.as_str(), cell_of(row, 4))
 }
 
 // Checks with how many frames an endless recursion ends within the budget in a row.

@@ -93,7 +93,7 @@ opens pieces ws wide zeroth first others = record {
   indices_held = λ p h. dite (ℕ_discrete 0 p)
       (λ e. subst (λ (q : ℕ). one_at q 0 + 0 + 0 ≡ get_or ws (q + 1) 0) e (sym first))
       (λ ne. let z = one_at-other p 0 ne in let o = others (p + 1) (omega arith) (omega arith) in omega arith);
-  single =
+  index_words =
       λ p h. dite (ℕ_discrete 0 p) (λ e. subst (λ (q : ℕ). get_or ws (q + 1) 0 ≤ 1) e (omega (arith, first)))
       (λ ne. let o = others (p + 1) (omega arith) (omega arith) in omega arith);
   views = λ i v at. ⊎_elim (λ (t : get_elem? [] i ≡ some v). absurd (some-ne-none v (sym t)))

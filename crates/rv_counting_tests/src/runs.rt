@@ -66,7 +66,7 @@ fn machine_of(alloc: Global, isa: Isa, program: &str) -> Result<Machine, Fail> {
 }
 
 // Returns the counts of a run within a budget, in the form that a row has.
-fn told(alloc: Global, machine: Machine, budget: u32) -> Result<String, AllocError> {
+fn counts_text(alloc: Global, machine: Machine, budget: u32) -> Result<String, AllocError> {
     let mut text = String::new(alloc);
     let addresses = count_run(alloc, machine, budget)?;
     for counts in addresses.as_slice() {
@@ -86,7 +86,7 @@ fn check(alloc: Global, row: &str) -> Result<(), Fail> {
     };
     let budget = cell_of(row, 2).parse::<u32>()?;
     let machine = machine_of(alloc, isa, cell_of(row, 3))?;
-    agree(row, told(alloc, machine, budget)?.as_str(), cell_of(row, 4))
+    agree(row, counts_text(alloc, machine, budget)?.as_str(), cell_of(row, 4))
 }
 
 // Runs have the counts that were found by hand.

@@ -77,7 +77,7 @@ const TABLE_OF_ONE_IMAGE: &str =
     80000004 48 0/80000008 48 36/8000000c 12 0/80000010 12 0/done 1 24/";
 
 // Returns the selection that `choice` describes with one letter for each job: `x` selects it.
-fn marks_of(alloc: Global, choice: &str) -> Result<Vec<bool>, AllocError> {
+fn selection_of(alloc: Global, choice: &str) -> Result<Vec<bool>, AllocError> {
     let mut marks = Vec::new(alloc);
     for mark in choice.bytes() {
         marks.push(mark == b'x')?;
@@ -86,11 +86,11 @@ fn marks_of(alloc: Global, choice: &str) -> Result<Vec<bool>, AllocError> {
 }
 
 // Returns the indices of the selected jobs of a plan.
-fn chosen(alloc: Global, plan: &Plan, choice: &str) -> Result<Vec<usize>, Fail>
+fn selected_indices_of(alloc: Global, plan: &Plan, choice: &str) -> Result<Vec<usize>, Fail>
     ensures within { IfOk result (λ places. AreJobIndices plan.now places.items) }
     ensures rising { IfOk result (λ places. IsStrictlyIncreasing places.items) }
 {
-    let marks = marks_of(alloc, choice)?;
+    let marks = selection_of(alloc, choice)?;
     if marks.len() != plan.jobs() {
         return Err("a mark for each job".into());
     }
@@ -98,7 +98,7 @@ fn chosen(alloc: Global, plan: &Plan, choice: &str) -> Result<Vec<usize>, Fail>
 }
 
 // Returns the text of the table of the selected jobs, computed by `workers` threads, with a slash for each line feed.
-fn told<R: Threads + Wait + Sync>(
+fn counts_text<R: Threads + Wait + Sync>(
     rt: &R,
     alloc: Global,
     plan: &Plan,
@@ -107,7 +107,7 @@ fn told<R: Threads + Wait + Sync>(
 ) -> Result<String, Fail>
     requires { (0 < workers) × (workers ≤ 64) }
 {
-    let places = chosen(alloc, plan, choice)?;
+    let places = selected_indices_of(alloc, plan, choice)?;
     let crew = Crew::new(rt, alloc, workers, 1);
     let table = count_batch(&crew, &Batch::new(plan, places.as_slice()))?;
     let text = table_text(alloc, &table)?;
@@ -126,7 +126,7 @@ fn check<R: Threads + Wait + Sync>(
     row: &str,
 ) -> Result<(), Fail> {
     for workers in [1, 3] {
-        let told = told(rt, alloc, plan, cell_of(row, 0), workers)?;
+        let told = counts_text(rt, alloc, plan, cell_of(row, 0), workers)?;
         agree(row, told.as_str(), cell_of(row, 1))?;
     }
     Ok(())
@@ -170,7 +170,7 @@ fn jobs_of_one_image_are_counted_together(rt: HostRuntime) -> Result<(), Fail> {
     let jobs = read_jobs(alloc, list.as_bytes())?;
     let plan = gather(alloc, jobs, &mut Files { faults: 0 })?;
     for workers in [1, 3] {
-        let told = told(&rt, alloc, &plan, ALL_OF_ONE_IMAGE, workers)?;
+        let told = counts_text(&rt, alloc, &plan, ALL_OF_ONE_IMAGE, workers)?;
         agree("one image", told.as_str(), TABLE_OF_ONE_IMAGE)?;
     }
     Ok(())

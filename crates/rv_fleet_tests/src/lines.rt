@@ -27,17 +27,17 @@ job = [{}, {} = [1, 1]
 job = [{}, , {}] = [1]";
 
 // Returns the numbers of the lines on which the jobs of a text begin, in brackets.
-fn begins_of(alloc: Global, text: &str) -> Result<String, AllocError> {
+fn begin_lines_text(alloc: Global, text: &str) -> Result<String, AllocError> {
     let lines = job_line_numbers(alloc, text)?;
     format!(in alloc; "{:?}", lines.as_slice())
 }
 
 // In a text that is not TOML, the jobs before the error are found.
 #[test]
-fn texts_that_are_no_toml(rt: HostRuntime) -> Result<(), Fail> {
+fn jobs_before_an_error_are_found(rt: HostRuntime) -> Result<(), Fail> {
     for case in TEXTS.split("\n|\n") {
         let (text, wanted) = case.rsplit_once(" = ").unwrap_or((case, ""));
-        let begins = begins_of(rt.alloc(), text)?;
+        let begins = begin_lines_text(rt.alloc(), text)?;
         agree(case, begins.as_str(), wanted)?;
     }
     Ok(())

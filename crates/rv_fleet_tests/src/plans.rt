@@ -60,7 +60,7 @@ impl Store for Files {
 }
 
 // Returns the selection that `choice` describes with one letter for each job: `x` selects it.
-fn marks_of(alloc: Global, choice: &str) -> Result<Vec<bool>, AllocError> {
+fn selection_of(alloc: Global, choice: &str) -> Result<Vec<bool>, AllocError> {
     let mut marks = Vec::new(alloc);
     for mark in choice.bytes() {
         marks.push(mark == b'x')?;
@@ -83,7 +83,7 @@ fn plan_of(alloc: Global, list: &str, choice: &str, store: &mut Files) -> Result
     if choice == "all" {
         return Ok(gather(alloc, jobs, store)?);
     }
-    chosen(alloc, jobs, &marks_of(alloc, choice)?, store)
+    chosen(alloc, jobs, &selection_of(alloc, choice)?, store)
 }
 
 // Appends the result that a plan has for a path: `none`, the reason why there are no bytes, the only byte, or the number of bytes and the
@@ -120,7 +120,7 @@ fn push_job(text: &mut String, plan: &Plan, place: usize) -> Result<(), AllocErr
 }
 
 // Returns the paths that were read, the number of unreadable files, and the results that the plan has for each job.
-fn told(alloc: Global, plan: &Plan, store: &Files) -> Result<String, AllocError> {
+fn result_text(alloc: Global, plan: &Plan, store: &Files) -> Result<String, AllocError> {
     let (log, faults) = (store.log.as_str(), store.faults());
     let mut text = format!(in alloc; "'{log}' {faults} faults")?;
     for place in 0..plan.jobs() {
@@ -136,7 +136,7 @@ fn plan_text(alloc: Global, list: &str, choice: &str) -> Result<String, Fail> {
         faults: 5,
     };
     let plan = plan_of(alloc, list, choice, &mut store)?;
-    Ok(told(alloc, &plan, &store)?)
+    Ok(result_text(alloc, &plan, &store)?)
 }
 
 // Checks for each line of a table that the plan of a list for the choice in the line is the plan in the line.

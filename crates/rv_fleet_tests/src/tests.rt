@@ -84,7 +84,7 @@ fn last_cell(line: &str) -> &str {
 }
 
 // Returns the selection that `choice` describes with one letter for each job: `x` selects it.
-fn marks_of(alloc: Global, choice: &str) -> Result<Vec<bool>, AllocError> {
+fn selection_of(alloc: Global, choice: &str) -> Result<Vec<bool>, AllocError> {
     let mut marks = Vec::new(alloc);
     for mark in choice.bytes() {
         marks.push(mark == b'x')?;
@@ -112,7 +112,7 @@ fn chosen(alloc: Global, line: &str) -> Result<(Plan, Vec<usize>), Fail>
     ensures within { IfOk result (λ chosen. AreJobIndices chosen.0 chosen.1.items) }
     ensures rising { IfOk result (λ chosen. IsStrictlyIncreasing chosen.1.items) }
 {
-    let marks = marks_of(alloc, cell_of(line, 2))?;
+    let marks = selection_of(alloc, cell_of(line, 2))?;
     let places = selected_indices(alloc, marks.as_slice())?;
     let plan = plan_of(alloc, cell_of(line, 1))?;
     if marks.len() != plan.jobs() {
@@ -134,20 +134,20 @@ enum Table {
 }
 
 // Returns the result for a line of this table, as text.
-fn told<R: Threads + Wait + Sync>(
+fn result_text<R: Threads + Wait + Sync>(
     rt: &R,
     alloc: Global,
     table: Table,
     line: &str,
 ) -> Result<String, Fail> {
     match table {
-        Table::Draws => draws::told(alloc, line),
-        Table::FourThreads => draws::told_of_four(rt, alloc),
-        Table::Kept => recent::told(alloc, line),
-        Table::Named => recent::told_of_named(alloc, line),
-        Table::Runs => fleets::told(rt, alloc, line),
-        Table::Puts => streams::told_of_put(rt, alloc, line),
-        Table::Workers => workers::told(rt, alloc, line),
+        Table::Draws => draws::result_text(alloc, line),
+        Table::FourThreads => draws::four_threads_text(rt, alloc),
+        Table::Kept => recent::result_text(alloc, line),
+        Table::Named => recent::named_text(alloc, line),
+        Table::Runs => fleets::result_text(rt, alloc, line),
+        Table::Puts => streams::stream_text(rt, alloc, line),
+        Table::Workers => workers::result_text(rt, alloc, line),
     }
 }
 
@@ -161,7 +161,7 @@ fn hold<R: Threads + Wait + Sync>(
 ) -> Result<(), Fail> {
     has_lines(lines, count)?;
     for line in lines.lines() {
-        let text = told(rt, alloc, table, line)?;
+        let text = result_text(rt, alloc, table, line)?;
         agree(line, text.as_str().trim(), last_cell(line))?;
     }
     Ok(())
@@ -176,6 +176,6 @@ fn tables_have_the_expected_results(rt: HostRuntime) -> Result<(), Fail> {
     hold(&rt, alloc, Table::Kept, recent::KEPT, 9)?;
     hold(&rt, alloc, Table::Named, recent::NAMED, 2)?;
     hold(&rt, alloc, Table::Runs, fleets::RUNS, 9)?;
-    hold(&rt, alloc, Table::Puts, streams::PUTS, 9)?;
+    hold(&rt, alloc, Table::Puts, streams::WRITES, 9)?;
     hold(&rt, alloc, Table::Workers, workers::WORKERS_RANGE, 2)
 }

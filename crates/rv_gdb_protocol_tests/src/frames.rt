@@ -33,7 +33,7 @@ a register | f8000080 | $f8000080#c6
 ";
 
 // Appends a received item, in the form that a row has.
-fn push_told(text: &mut String, heard: &Incoming) -> Result<(), Fail> {
+fn push_item(text: &mut String, heard: &Incoming) -> Result<(), Fail> {
     match heard {
         Incoming::Interrupt => text.push_str("^C")?,
         Incoming::Arrived => text.push_str("+")?,
@@ -52,7 +52,7 @@ fn push_told(text: &mut String, heard: &Incoming) -> Result<(), Fail> {
 }
 
 // Returns the items that are received from bytes that arrive in pieces of this length, in the form that a row has.
-fn told_in_pieces(alloc: Global, bytes: &[u8], length: usize) -> Result<String, Fail> {
+fn items_text(alloc: Global, bytes: &[u8], length: usize) -> Result<String, Fail> {
     let mut reader = Reader::new(alloc);
     let mut text = String::new(alloc);
     for piece in bytes.chunks(length.max(1)) {
@@ -64,7 +64,7 @@ fn told_in_pieces(alloc: Global, bytes: &[u8], length: usize) -> Result<String, 
                 if !text.as_str().is_empty() {
                     text.push_str(" ")?;
                 }
-                push_told(&mut text, &heard)?;
+                push_item(&mut text, &heard)?;
             }
         }
     }
@@ -80,7 +80,7 @@ fn check_received(alloc: Global, line: &str) -> Result<(), Fail> {
     for length in [1, 2, 3, 7, 1000] {
         agree(
             line,
-            told_in_pieces(alloc, bytes.as_slice(), length)?.as_str(),
+            items_text(alloc, bytes.as_slice(), length)?.as_str(),
             cell_of(line, 2),
         )?;
     }

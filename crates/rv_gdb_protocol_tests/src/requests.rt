@@ -141,7 +141,7 @@ qSupported | PacketSize=4000;QStartNoAckMode+;ReverseStep+;ReverseContinue+;qXfe
 ";
 
 // Checks that the packet body in a line is parsed as the request in the line.
-fn check_asked(alloc: Global, line: &str) -> Result<(), Fail> {
+fn check_request(alloc: Global, line: &str) -> Result<(), Fail> {
     let request = parse_request(alloc, cell_of(line, 0).as_bytes())?;
     let told = format!(in alloc; "{request:?}")?;
     agree(line, told.as_str(), cell_of(line, 1))
@@ -159,17 +159,17 @@ fn check_reply(alloc: Global, line: &str) -> Result<(), Fail> {
 
 // Packets of gdb and LLDB are parsed as the expected requests.
 #[test]
-fn packets_ask(rt: HostRuntime) -> Result<(), Fail> {
+fn packets_are_parsed(rt: HostRuntime) -> Result<(), Fail> {
     has_lines(ASKED, 55)?;
     for line in ASKED.lines() {
-        check_asked(rt.alloc(), line)?;
+        check_request(rt.alloc(), line)?;
     }
     Ok(())
 }
 
 // Malformed packets and requests that are not supported have the expected responses.
 #[test]
-fn malformed_packets_are_refused(rt: HostRuntime) -> Result<(), Fail> {
+fn malformed_packets_are_rejected(rt: HostRuntime) -> Result<(), Fail> {
     has_lines(REFUSED, 59)?;
     for line in REFUSED.lines() {
         check_reply(rt.alloc(), line)?;
@@ -179,7 +179,7 @@ fn malformed_packets_are_refused(rt: HostRuntime) -> Result<(), Fail> {
 
 // Requests that have the same response in every session have the expected response.
 #[test]
-fn replies_are_fixed(rt: HostRuntime) -> Result<(), Fail> {
+fn common_replies_are_expected(rt: HostRuntime) -> Result<(), Fail> {
     has_lines(FIXED, 10)?;
     for line in FIXED.lines() {
         check_reply(rt.alloc(), line)?;
@@ -189,7 +189,7 @@ fn replies_are_fixed(rt: HostRuntime) -> Result<(), Fail> {
 
 // The parts of the target description, each requested from the end of the preceding one, make up the whole description.
 #[test]
-fn parts_are_the_whole(rt: HostRuntime) -> Result<(), Fail> {
+fn parts_make_up_the_description(rt: HostRuntime) -> Result<(), Fail> {
     let mut whole = Vec::new(rt.alloc());
     let mut ended = false;
     for _ in 0..100 {

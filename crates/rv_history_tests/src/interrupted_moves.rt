@@ -83,7 +83,7 @@ fn check_interrupted(alloc: Global, direction: Direction, line: &str) -> Result<
 
 // An interrupt stops a move forward, which can be continued.
 #[test]
-fn moves_ahead_are_broken_off(rt: HostRuntime) -> Result<(), Fail> {
+fn forward_moves_are_interrupted(rt: HostRuntime) -> Result<(), Fail> {
     has_lines(AHEAD, 5)?;
     for line in AHEAD.lines() {
         check_interrupted(rt.alloc(), Direction::Ahead, line)?;
@@ -93,7 +93,7 @@ fn moves_ahead_are_broken_off(rt: HostRuntime) -> Result<(), Fail> {
 
 // An interrupt stops a move back where it began; the move can be made again.
 #[test]
-fn moves_back_are_broken_off(rt: HostRuntime) -> Result<(), Fail> {
+fn backward_moves_are_interrupted(rt: HostRuntime) -> Result<(), Fail> {
     has_lines(BACK, 2)?;
     for line in BACK.lines() {
         check_interrupted(rt.alloc(), Direction::Back, line)?;
@@ -111,7 +111,7 @@ fn check_short_moves(alloc: Global, history: &mut History, stops: &Stops) -> Res
 
 // Moves of less than 2^16 steps do not poll the interrupt.
 #[test]
-fn short_moves_do_not_ask(rt: HostRuntime) -> Result<(), Fail> {
+fn short_moves_do_not_poll(rt: HostRuntime) -> Result<(), Fail> {
     let alloc = rt.alloc();
     for text in ["none", "b80000040"] {
         let stops = stops_of(alloc, text)?;

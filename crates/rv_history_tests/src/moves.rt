@@ -94,22 +94,22 @@ pub fn history_of(alloc: Global, code: &str, budget: u32) -> Result<History, Fai
 }
 
 /// Returns as text the reason why a move ended.
-pub fn found_text(alloc: Global, found: Found) -> Result<String, AllocError> {
+pub fn found_text(alloc: Global, found: MoveResult) -> Result<String, AllocError> {
     match found {
-        Found::Done => String::from_str(alloc, "done"),
-        Found::Break => String::from_str(alloc, "break"),
-        Found::Change => String::from_str(alloc, "change"),
-        Found::Begin => String::from_str(alloc, "begin"),
-        Found::Interrupted => String::from_str(alloc, "interrupted"),
-        Found::End(Ending::Exit(code)) => format!(in alloc; "exit {code}"),
-        Found::End(Ending::Budget) => String::from_str(alloc, "budget"),
-        Found::End(Ending::Fault(..)) => String::from_str(alloc, "fault"),
+        MoveResult::Done => String::from_str(alloc, "done"),
+        MoveResult::Breakpoint => String::from_str(alloc, "break"),
+        MoveResult::WatchTriggered => String::from_str(alloc, "change"),
+        MoveResult::RunStart => String::from_str(alloc, "begin"),
+        MoveResult::Interrupted => String::from_str(alloc, "interrupted"),
+        MoveResult::End(Ending::Exit(code)) => format!(in alloc; "exit {code}"),
+        MoveResult::End(Ending::Budget) => String::from_str(alloc, "budget"),
+        MoveResult::End(Ending::Fault(..)) => String::from_str(alloc, "fault"),
     }
 }
 
 // Makes a move or a seek. Returns as text, for a move, the step at which it ended and the reason; for a seek, whether the run reaches the
 // requested step, and the step afterwards.
-fn moved(alloc: Global, history: &mut History, stops: &Stops, asked: &str) -> Result<String, Fail> {
+fn move_result(alloc: Global, history: &mut History, stops: &Stops, asked: &str) -> Result<String, Fail> {
     if let Some(step) = asked.strip_prefix("seek ") {
         let granted = history.seek(alloc, step.parse()?)?;
         let told = if granted { "yes" } else { "no" };
@@ -135,7 +135,7 @@ fn check_move(
     part: &str,
 ) -> Result<(), Fail> {
     let (asked, wanted) = part.split_once(" = ").ok_or("a move and an answer")?;
-    let met = moved(alloc, history, stops, asked)?;
+    let met = move_result(alloc, history, stops, asked)?;
     agree(line, met.as_str(), wanted)
 }
 

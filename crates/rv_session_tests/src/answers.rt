@@ -130,7 +130,7 @@ impl Interrupt for Never {
 
 // A session, and what is reported at the end of its run.
 #[derive(Drop)]
-struct Talk {
+struct TestSession {
     session: Session,
     end: End,
     ghost same_run: { start_of end.start ≡ session.history.start } by { Coded-set state_code (start_of end.start) session.history.start },
@@ -139,7 +139,7 @@ struct Talk {
 
 // Appends the bytes that are sent when a byte is received; if the byte completes the request for a move, makes the move and appends the
 // bytes sent for it, too.
-fn answer_byte(
+fn send_byte(
     alloc: Global,
     session: &mut Session,
     end: &End,
@@ -160,13 +160,13 @@ fn answer_byte(
 }
 
 // Returns as text all that is sent when bytes from a debugger are received.
-fn answered(alloc: Global, session: &mut Session, end: &End, heard: &[u8]) -> Result<String, Fail>
+fn response_text(alloc: Global, session: &mut Session, end: &End, heard: &[u8]) -> Result<String, Fail>
     requires { IsReady (start_of end.now.start) session.old }
     ensures { OnOk result (IsReady (start_of end.now.start) session.new) }
 {
     let mut sent = Vec::new(alloc);
     for byte in heard {
-        answer_byte(alloc, session, end, *byte, &mut sent)?;
+        send_byte(alloc, session, end, *byte, &mut sent)?;
     }
     let text = std::str::from_utf8(sent.as_slice())?;
     Ok(String::from_str(alloc, text)?)
@@ -191,7 +191,7 @@ fn bus_of(alloc: Global, code: &str) -> Result<Bus, Fail> {
 }
 
 // Returns a new session for the run of this code within a budget, with its end text.
-fn session_of(alloc: Global, code: &str, budget: u32) -> Result<Talk, Fail> {
+fn session_of(alloc: Global, code: &str, budget: u32) -> Result<TestSession, Fail> {
     let bus = bus_of(alloc, code)?;
     let copy = bus.try_clone(alloc)?;
     let (entry, isa) = (0x8000_0000, Isa::Imc);
@@ -206,7 +206,7 @@ fn session_of(alloc: Global, code: &str, budget: u32) -> Result<Talk, Fail> {
         image: Bytes::new(Vec::from_slice(alloc, b"ELF!")?),
     };
     let session = Session::new(alloc, start, budget, program)?;
-    Ok(Talk {
+    Ok(TestSession {
         session,
         end: End { start: again },
     })
@@ -227,16 +227,16 @@ fn framed(alloc: Global, bodies: &str) -> Result<Vec<u8>, Fail> {
 }
 
 // Returns the session of a line of the table, without acknowledgements.
-fn session_of_line(alloc: Global, line: &str) -> Result<Talk, Fail> {
+fn session_of_line(alloc: Global, line: &str) -> Result<TestSession, Fail> {
     let talk = session_of(alloc, cell_of(line, 1), cell_of(line, 2).parse()?)?;
-    let Talk { mut session, end } = talk;
-    let met = answered(alloc, &mut session, &end, b"+$QStartNoAckMode#b0")?;
+    let TestSession { mut session, end } = talk;
+    let met = response_text(alloc, &mut session, &end, b"+$QStartNoAckMode#b0")?;
     agree(line, met.as_str(), "+$OK#9a")?;
-    Ok(Talk { session, end })
+    Ok(TestSession { session, end })
 }
 
 // Returns the response to the packet with this body.
-fn answered_body(
+fn response_to_body(
     alloc: Global,
     session: &mut Session,
     end: &End,
@@ -246,11 +246,11 @@ fn answered_body(
     ensures { OnOk result (IsReady (start_of end.now.start) session.new) }
 {
     let packet = framed(alloc, body)?;
-    answered(alloc, session, end, packet.as_slice())
+    response_text(alloc, session, end, packet.as_slice())
 }
 
 // Makes a request of a dialogue, and checks the response.
-fn check_answer(
+fn check_response(
     alloc: Global,
     session: &mut Session,
     end: &End,
@@ -261,27 +261,27 @@ fn check_answer(
     ensures { OnOk result (IsReady (start_of end.now.start) session.new) }
 {
     let (asked, wanted) = part.split_once(" > ").ok_or("a request and an answer")?;
-    let met = answered_body(alloc, session, end, asked)?;
+    let met = response_to_body(alloc, session, end, asked)?;
     let wanted = framed(alloc, wanted)?;
     agree(line, met.as_str(), std::str::from_utf8(wanted.as_slice())?)
 }
 
 // Makes the requests of a line's dialogue in order, and checks the responses.
-fn check_answers(alloc: Global, line: &str) -> Result<(), Fail> {
+fn check_dialogue(alloc: Global, line: &str) -> Result<(), Fail> {
     let talk = session_of_line(alloc, line)?;
-    let Talk { mut session, end } = talk;
+    let TestSession { mut session, end } = talk;
     for part in cell_of(line, 3).split(" / ") {
-        check_answer(alloc, &mut session, &end, line, part)?;
+        check_response(alloc, &mut session, &end, line, part)?;
     }
     Ok(())
 }
 
 // Requests about hand-written runs have the expected responses.
 #[test]
-fn requests_are_answered(rt: HostRuntime) -> Result<(), Fail> {
+fn requests_have_responses(rt: HostRuntime) -> Result<(), Fail> {
     has_lines(ANSWERS, 40)?;
     for line in ANSWERS.lines() {
-        check_answers(rt.alloc(), line)?;
+        check_dialogue(rt.alloc(), line)?;
     }
     Ok(())
 }
@@ -293,7 +293,7 @@ fn check_recording(alloc: Global, session: &mut Session, end: &End, line: &str) 
 {
     let (heard, wanted) = line.split_once(" > ").ok_or("a line of a recording")?;
     let wanted = if wanted == "nothing" { "" } else { wanted };
-    let met = answered(alloc, session, end, heard.as_bytes())?;
+    let met = response_text(alloc, session, end, heard.as_bytes())?;
     agree(line, met.as_str(), wanted)
 }
 
@@ -301,7 +301,7 @@ fn check_recording(alloc: Global, session: &mut Session, end: &End, line: &str) 
 #[test]
 fn a_recorded_session_is_replayed(rt: HostRuntime) -> Result<(), Fail> {
     let alloc = rt.alloc();
-    let Talk { mut session, end } = session_of(alloc, "LOOP", 100)?;
+    let TestSession { mut session, end } = session_of(alloc, "LOOP", 100)?;
     for line in LLDB.lines() {
         check_recording(alloc, &mut session, &end, line)?;
     }

@@ -82,7 +82,7 @@ fn file_of(alloc: Global, functions: &str) -> Result<Vec<u8>, Fail> {
 }
 
 // Returns the call-tree nodes of the run in a row, in the form that a row has.
-fn told(alloc: Global, row: &str) -> Result<String, Fail> {
+fn nodes_text(alloc: Global, row: &str) -> Result<String, Fail> {
     let bytes = file_of(alloc, cell_of(row, 2))?;
     let image = read_image(alloc, bytes.as_slice(), Isa::Imc)?;
     let symbols = CodeSymbols::new(alloc, &image, bytes.as_slice())?;
@@ -112,7 +112,7 @@ fn told(alloc: Global, row: &str) -> Result<String, Fail> {
 fn runs_have_the_expected_nodes(rt: HostRuntime) -> Result<(), Fail> {
     has_lines(RUNS, 14)?;
     for row in RUNS.lines() {
-        agree(row, told(rt.alloc(), row)?.as_str(), cell_of(row, 4))?;
+        agree(row, nodes_text(rt.alloc(), row)?.as_str(), cell_of(row, 4))?;
     }
     Ok(())
 }

@@ -37,7 +37,7 @@ fn told(rt: &(impl Threads + Wait), alloc: Global, case: &str) -> Result<String,
 }
 
 // Appends a word, after a space if the text has words already.
-fn put_word(text: &mut String, word: &str) -> Result<(), AllocError> {
+fn push_word(text: &mut String, word: &str) -> Result<(), AllocError> {
     if !text.is_empty() && !word.is_empty() {
         text.push_str(" ")?;
     }
@@ -46,7 +46,7 @@ fn put_word(text: &mut String, word: &str) -> Result<(), AllocError> {
 
 // Returns the part of a report's line that a summary has: the whole last line, the rest of a line whose first word is in `view`, and
 // nothing of any other line.
-fn kept<'a>(view: &str, line: &'a str) -> &'a str {
+fn summary_part<'a>(view: &str, line: &'a str) -> &'a str {
     match line.split_once(' ') {
         Some(("done", _)) => line,
         Some((word, rest)) if view.contains(word) => rest,
@@ -59,19 +59,19 @@ fn kept<'a>(view: &str, line: &'a str) -> &'a str {
 fn summary(alloc: Global, view: &str, told: &str) -> Result<String, AllocError> {
     let mut text = String::new(alloc);
     if view.contains("reads") {
-        put_word(&mut text, cell_of(told, 1))?;
+        push_word(&mut text, cell_of(told, 1))?;
     }
-    put_word(&mut text, cell_of(told, 2))?;
-    put_word(&mut text, cell_of(told, 3))?;
+    push_word(&mut text, cell_of(told, 2))?;
+    push_word(&mut text, cell_of(told, 3))?;
     for line in part(told, 4).lines() {
-        put_word(&mut text, kept(view, line))?;
+        push_word(&mut text, summary_part(view, line))?;
     }
     Ok(text)
 }
 
 // Returns the part of an output that is compared: if `view` is a number, everything after that many bars, and otherwise the summary for the
 // words in `view`.
-fn shown(alloc: Global, view: &str, told: &str) -> Result<String, AllocError> {
+fn compared_part(alloc: Global, view: &str, told: &str) -> Result<String, AllocError> {
     match view.parse::<usize>() {
         Ok(bars) => {
             let mut parts = told.splitn(bars.saturating_add(1), '|');
@@ -82,10 +82,10 @@ fn shown(alloc: Global, view: &str, told: &str) -> Result<String, AllocError> {
 }
 
 // Returns the part of the output for a row that is compared; `ask` is the form of the input.
-fn answer(rt: &(impl Threads + Wait), alloc: Global, ask: &str, row: &str) -> Result<String, Fail> {
-    let case = written(alloc, ask, row)?;
+fn actual_output(rt: &(impl Threads + Wait), alloc: Global, ask: &str, row: &str) -> Result<String, Fail> {
+    let case = form_text(alloc, ask, row)?;
     let told = told(rt, alloc, case.as_str())?;
-    Ok(shown(alloc, part(case.as_str(), 1), told.as_str())?)
+    Ok(compared_part(alloc, part(case.as_str(), 1), told.as_str())?)
 }
 
 // Checks the output for a row, given the forms of the input and of the expected output.
@@ -96,8 +96,8 @@ fn check_row(
     wanted: &str,
     row: &str,
 ) -> Result<(), Fail> {
-    let wanted = written(alloc, wanted, row)?;
-    let answer = answer(rt, alloc, ask, row)?;
+    let wanted = form_text(alloc, wanted, row)?;
+    let answer = actual_output(rt, alloc, ask, row)?;
     agree(row, answer.as_str(), wanted.as_str())
 }
 

@@ -28,7 +28,7 @@ fn runs_a_file(rt: HostRuntime) -> Result<(), Fail> {
 }
 
 // Reads the file at a path, and returns as text whether it has these bytes, or the reason why it was not read.
-fn answer(rt: &HostRuntime, path: &str, bytes: &[u8]) -> &'static str {
+fn actual_output(rt: &HostRuntime, path: &str, bytes: &[u8]) -> &'static str {
     let mut store = FileStore::new(rt);
     match store.read(rt.alloc(), path) {
         Ok(read) if read.as_slice() == bytes => "these bytes",
@@ -56,9 +56,9 @@ fn check_file_row(rt: &HostRuntime, line: &str) -> Result<(), Fail> {
     let path = line.split('|').next().unwrap_or("");
     let bytes = numbers(rt.alloc(), cell_of(line, 1))?;
     fs::write(rt, path, bytes.as_slice())?;
-    agree(line, answer(rt, path, &bytes), cell_of(line, 2))?;
+    agree(line, actual_output(rt, path, &bytes), cell_of(line, 2))?;
     fs::remove_file(rt, path)?;
-    agree(line, answer(rt, path, &bytes), "unreadable")
+    agree(line, actual_output(rt, path, &bytes), "unreadable")
 }
 
 // The store returns the bytes of files, or the reason why they cannot be read.
@@ -69,7 +69,7 @@ fn reads_files(rt: HostRuntime) -> Result<(), Fail> {
     }
     agree(
         "no folder",
-        answer(&rt, "no folder/image", &[]),
+        actual_output(&rt, "no folder/image", &[]),
         "unreadable",
     )
 }

@@ -16,7 +16,7 @@ pub(crate) fn part(text: &str, place: usize) -> &str {
 }
 
 // Returns a form with the cells of a row, or the whole row, in place of their names, and a line feed in place of each slash.
-fn filled(alloc: Global, form: &str, row: &str) -> Result<String, AllocError> {
+fn with_cells(alloc: Global, form: &str, row: &str) -> Result<String, AllocError> {
     let mut text = form.replace(alloc, "$_", row)?;
     for (place, name) in CELLS.iter().enumerate() {
         text = text.as_str().replace(alloc, *name, cell_of(row, place))?;
@@ -43,7 +43,7 @@ fn push_numbered(text: &mut String, form: &str, number: usize) -> Result<(), All
 }
 
 // Appends a text as often as `count` says, each time with its number, from 1, in place of each `%`.
-fn put_each(text: &mut String, form: &str, count: usize) -> Result<(), AllocError> {
+fn push_each(text: &mut String, form: &str, count: usize) -> Result<(), AllocError> {
     for number in 0..count {
         push_numbered(text, form, number.saturating_add(1))?;
     }
@@ -63,7 +63,7 @@ fn push_times(text: &mut String, part: &str) -> Result<(), AllocError> {
     let (count, form) = part.split_once(" times ").unwrap_or(("1", part));
     let count = count.parse::<usize>().unwrap_or(0);
     if form.contains('%') {
-        put_each(text, form, count)
+        push_each(text, form, count)
     } else {
         push_same(text, form, count)
     }
@@ -93,7 +93,7 @@ fn expanded(alloc: Global, form: &str) -> Result<String, AllocError> {
 }
 
 /// Returns the text that a form describes with the cells of a row.
-pub(crate) fn written(alloc: Global, form: &str, row: &str) -> Result<String, AllocError> {
-    let text = filled(alloc, form, row)?;
+pub(crate) fn form_text(alloc: Global, form: &str, row: &str) -> Result<String, AllocError> {
+    let text = with_cells(alloc, form, row)?;
     expanded(alloc, text.as_str())
 }

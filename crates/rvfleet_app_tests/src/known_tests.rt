@@ -60,7 +60,7 @@ done 1
 ";
 
 // Checks the output for a command line, with a store that has these bytes at each path.
-fn answers(
+fn check_output(
     rt: &(impl Threads + Wait),
     alloc: Global,
     line: &str,
@@ -73,13 +73,13 @@ fn answers(
 
 // The program runs an image and a list from a store whose contents are known.
 #[test]
-fn files_are_known(rt: HostRuntime) -> Result<(), Fail> {
-    answers(
+fn runs_with_known_contents(rt: HostRuntime) -> Result<(), Fail> {
+    check_output(
         &rt,
         rt.alloc(),
         "rvfleet one i --budget 3",
         &ONE_SEGMENT,
         IMAGE_REPORT,
     )?;
-    answers(&rt, rt.alloc(), "rvfleet run jobs", LIST, LIST_REPORT)
+    check_output(&rt, rt.alloc(), "rvfleet run jobs", LIST, LIST_REPORT)
 }

@@ -5,7 +5,7 @@ use std::alloc::{AllocError, Global};
 use std::test::Fail;
 
 // Whether a text is unchanged when its string is moved out of it.
-fn is_kept(alloc: Global) -> Result<bool, AllocError> {
+fn is_unchanged(alloc: Global) -> Result<bool, AllocError> {
     let name = Text::new(String::from_str(alloc, "raw")?);
     Ok(name.into_string().as_str() == "raw")
 }
@@ -13,6 +13,6 @@ fn is_kept(alloc: Global) -> Result<bool, AllocError> {
 // A text that is moved out of its value is unchanged.
 #[test]
 fn moved_texts_are_unchanged(rt: HostRuntime) -> Result<(), Fail> {
-    assert!(rt; is_kept(rt.alloc())?);
+    assert!(rt; is_unchanged(rt.alloc())?);
     Ok(())
 }

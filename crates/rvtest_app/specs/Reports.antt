@@ -10,7 +10,7 @@ use Rattle.rv_command.specs.Messages.{truncation_note}
 use Rattle.rv_command.specs.Texts.{IsReportRead, IsTextAt, optional_text}
 use Rattle.rv_diff.specs.Diff.{difference_counts, diff_text, rows_in_both}
 use Rattle.rv_diff.specs.declared.change.CompareMode.{CompareMode}
-use Rattle.rv_diff.specs.declared.change.CompareMode.TheVariants.{AcceptChanges, Slower, Steps}
+use Rattle.rv_diff.specs.declared.change.CompareMode.TheVariants.{Outcomes, Slower, Steps}
 use Rattle.rv_expect.specs.Judgement.{judge_by_rule}
 use Rattle.rv_expect.specs.Rule.{has_passed}
 use Rattle.rv_expect.specs.declared.rule.Rule.TheVariants.{Strict}
@@ -50,7 +50,7 @@ HasEntryPerUnreadable answers unread = length unread ≡ after_increments 0 (unr
 abbrev pub requested_comparison : Bool → Option ℕ → CompareMode
 requested_comparison true slower = Steps
 requested_comparison false (Some percent) = Slower percent
-requested_comparison false None = AcceptChanges
+requested_comparison false None = Outcomes
 
 -- whether the first report has only chosen jobs of a list, and the second has all of them
 abbrev pub is_partial_of_whole : Extent → Extent → Bool

@@ -188,7 +188,7 @@ fn requested_comparison(steps: bool, slower: Option<u32>) -> CompareMode
     match (steps, slower) {
         (true, _) => CompareMode::Steps,
         (false, Some(percent)) => CompareMode::Slower(percent),
-        (false, None) => CompareMode::AcceptChanges,
+        (false, None) => CompareMode::Outcomes,
     }
 }
 

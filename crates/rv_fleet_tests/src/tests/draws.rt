@@ -160,7 +160,7 @@ fn push_all(text: &mut String, claims: &Claims, mut pass: Pass, line: &str) -> R
 }
 
 // Returns the responses of the passes of a shared draw of at most 4,096 chunks, and whether the last pass holds every pass index.
-pub(super) fn told(alloc: Global, line: &str) -> Result<String, Fail> {
+pub(super) fn result_text(alloc: Global, line: &str) -> Result<String, Fail> {
     let (claims, pass) = Claims::new(alloc, number_in(line, 1).min(4096))?;
     let mut text = String::new(alloc);
     let pass = push_all(&mut text, &claims, pass, line)?;
@@ -186,7 +186,7 @@ const PIECES: u64 = 1000;
 
 /// Draws until no chunk is left, and returns the pass and the numbers drawn. Here and below, the result is `None` if memory or a pass index
 /// is missing.
-fn take_all(alloc: Global, claims: &Claims, mut pass: Pass) -> Option<(Pass, Vec<u64>)>
+fn draw_all(alloc: Global, claims: &Claims, mut pass: Pass) -> Option<(Pass, Vec<u64>)>
     requires { pass.draw ≡ claims.now }
     ensures { IfSome result (λ taken. taken.0.draw ≡ claims.now) }
 {
@@ -203,7 +203,7 @@ fn take_all(alloc: Global, claims: &Claims, mut pass: Pass) -> Option<(Pass, Vec
 }
 
 // Joins two passes, and returns the pass with the numbers that both drew.
-fn both_taken(
+fn both_drawn(
     claims: &Claims,
     one: Option<(Pass, Vec<u64>)>,
     other: Option<(Pass, Vec<u64>)>,
@@ -221,7 +221,7 @@ fn both_taken(
 }
 
 /// Draws in two threads until no chunk is left, and returns the joined pass and the numbers drawn.
-fn take_all_in_two<R: Threads + Sync>(
+fn draw_all_in_two<R: Threads + Sync>(
     rt: &R,
     alloc: Global,
     claims: &Claims,
@@ -236,17 +236,17 @@ fn take_all_in_two<R: Threads + Sync>(
         move || -> Option<(Pass, Vec<u64>)>
             requires { first.draw ≡ claims.now }
             ensures { IfSome result (λ taken. taken.0.draw ≡ claims.entry.now) }
-        { take_all(alloc, claims, first) },
+        { draw_all(alloc, claims, first) },
         move || -> Option<(Pass, Vec<u64>)>
             requires { second.draw ≡ claims.now }
             ensures { IfSome result (λ taken. taken.0.draw ≡ claims.entry.now) }
-        { take_all(alloc, claims, second) },
+        { draw_all(alloc, claims, second) },
     );
-    both_taken(claims, one, other)
+    both_drawn(claims, one, other)
 }
 
 // Draws in four threads until no chunk is left, and returns the joined pass and the numbers drawn.
-fn take_all_in_four<R: Threads + Sync>(
+fn draw_all_in_four<R: Threads + Sync>(
     rt: &R,
     alloc: Global,
     claims: &Claims,
@@ -261,13 +261,13 @@ fn take_all_in_four<R: Threads + Sync>(
         move || -> Option<(Pass, Vec<u64>)>
             requires { first.draw ≡ claims.now }
             ensures { IfSome result (λ taken. taken.0.draw ≡ claims.entry.now) }
-        { take_all_in_two(rt, alloc, claims, first) },
+        { draw_all_in_two(rt, alloc, claims, first) },
         move || -> Option<(Pass, Vec<u64>)>
             requires { second.draw ≡ claims.now }
             ensures { IfSome result (λ taken. taken.0.draw ≡ claims.entry.now) }
-        { take_all_in_two(rt, alloc, claims, second) },
+        { draw_all_in_two(rt, alloc, claims, second) },
     );
-    both_taken(claims, one, other)
+    both_drawn(claims, one, other)
 }
 
 // Whether the numbers are 0, 1, 2 and so on, each once, in any order.
@@ -288,9 +288,9 @@ fn are_each_once(mut numbers: Vec<u64>) -> bool {
 pub(super) const FOUR_THREADS: &str = "four threads | 1000 true true true";
 
 /// Returns the result of draws by four threads, as text.
-pub(super) fn told_of_four<R: Threads + Sync>(rt: &R, alloc: Global) -> Result<String, Fail> {
+pub(super) fn four_threads_text<R: Threads + Sync>(rt: &R, alloc: Global) -> Result<String, Fail> {
     let (claims, pass) = Claims::new(alloc, PIECES)?;
-    let Some((pass, numbers)) = take_all_in_four(rt, alloc, &claims, pass) else {
+    let Some((pass, numbers)) = draw_all_in_four(rt, alloc, &claims, pass) else {
         return Err("no memory, or no place is free".into());
     };
     let ended = pass.ended();

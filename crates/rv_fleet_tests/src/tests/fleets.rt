@@ -2,7 +2,7 @@
 ghost use Rattle.std.specs.List.Sorted.{IsStrictlyIncreasing};
 ghost use Rattle.rv_fleet.specs.JobIndices.{AreJobIndices};
 
-use super::gate::NotingGate;
+use super::gate::RecordingGate;
 use super::{chosen, crew_of, push_rows};
 use rv_fleet::{Batch, Crew, Plan, Rows, run_batch, run_fleet};
 use samples::cell_of;
@@ -30,13 +30,13 @@ the last job | 3 3 3 3 | ...x | 1 | 4096 | batch | | | j3 Exit(5) 2, entered 0, 
 none | 3 3 3 3 | .... | 4 | 1 | batch | | | entered 0, late false";
 
 // Runs the plan of a line, all of it by a fleet or the selected jobs by a batch, and returns the rows.
-fn ran<R: Threads + Wait + Sync>(
+fn rows_of_run<R: Threads + Wait + Sync>(
     rt: &R,
     alloc: Global,
     plan: &Plan,
     places: &[usize],
     line: &str,
-    gate: &NotingGate,
+    gate: &RecordingGate,
 ) -> Result<Rows, Fail>
     requires within { AreJobIndices plan.now places.now }
     requires rising { IsStrictlyIncreasing places.now }
@@ -51,14 +51,14 @@ fn ran<R: Threads + Wait + Sync>(
 }
 
 /// Returns the rows of a line's run, and what its gate recorded.
-pub(super) fn told<R: Threads + Wait + Sync>(
+pub(super) fn result_text<R: Threads + Wait + Sync>(
     rt: &R,
     alloc: Global,
     line: &str,
 ) -> Result<String, Fail> {
     let (plan, places) = chosen(alloc, line)?;
-    let gate = NotingGate::of(line);
-    let rows = ran(rt, alloc, &plan, places.as_slice(), line, &gate)?;
+    let gate = RecordingGate::of(line);
+    let rows = rows_of_run(rt, alloc, &plan, places.as_slice(), line, &gate)?;
     let mut text = String::new(alloc);
     push_rows(&mut text, rows.as_slice())?;
     gate.push_notes(&mut text)?;

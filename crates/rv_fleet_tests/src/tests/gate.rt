@@ -14,7 +14,7 @@ const DIGITS: [u64; 4] = [1, 10, 100, 1000];
 /// A gate that counts the entries of each of four chunks. The first `held` chunks wait until as many have entered as are `awaited`, and
 /// `late` is set if one waits in vain.
 #[derive(Drop)]
-pub(super) struct NotingGate {
+pub(super) struct RecordingGate {
     held: u64,
     awaited: u64,
     entered: AtomicU64,
@@ -23,10 +23,10 @@ pub(super) struct NotingGate {
     late: AtomicBool,
 }
 
-impl NotingGate {
+impl RecordingGate {
     /// Returns the gate that a line describes: how many chunks wait at it, and for how many other chunks.
-    pub(super) fn of(line: &str) -> NotingGate {
-        NotingGate {
+    pub(super) fn of(line: &str) -> RecordingGate {
+        RecordingGate {
             held: number_in(line, 6),
             awaited: number_in(line, 7),
             entered: AtomicU64::new(0),
@@ -49,7 +49,7 @@ impl NotingGate {
     }
 }
 
-impl Gate for NotingGate {
+impl Gate for RecordingGate {
     // Records that the chunk `piece` entered, and waits if the gate says so.
     fn enter(&self, piece: u64) {
         if let Some(digit) = DIGITS.get(piece as usize) {

@@ -28,7 +28,7 @@ fn outcome_of(alloc: Global, size: &str) -> Result<Outcome, Fail> {
 }
 
 // Caches an outcome of this size for the job at an index, if it is small enough.
-fn keep(alloc: Global, recent: &mut RecentOutcomes, place: usize, size: &str) -> Result<(), Fail> {
+fn cache_outcome(alloc: Global, recent: &mut RecentOutcomes, place: usize, size: &str) -> Result<(), Fail> {
     let outcome = outcome_of(alloc, size)?;
     if recent.make_room(outcome.size()) {
         recent.keep(place, outcome)?;
@@ -37,7 +37,7 @@ fn keep(alloc: Global, recent: &mut RecentOutcomes, place: usize, size: &str) ->
 }
 
 // Returns the indices below `places` whose outcomes are cached.
-fn kept(alloc: Global, recent: &RecentOutcomes, places: usize) -> Result<String, Fail> {
+fn cached_indices(alloc: Global, recent: &RecentOutcomes, places: usize) -> Result<String, Fail> {
     let mut found = String::new(alloc);
     for place in 0..places {
         if recent.find(place).is_some() {
@@ -48,13 +48,13 @@ fn kept(alloc: Global, recent: &RecentOutcomes, places: usize) -> Result<String,
 }
 
 // Returns the indices whose outcomes are cached after outcomes of the sizes in a line were added for the indices 0, 1 and so on.
-pub(super) fn told(alloc: Global, line: &str) -> Result<String, Fail> {
+pub(super) fn result_text(alloc: Global, line: &str) -> Result<String, Fail> {
     let sizes = cell_of(line, 1);
     let mut recent = RecentOutcomes::new(alloc);
     for (place, size) in sizes.split(' ').enumerate() {
-        keep(alloc, &mut recent, place, size)?;
+        cache_outcome(alloc, &mut recent, place, size)?;
     }
-    kept(alloc, &recent, sizes.split(' ').count())
+    cached_indices(alloc, &recent, sizes.split(' ').count())
 }
 
 // label | the sizes of outcomes | the indices that are cached
@@ -95,7 +95,7 @@ same_as = 'j2'
 
 // Makes the row of the job at an index, and returns whether the outcome of the preceding job, which is run for the comparison, is then
 // cached.
-fn keeps_named(alloc: Global, plan: &Plan, place: usize) -> Result<bool, Fail>
+fn caches_named(alloc: Global, plan: &Plan, place: usize) -> Result<bool, Fail>
     requires { place < length plan.now.jobs }
 {
     let mut recent = RecentOutcomes::new(alloc);
@@ -104,12 +104,12 @@ fn keeps_named(alloc: Global, plan: &Plan, place: usize) -> Result<bool, Fail>
 }
 
 // Makes the row of the job at this index of `NAMING`, and returns whether the outcome of the preceding job is then cached.
-fn is_named_kept(alloc: Global, place: usize) -> Result<bool, Fail> {
+fn is_named_cached(alloc: Global, place: usize) -> Result<bool, Fail> {
     let plan = plan_in(alloc, NAMING)?;
     if plan.jobs() <= place {
         return Err("a place of a job".into());
     }
-    keeps_named(alloc, &plan, place)
+    caches_named(alloc, &plan, place)
 }
 
 // label | the index of a job of `NAMING` | whether the outcome of the job that it names is cached: the signature of a run counts before its
@@ -119,7 +119,7 @@ pub(super) const NAMED: &str = "\
 one more | 3 | false";
 
 /// Returns as text whether the outcome of the job that the job in a line names is cached.
-pub(super) fn told_of_named(alloc: Global, line: &str) -> Result<String, Fail> {
-    let kept = is_named_kept(alloc, number_in(line, 1) as usize)?;
+pub(super) fn named_text(alloc: Global, line: &str) -> Result<String, Fail> {
+    let kept = is_named_cached(alloc, number_in(line, 1) as usize)?;
     Ok(format!(in alloc; "{kept}")?)
 }

@@ -68,7 +68,7 @@ impl Observer<ReportedRow> for Unobserved {
 /// A sink over memory that accepts a limited number of bytes per write, fails at one write, counted from 1, and records at each write how
 /// many rows had been reported.
 #[derive(Drop)]
-struct NotingSink<'a> {
+struct RecordingSink<'a> {
     bytes: Vec<u8>,
     most: usize,
     fails_at: u64,
@@ -78,10 +78,10 @@ struct NotingSink<'a> {
     notes: String,
 }
 
-impl<'a> NotingSink<'a> {
+impl<'a> RecordingSink<'a> {
     // Creates a sink that accepts at most `most` bytes per write; its write number `fails_at` fails, or none if that is 0.
-    fn new(alloc: Global, most: usize, fails_at: u64, asked: &'a AtomicU64) -> NotingSink<'a> {
-        NotingSink {
+    fn new(alloc: Global, most: usize, fails_at: u64, asked: &'a AtomicU64) -> RecordingSink<'a> {
+        RecordingSink {
             bytes: Vec::new(alloc),
             most,
             fails_at,
@@ -93,7 +93,7 @@ impl<'a> NotingSink<'a> {
     }
 }
 
-impl<'a> Sink for NotingSink<'a> {
+impl<'a> Sink for RecordingSink<'a> {
     ghost accepted = { λ _. None };
 
     ghost failure_count = { λ sink. sink.failures };
@@ -133,7 +133,7 @@ one behind the other | 3 3 3 3 3 3 3 3 | xxxxxxxx | 4 | 1 | j0;j1;j2;j3;j4;j5;j6
 
 // label | budgets | the selected jobs | workers | group | the write that fails, or 0 | the output; how many rows were reported before each
 // write, and in all; and how the call ended
-pub(super) const PUTS: &str = "\
+pub(super) const WRITES: &str = "\
 each text at once | 3 3 3 | xxx | 1 | 1 | 0 | j0;j1;j2; at 1 2 3 of 3: 3 rows
 pieces of two | 3 3 3 | xxx | 1 | 2 | 0 | j0;j1;j2; at 2 3 of 3: 3 rows
 one piece | 3 3 3 | xxx | 1 | 4096 | 0 | j0;j1;j2; at 3 of 3: 3 rows
@@ -145,7 +145,7 @@ the last | 3 3 | xx | 1 | 1 | 2 | j0; at 1 2 of 2: write failed
 the only one | 3 3 | xx | 1 | 2 | 1 | at 2 of 2: write failed";
 
 // Appends the output, the number of rows that were reported before each write, and the number of all rows.
-fn push_out(text: &mut String, out: &NotingSink<'_>) -> Result<(), AllocError> {
+fn push_out(text: &mut String, out: &RecordingSink<'_>) -> Result<(), AllocError> {
     let sent = std::str::from_utf8(out.bytes.as_slice()).unwrap_or("no text");
     let (notes, asked) = (out.notes.as_str(), out.asked.load(Ordering::SeqCst));
     write!(text, "{sent} at{notes} of {asked}: ")
@@ -165,7 +165,7 @@ fn push_end(text: &mut String, ran: &Result<Rows, StreamError>) -> Result<(), Al
 // Returns the output of a stream, and how the call ended.
 fn text_of(
     alloc: Global,
-    out: &NotingSink<'_>,
+    out: &RecordingSink<'_>,
     ran: &Result<Rows, StreamError>,
 ) -> Result<String, Fail> {
     let mut text = String::new(alloc);
@@ -175,7 +175,7 @@ fn text_of(
 }
 
 // Returns the result of streaming the jobs of a line into writes of at most `most` bytes, of which number `fails_at` fails.
-fn told<R: Threads + Wait + Sync>(
+fn result_text<R: Threads + Wait + Sync>(
     rt: &R,
     alloc: Global,
     line: &str,
@@ -186,7 +186,7 @@ fn told<R: Threads + Wait + Sync>(
     let (plan, places) = chosen(alloc, line)?;
     let asked = AtomicU64::new(0);
     let names = Names { asked: &asked };
-    let out = NotingSink::new(alloc, most, fails_at, &asked);
+    let out = RecordingSink::new(alloc, most, fails_at, &asked);
     let crew = Crew::new(rt, alloc, workers, group);
     let batch = Batch::new(&plan, places.as_slice());
     let limit = FailureLimit {
@@ -197,23 +197,23 @@ fn told<R: Threads + Wait + Sync>(
         reporter: &names,
         out,
     };
-    let (out, _, ran) = stream_rows::<Brand, R, Names<'_>, NotingSink<'_>, Unobserved>(
+    let (out, _, ran) = stream_rows::<Brand, R, Names<'_>, RecordingSink<'_>, Unobserved>(
         &crew, &batch, &limit, to, Unobserved,
     );
     text_of(alloc, &out, &ran)
 }
 
 // Returns the result of streaming the jobs of a line; the line has the number of the write that fails.
-pub(super) fn told_of_put<R: Threads + Wait + Sync>(
+pub(super) fn stream_text<R: Threads + Wait + Sync>(
     rt: &R,
     alloc: Global,
     line: &str,
 ) -> Result<String, Fail> {
-    told(rt, alloc, line, usize::MAX, number_in(line, 5))
+    result_text(rt, alloc, line, usize::MAX, number_in(line, 5))
 }
 
 // Whether exactly the first `sent` bytes of the whole output were written, and the call failed unless these are all bytes.
-fn is_cut(told: &str, whole: &str, sent: usize) -> bool {
+fn is_prefix_of_output(told: &str, whole: &str, sent: usize) -> bool {
     let (out, notes) = told.split_once(" at").unwrap_or(("", ""));
     whole.get(..sent) == Some(out) && notes.ends_with("write failed") == (sent < whole.len())
 }
@@ -222,8 +222,8 @@ fn is_cut(told: &str, whole: &str, sent: usize) -> bool {
 fn check_writes<R: Threads + Wait + Sync>(rt: &R, alloc: Global, line: &str) -> Result<(), Fail> {
     let whole = cell_of(line, 5);
     for sent in 0..whole.len() + 1 {
-        let text = told(rt, alloc, line, 1, (sent as u64).saturating_add(1))?;
-        if !is_cut(text.as_str(), whole, sent) {
+        let text = result_text(rt, alloc, line, 1, (sent as u64).saturating_add(1))?;
+        if !is_prefix_of_output(text.as_str(), whole, sent) {
             return agree(line, text.as_str(), whole);
         }
     }

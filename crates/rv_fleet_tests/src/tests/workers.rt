@@ -3,7 +3,7 @@ ghost use Rattle.std.specs.Prelude.{◌≡◌, ◌<◌, ◌≤◌, IfOk};
 ghost use Rattle.rv_fleet.specs.Pieces.{piece_count_of_plan};
 
 use super::draws::halves;
-use super::gate::NotingGate;
+use super::gate::RecordingGate;
 use super::{crew_of, plan_of, push_rows};
 use rv_fleet::{Claims, Pass, Piece, Plan, work};
 use samples::cell_of;
@@ -27,7 +27,7 @@ fn work_alone(
     mut pass: Pass,
     plan: &Plan,
     group: u32,
-    gate: &NotingGate,
+    gate: &RecordingGate,
 ) -> Result<(Pass, Vec<Piece>), AllocError>
     requires group { (0 < group) × (group ≤ 4096) }
     requires pieces { claims.now.pieces ≡ piece_count_of_plan plan.now group }
@@ -46,7 +46,7 @@ fn work_in_two<R: Threads>(
     pass: Pass,
     plan: &Plan,
     group: u32,
-    gate: &NotingGate,
+    gate: &RecordingGate,
 ) -> Result<(Pass, Vec<Piece>), Fail>
     requires group { (0 < group) × (group ≤ 4096) }
     requires pieces { claims.now.pieces ≡ piece_count_of_plan plan.now group }
@@ -76,7 +76,7 @@ fn work_in_two<R: Threads>(
 }
 
 // Computes the chunks of a plan with one worker or with two, and returns the pass and the chunks.
-fn worked<R: Threads>(
+fn pieces_of_workers<R: Threads>(
     rt: &R,
     alloc: Global,
     claims: &Claims,
@@ -84,7 +84,7 @@ fn worked<R: Threads>(
     plan: &Plan,
     workers: u32,
     group: u32,
-    gate: &NotingGate,
+    gate: &RecordingGate,
 ) -> Result<(Pass, Vec<Piece>), Fail>
     requires group { (0 < group) × (group ≤ 4096) }
     requires pieces { claims.now.pieces ≡ piece_count_of_plan plan.now group }
@@ -106,12 +106,12 @@ struct ComputedPieces {
 }
 
 // Computes the chunks of a plan with the workers of a line, and returns the result.
-fn made<R: Threads>(
+fn computed_pieces<R: Threads>(
     rt: &R,
     alloc: Global,
     plan: &Plan,
     line: &str,
-    gate: &NotingGate,
+    gate: &RecordingGate,
 ) -> Result<ComputedPieces, Fail> {
     let (workers, group) = crew_of(line);
     let count = piece_count(plan, group);
@@ -119,7 +119,7 @@ fn made<R: Threads>(
         return Err("at most 4,096 pieces".into());
     }
     let (claims, pass) = Claims::new(alloc, count)?;
-    let (pass, pieces) = worked(rt, alloc, &claims, pass, plan, workers, group, gate)?;
+    let (pass, pieces) = pieces_of_workers(rt, alloc, &claims, pass, plan, workers, group, gate)?;
     let ended = pass.ended();
     let finished = claims.finish(pass);
     Ok(ComputedPieces {
@@ -163,7 +163,7 @@ fn text_of(
     alloc: Global,
     made: &ComputedPieces,
     alone: bool,
-    gate: &NotingGate,
+    gate: &RecordingGate,
 ) -> Result<String, Fail> {
     let mut text = String::new(alloc);
     push_xml_pieces(&mut text, made.pieces.as_slice(), alone)?;
@@ -175,10 +175,10 @@ fn text_of(
 }
 
 /// Returns as text the chunks that the workers of a line compute, and what the gate recorded.
-pub(super) fn told<R: Threads>(rt: &R, alloc: Global, line: &str) -> Result<String, Fail> {
+pub(super) fn result_text<R: Threads>(rt: &R, alloc: Global, line: &str) -> Result<String, Fail> {
     let plan = plan_of(alloc, cell_of(line, 1))?;
-    let gate = NotingGate::of(line);
-    let made = made(rt, alloc, &plan, line, &gate)?;
+    let gate = RecordingGate::of(line);
+    let made = computed_pieces(rt, alloc, &plan, line, &gate)?;
     text_of(alloc, &made, crew_of(line).0 == 1, &gate)
 }
 
