@@ -27,9 +27,9 @@ pub(crate) struct Outbox<J: StreamSpec, W: Sink + Drop> {
 impl<J: StreamSpec, W: Sink + Drop> Outbox<J, W> {
     /// Creates an outbox with an empty buffer.
     pub(crate) fn new(alloc: Global, out: W) -> Outbox<J, W>
-        requires before { J.before ≡ W.accepted out }
-        requires failures { J.failures ≡ W.failure_count out }
-        ensures sent { IsSent J.before (W.accepted result.out) J.failures (W.failure_count result.out) result.failed result.buffered.items [] }
+        requires before { J.accepted_before ≡ W.accepted out }
+        requires failures { J.failure_count ≡ W.failure_count out }
+        ensures sent { IsSent J.accepted_before (W.accepted result.out) J.failure_count (W.failure_count result.out) result.failed result.buffered.items [] }
         ensures goes { result.failed ≡ None }
     {
         Outbox {
@@ -49,8 +49,8 @@ impl<J: StreamSpec, W: Sink + Drop> Outbox<J, W> {
     ) -> Flow
         requires { self.old.failed ≡ None }
         ensures sent { (text : List ℕ)
-            → IsSent J.before (W.accepted self.old.out) J.failures (W.failure_count self.old.out) self.old.failed self.old.buffered.items text
-            → IsSent J.before (W.accepted self.new.out) J.failures (W.failure_count self.new.out) self.new.failed self.new.buffered.items
+            → IsSent J.accepted_before (W.accepted self.old.out) J.failure_count (W.failure_count self.old.out) self.old.failed self.old.buffered.items text
+            → IsSent J.accepted_before (W.accepted self.new.out) J.failure_count (W.failure_count self.new.out) self.new.failed self.new.buffered.items
             (text ++ T.line reporter.now made.now.index made.now.row) }
         ensures goes { result ≡ Continue → self.new.failed ≡ None }
         ensures stops { result ≡ Stop → is_some self.new.failed ≡ true }
@@ -69,8 +69,8 @@ impl<J: StreamSpec, W: Sink + Drop> Outbox<J, W> {
     pub(crate) fn send(&mut self) -> Flow
         requires { self.old.failed ≡ None }
         ensures sent { (text : List ℕ)
-            → IsSent J.before (W.accepted self.old.out) J.failures (W.failure_count self.old.out) self.old.failed self.old.buffered.items text
-            → IsSent J.before (W.accepted self.new.out) J.failures (W.failure_count self.new.out) self.new.failed self.new.buffered.items text }
+            → IsSent J.accepted_before (W.accepted self.old.out) J.failure_count (W.failure_count self.old.out) self.old.failed self.old.buffered.items text
+            → IsSent J.accepted_before (W.accepted self.new.out) J.failure_count (W.failure_count self.new.out) self.new.failed self.new.buffered.items text }
         ensures goes { result ≡ Continue → self.new.failed ≡ None }
         ensures stops { result ≡ Stop → is_some self.new.failed ≡ true }
     {
@@ -88,14 +88,14 @@ impl<J: StreamSpec, W: Sink + Drop> Outbox<J, W> {
 
     /// Writes the buffered text, and returns the sink and whether it has received the whole text; after an error it has received a prefix.
     pub(crate) fn finish(self) -> (W, Result<(), WriteError>)
-        ensures all { (text : List ℕ) → IsSent J.before (W.accepted self.out) J.failures (W.failure_count self.out) self.failed self.buffered.items text
-            → OnOk result.1 (Appends J.before (W.accepted result.0) text
-            × (W.failure_count result.0 ≡ J.failures)) }
-        ensures part { (text : List ℕ) → IsSent J.before (W.accepted self.out) J.failures (W.failure_count self.out) self.failed self.buffered.items text
-            → OnErr result.1 (AppendsPrefix J.before (W.accepted result.0) text) }
+        ensures all { (text : List ℕ) → IsSent J.accepted_before (W.accepted self.out) J.failure_count (W.failure_count self.out) self.failed self.buffered.items text
+            → OnOk result.1 (Appends J.accepted_before (W.accepted result.0) text
+            × (W.failure_count result.0 ≡ J.failure_count)) }
+        ensures part { (text : List ℕ) → IsSent J.accepted_before (W.accepted self.out) J.failure_count (W.failure_count self.out) self.failed self.buffered.items text
+            → OnErr result.1 (AppendsPrefix J.accepted_before (W.accepted result.0) text) }
         ensures goes { OnOk result.1 (self.failed ≡ None) }
-        ensures begun { (text : List ℕ) → IsSent J.before (W.accepted self.out) J.failures (W.failure_count self.out) self.failed self.buffered.items text
-            → AppendsPrefix J.before (W.accepted result.0) text }
+        ensures begun { (text : List ℕ) → IsSent J.accepted_before (W.accepted self.out) J.failure_count (W.failure_count self.out) self.failed self.buffered.items text
+            → AppendsPrefix J.accepted_before (W.accepted result.0) text }
     {
         let Outbox {
             out,

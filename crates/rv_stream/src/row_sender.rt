@@ -19,7 +19,7 @@ pub struct RowSender<'t, J: StreamSpec, T: RowReporter, W: Sink + Drop> {
     alloc: Global,
     reporter: &'t T,
     pub(crate) outbox: Option<Outbox<J, W>>,
-    ghost line: { T.line reporter.now ≡ J.line },
+    ghost line: { T.line reporter.now ≡ J.row_text },
     ghost there: { is_some outbox ≡ J.has_sink },
 }
 
@@ -27,9 +27,9 @@ impl<'t, J: StreamSpec, T: RowReporter, W: Sink + Drop> RowSender<'t, J, T, W> {
     /// Creates a sender that has seen no rows.
     pub fn new(alloc: Global, reporter: &'t T, out: Option<W>) -> RowSender<'t, J, T, W>
         requires there { is_some out ≡ J.has_sink }
-        requires before { IfSome out (λ out. (J.before ≡ W.accepted out) × (J.failures ≡ W.failure_count out)) }
-        requires line { T.line reporter.now ≡ J.line }
-        ensures sent { IfSome result.outbox (λ box. IsSent J.before (W.accepted box.out) J.failures (W.failure_count box.out) box.failed box.buffered.items []) }
+        requires before { IfSome out (λ out. (J.accepted_before ≡ W.accepted out) × (J.failure_count ≡ W.failure_count out)) }
+        requires line { T.line reporter.now ≡ J.row_text }
+        ensures sent { IfSome result.outbox (λ box. IsSent J.accepted_before (W.accepted box.out) J.failure_count (W.failure_count box.out) box.failed box.buffered.items []) }
         ensures goes { IfSome result.outbox (λ box. box.failed ≡ None) }
     {
         let outbox = match out {
@@ -48,11 +48,11 @@ impl<'t, J: StreamSpec, T: RowReporter, W: Sink + Drop> RowSender<'t, J, T, W> {
     pub fn finish(self) -> (Option<W>, Result<(), WriteError>)
         ensures there { is_some result.0 ≡ J.has_sink }
         ensures all { (text : List ℕ)
-            → IfSome self.entry.outbox (λ box. IsSent J.before (W.accepted box.out) J.failures (W.failure_count box.out) box.failed box.buffered.items text)
-            → OnOk result.1 (IfSome result.0 (λ out. Appends J.before (W.accepted out) text × (W.failure_count out ≡ J.failures))) }
+            → IfSome self.entry.outbox (λ box. IsSent J.accepted_before (W.accepted box.out) J.failure_count (W.failure_count box.out) box.failed box.buffered.items text)
+            → OnOk result.1 (IfSome result.0 (λ out. Appends J.accepted_before (W.accepted out) text × (W.failure_count out ≡ J.failure_count))) }
         ensures part { (text : List ℕ)
-            → IfSome self.entry.outbox (λ box. IsSent J.before (W.accepted box.out) J.failures (W.failure_count box.out) box.failed box.buffered.items text)
-            → OnErr result.1 (IfSome result.0 (λ out. AppendsPrefix J.before (W.accepted out) text)) }
+            → IfSome self.entry.outbox (λ box. IsSent J.accepted_before (W.accepted box.out) J.failure_count (W.failure_count box.out) box.failed box.buffered.items text)
+            → OnErr result.1 (IfSome result.0 (λ out. AppendsPrefix J.accepted_before (W.accepted out) text)) }
         ensures goes { OnOk result.1 (IfSome self.entry.outbox (λ box. box.failed ≡ None)) }
         ensures failed { OnErr result.1 (J.has_sink ≡ true) }
     {
@@ -73,8 +73,8 @@ impl<J: StreamSpec, T: RowReporter, W: Sink + Drop> Observer<ReportedRow>
     ghost use Rattle.rv_stream.specs.SeenRows.{text_by_index};
     ghost use Rattle.rv_stream.specs.SentTexts.{IsSent};
 
-    ghost has_seen = { λ s reported. IfSome s.outbox (λ box. IsSent J.before (W.accepted box.out) J.failures (W.failure_count box.out)
-        box.failed box.buffered.items (text_by_index J.line reported)) };
+    ghost has_seen = { λ s reported. IfSome s.outbox (λ box. IsSent J.accepted_before (W.accepted box.out) J.failure_count (W.failure_count box.out)
+        box.failed box.buffered.items (text_by_index J.row_text reported)) };
 
     ghost stops = { λ s. IsSomeAnd s.outbox (λ box. is_some box.failed ≡ true) };
 

@@ -28,11 +28,11 @@ pub(crate) struct RowsUpToFailure<'k, J: StreamSpec> {
 impl<'k, J: StreamSpec> RowsUpToFailure<'k, J> {
     /// Creates a listener that has received no rows.
     pub(crate) fn new(alloc: Global, limit: &FailureLimit<'k>) -> RowsUpToFailure<'k, J>
-        requires most { J.most ≡ limit.now.failures }
-        requires judging { J.judging ≡ judge_view limit.now.judge }
-        ensures judging { judge_view result.judge ≡ J.judging }
-        ensures first { AreRowsUpToFailure J.most J.judging result.left result.refused result.rows.items [] }
-        ensures left { result.left ≡ J.most }
+        requires most { J.max_failures ≡ limit.now.failures }
+        requires judging { J.judge ≡ judge_view limit.now.judge }
+        ensures judging { judge_view result.judge ≡ J.judge }
+        ensures first { AreRowsUpToFailure J.max_failures J.judge result.left result.refused result.rows.items [] }
+        ensures left { result.left ≡ J.max_failures }
         ensures refused { result.refused ≡ false }
     {
         RowsUpToFailure {
@@ -50,8 +50,8 @@ impl<J: StreamSpec> Listener<ReportedRow> for RowsUpToFailure<'_, J> {
     ghost use Rattle.rv_expect.specs.Judgement.{judge_view};
     ghost use Rattle.rv_stream.specs.ReportedRows.{rows_of_reported, AreRowsUpToFailure};
 
-    ghost has_received = { λ s told. (judge_view s.judge ≡ J.judging)
-        × AreRowsUpToFailure J.most J.judging s.left s.refused s.rows.items (rows_of_reported told) };
+    ghost has_received = { λ s told. (judge_view s.judge ≡ J.judge)
+        × AreRowsUpToFailure J.max_failures J.judge s.left s.refused s.rows.items (rows_of_reported told) };
 
     ghost stops = { λ s. (s.left ≡ Some 0) ⊎ (s.refused ≡ true) };
 

@@ -48,8 +48,8 @@ pub fn stream_rows<
     output: ReporterOutput<'_, T, W>,
     observer: B,
 ) -> (W, B, Result<Rows, StreamError>)
-    requires before { (J.before ≡ W.accepted output.out) × (J.failures ≡ W.failure_count output.out) }
-    requires ends { (J.most ≡ limit.now.failures) × (J.judging ≡ judge_view limit.now.judge) }
+    requires before { (J.accepted_before ≡ W.accepted output.out) × (J.failure_count ≡ W.failure_count output.out) }
+    requires ends { (J.max_failures ≡ limit.now.failures) × (J.judge ≡ judge_view limit.now.judge) }
     requires seen { B.has_seen observer [] }
     requires goes { B.stops observer → ⊥ }
     ensures rows { IfOk result.2 (λ rows. rows ≡ rows_within limit.now (batch_rows batch.now)) }

@@ -9,22 +9,22 @@ pub trait StreamSpec {
     ghost use Rattle.rv_fleet.specs.declared_row.Row.{Row};
 
     // What the sink received before, and how many writes failed: the sink of the stream, or that of a [`crate::RowSender`].
-    ghost before: { Option (List ℕ) };
+    ghost accepted_before: { Option (List ℕ) };
 
-    ghost failures: { ℕ };
+    ghost failure_count: { ℕ };
 
     // The number of the failure that ends the run, and what counts as a failure.
-    ghost most: { Option ℕ };
+    ghost max_failures: { Option ℕ };
 
-    ghost judging: { JudgeView };
+    ghost judge: { JudgeView };
 
     // Whether a [`crate::RowSender`] has a sink, and what it sends for the job at an index and its row.
     ghost has_sink: { Bool };
 
     // Whether an observer may keep the texts of rows that count as failures.
-    ghost keeps: { Bool };
+    ghost keeps_failure_texts: { Bool };
 
-    ghost line: { ℕ → Row → List ℕ };
+    ghost row_text: { ℕ → Row → List ℕ };
 }
 
 impl StreamSpec for Brand {
@@ -32,17 +32,17 @@ impl StreamSpec for Brand {
     ghost use Rattle.rv_expect.specs.Judgement.{judge_by_rule};
     ghost use Rattle.rv_expect.specs.declared.rule.Rule.TheVariants.{Strict};
 
-    ghost before = { None };
+    ghost accepted_before = { None };
 
-    ghost failures = { 0 };
+    ghost failure_count = { 0 };
 
-    ghost most = { None };
+    ghost max_failures = { None };
 
-    ghost judging = { judge_by_rule Strict };
+    ghost judge = { judge_by_rule Strict };
 
     ghost has_sink = { false };
 
-    ghost keeps = { false };
+    ghost keeps_failure_texts = { false };
 
-    ghost line = { λ _ _. [] };
+    ghost row_text = { λ _ _. [] };
 }

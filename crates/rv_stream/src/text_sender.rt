@@ -19,9 +19,9 @@ pub(crate) struct TextSender<J: StreamSpec, W: Sink + Drop> {
 impl<J: StreamSpec, W: Sink + Drop> TextSender<J, W> {
     /// Creates an observer that has seen no rows.
     pub(crate) fn new(alloc: Global, out: W) -> TextSender<J, W>
-        requires before { J.before ≡ W.accepted out }
-        requires failures { J.failures ≡ W.failure_count out }
-        ensures sent { IsSent J.before (W.accepted result.outbox.out) J.failures (W.failure_count result.outbox.out)
+        requires before { J.accepted_before ≡ W.accepted out }
+        requires failures { J.failure_count ≡ W.failure_count out }
+        ensures sent { IsSent J.accepted_before (W.accepted result.outbox.out) J.failure_count (W.failure_count result.outbox.out)
             result.outbox.failed result.outbox.buffered.items [] }
         ensures goes { result.outbox.failed ≡ None }
     {
@@ -37,7 +37,7 @@ impl<J: StreamSpec, W: Sink + Drop> Observer<ReportedRow> for TextSender<J, W> {
     ghost use Rattle.rv_stream.specs.SentTexts.{IsSent};
     ghost use Rattle.rv_stream.specs.ReportedRows.{texts_of_reported};
 
-    ghost has_seen = { λ s told. IsSent J.before (W.accepted s.outbox.out) J.failures (W.failure_count s.outbox.out)
+    ghost has_seen = { λ s told. IsSent J.accepted_before (W.accepted s.outbox.out) J.failure_count (W.failure_count s.outbox.out)
         s.outbox.failed s.outbox.buffered.items (concat (texts_of_reported told)) };
 
     ghost stops = { λ s. is_some s.outbox.failed ≡ true };

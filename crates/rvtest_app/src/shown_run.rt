@@ -65,10 +65,10 @@ impl<'x, R: Threads + Wait + Sync + Clock, D: Inputs> ListRun<'x, R, D> {
         terminals: Terminals<P>,
     ) -> (W, Option<V>, ShownRun)
         requires there { is_some sink ≡ K.has_sink }
-        requires sink { IfSome sink (λ sink. (K.before ≡ V.accepted sink) × (K.failures ≡ V.failure_count sink)) }
-        requires line { report_row_text rows.now.is_streaming ≡ K.line }
-        requires judging { judge_view planned.now.reporter.now.judge ≡ K.judging }
-        requires keeps { stores_failure_texts self.now.args.now planned.now.reporter.now.verbosity ≡ K.keeps }
+        requires sink { IfSome sink (λ sink. (K.accepted_before ≡ V.accepted sink) × (K.failure_count ≡ V.failure_count sink)) }
+        requires line { report_row_text rows.now.is_streaming ≡ K.row_text }
+        requires judging { judge_view planned.now.reporter.now.judge ≡ K.judge }
+        requires keeps { stores_failure_texts self.now.args.now planned.now.reporter.now.verbosity ≡ K.keeps_failure_texts }
         ensures rows { IfOk result.2.ran (λ rows. rows ≡ run_rows self.now.args.now.stop_after
             (judge_view planned.now.reporter.now.judge) planned.now.reporter.now.plan.now planned.now.indices.now) }
         ensures few { IfOk result.2.ran (λ rows. length rows ≤ length planned.now.indices.now) }
@@ -156,9 +156,9 @@ impl<'x, R: Threads + Wait + Sync + Clock, D: Inputs> ListRun<'x, R, D> {
 
     // Returns an observer of the rows that stores the texts of failures, if the JUnit document needs them.
     fn failure_texts<'m, K: StreamSpec>(&self, reporter: &TextReporter<'m>) -> FailureTexts<'m, K>
-        requires judging { judge_view reporter.now.judge ≡ K.judging }
-        requires keeps { stores_failure_texts self.now.args.now reporter.now.verbosity ≡ K.keeps }
-        ensures { AreFailureTexts K.judging result.is_closed result.texts.items [] }
+        requires judging { judge_view reporter.now.judge ≡ K.judge }
+        requires keeps { stores_failure_texts self.now.args.now reporter.now.verbosity ≡ K.keeps_failure_texts }
+        ensures { AreFailureTexts K.judge result.is_closed result.texts.items [] }
     {
         let is_needed = match reporter.verbosity {
             Verbosity::Quiet => false,

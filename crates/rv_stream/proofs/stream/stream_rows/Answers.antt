@@ -29,15 +29,15 @@ returns-in-Ok-clause-rows g c =
     let line = g.T.RowReporter.line c.args.output.reporter.now in
     let batch = c.args.batch.now in
     let places = batch.places.now in
-    let most = g.J.StreamSpec.most in
-    let judging = g.J.StreamSpec.judging in
+    let most = g.J.StreamSpec.max_failures in
+    let judging = g.J.StreamSpec.judge in
     let box = s.first.outbox in
     let observer = s.second.first in
     let kept = s.second.second in
-    let before = g.J.StreamSpec.before in
+    let before = g.J.StreamSpec.accepted_before in
     let taken = g.W.Sink.accepted c.finish-out.result.0 in
     let received : List ReportedRow → Type 0 = λ told.
-    IsSent before (g.W.Sink.accepted box.out) g.J.StreamSpec.failures (g.W.Sink.failure_count box.out) box.failed box.buffered.items
+    IsSent before (g.W.Sink.accepted box.out) g.J.StreamSpec.failure_count (g.W.Sink.failure_count box.out) box.failed box.buffered.items
     (concat (texts_of_reported told))
     × (g.B.Observer.has_seen observer told
     × ((judge_view kept.judge ≡ judging)
@@ -60,15 +60,15 @@ returns-in-Ok-clause-few g c =
     let line = g.T.RowReporter.line c.args.output.reporter.now in
     let batch = c.args.batch.now in
     let places = batch.places.now in
-    let most = g.J.StreamSpec.most in
-    let judging = g.J.StreamSpec.judging in
+    let most = g.J.StreamSpec.max_failures in
+    let judging = g.J.StreamSpec.judge in
     let box = s.first.outbox in
     let observer = s.second.first in
     let kept = s.second.second in
-    let before = g.J.StreamSpec.before in
+    let before = g.J.StreamSpec.accepted_before in
     let taken = g.W.Sink.accepted c.finish-out.result.0 in
     let received : List ReportedRow → Type 0 = λ told.
-    IsSent before (g.W.Sink.accepted box.out) g.J.StreamSpec.failures (g.W.Sink.failure_count box.out) box.failed box.buffered.items
+    IsSent before (g.W.Sink.accepted box.out) g.J.StreamSpec.failure_count (g.W.Sink.failure_count box.out) box.failed box.buffered.items
     (concat (texts_of_reported told))
     × (g.B.Observer.has_seen observer told
     × ((judge_view kept.judge ≡ judging)
@@ -96,15 +96,15 @@ returns-in-Ok-clause-all g c =
     let line = g.T.RowReporter.line c.args.output.reporter.now in
     let batch = c.args.batch.now in
     let places = batch.places.now in
-    let most = g.J.StreamSpec.most in
-    let judging = g.J.StreamSpec.judging in
+    let most = g.J.StreamSpec.max_failures in
+    let judging = g.J.StreamSpec.judge in
     let box = s.first.outbox in
     let observer = s.second.first in
     let kept = s.second.second in
-    let before = g.J.StreamSpec.before in
+    let before = g.J.StreamSpec.accepted_before in
     let taken = g.W.Sink.accepted c.finish-out.result.0 in
     let received : List ReportedRow → Type 0 = λ told.
-    IsSent before (g.W.Sink.accepted box.out) g.J.StreamSpec.failures (g.W.Sink.failure_count box.out) box.failed box.buffered.items
+    IsSent before (g.W.Sink.accepted box.out) g.J.StreamSpec.failure_count (g.W.Sink.failure_count box.out) box.failed box.buffered.items
     (concat (texts_of_reported told))
     × (g.B.Observer.has_seen observer told
     × ((judge_view kept.judge ≡ judging)
@@ -131,15 +131,15 @@ returns-in-Ok-clause-counted g c =
     let line = g.T.RowReporter.line c.args.output.reporter.now in
     let batch = c.args.batch.now in
     let places = batch.places.now in
-    let most = g.J.StreamSpec.most in
-    let judging = g.J.StreamSpec.judging in
+    let most = g.J.StreamSpec.max_failures in
+    let judging = g.J.StreamSpec.judge in
     let box = s.first.outbox in
     let observer = s.second.first in
     let kept = s.second.second in
-    let before = g.J.StreamSpec.before in
+    let before = g.J.StreamSpec.accepted_before in
     let taken = g.W.Sink.accepted c.finish-out.result.0 in
     let received : List ReportedRow → Type 0 = λ told.
-    IsSent before (g.W.Sink.accepted box.out) g.J.StreamSpec.failures (g.W.Sink.failure_count box.out) box.failed box.buffered.items
+    IsSent before (g.W.Sink.accepted box.out) g.J.StreamSpec.failure_count (g.W.Sink.failure_count box.out) box.failed box.buffered.items
     (concat (texts_of_reported told))
     × (g.B.Observer.has_seen observer told
     × ((judge_view kept.judge ≡ judging)
@@ -165,15 +165,15 @@ returns-in-Ok-clause-part g c =
     let line = g.T.RowReporter.line c.args.output.reporter.now in
     let batch = c.args.batch.now in
     let places = batch.places.now in
-    let most = g.J.StreamSpec.most in
-    let judging = g.J.StreamSpec.judging in
+    let most = g.J.StreamSpec.max_failures in
+    let judging = g.J.StreamSpec.judge in
     let box = s.first.outbox in
     let observer = s.second.first in
     let kept = s.second.second in
-    let before = g.J.StreamSpec.before in
+    let before = g.J.StreamSpec.accepted_before in
     let taken = g.W.Sink.accepted c.finish-out.result.0 in
     let received : List ReportedRow → Type 0 = λ told.
-    IsSent before (g.W.Sink.accepted box.out) g.J.StreamSpec.failures (g.W.Sink.failure_count box.out) box.failed box.buffered.items
+    IsSent before (g.W.Sink.accepted box.out) g.J.StreamSpec.failure_count (g.W.Sink.failure_count box.out) box.failed box.buffered.items
     (concat (texts_of_reported told))
     × (g.B.Observer.has_seen observer told
     × ((judge_view kept.judge ≡ judging)
@@ -199,15 +199,15 @@ returns-in-Err-clause-part g c =
     let line = g.T.RowReporter.line c.args.output.reporter.now in
     let batch = c.args.batch.now in
     let places = batch.places.now in
-    let most = g.J.StreamSpec.most in
-    let judging = g.J.StreamSpec.judging in
+    let most = g.J.StreamSpec.max_failures in
+    let judging = g.J.StreamSpec.judge in
     let box = s.first.outbox in
     let observer = s.second.first in
     let kept = s.second.second in
-    let before = g.J.StreamSpec.before in
+    let before = g.J.StreamSpec.accepted_before in
     let taken = g.W.Sink.accepted c.finish-out.result.0 in
     let received : List ReportedRow → Type 0 = λ told.
-    IsSent before (g.W.Sink.accepted box.out) g.J.StreamSpec.failures (g.W.Sink.failure_count box.out) box.failed box.buffered.items
+    IsSent before (g.W.Sink.accepted box.out) g.J.StreamSpec.failure_count (g.W.Sink.failure_count box.out) box.failed box.buffered.items
     (concat (texts_of_reported told))
     × (g.B.Observer.has_seen observer told
     × ((judge_view kept.judge ≡ judging)
@@ -233,15 +233,15 @@ returns-in-Ok-clause-seen g c =
     let line = g.T.RowReporter.line c.args.output.reporter.now in
     let batch = c.args.batch.now in
     let places = batch.places.now in
-    let most = g.J.StreamSpec.most in
-    let judging = g.J.StreamSpec.judging in
+    let most = g.J.StreamSpec.max_failures in
+    let judging = g.J.StreamSpec.judge in
     let box = s.first.outbox in
     let observer = s.second.first in
     let kept = s.second.second in
-    let before = g.J.StreamSpec.before in
+    let before = g.J.StreamSpec.accepted_before in
     let taken = g.W.Sink.accepted c.finish-out.result.0 in
     let received : List ReportedRow → Type 0 = λ told.
-    IsSent before (g.W.Sink.accepted box.out) g.J.StreamSpec.failures (g.W.Sink.failure_count box.out) box.failed box.buffered.items
+    IsSent before (g.W.Sink.accepted box.out) g.J.StreamSpec.failure_count (g.W.Sink.failure_count box.out) box.failed box.buffered.items
     (concat (texts_of_reported told))
     × (g.B.Observer.has_seen observer told
     × ((judge_view kept.judge ≡ judging)
@@ -267,15 +267,15 @@ returns-in-Ok-clause-seen_some g c =
     let line = g.T.RowReporter.line c.args.output.reporter.now in
     let batch = c.args.batch.now in
     let places = batch.places.now in
-    let most = g.J.StreamSpec.most in
-    let judging = g.J.StreamSpec.judging in
+    let most = g.J.StreamSpec.max_failures in
+    let judging = g.J.StreamSpec.judge in
     let box = s.first.outbox in
     let observer = s.second.first in
     let kept = s.second.second in
-    let before = g.J.StreamSpec.before in
+    let before = g.J.StreamSpec.accepted_before in
     let taken = g.W.Sink.accepted c.finish-out.result.0 in
     let received : List ReportedRow → Type 0 = λ told.
-    IsSent before (g.W.Sink.accepted box.out) g.J.StreamSpec.failures (g.W.Sink.failure_count box.out) box.failed box.buffered.items
+    IsSent before (g.W.Sink.accepted box.out) g.J.StreamSpec.failure_count (g.W.Sink.failure_count box.out) box.failed box.buffered.items
     (concat (texts_of_reported told))
     × (g.B.Observer.has_seen observer told
     × ((judge_view kept.judge ≡ judging)
@@ -297,15 +297,15 @@ returns-in-Err-clause-seen_some g c =
     let line = g.T.RowReporter.line c.args.output.reporter.now in
     let batch = c.args.batch.now in
     let places = batch.places.now in
-    let most = g.J.StreamSpec.most in
-    let judging = g.J.StreamSpec.judging in
+    let most = g.J.StreamSpec.max_failures in
+    let judging = g.J.StreamSpec.judge in
     let box = s.first.outbox in
     let observer = s.second.first in
     let kept = s.second.second in
-    let before = g.J.StreamSpec.before in
+    let before = g.J.StreamSpec.accepted_before in
     let taken = g.W.Sink.accepted c.finish-out.result.0 in
     let received : List ReportedRow → Type 0 = λ told.
-    IsSent before (g.W.Sink.accepted box.out) g.J.StreamSpec.failures (g.W.Sink.failure_count box.out) box.failed box.buffered.items
+    IsSent before (g.W.Sink.accepted box.out) g.J.StreamSpec.failure_count (g.W.Sink.failure_count box.out) box.failed box.buffered.items
     (concat (texts_of_reported told))
     × (g.B.Observer.has_seen observer told
     × ((judge_view kept.judge ≡ judging)

@@ -4,11 +4,11 @@ use Rattle.rv_fleet_tests.proofs.tests.streams.told.Given as goal
 
 abbrev pub ghosts-stream_rows : goal.ghosts-stream_rows
 ghosts-stream_rows g a = record {
-  before = None;
-  failures = a.to.out.failures;
+  accepted_before = None;
+  failure_count = a.output.out.failures;
   has_sink = false;
-  keeps = false;
-  most = a.limit.now.failures;
-  judging = judge_view a.limit.now.judge;
-  line = λ _ _. [];
+  keeps_failure_texts = false;
+  max_failures = a.limit.now.failures;
+  judge = judge_view a.limit.now.judge;
+  row_text = λ _ _. [];
 }

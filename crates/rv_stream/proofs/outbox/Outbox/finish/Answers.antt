@@ -9,7 +9,7 @@ returns-in-Ok-clause-begun g c = λ text sent.
       part = text;
       rest = [];
       whole = sym (append-nil text);
-      appended = all_out g.J.StreamSpec.before (g.W.Sink.accepted s.out) g.J.StreamSpec.failures (g.W.Sink.failure_count s.out)
+      appended = all_out g.J.StreamSpec.accepted_before (g.W.Sink.accepted s.out) g.J.StreamSpec.failure_count (g.W.Sink.failure_count s.out)
           s.buffered.items text (g.W.Sink.accepted c.put_all.new.out) s.failed c.in_default.is
           (rw c.as_slice.ensures.value at c.in-Ok.ensures.appended) sent;
     }
@@ -17,13 +17,13 @@ returns-in-Ok-clause-begun g c = λ text sent.
 pub returns-clause-part : goal.returns-clause-part
 returns-clause-part g c = λ text sent.
     let s = c.args.self in
-    part_out g.J.StreamSpec.before (g.W.Sink.accepted s.out) g.J.StreamSpec.failures (g.W.Sink.failure_count s.out)
+    part_out g.J.StreamSpec.accepted_before (g.W.Sink.accepted s.out) g.J.StreamSpec.failure_count (g.W.Sink.failure_count s.out)
     s.buffered.items text (g.W.Sink.accepted c.put_all.new.out) s.failed c.in_default.is
     (rw c.as_slice.ensures.value at c.in-Err.ensures.part) sent
 
 pub returns-clause-begun : goal.returns-clause-begun
 returns-clause-begun g c = λ text sent.
     let s = c.args.self in
-    part_out g.J.StreamSpec.before (g.W.Sink.accepted s.out) g.J.StreamSpec.failures (g.W.Sink.failure_count s.out)
+    part_out g.J.StreamSpec.accepted_before (g.W.Sink.accepted s.out) g.J.StreamSpec.failure_count (g.W.Sink.failure_count s.out)
     s.buffered.items text (g.W.Sink.accepted c.put_all.new.out) s.failed c.in_default.is
     (rw c.as_slice.ensures.value at c.in-Err.ensures.part) sent

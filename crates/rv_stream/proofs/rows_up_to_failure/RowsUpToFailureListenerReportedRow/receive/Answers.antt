@@ -14,8 +14,8 @@ pub returns-then-eq-clause-received : goal.returns-then-eq-clause-received
 returns-then-eq-clause-received g c = λ results received.
     let s = c.args.self.now in
     let row = c.args.output.row in
-    let most = g.J.StreamSpec.most in
-    let judging = g.J.StreamSpec.judging in (
+    let most = g.J.StreamSpec.max_failures in
+    let judging = g.J.StreamSpec.judge in (
       received.0,
       subst (λ (rows : List Row). AreRowsUpToFailure most judging c.failures_left_after_row-self.result c.keep_row-self.result c.keep_row-self.new.rows.items rows)
           (sym (map-append (λ (t : ReportedRow). t.row) results (c.args.output ∷ [])))
@@ -31,8 +31,8 @@ pub returns-clause-received : goal.returns-clause-received
 returns-clause-received g c = λ results received.
     let s = c.args.self.now in
     let row = c.args.output.row in
-    let most = g.J.StreamSpec.most in
-    let judging = g.J.StreamSpec.judging in (
+    let most = g.J.StreamSpec.max_failures in
+    let judging = g.J.StreamSpec.judge in (
       received.0,
       subst (λ (rows : List Row). AreRowsUpToFailure most judging c.failures_left_after_row-self.result c.keep_row-self.result c.keep_row-self.new.rows.items rows)
           (sym (map-append (λ (t : ReportedRow). t.row) results (c.args.output ∷ [])))

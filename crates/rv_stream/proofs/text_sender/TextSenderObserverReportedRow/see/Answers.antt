@@ -11,10 +11,10 @@ pub returns-in-Ok-clause-seen : goal.returns-in-Ok-clause-seen
 returns-in-Ok-clause-seen g c = λ results sent.
     let s = c.args.self.now.outbox in
     let made = c.args.output.now in
-    subst (λ (text : List ℕ). IsSent g.J.StreamSpec.before (g.W.Sink.accepted s.out) g.J.StreamSpec.failures
+    subst (λ (text : List ℕ). IsSent g.J.StreamSpec.accepted_before (g.W.Sink.accepted s.out) g.J.StreamSpec.failure_count
     (g.W.Sink.failure_count s.out) s.failed c.extend_from_slice.new.self.items text)
     (texts_more results made)
-    (one_waits g.J.StreamSpec.before (g.W.Sink.accepted s.out) g.J.StreamSpec.failures (g.W.Sink.failure_count s.out)
+    (one_waits g.J.StreamSpec.accepted_before (g.W.Sink.accepted s.out) g.J.StreamSpec.failure_count (g.W.Sink.failure_count s.out)
     s.buffered.items (concat (texts_of_reported results)) s.failed made.text.items c.extend_from_slice.new.self.items
     (none_failed s.failed c.requires.goes) (c.in-Ok.ensures.items ∙ ap (λ (l : List ℕ). s.buffered.items ++ l) c.as_slice.ensures.value) sent)
 
@@ -22,9 +22,9 @@ pub returns-in-Err-clause-seen : goal.returns-in-Err-clause-seen
 returns-in-Err-clause-seen g c = λ results sent.
     let s = c.args.self.now.outbox in
     let made = c.args.output.now in
-    subst (λ (text : List ℕ). IsSent g.J.StreamSpec.before (g.W.Sink.accepted s.out) g.J.StreamSpec.failures
+    subst (λ (text : List ℕ). IsSent g.J.StreamSpec.accepted_before (g.W.Sink.accepted s.out) g.J.StreamSpec.failure_count
     (g.W.Sink.failure_count s.out) (Some OutOfMemory) s.buffered.items text)
     (texts_more results made)
-    (one_lacks g.J.StreamSpec.before (g.W.Sink.accepted s.out) g.J.StreamSpec.failures (g.W.Sink.failure_count s.out)
+    (one_lacks g.J.StreamSpec.accepted_before (g.W.Sink.accepted s.out) g.J.StreamSpec.failure_count (g.W.Sink.failure_count s.out)
     s.buffered.items (concat (texts_of_reported results)) s.failed made.text.items s.buffered.items
     (none_failed s.failed c.requires.goes) sent)

@@ -80,11 +80,11 @@ returns-clause-report g c =
     (sent_on c.rows_if_written-ran.result c.stream_rows-stream.result.2 c.finish-sink.result.1 _ _
     c.rows_if_written-ran.ensures.rows c.rows_if_written-ran.ensures.sent seen
     (λ seen. OnOk-map c.finish-sink.result.1 _ _
-    (sent_to g.V.Sink.accepted g.V.Sink.failure_count g.K.StreamSpec.before g.K.StreamSpec.failures c.args.sink c.finish-sink.result.0 text
+    (sent_to g.V.Sink.accepted g.V.Sink.failure_count g.K.StreamSpec.accepted_before g.K.StreamSpec.failure_count c.args.sink c.finish-sink.result.0 text
     c.requires.sink (c.finish-sink.ensures.there ∙ sym c.requires.there))
     (c.finish-sink.ensures.all text
-    (subst (λ (text : List ℕ). IfSome sender.outbox (λ box. IsSent g.K.StreamSpec.before (g.V.Sink.accepted box.out)
-    g.K.StreamSpec.failures (g.V.Sink.failure_count box.out) box.failed box.buffered.items text))
+    (subst (λ (text : List ℕ). IfSome sender.outbox (λ box. IsSent g.K.StreamSpec.accepted_before (g.V.Sink.accepted box.out)
+    g.K.StreamSpec.failure_count (g.V.Sink.failure_count box.out) box.failed box.buffered.items text))
     (ap (λ (line : ℕ → Row → List ℕ). text_by_index line seen.reported) (sym c.requires.line) ∙ reported_texts _ _ indices all seen line)
     seen.seen.0))))
 
@@ -109,7 +109,7 @@ returns-clause-texts g c =
     (known_on c.write_totals_line-ran.result c.rows_if_written-ran.result _ (λ rows. AreLinesOf lines indices rows kept.texts.items) all
     c.write_totals_line-ran.ensures.rows (returns-clause-rows g c)
     (done_on c.rows_if_written-ran.result c.stream_rows-stream.result.2 _ c.rows_if_written-ran.ensures.rows seen)
-    (λ seen. kept_known _ (row_lines_at (reporter_of planned.reporter.now)) lines judging kept.is_closed g.K.StreamSpec.keeps kept.texts.items
+    (λ seen. kept_known _ (row_lines_at (reporter_of planned.reporter.now)) lines judging kept.is_closed g.K.StreamSpec.keeps_failure_texts kept.texts.items
     indices all seen c.into_texts-texts.ensures.needed
     (λ keeps. lines_of_kept c.args.self.now.args.now (reporter_of planned.reporter.now) (c.requires.keeps ∙ keeps))
     (rw (sym c.requires.judging) at seen.seen.1)))

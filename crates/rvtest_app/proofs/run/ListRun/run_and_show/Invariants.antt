@@ -4,11 +4,11 @@ use Rattle.rvtest_app.proofs.run.ListRun.run_and_show.Given as goal
 
 abbrev pub ghosts-stream_rows : goal.ghosts-stream_rows
 ghosts-stream_rows g a = record {
-  before = g.W.Sink.accepted a.to.out.sink;
-  failures = g.W.Sink.failure_count a.to.out.sink;
-  sends = false;
-  keeps = false;
-  most = a.limit.now.failures;
-  judging = judge_view a.limit.now.judge;
-  line = λ _ _. [];
+  accepted_before = g.W.Sink.accepted a.output.out.sink;
+  failure_count = g.W.Sink.failure_count a.output.out.sink;
+  has_sink = false;
+  keeps_failure_texts = false;
+  max_failures = a.limit.now.failures;
+  judge = judge_view a.limit.now.judge;
+  row_text = λ _ _. [];
 }
