@@ -61,7 +61,7 @@ outcome_again earlier later job row came ran finds =
 passes_again : (acceptance : Acceptance) (stands : CurrentVerdict) (job : Job) (earlier : List PathResult) (later : PlanView)
     (row : Row) → outcome_of_row row ≡ outcome_in earlier (without_expectations job)
     → chosen_skip_reason acceptance stands job row ≡ None → (stands ≡ current.Passes → HasExpectedEnd job row)
-    → job.same_as ≡ None → AreFilesUpdated earlier later.answers job row
+    → job.same_as ≡ None → AreFilesUpdated earlier later.results job row
     → is_pass_or_none (row_of later (accepted_job job row.ending row.console)).verdict ≡ true
 unfolding row_of
 passes_again acceptance stands job earlier later row came kept well alone finds = go (has_replaceable_expectation job) refl
@@ -70,27 +70,27 @@ passes_again acceptance stands job earlier later row came kept well alone finds 
     changed = accepted_job job row.ending row.console
 
     go : (takes : Bool) → has_replaceable_expectation job ≡ takes → is_pass_or_none (verdict_of changed
-        (outcome_in later.answers changed) (content_if_read (option_map (result_or_unreadable later.answers) job.expect_signature))
-        (content_if_read (option_map (result_or_unreadable later.answers) (console_path (actual_console job.expect_console row.console))))
+        (outcome_in later.results changed) (content_if_read (option_map (result_or_unreadable later.results) job.expect_signature))
+        (content_if_read (option_map (result_or_unreadable later.results) (console_path (actual_console job.expect_console row.console))))
         (same_as_outcome later changed)) ≡ true
     go false is = unasked_passes job row.ending row.console _ _ _ _ is alone
     go true is =
         let met = met_if_kept acceptance stands job row is kept well in
-        let again = outcome_again earlier later.answers job row came met.ran finds in
+        let again = outcome_again earlier later.results job row came met.ran finds in
         rw again (rw (console_path_stays job.expect_console row.console)
         (accepted_passes job (outcome_of_row row) _ _ (same_as_outcome later changed) met alone
-        (text_read later.answers job.expect_signature (lines_of_signature row.signature) finds.signature)
-        (text_read later.answers (console_path job.expect_console) row.console finds.console)))
+        (text_read later.results job.expect_signature (lines_of_signature row.signature) finds.signature)
+        (text_read later.results (console_path job.expect_console) row.console finds.console)))
 
-pub outcome_of_its_row : (plan : PlanView) (job : Job) → outcome_of_row (row_of plan job) ≡ outcome_in plan.answers job
+pub outcome_of_its_row : (plan : PlanView) (job : Job) → outcome_of_row (row_of plan job) ≡ outcome_in plan.results job
 unfolding row_of
 outcome_of_its_row plan job = refl
 
 pub passes_over_files : (acceptance : Acceptance) (stands : CurrentVerdict) (job : Job) (earlier later : PlanView) (row : Row)
     → row ≡ row_of earlier (without_expectations job) → chosen_skip_reason acceptance stands job row ≡ None
     → (stands ≡ current.Passes → HasExpectedEnd job row) → job.same_as ≡ None
-    → AreFilesUpdated earlier.answers later.answers job row
+    → AreFilesUpdated earlier.results later.results job row
     → is_pass_or_none (row_of later (accepted_job job row.ending row.console)).verdict ≡ true
 passes_over_files acceptance stands job earlier later row is kept well alone finds =
-    passes_again acceptance stands job earlier.answers later row
+    passes_again acceptance stands job earlier.results later row
     (ap outcome_of_row is ∙ outcome_of_its_row earlier (without_expectations job)) kept well alone finds

@@ -45,6 +45,6 @@ pub fn accepted_jobs_pass_with_their_files()
         → chosen_skip_reason acceptance stands job row ≡ None
         → (stands ≡ current.Passes → HasExpectedEnd job row)
         → job.same_as ≡ None
-        → AreFilesUpdated earlier.answers later.answers job row
+        → AreFilesUpdated earlier.results later.results job row
         → IsTrue (is_pass_or_none (row_of later (accepted_job job row.ending row.console)).verdict) }
 {}

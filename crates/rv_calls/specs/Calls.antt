@@ -64,4 +64,4 @@ calls_of_run n s = record { pc = (state_after n s).pc; frames = frames_of_run n 
 
 -- the pc and the call stack at the end of the run of a plan's job within its budget, or `None` if the job is refused
 unfoldable pub calls_in : PlanView → Job → Option Calls
-calls_in plan job = option_map (calls_of_run job.budget) (result_ok (start_state_in plan.answers job))
+calls_in plan job = option_map (calls_of_run job.budget) (result_ok (start_state_in plan.results job))

@@ -8,7 +8,7 @@ use Rattle.rv_command.specs.RvtestArgs.{borrowed_text}
 use Rattle.rv_command.specs.declared_run.RunArgs.{RunArgs}
 use Rattle.rv_command.proofs.Public.{told_stop}
 use Rattle.rv_command.specs.Stops.{IsRequestedUnreadStop, stop_with_message}
-use Rattle.rv_command.specs.declared.stop.Lines.TheVariants as lines
+use Rattle.rv_command.specs.declared.stop.MessageKind.TheVariants as kinds
 use Rattle.rv_command.specs.declared.stop.Stop.{Stop}
 use Rattle.rv_command.specs.declared.stop.Stop.TheVariants as stops
 use Rattle.rv_expect.specs.declared.rule.Rule.{Rule}
@@ -105,10 +105,10 @@ said_of_text P args text is holds =
 
 -- a refusal of those lines
 pub unknown_stop : (list : List ℕ) (jobs : List Job) (name : List ℕ) (told : Result (Vec ℕ Global) AllocError) (stop : Stop)
-    → stop ≡ stop_with_message lines.Refusal told → IfOk told (λ message. IsUnknownNameMessage list jobs name message.items)
+    → stop ≡ stop_with_message kinds.Rejection told → IfOk told (λ message. IsUnknownNameMessage list jobs name message.items)
     → IsUnknownNameStop list jobs name stop
 unknown_stop list jobs name (Ok message) stop is said =
-    inr (message.items, said, told_stop lines.Refusal (Ok message) message.items stop is refl)
+    inr (message.items, said, told_stop kinds.Rejection (Ok message) message.items stop is refl)
 unknown_stop list jobs name (Err error) stop is said = inl is
 
 pub stop_of_choice : (contents : Option FileContents) (args : RunArgs) (rule : Rule) (jobs : List Job) (result : Result Choice Stop)

@@ -73,8 +73,8 @@ rule_at rules place = unwrap_or (slice_get rules place) budget_rule
 
 -- what the subcommand takes asks for something
 Asks : Shape → Type 0
-Asks s = (words : List Text) → level_passes s [] nothing_held words false ≡ true
-    → is_some (subcommand_request s.name (rows_after s.rules [] words)) ≡ true
+Asks s = (args : List Text) → level_passes s [] nothing_held args false ≡ true
+    → is_some (subcommand_request s.name (rows_after s.rules [] args)) ≡ true
 
 raw_reads : (rows : List Row) → IsRead (leaf 0).rules rows → is_some (raw_request rows) ≡ true
 raw_reads rows read =
@@ -85,7 +85,7 @@ raw_reads rows read =
 
 raw_asks : Asks (leaf 0)
 unfolding Asks
-raw_asks words e = raw_reads (rows_after (leaf 0).rules [] words) (level_read (leaf 0) words (
+raw_asks args e = raw_reads (rows_after (leaf 0).rules [] args) (level_read (leaf 0) args (
   value_good (leaf 0).rules false (rule_at (leaf 0).rules 0) refl refl refl refl,
   (help_good (leaf 0).rules false (rule_at (leaf 0).rules 1) refl refl refl, tt),
 )
@@ -103,7 +103,7 @@ one_reads rows read =
 
 one_asks : Asks (leaf 1)
 unfolding Asks
-one_asks words e = one_reads (rows_after (leaf 1).rules [] words) (level_read (leaf 1) words (
+one_asks args e = one_reads (rows_after (leaf 1).rules [] args) (level_read (leaf 1) args (
   value_good (leaf 1).rules false (rule_at (leaf 1).rules 0) refl refl refl refl,
   (
     value_good (leaf 1).rules false (rule_at (leaf 1).rules 1) refl refl refl refl,
@@ -127,7 +127,7 @@ run_reads rows read =
 
 run_asks : Asks (leaf 2)
 unfolding Asks
-run_asks words e = run_reads (rows_after (leaf 2).rules [] words) (level_read (leaf 2) words (
+run_asks args e = run_reads (rows_after (leaf 2).rules [] args) (level_read (leaf 2) args (
   value_good (leaf 2).rules false (rule_at (leaf 2).rules 0) refl refl refl refl,
   (
     value_good (leaf 2).rules false (rule_at (leaf 2).rules 1) refl refl refl refl,
@@ -143,7 +143,7 @@ run_asks words e = run_reads (rows_after (leaf 2).rules [] words) (level_read (l
 
 -- a subcommand's name, and what it makes of the words
 abbrev rows_below : List Text → Shape → Text × List Row
-rows_below words s = rows_at s words
+rows_below args s = rows_at s args
 
 -- words that enter a subcommand and pass ask for something
 entered_asks : (a : App) (stop : Option (Text × List Text)) → EachOf Asks a.subs → entered_passes a stop ≡ true
@@ -161,12 +161,12 @@ entered_asks a (Some p) each passes met = go (find (λ s. answers_to p.0 (label_
     go (Some s) found pass some = found_of_each Asks (λ s. answers_to p.0 (label_of s)) a.subs s each found p.1 pass
 
 -- where a subcommand is required, what passes enters one
-subcommand_met : (s : Shape) (names : Names) (words : List Text) (has : Bool) → s.subcommand_required ≡ true
-    → level_passes s names nothing_held words has ≡ true → has ≡ true
-subcommand_met s names words true required e = refl
-subcommand_met s names words false required e =
-    let end : Held = (walk s.rules names nothing_held words).held in
-    let walks = both (walk_passes s names (walk_from nothing_held) words) _ e in
+subcommand_met : (s : Shape) (names : Names) (args : List Text) (has : Bool) → s.subcommand_required ≡ true
+    → level_passes s names nothing_held args has ≡ true → has ≡ true
+subcommand_met s names args true required e = refl
+subcommand_met s names args false required e =
+    let end : Held = (walk s.rules names nothing_held args).held in
+    let walks = both (walk_passes s names (walk_from nothing_held) args) _ e in
     let settles = both (settle_passes s.rules s.args_override_self end) _ walks.1 in
     let defaults = both (list_all default_passes s.rules) _ settles.1 in
     let helped = both (not s.arg_required_else_help ||
@@ -174,20 +174,20 @@ subcommand_met s names words false required e =
     let met = both (not s.subcommand_required || false) _ helped.1 in
     rw required at met.0
 
-pub taken_asks : (words : List Text) → are_arguments_accepted words ≡ true → is_some (request_of words) ≡ true
+pub taken_asks : (args : List Text) → are_arguments_accepted args ≡ true → is_some (request_of args) ≡ true
 unfolding are_arguments_accepted
-taken_asks words taken =
+taken_asks args taken =
     let passes = both (is_simple fleet_app)
-    (built_takes (built fleet_app) nothing_held (argument_words fleet_app words)) taken in
+    (built_takes (built fleet_app) nothing_held (argument_words fleet_app args)) taken in
     let stop = (walk (built fleet_app).top.rules (names_of (built fleet_app)) nothing_held
-    (argument_words fleet_app words)).stopped in
+    (argument_words fleet_app args)).stopped in
     let parts = both (entered_passes (built fleet_app) stop) _ passes.1 in
     entered_asks (built fleet_app) stop (raw_asks, (one_asks, (run_asks, tt))) parts.0
-    (subcommand_met (built fleet_app).top (names_of (built fleet_app)) (argument_words fleet_app words)
+    (subcommand_met (built fleet_app).top (names_of (built fleet_app)) (argument_words fleet_app args)
     (is_some (entered (built fleet_app) stop)) refl parts.1)
 
 -- where a request is read, something is asked
-pub some_asked : (asked : Option Value) (words : List Text) → option_map request asked ≡ request_of words
-    → are_arguments_accepted words ≡ true → is_some asked ≡ true
-some_asked (Some asked) words reads taken = refl
-some_asked None words reads taken = ap is_some reads ∙ taken_asks words taken
+pub some_asked : (asked : Option Value) (args : List Text) → option_map request asked ≡ request_of args
+    → are_arguments_accepted args ≡ true → is_some asked ≡ true
+some_asked (Some asked) args reads taken = refl
+some_asked None args reads taken = ap is_some reads ∙ taken_asks args taken

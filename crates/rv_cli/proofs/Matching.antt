@@ -228,12 +228,12 @@ pub record IsRead (rules : List Rule) (rows : List Row) : Type 0 where
   pub given : has_required rules rows ≡ true
   pub filled : EachOf (HasDefault rows) rules
 
-pub level_read : (s : Shape) (words : List Text) → EachOf (KeepsGood s.rules s.args_override_self) s.rules
+pub level_read : (s : Shape) (args : List Text) → EachOf (KeepsGood s.rules s.args_override_self) s.rules
     → s.subcommand_negates_reqs ≡ false
-    → level_passes s [] nothing_held words false ≡ true → IsRead s.rules (rows_after s.rules [] words)
-level_read s words each negates e =
-    let end : Held = (walk s.rules [] nothing_held words).held in
-    let walks = both (walk_passes s [] (walk_from nothing_held) words) _ e in
+    → level_passes s [] nothing_held args false ≡ true → IsRead s.rules (rows_after s.rules [] args)
+level_read s args each negates e =
+    let end : Held = (walk s.rules [] nothing_held args).held in
+    let walks = both (walk_passes s [] (walk_from nothing_held) args) _ e in
     let settles = both (settle_passes s.rules s.args_override_self end) _ walks.1 in
     let defaults = both (list_all default_passes s.rules) _ settles.1 in
     let keeps : (p : Rule → Bool) (b : Rule) (values : List Text) (rows : List Row) → find p s.rules ≡ Some b
@@ -241,7 +241,7 @@ level_read s words each negates e =
     → AreGood s.rules (used b values rows) =
     λ p b values rows found. (found_of_each (KeepsGood s.rules s.args_override_self) p s.rules b each found).0 values
     rows in
-    let walked_good = walk_keeps s (AreGood s.rules) keeps [] (walk_from nothing_held) words walks.0 tt in
+    let walked_good = walk_keeps s (AreGood s.rules) keeps [] (walk_from nothing_held) args walks.0 tt in
     let settled_good = settled_keeps s (AreGood s.rules) keeps end settles.0 walked_good in
     record {
       good = defaults_good s.rules s.args_override_self s.rules (settled s.rules end).rows each settled_good;

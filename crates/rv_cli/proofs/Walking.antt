@@ -197,8 +197,8 @@ module _ (s : Shape) (Inv : List Row → Type 0)
           step_keeps word w met.0 met.1 parts.1
           (word_keeps names w.is_trailing w.waiting w.position word w.held parts.0 inv)
 
-  pub walk_keeps : (names : Names) (w : Walk) (words : List Text) → walk_passes s names w words ≡ true → Inv w.held.rows
-      → Inv (fold (walked s.rules names) w words).held.rows
+  pub walk_keeps : (names : Names) (w : Walk) (args : List Text) → walk_passes s names w args ≡ true → Inv w.held.rows
+      → Inv (fold (walked s.rules names) w args).held.rows
   unfolding walk_passes
   walk_keeps names w [] e inv = inv
   walk_keeps names w (word ∷ rest) e inv =

@@ -117,12 +117,12 @@ subcommand_request name rows = if bytes_eq name (codes "raw") then raw_request r
 
 -- the request of the subcommand that `clap` matches in these arguments; `None` if there is none
 abbrev pub request_of : List Text → Option Request
-request_of words =
-    option_and_then (λ found. subcommand_request found.0 found.1) (subcommand_of fleet_app words)
+request_of args =
+    option_and_then (λ found. subcommand_request found.0 found.1) (subcommand_of fleet_app args)
 
 -- whether the command accepts the arguments
 unfoldable pub are_arguments_accepted : List Text → Bool
-are_arguments_accepted words = takes fleet_app words
+are_arguments_accepted args = takes fleet_app args
 
 -- the request, or `None` if the list of errors in the arguments is not empty
 abbrev pub request_unless_errors : Kinds → Option Request → Option Request
@@ -131,12 +131,12 @@ request_unless_errors (fault ∷ more) request = None
 
 -- the request that the arguments make; `None` if `clap` finds an error in them
 unfoldable pub request_without_errors : List Text → Option Request
-request_without_errors words = request_unless_errors (fault_of fleet_app words) (request_of words)
+request_without_errors args = request_unless_errors (fault_of fleet_app args) (request_of args)
 
 -- the program handles the arguments: `clap` accepts them, or finds no error in them and they make a request
 abbrev pub IsToBeHandled : List Text → Type 0
-IsToBeHandled words = (are_arguments_accepted words ≡ true) ⊎ (is_some (request_without_errors words) ≡ true)
+IsToBeHandled args = (are_arguments_accepted args ≡ true) ⊎ (is_some (request_without_errors args) ≡ true)
 
 -- the arguments request help
 abbrev pub RequestsHelp : List Text → Type 0
-RequestsHelp words = IsAmong kind.DisplayHelp (fault_of fleet_app words)
+RequestsHelp args = IsAmong kind.DisplayHelp (fault_of fleet_app args)

@@ -43,23 +43,23 @@ pub enum Request<'a> {
 
 /// Parses the arguments, the first of which is the program's name, and returns their request; `None` if they make none, which is never the
 /// case for arguments that `clap` accepts. An error is an error of `clap`; a request for help is one, of the kind `DisplayHelp`.
-pub fn read_words<'a, T: AsStr>(alloc: Global, words: &'a [T]) -> Result<Option<Request<'a>>, Error>
+pub fn read_words<'a, T: AsStr>(alloc: Global, args: &'a [T]) -> Result<Option<Request<'a>>, Error>
     // The result is the request that the arguments make.
     ensures value { IfOk result
-        (λ asked. option_map request asked ≡ request_of (map T.text words.entry.now)) }
+        (λ asked. option_map request asked ≡ request_of (map T.text args.entry.now)) }
     // Each number is within the range of its argument.
     ensures within { IfOk result (λ asked. IfSome asked IsRequestInRange) }
     // Arguments that the command accepts make a request.
-    ensures asked { are_arguments_accepted (map T.text words.entry.now) ≡ true
+    ensures asked { are_arguments_accepted (map T.text args.entry.now) ≡ true
         → IfOk result (λ asked. is_some asked ≡ true) }
     // Arguments that the command accepts fail only if memory runs out.
-    ensures taken { IfErr result (λ error. are_arguments_accepted (map T.text words.entry.now) ≡ true
+    ensures taken { IfErr result (λ error. are_arguments_accepted (map T.text args.entry.now) ≡ true
         → kind_of error ≡ ErrorKind.OutOfMemory) }
     // Arguments fail because of an error that is found in them or because memory runs out; otherwise they have no error.
-    ensures kinds { FailsBy (fault_of fleet_app (map T.text words.entry.now)) result }
+    ensures kinds { FailsBy (fault_of fleet_app (map T.text args.entry.now)) result }
 {
     let command = fleet_command(alloc)?;
-    let matches = command.try_get_matches_from(words)?;
+    let matches = command.try_get_matches_from(args)?;
     match matches.subcommand() {
         Some((name, values)) => Ok(subcommand_request(name, values)),
         None => Ok(None),

@@ -18,8 +18,8 @@ use Rattle.rv_rows.specs.declared_lists_error.JobError.{JobError}
 use Rattle.rv_rows.specs.Differences.{line_feed_count}
 use Rattle.rv_rows.specs.FirstInvalidLine.{IsReportPrefix, IsFirstInvalidLine, first_lines}
 use Rattle.rv_rows.specs.declared_saved.SavedReport.{SavedReport}
-use Rattle.rv_command.specs.declared.stop.Lines.{Lines}
-use Rattle.rv_command.specs.declared.stop.Lines.TheVariants as lines
+use Rattle.rv_command.specs.declared.stop.MessageKind.{MessageKind}
+use Rattle.rv_command.specs.declared.stop.MessageKind.TheVariants as kinds
 use Rattle.rv_command.specs.declared.stop.Stop.{Stop}
 use Rattle.rv_command.specs.declared.stop.Stop.TheVariants as stops
 use Rattle.rv_command.specs.Messages.{path_message, stop_message}
@@ -28,9 +28,9 @@ use Rattle.rv_command.specs.declared.invalid_line.ResultKind.TheVariants as expe
 use Rattle.rv_command.specs.Texts.{IsReportText, IsTextAt}
 
 -- the exit status for these lines: 2 if the request is rejected, 3 if the system failed
-abbrev pub message_status : Lines → ℕ
-message_status lines.Refusal = 2
-message_status lines.Failure = 3
+abbrev pub message_status : MessageKind → ℕ
+message_status kinds.Rejection = 2
+message_status kinds.Failure = 3
 
 -- the exit status for a stop: 2 if the request is rejected, 3 if the system failed
 abbrev pub stop_status : Stop → ℕ
@@ -49,7 +49,7 @@ end_status true stops.WriteFailed = broken_pipe_status
 end_status _ why = stop_status why
 
 -- the stop with these lines of this kind, or out of memory if the lines could not be made
-abbrev pub stop_with_message : Lines → Result (Vec ℕ Global) AllocError → Stop
+abbrev pub stop_with_message : MessageKind → Result (Vec ℕ Global) AllocError → Stop
 stop_with_message kind (Ok text) = stops.Message kind text
 stop_with_message kind (Err error) = stops.OutOfMemory
 

@@ -24,7 +24,7 @@ pub use requested_report::{
 };
 pub use saved_report::{parse_report, read_report_file};
 pub use status::{BROKEN_PIPE, DONE, FAILED, REJECTED, SOME_FAIL};
-pub use stop::{Lines, Stop};
+pub use stop::{MessageKind, Stop};
 
 // From the crates below: what this interface names, and what its callers need with it.
 pub use rv_files::{Inputs, Text, is_name, limits};

@@ -8,7 +8,7 @@ ghost use Rattle.rv_command.specs.Stops.{end_status, message_status, stop_status
 ghost use Rattle.rv_command.specs.Messages.{IsMessageWritten, end_message, path_message, path_number_message, stop_message};
 
 use crate::status::{BROKEN_PIPE, FAILED, REJECTED};
-use crate::stop::{Lines, Stop};
+use crate::stop::{MessageKind, Stop};
 use rv_files::{Sink, put_all};
 use rv_list_errors::{Span, text_of_spans};
 use std::alloc::{AllocError, Global};
@@ -80,7 +80,7 @@ pub fn put_end_message<E: Sink>(errors: &mut E, stop: Stop, is_out_closed: bool)
     ensures status { result ≡ end_status is_out_closed stop }
     ensures told { IsMessageWritten (E.accepted errors.old) (E.accepted errors.new)
         (E.failure_count errors.old) (E.failure_count errors.new) (end_message is_out_closed stop) }
-    ensures low { is_out_closed ≡ false → result ≤ 3 }
+    ensures status_bound { is_out_closed ≡ false → result ≤ 3 }
 {
     match stop {
         Stop::WriteFailed if is_out_closed => BROKEN_PIPE,
@@ -93,7 +93,7 @@ pub fn write_stop_message<E: Sink>(errors: &mut E, stop: Stop) -> u8
     ensures status { result ≡ stop_status stop }
     ensures told { IsMessageWritten (E.accepted errors.old) (E.accepted errors.new)
         (E.failure_count errors.old) (E.failure_count errors.new) (stop_message stop) }
-    ensures low { result ≤ 3 }
+    ensures status_bound { result ≤ 3 }
 {
     match stop {
         Stop::Message(lines, text) => {
@@ -110,12 +110,12 @@ pub fn write_stop_message<E: Sink>(errors: &mut E, stop: Stop) -> u8
 }
 
 // Returns the exit status for these lines: 2 if the request is rejected, 3 if the system failed.
-fn message_status(lines: Lines) -> u8
-    ensures { result ≡ message_status lines }
+fn message_status(kind: MessageKind) -> u8
+    ensures { result ≡ message_status kind }
 {
-    match lines {
-        Lines::Refusal => REJECTED,
-        Lines::Failure => FAILED,
+    match kind {
+        MessageKind::Rejection => REJECTED,
+        MessageKind::Failure => FAILED,
     }
 }
 

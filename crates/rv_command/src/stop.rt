@@ -10,7 +10,7 @@ use std::alloc::AllocError;
 #[derive(Drop)]
 pub enum Stop {
     /// For the reason in these lines.
-    Message(Lines, Vec<u8>),
+    Message(MessageKind, Vec<u8>),
     /// An allocation failed.
     OutOfMemory,
     /// A thread could not be started.
@@ -21,7 +21,7 @@ pub enum Stop {
 
 /// What the lines of a stop say.
 #[derive(Clone, Copy)]
-pub enum Lines {
+pub enum MessageKind {
     /// Why the request is rejected.
     Refusal,
     /// How the system failed.
@@ -35,30 +35,30 @@ impl Stop {
     {
         match error {
             ArgsError::OutOfMemory => Stop::OutOfMemory,
-            ArgsError::Message(_, text) => Stop::Message(Lines::Refusal, text.into_bytes()),
+            ArgsError::Message(_, text) => Stop::Message(MessageKind::Rejection, text.into_bytes()),
         }
     }
 
     /// Returns the stop that rejects the request with the lines in `told`, or out of memory if `told` is an error.
     pub fn rejection(told: Result<Vec<u8>, AllocError>) -> Stop
-        ensures { result ≡ stop_with_message Lines.Refusal told }
+        ensures { result ≡ stop_with_message MessageKind.Rejection told }
     {
-        Stop::with_message(Lines::Refusal, told)
+        Stop::with_message(MessageKind::Rejection, told)
     }
 
     /// Returns the stop that reports a system failure with the lines in `told`, or out of memory if `told` is an error.
     pub fn system_failure(told: Result<Vec<u8>, AllocError>) -> Stop
-        ensures { result ≡ stop_with_message Lines.Failure told }
+        ensures { result ≡ stop_with_message MessageKind.Failure told }
     {
-        Stop::with_message(Lines::Failure, told)
+        Stop::with_message(MessageKind::Failure, told)
     }
 
     // Returns the stop with the lines in `told`, which are of this kind, or out of memory if `told` is an error.
-    fn with_message(lines: Lines, told: Result<Vec<u8>, AllocError>) -> Stop
-        ensures { result ≡ stop_with_message lines told }
+    fn with_message(kind: MessageKind, told: Result<Vec<u8>, AllocError>) -> Stop
+        ensures { result ≡ stop_with_message kind told }
     {
         match told {
-            Ok(text) => Stop::Message(lines, text),
+            Ok(text) => Stop::Message(kind, text),
             Err(error) => Stop::from(error),
         }
     }

@@ -210,7 +210,7 @@ module _ (plan : PlanView) (indices : List ℕ) (pieces : List IndexRange) (are 
   OfOne n t = IsTableOfRange plan (indices_in indices (range_at pieces n)) t
 
   none_counted : OfFirst 0 no_counts
-  none_counted = record { table = none_of_none plan.answers; few = no_counts_are_few 0 }
+  none_counted = record { table = none_of_none plan.results; few = no_counts_are_few 0 }
 
   -- the indices of the first pieces and of one piece more
   joined_places : (n : ℕ) → n < length pieces
@@ -232,8 +232,8 @@ module _ (plan : PlanView) (indices : List ℕ) (pieces : List IndexRange) (are 
       let long = length-append ps qs in
       subst (λ rs. IsTableOfRange plan rs next) (joined_places n lt) (
       record {
-        table = subst (λ js. IsTableOfJobs plan.answers js next) (sym (map-append _ ps qs))
-            (joined plan.answers (jobs_at plan ps) (jobs_at plan qs) t u next h.table one.table sums);
+        table = subst (λ js. IsTableOfJobs plan.results js next) (sym (map-append _ ps qs))
+            (joined plan.results (jobs_at plan ps) (jobs_at plan qs) t u next h.table one.table sums);
         few = subst (λ m. IsTableOfFew m next) (sym long) (few_more (length ps) (length qs) t u next h.few one.few sums);
       }
       )

@@ -203,10 +203,10 @@ module _ (plan : PlanView) (indices : List ℕ) where
   abbrev pub job : ℕ → Job
   job k = job_at plan (get_or indices k 0) no_job
 
-  pub nothing_ran : (t : CountTable) → t ≡ no_counts → sum_by (runs_by plan.answers) (jobs_at plan indices) ≡ 0
+  pub nothing_ran : (t : CountTable) → t ≡ no_counts → sum_by (runs_by plan.results) (jobs_at plan indices) ≡ 0
       → IsTableOfRange plan indices t
   nothing_ran t is none = subst (IsTableOfRange plan indices) (sym is)
-      (record { table = none_ran plan.answers (jobs_at plan indices) none; few = no_counts_are_few (length indices) })
+      (record { table = none_ran plan.results (jobs_at plan indices) none; few = no_counts_are_few (length indices) })
 
   module _ (same : HaveOneImage plan indices) where
     each_of : (P : Job → Type 0) (ps : List ℕ) → ((k : ℕ) → k < length ps → P (job_at plan (get_or ps k 0) no_job))
@@ -214,36 +214,36 @@ module _ (plan : PlanView) (indices : List ℕ) where
     each_of P [] h = tt
     each_of P (p ∷ ps) h = (h 0 (omega arith), each_of P ps (λ k lt. h (suc k) (omega (arith, lt))))
 
-    same_bytes : (k : ℕ) → k < length indices → image_bytes plan.answers (job k) ≡ image_bytes plan.answers (job 0)
-    same_bytes k lt = ap (λ (path : List ℕ). content_if_read (Some (result_or_unreadable plan.answers path))) (same k no_job lt)
+    same_bytes : (k : ℕ) → k < length indices → image_bytes plan.results (job k) ≡ image_bytes plan.results (job 0)
+    same_bytes k lt = ap (λ (path : List ℕ). content_if_read (Some (result_or_unreadable plan.results path))) (same k no_job lt)
 
     -- without an image
-    none_of_each : (js : List Job) → AllByRecursion (λ j. runs_by plan.answers j ≡ 0) js → sum_by (runs_by plan.answers) js ≡ 0
+    none_of_each : (js : List Job) → AllByRecursion (λ j. runs_by plan.results j ≡ 0) js → sum_by (runs_by plan.results) js ≡ 0
     none_of_each [] h = refl
     none_of_each (j ∷ js) h =
         let first = h.0 in
         let rest = none_of_each js h.1 in
-        omega (arith, first, rest, sum_by-cons (runs_by plan.answers) j js)
+        omega (arith, first, rest, sum_by-cons (runs_by plan.results) j js)
 
-    no_run : image_bytes plan.answers (job 0) ≡ None → (k : ℕ) → k < length indices → runs_by plan.answers (job k) ≡ 0
+    no_run : image_bytes plan.results (job 0) ≡ None → (k : ℕ) → k < length indices → runs_by plan.results (job k) ≡ 0
     no_run none k lt =
-        let start = start_state_in plan.answers (job k) in
-        ap address_if (not_ok_if_none start (none_if_no_ok start (λ s is. no_bytes (job k) s plan.answers (same_bytes k lt ∙ none) is)))
+        let start = start_state_in plan.results (job k) in
+        ap address_if (not_ok_if_none start (none_if_no_ok start (λ s is. no_bytes (job k) s plan.results (same_bytes k lt ∙ none) is)))
 
-    pub no_image_ran : (t : CountTable) → t ≡ no_counts → image_bytes plan.answers (job 0) ≡ None → IsTableOfRange plan indices t
+    pub no_image_ran : (t : CountTable) → t ≡ no_counts → image_bytes plan.results (job 0) ≡ None → IsTableOfRange plan indices t
     no_image_ran t is none = nothing_ran t is (none_of_each (jobs_at plan indices) (each_of _ indices (no_run none)))
 
     -- with an image
     pub image_ran : (file path : List ℕ) (c : RunsCounter) (cs : List AddressCounts) (t : CountTable)
-        → image_bytes plan.answers (job 0) ≡ Some file → (job 0).image ≡ path
-        → HasCountedJobs plan.answers (jobs_at plan indices) c → 0 < c.runs → IsSorted (counts_of c.counter) cs
+        → image_bytes plan.results (job 0) ≡ Some file → (job 0).image ≡ path
+        → HasCountedJobs plan.results (jobs_at plan indices) c → 0 < c.runs → IsSorted (counts_of c.counter) cs
         → t ≡ table_of_runs c.runs path file cs → IsValidTable t → IsTableOfRange plan indices t
     image_ran file path c cs t bytes image h some sorted is table =
-        let over = each_of (IsOver plan.answers file path) indices
+        let over = each_of (IsOver plan.results file path) indices
         (λ k lt. record { bytes = same_bytes k lt ∙ bytes; image = same k no_job lt ∙ image }) in
-        let few = few_runs plan.answers (jobs_at plan indices) in
+        let few = few_runs plan.results (jobs_at plan indices) in
         let long = length-map indices (λ index. job_at plan index no_job) in
         let runs = h.runs in record {
-          table = some_ran plan.answers file path (jobs_at plan indices) over c cs h sorted t is some table;
-          few = few_ran plan.answers file path (jobs_at plan indices) over c cs h sorted t is (length indices) (omega (arith, few, long, runs));
+          table = some_ran plan.results file path (jobs_at plan indices) over c cs h sorted t is some table;
+          few = few_ran plan.results file path (jobs_at plan indices) over c cs h sorted t is (length indices) (omega (arith, few, long, runs));
         }

@@ -103,15 +103,15 @@ one_job_more answers js j old new h adds = record {
 }
 
 module _ (plan : PlanView) (indices : List ℕ) where
-  pub next_job : (k : ℕ) (old new : RunsCounter) → k < length indices → HasCountedJobs plan.answers (jobs_at plan (take k indices)) old
-      → ((d : Job) → AddsJob plan.answers (job_at plan (get_or indices k 0) d) old new)
-      → HasCountedJobs plan.answers (jobs_at plan (take (k + 1) indices)) new
+  pub next_job : (k : ℕ) (old new : RunsCounter) → k < length indices → HasCountedJobs plan.results (jobs_at plan (take k indices)) old
+      → ((d : Job) → AddsJob plan.results (job_at plan (get_or indices k 0) d) old new)
+      → HasCountedJobs plan.results (jobs_at plan (take (k + 1) indices)) new
   next_job k old new lt h adds =
       let no_job = single_job [] 0 [] in
       let index = get_or indices k 0 in
-      subst (λ ps. HasCountedJobs plan.answers (jobs_at plan ps) new) (sym (take_more indices k 0 lt))
-      (subst (λ js. HasCountedJobs plan.answers js new) (sym (map-append (λ index. job_at plan index no_job) (take k indices) (index ∷ [])))
-      (one_job_more plan.answers (jobs_at plan (take k indices)) (job_at plan index no_job) old new h (adds no_job)))
+      subst (λ ps. HasCountedJobs plan.results (jobs_at plan ps) new) (sym (take_more indices k 0 lt))
+      (subst (λ js. HasCountedJobs plan.results js new) (sym (map-append (λ index. job_at plan index no_job) (take k indices) (index ∷ [])))
+      (one_job_more plan.results (jobs_at plan (take k indices)) (job_at plan index no_job) old new h (adds no_job)))
 
 -- there are no more runs than jobs
 at_most_one : (r : Result State Refusal) → address_if (is_ok r) ≤ 1

@@ -96,7 +96,7 @@ jobs_at plan indices = map (λ index. slice_index_or plan.jobs index (single_job
 
 -- `t` is the table of the jobs at these indices of a plan
 abbrev pub IsTableOfJobsAt : PlanView → List ℕ → CountTable → Type 0
-IsTableOfJobsAt plan indices t = IsTableOfJobs plan.answers (jobs_at plan indices) t
+IsTableOfJobsAt plan indices t = IsTableOfJobs plan.results (jobs_at plan indices) t
 
 -- ---- sums that fit
 

@@ -39,7 +39,7 @@ impl RunsCounter {
     ) -> Result<(), AllocError>
         requires ready { CanCountRuns self.old }
         requires few { self.old.runs < max_jobs }
-        ensures { OnOk result ((d : AJob) → AddsJob job.now.plan.now.answers (job_at job.now.plan.now job.now.place d) self.old self.new) }
+        ensures { OnOk result ((d : AJob) → AddsJob job.now.plan.now.results (job_at job.now.plan.now job.now.place d) self.old self.new) }
     {
         let Ok(machine) = machine_at_reusing(alloc, job.plan, job.place, job.image, spare)? else {
             return Ok(());

@@ -67,7 +67,7 @@ fn count_job_at(
     requires within { index < length plan.now.jobs }
     requires ready { CanCountRuns counter.old }
     requires few { counter.old.runs < max_jobs }
-    ensures { OnOk result ((d : AJob) → AddsJob plan.now.answers (job_at plan.now index d) counter.old counter.new) }
+    ensures { OnOk result ((d : AJob) → AddsJob plan.now.results (job_at plan.now index d) counter.old counter.new) }
 {
     let Some(bytes) = image_bytes(plan, index) else {
         return Ok(());

@@ -25,15 +25,15 @@ jobs_more plan indices i index lt is =
     ∙ ap (λ (k : ℕ). jobs_at plan (take i indices) ++ jobs_at plan (k ∷ [])) (sym is)
 
 pub images_more : (plan : PlanView) (indices : List ℕ) (i index : ℕ) → i < length indices → index ≡ get_or indices i index
-    → images_of plan.answers (jobs_at plan (take (i + 1) indices))
-    ≡ with_image_of plan.answers (images_of plan.answers (jobs_at plan (take i indices))) (job_at plan index (single_job [] 0 []))
+    → images_of plan.results (jobs_at plan (take (i + 1) indices))
+    ≡ with_image_of plan.results (images_of plan.results (jobs_at plan (take i indices))) (job_at plan index (single_job [] 0 []))
 images_more plan indices i index lt is =
-    ap (images_of plan.answers) (jobs_more plan indices i index lt is)
-    ∙ fold-append (with_image_of plan.answers) [] (jobs_at plan (take i indices)) (job_at plan index (single_job [] 0 []) ∷ [])
+    ap (images_of plan.results) (jobs_more plan indices i index lt is)
+    ∙ fold-append (with_image_of plan.results) [] (jobs_at plan (take i indices)) (job_at plan index (single_job [] 0 []) ∷ [])
 
 pub images_whole : (plan : PlanView) (indices : List ℕ) (i : ℕ) → length indices ≤ i
-    → images_of plan.answers (jobs_at plan (take i indices)) ≡ images_of plan.answers (jobs_at plan indices)
-images_whole plan indices i all = ap (λ (ps : List ℕ). images_of plan.answers (jobs_at plan ps)) (take_all i indices all)
+    → images_of plan.results (jobs_at plan (take i indices)) ≡ images_of plan.results (jobs_at plan indices)
+images_whole plan indices i all = ap (λ (ps : List ℕ). images_of plan.results (jobs_at plan ps)) (take_all i indices all)
 
 -- an image that is found is that of the job, and so is none
 pub found_here : (answers : List PathResult) (images : List ImageFileView) (job : Job) (found : Option ImageFileView) → found ≡ image_of_job answers job

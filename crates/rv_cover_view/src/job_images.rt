@@ -21,9 +21,9 @@ pub fn images_of_jobs<'a>(
     indices: &[usize],
 ) -> Result<Vec<ImageFile<'a>>, AllocError>
     requires within { AreJobIndices plan.now indices.now }
-    requires small { AreSmall plan.now.answers }
+    requires small { AreSmall plan.now.results }
     ensures { IfOk result (λ files. images_of_files files.items
-        ≡ images_of plan.now.answers (jobs_at plan.now indices.now)) }
+        ≡ images_of plan.now.results (jobs_at plan.now indices.now)) }
 {
     let mut files = Vec::new(alloc);
     for index in indices {
@@ -40,9 +40,9 @@ fn push_image_at<'a>(
     index: usize,
 ) -> Result<(), AllocError>
     requires within { index < length plan.now.jobs }
-    requires small { AreSmall plan.now.answers }
+    requires small { AreSmall plan.now.results }
     ensures { OnOk result ((d : AJob) → images_of_files files.new.items
-        ≡ with_image_of plan.now.answers (images_of_files files.old.items) (job_at plan.now index d)) }
+        ≡ with_image_of plan.now.results (images_of_files files.old.items) (job_at plan.now index d)) }
 {
     let found = image_at(alloc, plan, index)?;
     match found {
@@ -72,9 +72,9 @@ fn has_bytes(files: &[ImageFile<'_>], bytes: &[u8]) -> bool
 // Returns the image of the job at an index, or `None` if its file was not read or is not an image.
 fn image_at(alloc: Global, plan: &Plan, index: usize) -> Result<Option<ImageFile<'_>>, AllocError>
     requires within { index < length plan.now.jobs }
-    requires small { AreSmall plan.now.answers }
+    requires small { AreSmall plan.now.results }
     ensures { IfOk result (λ file. (d : AJob) → option_map image_of_file file
-        ≡ image_of_job plan.now.answers (job_at plan.now index d)) }
+        ≡ image_of_job plan.now.results (job_at plan.now index d)) }
 {
     let Some(bytes) = image_bytes(plan, index) else {
         return Ok(None);

@@ -12,12 +12,12 @@ use Rattle.rv_expect.specs.Reference.{IsWord, signature_words_or_empty}
 use Rattle.rv_expect.specs.UnmetExpectations.{HasRequiredVerdict, ReportsUnmetExpectations, named_outcome, outcome_in_row, passes}
 use Rattle.rv_expect.proofs.Tellings.{passes_where_empty, tells}
 
-outcome_of_row : (plan : PlanView) (job : Job) → outcome_in_row (row_of plan job) ≡ outcome_in plan.answers job
+outcome_of_row : (plan : PlanView) (job : Job) → outcome_in_row (row_of plan job) ≡ outcome_in plan.results job
 unfolding row_of
 outcome_of_row plan job = refl
 
 outcome_of_named : (plan : PlanView) (o : Option Job)
-    → named_outcome (option_map (row_of plan) o) ≡ option_map (outcome_in plan.answers) o
+    → named_outcome (option_map (row_of plan) o) ≡ option_map (outcome_in plan.results) o
 outcome_of_named plan None = refl
 outcome_of_named plan (Some job) = ap Some (outcome_of_row plan job)
 
@@ -28,24 +28,24 @@ module _ (plan : PlanView) (job : Job) where
   has_its_verdict : HasRequiredVerdict (comparison_in plan job (row_of plan job))
   unfolding row_of named
   has_its_verdict =
-      let console = expected_console_bytes plan.answers job in
-      let reference = signature_reference_bytes plan.answers job in
-      ap (λ (o : Option Outcome). verdict_of job (outcome_in plan.answers job) reference console o)
+      let console = expected_console_bytes plan.results job in
+      let reference = signature_reference_bytes plan.results job in
+      ap (λ (o : Option Outcome). verdict_of job (outcome_in plan.results job) reference console o)
       (sym (outcome_of_named plan named))
 
   pub tells_of_a_plan : did_run (row_of plan job).ending ≡ true
       → AllByRecursion IsWord (signature_words_or_empty (row_of plan job).signature)
-      → ReportsUnmetExpectations (unmet_expectations_in plan job (row_of plan job)) job (outcome_in plan.answers job)
-      (expected_console_bytes plan.answers job) (signature_reference_bytes plan.answers job) (same_as_outcome plan job)
+      → ReportsUnmetExpectations (unmet_expectations_in plan job (row_of plan job)) job (outcome_in plan.results job)
+      (expected_console_bytes plan.results job) (signature_reference_bytes plan.results job) (same_as_outcome plan job)
   unfolding named
   tells_of_a_plan runs fit =
       let told = unmet_expectations_in plan job (row_of plan job) in
-      let console = expected_console_bytes plan.answers job in
-      let reference = signature_reference_bytes plan.answers job in
+      let console = expected_console_bytes plan.results job in
+      let reference = signature_reference_bytes plan.results job in
       let of_row = tells (comparison_in plan job (row_of plan job)) runs fit in
       let of_outcome = subst (λ (o : Outcome). ReportsUnmetExpectations told job o console reference
       (named_outcome (row_of_same_as_job plan job))) (outcome_of_row plan job) of_row in
-      subst (λ (o : Option Outcome). ReportsUnmetExpectations told job (outcome_in plan.answers job) console reference o)
+      subst (λ (o : Option Outcome). ReportsUnmetExpectations told job (outcome_in plan.results job) console reference o)
       (outcome_of_named plan named) of_outcome
 
   pub passes_in_a_plan : did_run (row_of plan job).ending ≡ true

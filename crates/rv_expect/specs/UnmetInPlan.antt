@@ -19,8 +19,8 @@ abbrev pub comparison_in : PlanView → Job → Row → ComparisonView
 comparison_in plan job row = record {
   job = job;
   row = row;
-  console = expected_console_bytes plan.answers job;
-  reference = signature_reference_bytes plan.answers job;
+  console = expected_console_bytes plan.results job;
+  reference = signature_reference_bytes plan.results job;
   other = row_of_same_as_job plan job;
 }
 

@@ -59,7 +59,7 @@ pub fn unmet_of_a_plan_is_what_does_not_hold()
         → IsTrue (did_run (row_of plan job).ending)
         → AllByRecursion IsWord (signature_words_or_empty (row_of plan job).signature)
         → ReportsUnmetExpectations (unmet_expectations_in plan job (row_of plan job)) job
-        (outcome_in plan.answers job) (expected_console_bytes plan.answers job) (signature_reference_bytes plan.answers job) (same_as_outcome plan job) }
+        (outcome_in plan.results job) (expected_console_bytes plan.results job) (signature_reference_bytes plan.results job) (same_as_outcome plan job) }
     ensures passes { (plan : PlanView) (job : Job)
         → IsTrue (did_run (row_of plan job).ending)
         → AllByRecursion IsWord (signature_words_or_empty (row_of plan job).signature)

@@ -13,10 +13,10 @@ pub(crate) fn create_new_file<R: Files>(files: &R, paths: &FilePaths) -> io::Res
 where
     R::File: FileLock,
 {
-    let old = replaceable_file(files, paths.whole.as_str())?;
-    let file = create_locked_file(files, paths.new.as_str())?;
+    let old = replaceable_file(files, paths.destination.as_str())?;
+    let file = create_locked_file(files, paths.temporary.as_str())?;
     if let Some(old) = old {
-        copy_attributes(files, paths.new.as_str(), &file, &old)?;
+        copy_attributes(files, paths.temporary.as_str(), &file, &old)?;
     }
     Ok(file)
 }
@@ -104,7 +104,7 @@ pub(crate) fn sync_directory<R: Files>(files: &R, path: &str) {
 /// Returns an error if the file cannot be placed at its final path: its directory does not exist, or a read-only file is there. This is
 /// checked before the file is created.
 pub(crate) fn check_destination<R: Files>(files: &R, paths: &FilePaths) -> io::Result<()> {
-    replaceable_file(files, paths.whole.as_str())?;
-    files.metadata(directory_of(paths.whole.as_str()).as_str())?;
+    replaceable_file(files, paths.destination.as_str())?;
+    files.metadata(directory_of(paths.destination.as_str()).as_str())?;
     Ok(())
 }

@@ -16,8 +16,8 @@ use std::rt::Files;
 /// The temporary path of a file, at which it is written, and its final path.
 #[derive(Drop)]
 pub(crate) struct FilePaths {
-    pub(crate) new: PathBuf,
-    pub(crate) whole: PathBuf,
+    pub(crate) temporary: PathBuf,
+    pub(crate) destination: PathBuf,
 }
 
 impl FilePaths {
@@ -28,7 +28,7 @@ impl FilePaths {
         alloc: Global,
     ) -> Result<Vec<Text>, AllocError> {
         let mut identities = Vec::with_capacity(alloc, 2)?;
-        for path in [&self.whole, &self.new] {
+        for path in [&self.destination, &self.temporary] {
             identities.push(file_identity(files, alloc, path.as_str())?)?;
         }
         Ok(identities)
@@ -47,9 +47,9 @@ pub(crate) fn temporary_and_final_path<R: Files>(
     if !is_replaceable(files, path)? {
         return Ok(None);
     }
-    let whole = follow_links(files, alloc, path)?;
-    let new = with_new_suffix(alloc, whole.as_str())?;
-    Ok(Some(FilePaths { new, whole }))
+    let destination = follow_links(files, alloc, path)?;
+    let temporary = with_new_suffix(alloc, destination.as_str())?;
+    Ok(Some(FilePaths { temporary, destination }))
 }
 
 // Whether a file may be placed at a path: a regular file is there, or nothing. A link is followed.

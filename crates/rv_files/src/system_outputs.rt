@@ -37,9 +37,9 @@ pub struct SystemOutputs<'a, R: Files> {
 #[derive(Drop)]
 pub struct PendingFile {
     // The path as given.
-    given: Text,
+    path: Text,
     // None if the bytes are written directly to what is at the path.
-    places: Option<FilePaths>,
+    paths: Option<FilePaths>,
 }
 
 /// A system file that is synced to disk. It stays open, and so stays locked, until it is placed.
@@ -92,7 +92,7 @@ where
         ensures first { IfErr result (λ error. error ≡ FileError.SameFile → 0 < vec_len self.old.uncommitted) }
     {
         self.check_not_same_file(alloc, paths)?;
-        self.record_uncommitted(alloc, paths.new.as_str())?;
+        self.record_uncommitted(alloc, paths.temporary.as_str())?;
         match create_new_file(self.files, paths) {
             Ok(file) => Ok(file),
             Err(error) => {
@@ -108,9 +108,9 @@ where
         ensures first { IfErr result (λ error. error ≡ FileError.SameFile → 0 < vec_len self.now.uncommitted) }
     {
         // If the other file's final path is this one's temporary path, this is the other's temporary path.
-        let newer = with_new_suffix(alloc, paths.new.as_str())?;
+        let newer = with_new_suffix(alloc, paths.temporary.as_str())?;
         for other in &self.uncommitted {
-            for path in [&paths.new, &paths.whole, &newer] {
+            for path in [&paths.temporary, &paths.destination, &newer] {
                 if is_same_file(self.files, alloc, path.as_str(), other.as_str())? {
                     return Err(FileError::SameFile);
                 }
@@ -176,7 +176,7 @@ where
 
     ghost committed = { λ _. None };
 
-    ghost pending_path = { λ place. place.given };
+    ghost pending_path = { λ place. place.path };
 
     ghost synced_bytes = { λ _. None };
 
@@ -215,18 +215,18 @@ where
         alloc: Global,
         path: &str,
     ) -> Result<(PendingFile, FileSink<R::File>), FileError>
-        ensures path { IfOk result (λ made. made.0.given ≡ path.now) }
+        ensures path { IfOk result (λ made. made.0.path ≡ path.now) }
         ensures no_failures { IfOk result (λ made. made.1.stream.failures ≡ 0) }
         ensures first { IfErr result (λ error. error ≡ FileError.SameFile → 0 < vec_len self.old.uncommitted) }
     {
         let given = Text::copy(alloc, path)?;
-        let places = temporary_and_final_path(self.files, alloc, path)?;
-        let file = self.open_file(alloc, path, places.as_ref())?;
+        let paths = temporary_and_final_path(self.files, alloc, path)?;
+        let file = self.open_file(alloc, path, paths.as_ref())?;
         let file = FileSink {
             stream: StreamSink::new(file),
-            is_on_disk: places.is_some(),
+            is_on_disk: paths.is_some(),
         };
-        Ok((PendingFile { given, places }, file))
+        Ok((PendingFile { path: given, paths }, file))
     }
 
     // Syncs the bytes of a file to disk, if it is a temporary file.
@@ -243,25 +243,25 @@ where
     fn place(&mut self, place: PendingFile, file: SyncedFile<R::File>) -> Result<(), FileError> {
         // Its lock is released here, once the file has its final path.
         let SyncedFile { file: _locked } = file;
-        let Some(places) = &place.places else {
+        let Some(paths) = &place.paths else {
             return Ok(());
         };
-        let (new, whole) = (places.new.as_str(), places.whole.as_str());
-        let committed = self.files.rename(new, whole);
+        let (temporary, destination) = (paths.temporary.as_str(), paths.destination.as_str());
+        let committed = self.files.rename(temporary, destination);
         if committed.is_err() {
-            let _ = self.files.remove_file(new);
+            let _ = self.files.remove_file(temporary);
         }
-        self.remove_uncommitted(new);
+        self.remove_uncommitted(temporary);
         committed?;
-        sync_directory(self.files, whole);
+        sync_directory(self.files, destination);
         Ok(())
     }
 
     // Removes the temporary file of a destination, if there is one.
     fn abandon(&mut self, place: PendingFile) {
-        if let Some(places) = &place.places {
-            let _ = self.files.remove_file(places.new.as_str());
-            self.remove_uncommitted(places.new.as_str());
+        if let Some(paths) = &place.paths {
+            let _ = self.files.remove_file(places.temporary.as_str());
+            self.remove_uncommitted(places.temporary.as_str());
         }
     }
 }

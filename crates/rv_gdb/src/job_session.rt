@@ -20,8 +20,8 @@ pub fn session_at(
 ) -> Result<Option<Session>, AllocError>
     requires { index < length plan.now.jobs }
     ensures { IfOk result (λ found. (d : AJob) → MatchOption found
-        (is_ok (start_state_in plan.now.answers (job_at plan.now index d)) ≡ false)
-        (IsSessionOf plan.now.answers (job_at plan.now index d) path)) }
+        (is_ok (start_state_in plan.now.results (job_at plan.now index d)) ≡ false)
+        (IsSessionOf plan.now.results (job_at plan.now index d) path)) }
 {
     let job = plan.job(index);
     let Some(bytes) = image_bytes(plan, index) else {
@@ -44,11 +44,11 @@ fn session_of_image(
     program: Program,
 ) -> Result<Option<Session>, AllocError>
     requires index { index < length plan.now.jobs }
-    requires image { (d : AJob) → image_in plan.now.answers (job_at plan.now index d) ≡ Some image.now }
-    requires bytes { (d : AJob) → image_bytes plan.now.answers (job_at plan.now index d) ≡ Some program.image }
+    requires image { (d : AJob) → image_in plan.now.results (job_at plan.now index d) ≡ Some image.now }
+    requires bytes { (d : AJob) → image_bytes plan.now.results (job_at plan.now index d) ≡ Some program.image }
     ensures { IfOk result (λ found. (d : AJob) → MatchOption found
-        (is_ok (start_state_in plan.now.answers (job_at plan.now index d)) ≡ false)
-        (IsSessionOf plan.now.answers (job_at plan.now index d) program.path)) }
+        (is_ok (start_state_in plan.now.results (job_at plan.now index d)) ≡ false)
+        (IsSessionOf plan.now.results (job_at plan.now index d) program.path)) }
 {
     let job = plan.job(index);
     let (entry, isa) = (image.entry, job.isa);

@@ -51,17 +51,17 @@ reporter_of reporter = record {
 
 -- the address of the first word of a job's signature, if it is known
 abbrev pub signature_address : PlanView → Job → Option ℕ
-signature_address plan job = signature_begin job.isa (image_bytes plan.answers job) job.signature
+signature_address plan job = signature_begin job.isa (image_bytes plan.results job) job.signature
 
 -- the line about a row, with the symbol at the pc of a fault and with the reason of a refusal
 unfoldable pub row_line : PlanView → List UnreadablePath → JudgeView → Job → Row → List ℕ
 row_line plan unread judging job row =
-    result_line (judgement judging row) row (fault_symbol job.isa (image_bytes plan.answers job) row.ending)
-    (ending_reason plan.answers unread job row.ending)
+    result_line (judgement judging row) row (fault_symbol job.isa (image_bytes plan.results job) row.ending)
+    (ending_reason plan.results unread job row.ending)
 
 -- the lines about how a run reached its end, with at most `last` of its last instructions
 unfoldable pub end_trace_lines : PlanView → Job → Row → ℕ → List ℕ
-end_trace_lines plan job row last = optional_trace_text job.isa (image_bytes plan.answers job) row.ending
+end_trace_lines plan job row last = optional_trace_text job.isa (image_bytes plan.results job) row.ending
     (trace_in plan job row.steps last)
 
 -- the lines about how a run reached its end; empty if the number of last instructions is `None`, which means that they are not requested
@@ -129,7 +129,7 @@ outcome_text plan unread judging job row = row_line plan unread judging job row 
 
 -- the line with the calls that had not returned when the job's run ended; empty if all had returned
 unfoldable pub calls_lines : PlanView → Job → List ℕ
-calls_lines plan job = optional_calls_text job.isa (image_bytes plan.answers job) (calls_in plan job)
+calls_lines plan job = optional_calls_text job.isa (image_bytes plan.results job) (calls_in plan job)
 
 -- the lines that explain a run: its expectations, the end of its console, the use of its budget, how it reached its end, and the calls that
 -- had not returned

@@ -30,7 +30,7 @@ impl<'a> JobFile<'a> {
         requires { index < length plan.now.jobs }
         ensures isa { IfOk result (λ file. (d : AJob) → file.isa ≡ (job_at plan.now index d).isa) }
         ensures bytes { IfOk result (λ file. (d : AJob) → option_map (λ bytes. bytes.now) file.bytes
-            ≡ content_if_read (Some (result_or_unreadable plan.now.answers (job_at plan.now index d).image))) }
+            ≡ content_if_read (Some (result_or_unreadable plan.now.results (job_at plan.now index d).image))) }
     {
         let isa = plan.job(index).isa;
         let bytes = image_bytes(plan, index);

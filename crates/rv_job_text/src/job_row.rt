@@ -20,5 +20,5 @@ pub(crate) struct JobRow<'a> {
     ghost within: { index < length plan.now.jobs },
     ghost isa: { (d : AJob) → file.now.isa ≡ (job_at plan.now index d).isa },
     ghost bytes: { (d : AJob) → option_map (λ bytes. bytes.now) file.now.bytes
-        ≡ content_if_read (Some (result_or_unreadable plan.now.answers (job_at plan.now index d).image)) },
+        ≡ content_if_read (Some (result_or_unreadable plan.now.results (job_at plan.now index d).image)) },
 }

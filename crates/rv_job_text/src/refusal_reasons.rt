@@ -28,7 +28,7 @@ pub fn ending_reason(
 ) -> Result<Option<Vec<u8>>, AllocError>
     requires { index < length plan.now.jobs }
     ensures { IfOk result (λ reason. (d : AJob) → option_map (λ text. text.items) reason
-        ≡ ending_reason plan.now.answers unread.now (job_at plan.now index d) ending) }
+        ≡ ending_reason plan.now.results unread.now (job_at plan.now index d) ending) }
 {
     match ending {
         RowEnd::Refused(refusal) => refusal_reason(alloc, plan, unread, index, refusal),
@@ -48,7 +48,7 @@ fn refusal_reason(
 ) -> Result<Option<Vec<u8>>, AllocError>
     requires { index < length plan.now.jobs }
     ensures { IfOk result (λ reason. (d : AJob) → option_map (λ text. text.items) reason
-        ≡ refusal_reason plan.now.answers unread.now (job_at plan.now index d) refusal) }
+        ≡ refusal_reason plan.now.results unread.now (job_at plan.now index d) refusal) }
 {
     let image = plan.job(index).image.as_str();
     match refusal {
@@ -100,7 +100,7 @@ fn image_refusal_text(
 ) -> Result<Option<Vec<u8>>, AllocError>
     requires { index < length plan.now.jobs }
     ensures { IfOk result (λ reason. (d : AJob) → option_map (λ text. text.items) reason
-        ≡ image_refusal_text plan.now.answers (job_at plan.now index d) error) }
+        ≡ image_refusal_text plan.now.results (job_at plan.now index d) error) }
 {
     let Some(file) = image_bytes(plan, index) else {
         return Ok(None);
@@ -116,7 +116,7 @@ fn image_refusal_text(
 fn unread_reference_path(plan: &Plan, index: usize) -> Option<&str>
     requires { index < length plan.now.jobs }
     ensures { (d : AJob) → option_map (λ path. path.now) result
-        ≡ unread_reference_path plan.now.answers (job_at plan.now index d) }
+        ≡ unread_reference_path plan.now.results (job_at plan.now index d) }
 {
     let job = plan.job(index);
     match path_if_unread(signature_reference_bytes(plan, index), reference_path(job)) {

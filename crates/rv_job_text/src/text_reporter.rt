@@ -195,7 +195,7 @@ impl<'a> TextReporter<'a> {
         requires index { index < length self.now.plan.now.jobs }
         requires symbol { (d : AJob) → option_map (λ s. (s.name.now, s.offset)) symbol
             ≡ fault_symbol (job_at self.now.plan.now index d).isa
-            (image_bytes self.now.plan.now.answers (job_at self.now.plan.now index d)) row.now.ending }
+            (image_bytes self.now.plan.now.results (job_at self.now.plan.now index d)) row.now.ending }
         ensures { OnOk result ((d : AJob) → text.new.items ≡ text.old.items
             ++ row_line self.now.plan.now self.now.unread.now (judge_view self.now.judge)
             (job_at self.now.plan.now index d) row.now) }

@@ -13,10 +13,10 @@ paths_in a = map (λ p. p.now) a.paths.items
 
 -- the path and the result of each read, in order, which is what contracts see of `PathResults`
 abbrev pub results_of : Inside → List PathResult
-results_of a = results_with (paths_in a) a.answers.items
+results_of a = results_with (paths_in a) a.results.items
 
 -- the invariant of the fields of `PathResults`: there is one result for each path that was read, and the map has the index of each path
 pub record IsValidPathResults (a : Inside) : Type 0 where
-  pub even : length (paths_in a) ≡ length a.answers.items
+  pub even : length (paths_in a) ≡ length a.results.items
   pub places : (t : List ℕ)
       → get_by (λ k. bytes_eq t k.now) a.places ≡ index_in (paths_in a) t

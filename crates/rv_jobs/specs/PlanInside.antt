@@ -12,12 +12,12 @@ paths_read a = paths_used (jobs_needed_for a.jobs a.chosen.items)
 
 -- what contracts see of a plan with these fields
 abbrev pub plan_view : Inside → PlanView
-plan_view a = record { jobs = a.jobs; answers = results_with (paths_read a) a.answers.items }
+plan_view a = record { jobs = a.jobs; results = results_with (paths_read a) a.results.items }
 
 -- the invariant of the fields of a plan: the jobs form a valid list, there is one result for each path that was read, and each job has the
 -- indices of its results
 pub record IsValidPlan (a : Inside) : Type 0 where
   pub jobs : AreValidJobs a.jobs
-  pub even : length (paths_read a) ≡ length a.answers.items
+  pub even : length (paths_read a) ≡ length a.results.items
   pub found : ArePartialResultIndicesOfJobs (paths_read a) a.jobs a.found.items
   pub unread : a.unread ≡ Unreadable

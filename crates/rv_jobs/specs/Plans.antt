@@ -90,4 +90,4 @@ after_increments n (suc k) = one_more (after_increments n k)
 -- a plan as contracts see it: the jobs of a list, and the result for each path that was read
 pub record PlanView : Type 0 where
   pub jobs : List Job
-  pub answers : List PathResult
+  pub results : List PathResult

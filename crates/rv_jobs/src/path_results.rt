@@ -22,7 +22,7 @@ pub struct PathResult {
 /// that differ only at their ends is slow.
 #[derive(Drop)]
 pub(crate) struct PathResults<'a> {
-    answers: Vec<Kept>,
+    results: Vec<Kept>,
     paths: Vec<&'a str>,
     places: HashMap<&'a str, usize, BuildHasherDefault<FoldHasher>>,
 }
@@ -108,6 +108,6 @@ impl<'a> PathResults<'a> {
     pub(crate) fn into_results(self) -> Vec<Kept>
         ensures { result.items ≡ map (λ a. a.kept) self.entry }
     {
-        self.answers
+        self.results
     }
 }

@@ -26,7 +26,7 @@ pub struct Plan {
     // The indices of the jobs for which the plan was gathered.
     chosen: Vec<usize>,
     // The result for each path that their rows need, in order of first use.
-    answers: Vec<Kept>,
+    results: Vec<Kept>,
     // The indices of the results for each job's paths.
     found: Vec<Found>,
     // The result for a path that was not read.
@@ -49,10 +49,10 @@ impl Model for Plan {
 pub fn gather<S: Store>(alloc: Global, jobs: JobList, store: &mut S) -> Result<Plan, AllocError>
     ensures same { S.contents store.new ≡ S.contents store.old }
     ensures jobs { IfOk result (λ p. p.jobs ≡ jobs) }
-    ensures paths { IfOk result (λ p. paths_of p.answers ≡ paths_used jobs) }
-    ensures kept { IfOk result (λ p. AgreeWithContents (S.contents store.old) p.answers) }
+    ensures paths { IfOk result (λ p. paths_of p.results ≡ paths_used jobs) }
+    ensures kept { IfOk result (λ p. AgreeWithContents (S.contents store.old) p.results) }
     ensures faults { IfOk result (λ p. S.fault_count store.new
-        ≡ after_increments (S.fault_count store.old) (unreadable_count p.answers)) }
+        ≡ after_increments (S.fault_count store.old) (unreadable_count p.results)) }
 {
     let places = all_indices(alloc, &jobs)?;
     gather_jobs(alloc, jobs, places, store)
@@ -69,11 +69,11 @@ pub fn gather_jobs<S: Store>(
     requires { All (λ place. place < length jobs) places.items }
     ensures same { S.contents store.new ≡ S.contents store.old }
     ensures jobs { IfOk result (λ p. p.jobs ≡ jobs) }
-    ensures paths { IfOk result (λ p. paths_of p.answers
+    ensures paths { IfOk result (λ p. paths_of p.results
         ≡ paths_used (jobs_needed_for jobs places.items)) }
-    ensures kept { IfOk result (λ p. AgreeWithContents (S.contents store.old) p.answers) }
+    ensures kept { IfOk result (λ p. AgreeWithContents (S.contents store.old) p.results) }
     ensures faults { IfOk result (λ p. S.fault_count store.new
-        ≡ after_increments (S.fault_count store.old) (unreadable_count p.answers)) }
+        ≡ after_increments (S.fault_count store.old) (unreadable_count p.results)) }
 {
     let none = PathResults::new(alloc, places.len())?;
     let mut asked = none;
@@ -128,7 +128,7 @@ impl Plan {
     pub fn image(&self, i: usize) -> &Kept
         requires { i < length self.now.jobs }
         ensures { (d : AJob) → result.now
-            ≡ result_or_unreadable self.now.answers (slice_index_or self.now.jobs i d).image }
+            ≡ result_or_unreadable self.now.results (slice_index_or self.now.jobs i d).image }
     {
         self.result_or_unread(self.found[i].image)
     }
@@ -138,7 +138,7 @@ impl Plan {
     pub fn reference(&self, i: usize) -> Option<&Kept>
         requires { i < length self.now.jobs }
         ensures { (d : AJob) → option_map (λ k. k.now) result
-            ≡ option_map (result_or_unreadable self.now.answers)
+            ≡ option_map (result_or_unreadable self.now.results)
             (slice_index_or self.now.jobs i d).expect_signature }
     {
         match reference_path(self.job(i)) {
@@ -152,7 +152,7 @@ impl Plan {
     pub fn console_reference(&self, i: usize) -> Option<&Kept>
         requires { i < length self.now.jobs }
         ensures { (d : AJob) → option_map (λ k. k.now) result
-            ≡ option_map (result_or_unreadable self.now.answers)
+            ≡ option_map (result_or_unreadable self.now.results)
             (console_path (slice_index_or self.now.jobs i d).expect_console) }
     {
         match console_path(self.job(i)) {
@@ -163,12 +163,12 @@ impl Plan {
 
     // Returns the result at an index, or an unreadable result if there is no index.
     fn result_or_unread(&self, index: Option<usize>) -> &Kept
-        requires { IfSome index (λ k. k < length self.now.answers) }
-        ensures { (path : List ℕ) → index_in (paths_of self.now.answers) path ≡ index
-            → result.now ≡ result_or_unreadable self.now.answers path }
+        requires { IfSome index (λ k. k < length self.now.results) }
+        ensures { (path : List ℕ) → index_in (paths_of self.now.results) path ≡ index
+            → result.now ≡ result_or_unreadable self.now.results path }
     {
         match index {
-            Some(place) => &self.answers[place],
+            Some(place) => &self.results[place],
             None => &self.unread,
         }
     }

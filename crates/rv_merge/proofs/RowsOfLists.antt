@@ -52,8 +52,8 @@ words (Some found) h few = (few found refl, h)
 is_row : (plan : PlanView) (job : Job) → is_name job.name ≡ true → HasNumbers (row_of plan job) → IsValidRow (row_of plan job)
 unfolding row_of
 is_row plan job name has =
-    let o = fine job (result_or_unreadable plan.answers job.image) (option_map (result_or_unreadable plan.answers) job.expect_signature)
-    (option_map (result_or_unreadable plan.answers) (console_path job.expect_console)) in
+    let o = fine job (result_or_unreadable plan.results job.image) (option_map (result_or_unreadable plan.results) job.expect_signature)
+    (option_map (result_or_unreadable plan.results) (console_path job.expect_console)) in
     record {
       name = name;
       ending = ends _ has.ending o.end;

@@ -99,10 +99,10 @@ module _ (plan : PlanView) (place : ℕ) where
   other_wider job earlier = go job.same_as earlier
     where
       go : (named : Option ℕ) → IfSome named (λ k. k < place)
-          → option_map (outcome_in plan.answers) (option_and_then (slice_get (widened_jobs place plan.jobs)) named)
-          ≡ option_map (outcome_in plan.answers) (option_and_then (slice_get plan.jobs) named)
+          → option_map (outcome_in plan.results) (option_and_then (slice_get (widened_jobs place plan.jobs)) named)
+          ≡ option_map (outcome_in plan.results) (option_and_then (slice_get plan.jobs) named)
       go None l = refl
-      go (Some k) l = ap (option_map (outcome_in plan.answers)) (got_before place k plan.jobs l)
+      go (Some k) l = ap (option_map (outcome_in plan.results)) (got_before place k plan.jobs l)
 
   row_wider : (job : Job) → IfSome job.same_as (λ k. k < place) → is_end_independent_of_isa (row_of plan job).ending ≡ true
       → row_of (widened_plan place plan) (widened_job job) ≡ row_of plan job

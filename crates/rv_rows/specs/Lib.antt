@@ -26,7 +26,7 @@ pub use Rattle.rv_jobs.specs.Keys
 pub use Rattle.rv_jobs.specs.ListFaults
 pub use Rattle.rv_jobs.specs.Plans
 pub use Rattle.rv_jobs.specs.Parsing
-pub use Rattle.rv_jobs.specs.declared.answers as declared_answers
+pub use Rattle.rv_jobs.specs.declared.path_results as declared_answers
 pub use Rattle.rv_jobs.specs.declared.kept as declared_kept
 pub use Rattle.rv_jobs.specs.declared_error as declared_lists_error
 pub use Rattle.rv_jobs.specs.declared_job

@@ -7,7 +7,7 @@ use Rattle.rv_rows.specs.Rows.{outcome_in}
 
 -- the outcome of the job at an index of a plan, or `None` if there is no such job
 abbrev pub outcome_at : PlanView → ℕ → Option Outcome
-outcome_at plan place = option_map (outcome_in plan.answers) (slice_get plan.jobs place)
+outcome_at plan place = option_map (outcome_in plan.results) (slice_get plan.jobs place)
 
 -- each cached outcome is the outcome of the job at its index
 abbrev pub AreOutcomesOfPlan : PlanView → List CachedOutcome → Type 0

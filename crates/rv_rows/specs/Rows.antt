@@ -57,7 +57,7 @@ expected_console_bytes answers job =
 -- the outcome of the job that the `same_as` of this job names; `None` without `same_as`
 abbrev pub same_as_outcome : PlanView → Job → Option Outcome
 same_as_outcome plan job =
-    option_map (outcome_in plan.answers) (option_and_then (slice_get plan.jobs) job.same_as)
+    option_map (outcome_in plan.results) (option_and_then (slice_get plan.jobs) job.same_as)
 
 -- the row with this name, outcome and verdict
 abbrev pub row_of_outcome : List ℕ → Outcome → Verdict → Row
@@ -73,9 +73,9 @@ row_of_outcome name outcome verdict = record {
 -- the row of a job of a plan
 unfoldable pub row_of : PlanView → Job → Row
 row_of plan job =
-    let outcome = outcome_in plan.answers job in
+    let outcome = outcome_in plan.results job in
     row_of_outcome job.name outcome
-    (verdict_of job outcome (signature_reference_bytes plan.answers job) (expected_console_bytes plan.answers job)
+    (verdict_of job outcome (signature_reference_bytes plan.results job) (expected_console_bytes plan.results job)
     (same_as_outcome plan job))
 
 -- the rows of all jobs of a plan, in list order

@@ -34,7 +34,7 @@ pub fn row_from(
 ) -> Result<Row, AllocError>
     requires place { i < length plan.now.jobs }
     requires way { (d : AJob) → let job = slice_index_or plan.now.jobs i d in
-        IsIntermediateState (start_state_in plan.now.answers job) job.budget steps (state_of machine) }
+        IsIntermediateState (start_state_in plan.now.results job) job.budget steps (state_of machine) }
     ensures { IfOk result (λ row. (d : AJob) → row
         ≡ row_of plan.now (slice_index_or plan.now.jobs i d)) }
 {
@@ -57,9 +57,9 @@ fn complete_run_of_job(
 ) -> Result<Attempt, AllocError>
     requires place { i < length plan.now.jobs }
     requires way { (d : AJob) → let job = slice_index_or plan.now.jobs i d in
-        IsIntermediateState (start_state_in plan.now.answers job) job.budget steps (state_of machine) }
+        IsIntermediateState (start_state_in plan.now.results job) job.budget steps (state_of machine) }
     ensures outcome { IfOk result (λ attempt. (d : AJob) → outcome_of_attempt attempt
-        ≡ outcome_in plan.now.answers (slice_index_or plan.now.jobs i d)) }
+        ≡ outcome_in plan.now.results (slice_index_or plan.now.jobs i d)) }
     ensures readable { IfOk result HasReadableSignature }
 {
     match image_file_or_refusal(plan.image(i), plan.reference(i), plan.console_reference(i)) {

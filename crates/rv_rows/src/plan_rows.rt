@@ -101,7 +101,7 @@ fn run_job_at(
 ) -> Result<Attempt, AllocError>
     requires { i < length plan.now.jobs }
     ensures outcome { IfOk result (λ attempt. (d : AJob) → outcome_of_attempt attempt
-        ≡ outcome_in plan.now.answers (slice_index_or plan.now.jobs i d)) }
+        ≡ outcome_in plan.now.results (slice_index_or plan.now.jobs i d)) }
     ensures readable { IfOk result HasReadableSignature }
 {
     let job = plan.job(i);
@@ -115,7 +115,7 @@ fn run_job_at(
 pub fn refusal_at(alloc: Global, plan: &Plan, i: usize) -> Result<Option<Refusal>, AllocError>
     requires { i < length plan.now.jobs }
     ensures { IfOk result (λ why. (d : AJob) → why
-        ≡ refusal_in (outcome_in plan.now.answers (slice_index_or plan.now.jobs i d)).ending) }
+        ≡ refusal_in (outcome_in plan.now.results (slice_index_or plan.now.jobs i d)).ending) }
 {
     refusal_of_job(
         alloc,
@@ -131,7 +131,7 @@ pub fn refusal_at(alloc: Global, plan: &Plan, i: usize) -> Result<Option<Refusal
 pub fn image_refusal_at(alloc: Global, plan: &Plan, i: usize) -> Result<Option<Refusal>, AllocError>
     requires { i < length plan.now.jobs }
     ensures { IfOk result (λ why. (d : AJob) → why
-        ≡ image_refusal_in plan.now.answers (slice_index_or plan.now.jobs i d)) }
+        ≡ image_refusal_in plan.now.results (slice_index_or plan.now.jobs i d)) }
 {
     refusal_of_job(alloc, plan.job(i), plan.image(i), None, None)
 }
@@ -145,12 +145,12 @@ pub fn machine_at(
     image: &Image,
 ) -> Result<Result<Machine, Refusal>, AllocError>
     requires place { i < length plan.now.jobs }
-    requires image { (d : AJob) → image_in plan.now.answers (slice_index_or plan.now.jobs i d)
+    requires image { (d : AJob) → image_in plan.now.results (slice_index_or plan.now.jobs i d)
         ≡ Some image.now }
     ensures { IfOk result (λ found. (d : AJob) → MatchResult found
-        (λ machine. start_state_in plan.now.answers (slice_index_or plan.now.jobs i d)
+        (λ machine. start_state_in plan.now.results (slice_index_or plan.now.jobs i d)
         ≡ Ok (state_of machine))
-        (λ why. start_state_in plan.now.answers (slice_index_or plan.now.jobs i d) ≡ Err why)) }
+        (λ why. start_state_in plan.now.results (slice_index_or plan.now.jobs i d) ≡ Err why)) }
 {
     machine_at_reusing(alloc, plan, i, image, &mut SpareBus::new())
 }
@@ -165,12 +165,12 @@ pub fn machine_at_reusing(
     spare: &mut SpareBus,
 ) -> Result<Result<Machine, Refusal>, AllocError>
     requires place { i < length plan.now.jobs }
-    requires image { (d : AJob) → image_in plan.now.answers (slice_index_or plan.now.jobs i d)
+    requires image { (d : AJob) → image_in plan.now.results (slice_index_or plan.now.jobs i d)
         ≡ Some image.now }
     ensures { IfOk result (λ found. (d : AJob) → MatchResult found
-        (λ machine. start_state_in plan.now.answers (slice_index_or plan.now.jobs i d)
+        (λ machine. start_state_in plan.now.results (slice_index_or plan.now.jobs i d)
         ≡ Ok (state_of machine))
-        (λ why. start_state_in plan.now.answers (slice_index_or plan.now.jobs i d) ≡ Err why)) }
+        (λ why. start_state_in plan.now.results (slice_index_or plan.now.jobs i d) ≡ Err why)) }
 {
     match image_file_or_refusal(plan.image(i), plan.reference(i), plan.console_reference(i)) {
         Ok(file) => machine_of_image(alloc, plan.job(i), file, image, spare),
@@ -210,7 +210,7 @@ fn equals_outcome_at(
     requires recent { AreOutcomesOfPlan plan.now recent.old }
     ensures same { IfOk result (λ same. (d : AJob) → same
         ≡ are_same_outcomes outcome.now
-        (outcome_in plan.now.answers (slice_index_or plan.now.jobs place d))) }
+        (outcome_in plan.now.results (slice_index_or plan.now.jobs place d))) }
     ensures recent { OnOk result (AreOutcomesOfPlan plan.now recent.new) }
 {
     if let Some(other) = recent.find(place) {
@@ -262,7 +262,7 @@ fn is_named_by_next_jobs(plan: &Plan, i: usize) -> bool
 pub fn signature_reference_bytes(plan: &Plan, i: usize) -> Option<&[u8]>
     requires { i < length plan.now.jobs }
     ensures { (d : AJob) → option_map (λ bytes. bytes.now) result
-        ≡ signature_reference_bytes plan.now.answers (slice_index_or plan.now.jobs i d) }
+        ≡ signature_reference_bytes plan.now.results (slice_index_or plan.now.jobs i d) }
 {
     content_if_read(plan.reference(i))
 }
@@ -272,7 +272,7 @@ pub fn signature_reference_bytes(plan: &Plan, i: usize) -> Option<&[u8]>
 pub fn expected_console_bytes(plan: &Plan, i: usize) -> Option<&[u8]>
     requires { i < length plan.now.jobs }
     ensures { (d : AJob) → option_map (λ bytes. bytes.now) result
-        ≡ expected_console_bytes plan.now.answers (slice_index_or plan.now.jobs i d) }
+        ≡ expected_console_bytes plan.now.results (slice_index_or plan.now.jobs i d) }
 {
     content_if_read(plan.console_reference(i))
 }

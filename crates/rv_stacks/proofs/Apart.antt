@@ -88,7 +88,7 @@ module _ (digest : List ℕ) where
   no_steps path [] = refl
   no_steps path (i ∷ is) = zero_picked (bytes_eq i.digest digest) (steps_in digest path (bare is)) (no_steps path is)
 
-counts_of_jobs : (plan : PlanView) (indices : List ℕ) (t : CountTable) → IsOfJobs plan.answers (jobs_at plan indices) t
+counts_of_jobs : (plan : PlanView) (indices : List ℕ) (t : CountTable) → IsOfJobs plan.results (jobs_at plan indices) t
     → IsTableOfJobsAt plan indices (without_stacks t)
 counts_of_jobs plan indices t h = record {
   table = bare_is_table t h.table;
@@ -186,7 +186,7 @@ module _ (digest : List ℕ) where
   same_steps path (i ∷ is) =
       ap (λ (n : ℕ). cond (bytes_eq i.digest digest) (steps_at path i.nodes) 0 + n) (same_steps path is)
 
-stacks_of_jobs : (plan : PlanView) (indices : List ℕ) (t : CountTable) → IsOfJobs plan.answers (jobs_at plan indices) t
+stacks_of_jobs : (plan : PlanView) (indices : List ℕ) (t : CountTable) → IsOfJobs plan.results (jobs_at plan indices) t
     → AreStacksOfJobsAt plan indices (stacks_alone t)
 stacks_of_jobs plan indices t h = record {
   table = stacks_are_table t h.table;
@@ -196,7 +196,7 @@ stacks_of_jobs plan indices t h = record {
   calls = λ digest path. same_arrivals digest path t.images ∙ h.calls digest path;
   steps = λ digest path. same_steps digest path t.images ∙ h.steps digest path;
   names = λ digest f.
-      each_so (IsNamedBy plan.answers t digest f) (IsNamedBy plan.answers (stacks_alone t) digest f) (jobs_at plan indices)
+      each_so (IsNamedBy plan.results t digest f) (IsNamedBy plan.results (stacks_alone t) digest f) (jobs_at plan indices)
       (λ job named path ends some. same_name digest f t.images ∙ named path ends some) (h.names digest f);
   runs = refl;
   budgets = h.budgets;
@@ -230,7 +230,7 @@ both_sum t table = record {
 }
 
 -- a table of both is the sum of what it has of each
-pub counts_and_stacks : (plan : PlanView) (indices : List ℕ) (t : CountTable) → IsOfJobs plan.answers (jobs_at plan indices) t
+pub counts_and_stacks : (plan : PlanView) (indices : List ℕ) (t : CountTable) → IsOfJobs plan.results (jobs_at plan indices) t
     → IsTableWithStacks plan indices t
 counts_and_stacks plan indices t h = record {
   counts = without_stacks t;

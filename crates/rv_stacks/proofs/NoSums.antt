@@ -56,37 +56,37 @@ small_sum P f few (x ∷ xs) h =
     let rest = small_sum P f few xs h.1 in
     omega (arith, parts, here, rest)
 
-module _ (plan : PlanView) (indices : List ℕ) (budgets : AllByRecursion (RunsWithinABudget plan.answers) (jobs_at plan indices)) where
-  few_jobs : (f : Job → ℕ) → ((job : Job) → RunsWithinABudget plan.answers job → f job ≤ 2 ^ 34)
+module _ (plan : PlanView) (indices : List ℕ) (budgets : AllByRecursion (RunsWithinABudget plan.results) (jobs_at plan indices)) where
+  few_jobs : (f : Job → ℕ) → ((job : Job) → RunsWithinABudget plan.results job → f job ≤ 2 ^ 34)
       → sum_by f (jobs_at plan indices) ≤ length indices * 2 ^ 34
   few_jobs f few =
-      let sum = small_sum (RunsWithinABudget plan.answers) f few (jobs_at plan indices) budgets in
+      let sum = small_sum (RunsWithinABudget plan.results) f few (jobs_at plan indices) budgets in
       let long = length-map indices (λ (index : ℕ). get_or plan.jobs index (single_job [] 0 [])) in
       omega (arith, sum, long)
 
-  small_table : (t : CountTable) → IsOfJobs plan.answers (jobs_at plan indices) t → IsSmall (length indices) t
+  small_table : (t : CountTable) → IsOfJobs plan.results (jobs_at plan indices) t → IsSmall (length indices) t
   small_table t h = record {
     executed = λ digest address.
         let e = h.executed digest address in
-        let few = few_jobs (executed_by plan.answers digest address)
-        (λ job. few_if_run plan.answers job digest (executed_from address)
+        let few = few_jobs (executed_by plan.results digest address)
+        (λ job. few_if_run plan.results job digest (executed_from address)
         (λ n o. let b = begun_at_most address n o in omega (arith, b)) (λ n. refl)) in
         omega (arith, e, few);
     calls = λ digest path.
         let e = h.calls digest path in
-        let few = few_jobs (calls_by_job plan.answers digest path)
-        (λ job. few_if_run plan.answers job digest (calls_from (function_of_job plan.answers job) path)
-        (arrivals_at_most (function_of_job plan.answers job) path) (λ n. refl)) in
+        let few = few_jobs (calls_by_job plan.results digest path)
+        (λ job. few_if_run plan.results job digest (calls_from (function_of_job plan.results job) path)
+        (arrivals_at_most (function_of_job plan.results job) path) (λ n. refl)) in
         omega (arith, e, few);
     steps = λ digest path.
         let e = h.steps digest path in
-        let few = few_jobs (steps_by_job plan.answers digest path)
-        (λ job. few_if_run plan.answers job digest (steps_from (function_of_job plan.answers job) path)
-        (λ n o. let b = steps_at_most (function_of_job plan.answers job) path n o in omega (arith, b)) (λ n. refl)) in
+        let few = few_jobs (steps_by_job plan.results digest path)
+        (λ job. few_if_run plan.results job digest (steps_from (function_of_job plan.results job) path)
+        (λ n o. let b = steps_at_most (function_of_job plan.results job) path n o in omega (arith, b)) (λ n. refl)) in
         omega (arith, e, few);
     runs = (let e = h.runs in
-        let few = few_jobs (runs_by plan.answers)
-        (λ job small. let b = once_at_most (is_ok (start_state_in plan.answers job)) in omega (arith, b)) in
+        let few = few_jobs (runs_by plan.results)
+        (λ job small. let b = once_at_most (is_ok (start_state_in plan.results job)) in omega (arith, b)) in
         omega (arith, e, few));
   }
 

@@ -20,14 +20,14 @@ use Rattle.rv_stacks.proofs.WithStacks.{of_both, of_none, of_places, IsOfJobs}
 
 module _ (plan : PlanView) where
   of_no_place : IsTableWithStacks plan [] no_counts
-  of_no_place = counts_and_stacks plan [] no_counts (of_none plan.answers)
+  of_no_place = counts_and_stacks plan [] no_counts (of_none plan.results)
 
   one_more : (ps : List ℕ) (p : ℕ) (t u next : CountTable) → IsTableWithStacks plan ps t → IsTableWithStacks plan (p ∷ []) u
       → IsSumOfTables t u next → IsTableWithStacks plan (ps ++ p ∷ []) next
   one_more ps p t u next h one sums =
       counts_and_stacks plan (ps ++ p ∷ []) next
-      (subst (λ js. IsOfJobs plan.answers js next) (sym (map-append _ ps (p ∷ [])))
-      (of_both plan.answers (jobs_at plan ps) (jobs_at plan (p ∷ [])) t u next (of_places plan ps t h)
+      (subst (λ js. IsOfJobs plan.results js next) (sym (map-append _ ps (p ∷ [])))
+      (of_both plan.results (jobs_at plan ps) (jobs_at plan (p ∷ [])) t u next (of_places plan ps t h)
       (of_places plan (p ∷ []) u one) sums))
 
   module _ (indices : List ℕ) (added : TableSumView) (ran : Result Flow RunError)

@@ -23,17 +23,17 @@ turned p q rest =
 
 module _ (plan : PlanView) where
   of_more_parts : (js : List Job) (parts : List (List ℕ)) (ts : List CountTable) (start sum : CountTable)
-      → IsOfJobs plan.answers js start → AreTablesWithStacksOfParts plan parts ts → SumsTo start ts sum
-      → IsOfJobs plan.answers (js ++ jobs_at plan (flat_map (λ p. p) parts)) sum
+      → IsOfJobs plan.results js start → AreTablesWithStacksOfParts plan parts ts → SumsTo start ts sum
+      → IsOfJobs plan.results (js ++ jobs_at plan (flat_map (λ p. p) parts)) sum
   of_more_parts js [] [] start sum h each sums =
-      subst (λ t. IsOfJobs plan.answers (js ++ []) t) sums
-      (subst (λ ks. IsOfJobs plan.answers ks start) (sym (append-nil js)) h)
+      subst (λ t. IsOfJobs plan.results (js ++ []) t) sums
+      (subst (λ ks. IsOfJobs plan.results ks start) (sym (append-nil js)) h)
   of_more_parts js (p ∷ ps) (t ∷ ts) start sum h each sums =
       let rest = flat_map (λ p. p) ps in
-      subst (λ ks. IsOfJobs plan.answers ks sum)
+      subst (λ ks. IsOfJobs plan.results ks sum)
       (append_assoc js (jobs_at plan p) (jobs_at plan rest) ∙ ap (λ ks. js ++ ks) (sym (map-append _ p rest)))
       (of_more_parts (js ++ jobs_at plan p) ps ts sums.0 sum
-      (of_both plan.answers js (jobs_at plan p) start t sums.0 h (of_places plan p t each.0) sums.1) each.1 sums.2)
+      (of_both plan.results js (jobs_at plan p) start t sums.0 h (of_places plan p t each.0) sums.1) each.1 sums.2)
   of_more_parts js [] (t ∷ ts) start sum h each sums = absurd each
   of_more_parts js (p ∷ ps) [] start sum h each sums = absurd each
 
@@ -43,8 +43,8 @@ pub sum_of_parts : (plan : PlanView) (indices : List ℕ) (parts : List (List �
 sum_of_parts plan indices parts ts sum p each sums =
     let all = flat_map (λ p. p) parts in
     counts_and_stacks plan indices sum
-    (in_order plan.answers (jobs_at plan all) (jobs_at plan indices) sum (IsPermutation-map _ all indices p)
-    (of_more_parts plan [] parts ts no_counts sum (of_none plan.answers) each sums))
+    (in_order plan.results (jobs_at plan all) (jobs_at plan indices) sum (IsPermutation-map _ all indices p)
+    (of_more_parts plan [] parts ts no_counts sum (of_none plan.results) each sums))
 
 pub text_of_parts : (plan : PlanView) (indices : List ℕ) (parts : List (List ℕ)) (ts : List CountTable) (sum whole : CountTable)
     → IsPermutation (flat_map (λ p. p) parts) indices → AreTablesWithStacksOfParts plan parts ts → SumsTo no_counts ts sum

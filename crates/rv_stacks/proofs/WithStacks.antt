@@ -45,7 +45,7 @@ each_so P Q [] f h = tt
 each_so P Q (x ∷ xs) f h = (f x h.0, each_so P Q xs f h.1)
 
 pub of_places : (plan : PlanView) (indices : List ℕ) (t : CountTable) → IsTableWithStacks plan indices t
-    → IsOfJobs plan.answers (jobs_at plan indices) t
+    → IsOfJobs plan.results (jobs_at plan indices) t
 of_places plan indices t h = record {
   table = h.sum.table;
   executed = λ digest address.
@@ -60,7 +60,7 @@ of_places plan indices t h = record {
       omega (arith, s, p, q);
   paths = λ digest. h.sum.paths digest
       ∙ (λ i. min_text_of (h.counted.paths digest i) (h.stacked.paths digest i))
-      ∙ with_itself (first_path plan.answers digest (jobs_at plan indices));
+      ∙ with_itself (first_path plan.results digest (jobs_at plan indices));
   calls = λ digest path.
       let s = h.sum.calls digest path in
       let p = h.counted.stacks.calls digest path in
@@ -72,7 +72,7 @@ of_places plan indices t h = record {
       let q = h.stacked.steps digest path in
       omega (arith, s, p, q);
   names = λ digest f.
-      each_so (IsNamedBy plan.answers h.stacks digest f) (IsNamedBy plan.answers t digest f) (jobs_at plan indices)
+      each_so (IsNamedBy plan.results h.stacks digest f) (IsNamedBy plan.results t digest f) (jobs_at plan indices)
       (λ job named path ends some. h.sum.names digest f
       ∙ ap (λ (o : Option (List ℕ)). min_text_of o (truncated_name digest f h.stacks.images)) (h.counted.stacks.names digest f)
       ∙ named path ends some)
@@ -208,7 +208,7 @@ module _ (answers : List PathResult) where
 pub one_table : (plan : PlanView) (indices others : List ℕ) (t u : CountTable) → IsPermutation indices others
     → IsTableWithStacks plan indices t → IsTableWithStacks plan others u → t ≡ u
 one_table plan indices others t u p h k =
-    one_of_jobs plan.answers (jobs_at plan others) t u
-    (in_order plan.answers (jobs_at plan indices) (jobs_at plan others) t (IsPermutation-map _ indices others p)
+    one_of_jobs plan.results (jobs_at plan others) t u
+    (in_order plan.results (jobs_at plan indices) (jobs_at plan others) t (IsPermutation-map _ indices others p)
     (of_places plan indices t h))
     (of_places plan others u k)

@@ -149,7 +149,7 @@ pub record AreStacksOfJobs (answers : List PathResult) (jobs : List Job) (t : Co
 
 -- `t` is the table of only the call trees of a plan's jobs at these indices
 abbrev pub AreStacksOfJobsAt : PlanView → List ℕ → CountTable → Type 0
-AreStacksOfJobsAt plan indices t = AreStacksOfJobs plan.answers (jobs_at plan indices) t
+AreStacksOfJobsAt plan indices t = AreStacksOfJobs plan.results (jobs_at plan indices) t
 
 -- ---- counts and call trees
 

@@ -24,9 +24,9 @@ pub fn count_job_with_stacks(
     ensures both { IfOk result (λ both. (d : AJob) → AreCountsAndStacksOfJob
         (function_at symbols.now.image.now symbols.now.bytes.now)
         (job_at job.now.plan.now job.now.place d).budget
-        (start_state_in job.now.plan.now.answers (job_at job.now.plan.now job.now.place d)) both) }
+        (start_state_in job.now.plan.now.results (job_at job.now.plan.now job.now.place d)) both) }
     ensures table { IfOk result (λ both. IfSome both (λ both. AreValidCounts both.0)) }
-    ensures budget { (d : AJob) → IfOk result (λ _. RunsWithinABudget job.now.plan.now.answers
+    ensures budget { (d : AJob) → IfOk result (λ _. RunsWithinABudget job.now.plan.now.results
         (job_at job.now.plan.now job.now.place d)) }
 {
     match machine_at(alloc, job.plan, job.place, job.image)? {

@@ -38,12 +38,12 @@ module _ (job : Job) (s : State) where
   there_tells (Ok file) e = loaded_tells file (loadable_image job file) e
   there_tells (Err why) e = cc
 
-  module _ (plan : PlanView) (e : start_state_in plan.answers job ≡ Ok s) where
-    tells : Tells (outcome_in plan.answers job) (run_of job.budget s)
+  module _ (plan : PlanView) (e : start_state_in plan.results job ≡ Ok s) where
+    tells : Tells (outcome_in plan.results job) (run_of job.budget s)
     unfolding outcome_of start_of
-    tells = there_tells (image_file_or_refusal (result_or_unreadable plan.answers job.image)
-        (option_map (result_or_unreadable plan.answers) job.expect_signature)
-        (option_map (result_or_unreadable plan.answers) (console_path job.expect_console))) e
+    tells = there_tells (image_file_or_refusal (result_or_unreadable plan.results job.image)
+        (option_map (result_or_unreadable plan.results) job.expect_signature)
+        (option_map (result_or_unreadable plan.results) (console_path job.expect_console))) e
 
     ending_told : (row_of plan job).ending ≡ row_end (run_of job.budget s).ending
     unfolding row_of
@@ -53,23 +53,23 @@ module _ (job : Job) (s : State) where
     unfolding row_of
     steps_told = tells.steps
 
-pub ending_is : (plan : PlanView) (job : Job) (s : State) → start_state_in plan.answers job ≡ Ok s
+pub ending_is : (plan : PlanView) (job : Job) (s : State) → start_state_in plan.results job ≡ Ok s
     → (row_of plan job).ending ≡ row_end (run_of job.budget s).ending
 ending_is plan job s e = ending_told job s plan e
 
-pub steps_are : (plan : PlanView) (job : Job) (s : State) → start_state_in plan.answers job ≡ Ok s
+pub steps_are : (plan : PlanView) (job : Job) (s : State) → start_state_in plan.results job ≡ Ok s
     → (row_of plan job).steps ≡ (run_of job.budget s).steps
 steps_are plan job s e = steps_told job s plan e
 
 -- ---- the trace of a job
 
 pub trace_found : (plan : PlanView) (job : Job) (steps last : ℕ) (s : State) (trace : Trace)
-    → start_state_in plan.answers job ≡ Ok s → trace ≡ trace_of steps last s → Some trace ≡ trace_in plan job steps last
+    → start_state_in plan.results job ≡ Ok s → trace ≡ trace_of steps last s → Some trace ≡ trace_in plan job steps last
 unfolding trace_in
 trace_found plan job steps last s trace start is =
     ap (λ t. Some t) is ∙ sym (ap (λ r. option_map (trace_of steps last) (result_ok r)) start)
 
 pub no_trace : (plan : PlanView) (job : Job) (steps last : ℕ) (why : Refusal)
-    → start_state_in plan.answers job ≡ Err why → None ≡ trace_in plan job steps last
+    → start_state_in plan.results job ≡ Err why → None ≡ trace_in plan job steps last
 unfolding trace_in
 no_trace plan job steps last why start = sym (ap (λ r. option_map (trace_of steps last) (result_ok r)) start)

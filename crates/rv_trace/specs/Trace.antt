@@ -49,4 +49,4 @@ trace_of steps max_steps s =
 -- the trace of the run of a plan's job that completes this many steps, or `None` if the job is refused
 unfoldable pub trace_in : PlanView → Job → ℕ → ℕ → Option Trace
 trace_in plan job steps max_steps =
-    option_map (trace_of steps max_steps) (result_ok (start_state_in plan.answers job))
+    option_map (trace_of steps max_steps) (result_ok (start_state_in plan.results job))

@@ -14,7 +14,7 @@ use std::alloc::{AllocError, Global};
 pub fn image_bytes(plan: &Plan, place: usize) -> Option<&[u8]>
     requires { place < length plan.now.jobs }
     ensures { (d : AJob) → option_map (λ bytes. bytes.now) result
-        ≡ image_bytes plan.now.answers (job_at plan.now place d) }
+        ≡ image_bytes plan.now.results (job_at plan.now place d) }
 {
     match plan.image(place) {
         Kept::Content(bytes) => Some(bytes.as_slice()),

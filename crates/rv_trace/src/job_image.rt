@@ -14,6 +14,6 @@ pub struct JobImage<'a> {
     pub place: usize,
     pub image: &'a Image,
     pub ghost within: { place < length plan.now.jobs },
-    pub ghost read: { (d : AJob) → image_in plan.now.answers (slice_index_or plan.now.jobs place d)
+    pub ghost read: { (d : AJob) → image_in plan.now.results (slice_index_or plan.now.jobs place d)
         ≡ Some image.now },
 }

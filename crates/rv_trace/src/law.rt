@@ -41,8 +41,8 @@ pub fn stored_values_stand()
 
 /// Proves that the row of a plan's job that is not refused says how the run in the job's trace ended, and how many steps it completed.
 pub fn rows_describe_the_run()
-    ensures ending { (plan : PlanView) (job : Job) (s : State) → start_state_in plan.answers job ≡ Ok s
+    ensures ending { (plan : PlanView) (job : Job) (s : State) → start_state_in plan.results job ≡ Ok s
         → (row_of plan job).ending ≡ row_end (run_of job.budget s).ending }
-    ensures steps { (plan : PlanView) (job : Job) (s : State) → start_state_in plan.answers job ≡ Ok s
+    ensures steps { (plan : PlanView) (job : Job) (s : State) → start_state_in plan.results job ≡ Ok s
         → (row_of plan job).steps ≡ (run_of job.budget s).steps }
 {}

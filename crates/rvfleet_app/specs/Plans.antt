@@ -25,9 +25,9 @@ stored_contents contents before after = record { contents = contents; before = b
 -- the plan has the jobs of `list` and, for each of their paths, a result that the store may return; each unreadable file is counted
 pub record IsPossiblePlan (store : Stored) (list : List Job) (plan : PlanView) : Type 0 where
   pub jobs : plan.jobs ≡ list
-  pub paths : paths_of plan.answers ≡ paths_used list
-  pub kept : AgreeWithContents store.contents plan.answers
-  pub faults : store.after ≡ after_increments store.before (unreadable_count plan.answers)
+  pub paths : paths_of plan.results ≡ paths_used list
+  pub kept : AgreeWithContents store.contents plan.results
+  pub faults : store.after ≡ after_increments store.before (unreadable_count plan.results)
 
 -- `rows` are the rows of a plan of these jobs, with results that the store may return for their paths
 abbrev pub AreJobRows : Stored → List Job → List Row → Type 0

@@ -303,11 +303,11 @@ module _ (args : AcceptArgs) (before after : FileContents) (bytes : List ℕ) (j
         no_image holds magic in
         content_of after root later job.image over.file later_kept is_there stays ∙ sym over.was
 
-    finds : (earlier : PlanView) (later : List PathResult) → AgreeWithContents (contents_below root (Some before)) earlier.answers
+    finds : (earlier : PlanView) (later : List PathResult) → AgreeWithContents (contents_below root (Some before)) earlier.results
         → AgreeWithContents (contents_below root (Some after)) later → AreFilesRead later job
-        → run.row ≡ row_of earlier (without_expectations job) → AreFilesUpdated earlier.answers later job run.row
+        → run.row ≡ row_of earlier (without_expectations job) → AreFilesUpdated earlier.results later job run.row
     finds earlier later earlier_kept later_kept read_now row_is = record {
-      image = λ ended. image_again earlier.answers later earlier_kept later_kept read_now.image
+      image = λ ended. image_again earlier.results later earlier_kept later_kept read_now.image
           (subst (λ (o : Outcome). did_run o.ending ≡ true)
           (ap outcome_of_row row_is ∙ outcome_of_its_row earlier (without_expectations job)) ended);
       signature = for_named job.expect_signature (λ path named is. content_of after root later path
@@ -370,9 +370,9 @@ passes_after args before after bytes jobs chosen status from to index job row re
     later.read later.listed in
     let job_is : later.job ≡ accepted_job job run.of.row.ending run.of.row.console =
     new_job jobs later.jobs told.runs.now index job later.job run.of jobs_are at run.is run.accepted later.at_index in
-    let files = read_of_job later.plan.answers job run.of.row
-    (subst (AreFilesRead later.plan.answers) job_is later.files) in
+    let files = read_of_job later.plan.results job run.of.row
+    (subst (AreFilesRead later.plan.results) job_is later.files) in
     let finds_them = finds args before after bytes jobs judged told outcome read listed store alike index job run.of at run.is
-    run.accepted whole.files earlier later.plan.answers accepted.ran.are.planned.kept later.planned.kept files row_is in
+    run.accepted whole.files earlier later.plan.results accepted.ran.are.planned.kept later.planned.kept files row_is in
     rw later.is (rw job_is (passes_over_files (acceptance_of args.ends) of.candidate.verdict job earlier later.plan run.of.row
     row_is of.kept (λ passes. ended_well _ (sym standing_is.is ∙ passes)) whole.alone finds_them))

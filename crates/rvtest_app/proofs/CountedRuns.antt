@@ -29,14 +29,14 @@ module _ {P W : Type 0} (pending_path : P → List ℕ) (taken : W → Option (L
   pub path_given : (committed : Option (List CommittedFile)) (path : Option (List ℕ)) (o : Outlet P W) (text : List ℕ)
       → HasReceived pending_path taken failed committed path text o → (o ≡ outlet.Nowhere → ⊥) → is_some path ≡ true
   path_given committed path outlet.Nowhere text has somewhere = absurd (somewhere refl)
-  path_given committed path outlet.Out text has somewhere = rw has refl
+  path_given committed path outlet.Stdout text has somewhere = rw has refl
   path_given committed path (outlet.File file) text has somewhere = rw has.0 refl
 
   -- what is said of it where nothing is told of files
   pub untold : (committed : Option (List CommittedFile)) (path : Option (List ℕ)) (o : Outlet P W) (text : List ℕ)
       → HasReceived pending_path taken failed committed path text o → HasReceived pending_path taken failed None path text o
   untold committed path outlet.Nowhere text has = has
-  untold committed path outlet.Out text has = has
+  untold committed path outlet.Stdout text has = has
   untold committed path (outlet.File file) text has = (has.0, (has.1.0, (tt, has.1.1.1, has.1.1.2)))
 
 -- ---- counts

@@ -15,10 +15,10 @@ use Rattle.rv_gdb.specs.declared_session.Session.{Session}
 use Rattle.rvtest_app.specs.Debugging.{job_start_state}
 
 pub start_is : (plan : PlanView) (index : ℕ) (d : Job) (first : State) → index < length plan.jobs
-    → start_state_in plan.answers (slice_index_or plan.jobs index d) ≡ Ok first → job_start_state plan index ≡ first
+    → start_state_in plan.results (slice_index_or plan.jobs index d) ≡ Ok first → job_start_state plan index ≡ first
 unfolding job_start_state
 start_is plan index d first within starts =
-    ap (λ (found : Option Job). unwrap_or (option_and_then (λ (job : Job). result_ok (start_state_in plan.answers job)) found) (flat_state []))
+    ap (λ (found : Option Job). unwrap_or (option_and_then (λ (job : Job). result_ok (start_state_in plan.results job)) found) (flat_state []))
     (slice_get-get_or plan.jobs index d within)
     ∙ ap (λ (found : Result State Refusal). unwrap_or (result_ok found) (flat_state [])) starts
 
@@ -28,15 +28,15 @@ ok_there (Err stop) e = cc
 
 -- a job that is not refused starts there
 pub starts_there : (plan : PlanView) (index : ℕ) (d : Job) → index < length plan.jobs
-    → is_ok (start_state_in plan.answers (slice_index_or plan.jobs index d)) ≡ true
-    → start_state_in plan.answers (slice_index_or plan.jobs index d) ≡ Ok (job_start_state plan index)
+    → is_ok (start_state_in plan.results (slice_index_or plan.jobs index d)) ≡ true
+    → start_state_in plan.results (slice_index_or plan.jobs index d) ≡ Ok (job_start_state plan index)
 starts_there plan index d within runs =
-    let found = ok_there (start_state_in plan.answers (slice_index_or plan.jobs index d)) runs in
+    let found = ok_there (start_state_in plan.results (slice_index_or plan.jobs index d)) runs in
     found.1 ∙ ap (λ (s : State). Ok s) (sym (start_is plan index d found.0 within found.1))
 
 -- and so does the session over its run
 pub session_starts_there : (plan : PlanView) (index : ℕ) (d : Job) (path : List ℕ) (session : Session) → index < length plan.jobs
-    → IsSessionOf plan.answers (slice_index_or plan.jobs index d) path session
+    → IsSessionOf plan.results (slice_index_or plan.jobs index d) path session
     → job_start_state plan index ≡ session.history.start
 session_starts_there plan index d path session within over =
     start_is plan index d (start_of over.start) within over.starts

@@ -27,40 +27,40 @@ module _ {P W : Type 0} (pending_path : P → List ℕ) (taken : W → Option (L
   pub unfailed_after : (before after : Outlet P W) (text : List ℕ) → IsWrittenToOutlet taken failed before after text
       → has_no_failure failed before → has_no_failure failed after
   unfailed_after outlet.Nowhere outlet.Nowhere text put none = none
-  unfailed_after outlet.Out outlet.Out text put none = none
+  unfailed_after outlet.Stdout outlet.Stdout text put none = none
   unfailed_after (outlet.File before) (outlet.File after) text put none = put.1.1 ∙ none
-  unfailed_after outlet.Nowhere outlet.Out text put none = elim put [ ]
+  unfailed_after outlet.Nowhere outlet.Stdout text put none = elim put [ ]
   unfailed_after outlet.Nowhere (outlet.File after) text put none = elim put [ ]
-  unfailed_after outlet.Out outlet.Nowhere text put none = elim put [ ]
-  unfailed_after outlet.Out (outlet.File after) text put none = elim put [ ]
+  unfailed_after outlet.Stdout outlet.Nowhere text put none = elim put [ ]
+  unfailed_after outlet.Stdout (outlet.File after) text put none = elim put [ ]
   unfailed_after (outlet.File before) outlet.Nowhere text put none = elim put [ ]
-  unfailed_after (outlet.File before) outlet.Out text put none = elim put [ ]
+  unfailed_after (outlet.File before) outlet.Stdout text put none = elim put [ ]
 
   pub no_failures : (committed : Option (List CommittedFile)) (path : Option (List ℕ)) (text : List ℕ) (o : Outlet P W)
       → HasReceived pending_path taken failed committed path text o → has_no_failure failed o
   no_failures committed path text outlet.Nowhere has = tt
-  no_failures committed path text outlet.Out has = tt
+  no_failures committed path text outlet.Stdout has = tt
   no_failures committed path text (outlet.File file) has = has.1.1.1
 
   -- what goes to standard output is told by the path
   pub stdout_told : (committed : Option (List CommittedFile)) (path : Option (List ℕ)) (had : List ℕ) (o : Outlet P W) (text : List ℕ)
       → HasReceived pending_path taken failed committed path had o → text_if_stdout o text ≡ stdout_at path text
   stdout_told committed path had outlet.Nowhere text has = rw has refl
-  stdout_told committed path had outlet.Out text has = rw has refl
+  stdout_told committed path had outlet.Stdout text has = rw has refl
   stdout_told committed path had (outlet.File file) text has = rw (has.0, has.1.0) refl
 
   -- an outlet is standard output where its path stands for that
   pub out_told : (committed : Option (List CommittedFile)) (path : Option (List ℕ)) (o : Outlet P W) (text : List ℕ)
       → HasReceived pending_path taken failed committed path text o → is_stdout_outlet o ≡ is_stdout_at path
   out_told committed path outlet.Nowhere text has = rw has refl
-  out_told committed path outlet.Out text has = rw has refl
+  out_told committed path outlet.Stdout text has = rw has refl
   out_told committed path (outlet.File file) text has = rw (has.0, has.1.0) refl
 
   -- the file of an outlet is named by the path
   pub path_told : (committed : Option (List CommittedFile)) (path : Option (List ℕ)) (o : Outlet P W) (text : List ℕ)
       → HasReceived pending_path taken failed committed path text o → outlet_path o ≡ file_path_at path
   path_told committed path outlet.Nowhere text has = rw has refl
-  path_told committed path outlet.Out text has = rw has refl
+  path_told committed path outlet.Stdout text has = rw has refl
   path_told committed path (outlet.File file) text has = rw (has.0, has.1.0, has.1.1.2) refl
 
   taken_text : (before after : Option (List ℕ)) (had text : List ℕ) → before ≡ Some had → Appends before after text
@@ -74,7 +74,7 @@ module _ {P W : Type 0} (pending_path : P → List ℕ) (taken : W → Option (L
       → HasReceived pending_path taken failed committed path had before → IsWrittenToOutlet taken failed before after text
       → outlet_path after ≡ outlet_path before → HasReceived pending_path taken failed committed path (had ++ text) after
   taken_more committed path had text outlet.Nowhere outlet.Nowhere has put named = has
-  taken_more committed path had text outlet.Out outlet.Out has put named = has
+  taken_more committed path had text outlet.Stdout outlet.Stdout has put named = has
   taken_more None path had text (outlet.File before) (outlet.File after) has put named =
       rw put.0 (has.0, (has.1.0, (tt, put.1.1 ∙ has.1.1.1, same_inside _ _ named ∙ has.1.1.2)))
   taken_more (Some committed) path had text (outlet.File before) (outlet.File after) has put named =
@@ -89,27 +89,27 @@ module _ {P W : Type 0} (pending_path : P → List ℕ) (taken : W → Option (L
           ),
         ),
       )
-  taken_more committed path had text outlet.Nowhere outlet.Out has put named = elim put [ ]
+  taken_more committed path had text outlet.Nowhere outlet.Stdout has put named = elim put [ ]
   taken_more committed path had text outlet.Nowhere (outlet.File after) has put named = elim put [ ]
-  taken_more committed path had text outlet.Out outlet.Nowhere has put named = elim put [ ]
-  taken_more committed path had text outlet.Out (outlet.File after) has put named = elim put [ ]
+  taken_more committed path had text outlet.Stdout outlet.Nowhere has put named = elim put [ ]
+  taken_more committed path had text outlet.Stdout (outlet.File after) has put named = elim put [ ]
   taken_more committed path had text (outlet.File before) outlet.Nowhere has put named = elim put [ ]
-  taken_more committed path had text (outlet.File before) outlet.Out has put named = elim put [ ]
+  taken_more committed path had text (outlet.File before) outlet.Stdout has put named = elim put [ ]
 
   -- the file that an outlet makes is told by the path
   pub file_told : (committed : List CommittedFile) (path : Option (List ℕ)) (had : List ℕ) (before after : Outlet P W) (text : List ℕ)
       → HasReceived pending_path taken failed (Some committed) path had before → IsWrittenToOutlet taken failed before after text
       → files_of pending_path taken after ≡ Some (file_at path (had ++ text))
   file_told committed path had outlet.Nowhere outlet.Nowhere text has put = rw has refl
-  file_told committed path had outlet.Out outlet.Out text has put = rw has refl
+  file_told committed path had outlet.Stdout outlet.Stdout text has put = rw has refl
   file_told committed path had (outlet.File before) (outlet.File after) text has put =
       rw (taken_text (taken before.sink) (taken after.sink) had text has.1.1.0 put.1.0, put.0, has.0, has.1.0) refl
-  file_told committed path had outlet.Nowhere outlet.Out text has put = elim put [ ]
+  file_told committed path had outlet.Nowhere outlet.Stdout text has put = elim put [ ]
   file_told committed path had outlet.Nowhere (outlet.File after) text has put = elim put [ ]
-  file_told committed path had outlet.Out outlet.Nowhere text has put = elim put [ ]
-  file_told committed path had outlet.Out (outlet.File after) text has put = elim put [ ]
+  file_told committed path had outlet.Stdout outlet.Nowhere text has put = elim put [ ]
+  file_told committed path had outlet.Stdout (outlet.File after) text has put = elim put [ ]
   file_told committed path had (outlet.File before) outlet.Nowhere text has put = elim put [ ]
-  file_told committed path had (outlet.File before) outlet.Out text has put = elim put [ ]
+  file_told committed path had (outlet.File before) outlet.Stdout text has put = elim put [ ]
 
   -- both files stand in their places, where it is told which do
   pub both_placed : (before after : Option (List CommittedFile)) (had : List ℕ) (junit_path report_path : Option (List ℕ))

@@ -33,13 +33,13 @@ module _ {P V : Type 0} (taken : V → Option (List ℕ)) (failed : V → ℕ) w
       → AreOutletParts shell before whole_before → AreOutletParts shell after whole_after
       → AreRowsWritten taken failed before after text → IsWrittenToOutlet taken failed whole_before whole_after text
   written_into outlet.Nowhere None None b a text is_before is_after written = rw (is_before, is_after) tt
-  written_into outlet.Out None None b a text is_before is_after written = rw (is_before, is_after) tt
+  written_into outlet.Stdout None None b a text is_before is_after written = rw (is_before, is_after) tt
   written_into (outlet.File file) (Some before) (Some after) b a text is_before is_after written =
       rw (is_before, is_after) (refl, written)
   written_into outlet.Nowhere (Some before) after b a text is_before is_after written = elim is_before [ ]
   written_into outlet.Nowhere None (Some after) b a text is_before is_after written = elim is_after [ ]
-  written_into outlet.Out (Some before) after b a text is_before is_after written = elim is_before [ ]
-  written_into outlet.Out None (Some after) b a text is_before is_after written = elim is_after [ ]
+  written_into outlet.Stdout (Some before) after b a text is_before is_after written = elim is_before [ ]
+  written_into outlet.Stdout None (Some after) b a text is_before is_after written = elim is_after [ ]
   written_into (outlet.File file) None after b a text is_before is_after written = elim is_before [ ]
   written_into (outlet.File file) (Some before) None b a text is_before is_after written = elim is_after [ ]
 
@@ -48,12 +48,12 @@ module _ {P V : Type 0} where
   pub same_path : (shell : Outlet P (Unit {0})) (before after : Option V) (whole_before whole_after : Outlet P V)
       → AreOutletParts shell before whole_before → AreOutletParts shell after whole_after → outlet_path whole_after ≡ outlet_path whole_before
   same_path outlet.Nowhere None None b a is_before is_after = rw (is_before, is_after) refl
-  same_path outlet.Out None None b a is_before is_after = rw (is_before, is_after) refl
+  same_path outlet.Stdout None None b a is_before is_after = rw (is_before, is_after) refl
   same_path (outlet.File file) (Some before) (Some after) b a is_before is_after = rw (is_before, is_after) refl
   same_path outlet.Nowhere (Some before) after b a is_before is_after = elim is_before [ ]
   same_path outlet.Nowhere None (Some after) b a is_before is_after = elim is_after [ ]
-  same_path outlet.Out (Some before) after b a is_before is_after = elim is_before [ ]
-  same_path outlet.Out None (Some after) b a is_before is_after = elim is_after [ ]
+  same_path outlet.Stdout (Some before) after b a is_before is_after = elim is_before [ ]
+  same_path outlet.Stdout None (Some after) b a is_before is_after = elim is_after [ ]
   same_path (outlet.File file) None after b a is_before is_after = elim is_before [ ]
   same_path (outlet.File file) (Some before) None b a is_before is_after = elim is_after [ ]
 
@@ -61,10 +61,10 @@ module _ {P V : Type 0} where
   pub sink_has_path : (shell : Outlet P (Unit {0})) (sink : Option V) (whole : Outlet P V) → AreOutletParts shell sink whole
       → is_some sink ≡ true → is_some (outlet_path whole) ≡ true
   sink_has_path outlet.Nowhere None whole is there = absurd cc
-  sink_has_path outlet.Out None whole is there = absurd cc
+  sink_has_path outlet.Stdout None whole is there = absurd cc
   sink_has_path (outlet.File file) (Some sink) whole is there = rw is refl
   sink_has_path outlet.Nowhere (Some sink) whole is there = elim is [ ]
-  sink_has_path outlet.Out (Some sink) whole is there = elim is [ ]
+  sink_has_path outlet.Stdout (Some sink) whole is there = elim is [ ]
   sink_has_path (outlet.File file) None whole is there = elim is [ ]
 
 -- no texts
@@ -95,14 +95,14 @@ module _ {P V : Type 0} (pending_path : P → List ℕ) (taken : V → Option (L
   still_whole : (before after : Outlet P V) (text : List ℕ) → IsWrittenToOutlet taken failed before after text → has_no_failure failed before
       → has_no_failure failed after
   still_whole outlet.Nowhere outlet.Nowhere text put none = tt
-  still_whole outlet.Out outlet.Out text put none = tt
+  still_whole outlet.Stdout outlet.Stdout text put none = tt
   still_whole (outlet.File before) (outlet.File after) text put none = put.1.1 ∙ none
-  still_whole outlet.Nowhere outlet.Out text put none = elim put [ ]
+  still_whole outlet.Nowhere outlet.Stdout text put none = elim put [ ]
   still_whole outlet.Nowhere (outlet.File after) text put none = elim put [ ]
-  still_whole outlet.Out outlet.Nowhere text put none = elim put [ ]
-  still_whole outlet.Out (outlet.File after) text put none = elim put [ ]
+  still_whole outlet.Stdout outlet.Nowhere text put none = elim put [ ]
+  still_whole outlet.Stdout (outlet.File after) text put none = elim put [ ]
   still_whole (outlet.File before) outlet.Nowhere text put none = elim put [ ]
-  still_whole (outlet.File before) outlet.Out text put none = elim put [ ]
+  still_whole (outlet.File before) outlet.Stdout text put none = elim put [ ]
 
   -- the outlet of the report has received the rows that were streamed, the others nothing
   pub taken_of_run : {G : Type 0} (committed : Option (List CommittedFile)) (args : RunArgs) (old : Option (List Row)) (is_streaming : Bool)

@@ -82,5 +82,5 @@ pub record IsRowOfRun (store : FileContents) (args : RunArgs) (index : ℕ) (row
   pub plan : PlanView
   pub unread : List UnreadablePath
   pub planned : IsPlanFor (contents_below (optional_text args.root) (Some store)) jobs indices plan unread
-  pub files : AreFilesRead plan.answers job
+  pub files : AreFilesRead plan.results job
   pub is : row ≡ row_of plan job

@@ -58,12 +58,12 @@ refused_file_line path lines index job refusal reason = line (job_prefix (codes 
 -- the error line for the job at index `index`, whose image makes it refused
 abbrev pub refused_image_line : List ℕ → List ℕ → PlanView → List UnreadablePath → ℕ → Job → Refusal → List ℕ
 refused_image_line path lines plan unread index job refusal =
-    refused_file_line path lines index job refusal (refusal_reason plan.answers unread job refusal)
+    refused_file_line path lines index job refusal (refusal_reason plan.results unread job refusal)
 
 -- the error line for the job at index `index` if its image makes it refused; otherwise empty
 abbrev pub refused_image_text : List ℕ → List ℕ → PlanView → List UnreadablePath → ℕ → Job → List ℕ
 refused_image_text path lines plan unread index job =
-    unwrap_or (option_map (refused_image_line path lines plan unread index job) (image_refusal_in plan.answers job)) []
+    unwrap_or (option_map (refused_image_line path lines plan unread index job) (image_refusal_in plan.results job)) []
 
 -- the error line for the expectation file `file` of a job, given what was stored for its path: empty if the file was read, and otherwise
 -- the reason why it was not
@@ -77,7 +77,7 @@ unread_reference_text path lines unread index job _ _ = []
 -- the error line for a job's expectation file; empty if it was read or none is named
 abbrev pub reference_text : List ℕ → List ℕ → PlanView → List UnreadablePath → ℕ → Job → Option (List ℕ) → List ℕ
 reference_text path lines plan unread index job file =
-    unread_reference_text path lines unread index job (option_map (result_or_unreadable plan.answers) file) file
+    unread_reference_text path lines unread index job (option_map (result_or_unreadable plan.results) file) file
 
 -- the error lines for a job's image and for the files with its expected signature and console
 unfoldable pub refused_files_text : List ℕ → List ℕ → PlanView → List UnreadablePath → ℕ → Job → List ℕ

@@ -37,7 +37,7 @@ diff_status counts = if differing_count counts == 0 then 0 else 1
 
 -- whether a job of the plan is refused
 abbrev pub is_job_refused : PlanView → Job → Bool
-is_job_refused plan job = is_some (refusal_in (outcome_in plan.answers job).ending)
+is_job_refused plan job = is_some (refusal_in (outcome_in plan.results job).ending)
 
 -- the number of refused jobs of the plan
 abbrev pub refused_job_count : PlanView → ℕ

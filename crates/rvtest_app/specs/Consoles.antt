@@ -22,10 +22,10 @@ pub record IsJobConsole (contents : Option FileContents) (jobs : List Job) (inde
     : Type 0 where
   pub plan : PlanView
   pub listed : plan.jobs ≡ jobs
-  pub paths : paths_of plan.answers ≡ paths_used (jobs_needed_for jobs (index ∷ []))
-  pub kept : AgreeWithContents contents plan.answers
+  pub paths : paths_of plan.results ≡ paths_used (jobs_needed_for jobs (index ∷ []))
+  pub kept : AgreeWithContents contents plan.results
   pub unread : List UnreadablePath
-  pub noted : HasEntryPerUnreadable plan.answers unread
+  pub noted : HasEntryPerUnreadable plan.results unread
   pub written : (d : Job) → console ≡ (row_of plan (slice_index_or plan.jobs index d)).console
   pub told : (d : Job) → line ≡ row_line plan unread (judge_by_rule Strict) (slice_index_or plan.jobs index d)
       (row_of plan (slice_index_or plan.jobs index d))

@@ -42,7 +42,7 @@ job_end_text plan unread index = end_text_of_job plan unread (slice_get plan.job
 -- the state in which the run of the job at index `index` starts; for a refused job, the start state of an empty image
 unfoldable pub job_start_state : PlanView → ℕ → State
 job_start_state plan index =
-    unwrap_or (option_and_then (λ (job : Job). result_ok (start_state_in plan.answers job)) (slice_get plan.jobs index)) (flat_state [])
+    unwrap_or (option_and_then (λ (job : Job). result_ok (start_state_in plan.results job)) (slice_get plan.jobs index)) (flat_state [])
 
 -- `session` debugs the run of the job at index `index`, with the files that it needs read from the store and its image's path resolved
 -- against `root`; `end_text` is the text that `run` prints about the job
@@ -50,11 +50,11 @@ pub record IsJobOpened (contents : Option FileContents) (root : Option (List ℕ
     (session : Session) : Type 0 where
   pub plan : PlanView
   pub listed : plan.jobs ≡ jobs
-  pub paths : paths_of plan.answers ≡ paths_used (jobs_needed_for jobs (index ∷ []))
-  pub kept : AgreeWithContents contents plan.answers
+  pub paths : paths_of plan.results ≡ paths_used (jobs_needed_for jobs (index ∷ []))
+  pub kept : AgreeWithContents contents plan.results
   pub unread : List UnreadablePath
-  pub noted : HasEntryPerUnreadable plan.answers unread
-  pub over : (d : Job) → IsSessionOf plan.answers (slice_index_or plan.jobs index d)
+  pub noted : HasEntryPerUnreadable plan.results unread
+  pub over : (d : Job) → IsSessionOf plan.results (slice_index_or plan.jobs index d)
       (resolved_path root (slice_index_or plan.jobs index d).image) session
   pub outputs_of : end_text ≡ job_end_text plan unread index
 
@@ -109,11 +109,11 @@ IsNoGdbStop stop = IsStop 2 (path_message (codes "standard output")
 pub record IsRefusedJobStop (contents : Option FileContents) (jobs : List Job) (index : ℕ) (stop : Stop) : Type 0 where
   pub plan : PlanView
   pub listed : plan.jobs ≡ jobs
-  pub paths : paths_of plan.answers ≡ paths_used (jobs_needed_for jobs (index ∷ []))
-  pub kept : AgreeWithContents contents plan.answers
+  pub paths : paths_of plan.results ≡ paths_used (jobs_needed_for jobs (index ∷ []))
+  pub kept : AgreeWithContents contents plan.results
   pub unread : List UnreadablePath
-  pub noted : HasEntryPerUnreadable plan.answers unread
-  pub refused : (d : Job) → is_ok (start_state_in plan.answers (slice_index_or plan.jobs index d)) ≡ false
+  pub noted : HasEntryPerUnreadable plan.results unread
+  pub refused : (d : Job) → is_ok (start_state_in plan.results (slice_index_or plan.jobs index d)) ≡ false
   pub told : (d : Job) → IsStop 2 (row_line plan unread (judge_by_rule Strict) (slice_index_or plan.jobs index d)
       (row_of plan (slice_index_or plan.jobs index d))) stop
 

@@ -16,7 +16,7 @@ use Rattle.rv_job_text.specs.Printable.{printable_text}
 use Rattle.rv_job_text.specs.TextWords.{count_text}
 use Rattle.rvtest_app.specs.IntoReports.{job_names}
 use Rattle.rvtest_app.specs.declared.whole_report.NotWholeReason.{NotWholeReason}
-use Rattle.rvtest_app.specs.declared.whole_report.NotWholeReason.TheVariants as other
+use Rattle.rvtest_app.specs.declared.whole_report.NotWholeReason.TheVariants as reason
 use Rattle.rvtest_app.specs.declared.whole_report.NameMismatch.{NameMismatch}
 
 -- ---- the messages
@@ -43,9 +43,9 @@ name_mismatch_message path list number name wanted = codes "rvtest: " ++ printab
 
 -- the message that the report at `path` is not a report of all jobs of the list at `list`, with the reason
 abbrev pub not_whole_message : List ℕ → List ℕ → NotWholeReason → List ℕ
-not_whole_message path list (other.Part rows jobs) = partial_report_message path rows jobs
-not_whole_message path list (other.Count rows jobs) = row_count_message path list rows jobs
-not_whole_message path list (other.Name name) = name_mismatch_message path list name.number name.in_report.now name.listed.now
+not_whole_message path list (reason.Partial rows jobs) = partial_report_message path rows jobs
+not_whole_message path list (reason.RowCount rows jobs) = row_count_message path list rows jobs
+not_whole_message path list (reason.Name name) = name_mismatch_message path list name.number name.in_report.now name.listed.now
 
 -- ---- which message is shown
 
@@ -55,31 +55,31 @@ jobs_of_partial_report extent.Whole = None
 jobs_of_partial_report (extent.Choice jobs) = Some jobs
 jobs_of_partial_report (extent.Shard shard) = Some shard.jobs
 
--- `other` describes the first index at which the two lists have different names: its number, counted from 1, and the name in each list
-pub record IsFirstNameMismatch (names all : List (List ℕ)) (other : NameMismatch) : Type 0 where
+-- `reason` describes the first index at which the two lists have different names: its number, counted from 1, and the name in each list
+pub record IsFirstNameMismatch (names all : List (List ℕ)) (reason : NameMismatch) : Type 0 where
   -- the index of the name
   pub index : ℕ
-  pub number : other.number ≡ index + 1
-  pub name_in_report : slice_get names index ≡ Some other.in_report.now
-  pub listed : slice_get all index ≡ Some other.listed.now
-  pub differ : bytes_eq other.in_report.now other.listed.now ≡ false
+  pub number : reason.number ≡ index + 1
+  pub name_in_report : slice_get names index ≡ Some reason.in_report.now
+  pub listed : slice_get all index ≡ Some reason.listed.now
+  pub differ : bytes_eq reason.in_report.now reason.listed.now ≡ false
   pub before : take index names ≡ take index all
 
 -- why a report is not a report of all jobs of the list: it is partial, it has another number of rows than the list has jobs, or a row has
 -- another name than its job
 abbrev pub IsNotWholeBecause : List Job → SavedReport → NotWholeReason → Type 0
-IsNotWholeBecause jobs report (other.Part rows count) = (rows ≡ length report.rows)
+IsNotWholeBecause jobs report (reason.Partial rows count) = (rows ≡ length report.rows)
     × (jobs_of_partial_report report.extent ≡ Some count)
-IsNotWholeBecause jobs report (other.Count rows count) = (report.extent ≡ extent.Whole)
+IsNotWholeBecause jobs report (reason.RowCount rows count) = (report.extent ≡ extent.Whole)
     × ((rows ≡ length report.rows) × ((count ≡ length jobs) × ((rows == count) ≡ false)))
-IsNotWholeBecause jobs report (other.Name name) = (report.extent ≡ extent.Whole)
+IsNotWholeBecause jobs report (reason.Name name) = (report.extent ≡ extent.Whole)
     × ((length report.rows ≡ length jobs) × IsFirstNameMismatch (row_names report.rows) (job_names jobs) name)
 
 -- why a command stopped: the report at `path` could not be read, or it is not a report of all jobs of the list at `list`
 abbrev pub IsNotWholeReportStop : Option FileContents → List ℕ → List ℕ → List Job → Stop → Type 0
 IsNotWholeReportStop contents path list jobs stop = IsReportReadStop contents path stop
     ⊎ ((report : SavedReport) × (IsReportAt contents path report
-    × ((other : NotWholeReason) × (IsNotWholeBecause jobs report other × IsStop 2 (not_whole_message path list other) stop))))
+    × ((reason : NotWholeReason) × (IsNotWholeBecause jobs report reason × IsStop 2 (not_whole_message path list reason) stop))))
 
 -- why a run with `--into` stopped: the report at its path could not be read, or is not a report of all jobs of the list
 abbrev pub IsIntoStop : Option FileContents → RunArgs → List Job → Stop → Type 0

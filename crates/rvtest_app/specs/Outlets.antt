@@ -41,7 +41,7 @@ module _ {P W : Type 0} where
   -- whether the outlet is standard output
   abbrev pub is_stdout_outlet : Outlet P W → Bool
   is_stdout_outlet outlet.Nowhere = false
-  is_stdout_outlet outlet.Out = true
+  is_stdout_outlet outlet.Stdout = true
   is_stdout_outlet (outlet.File file) = false
 
   -- whether the report or the JUnit XML goes to standard output
@@ -51,26 +51,26 @@ module _ {P W : Type 0} where
   -- the path by which messages name the file of an outlet, if it is a file
   abbrev pub outlet_path : Outlet P W → Option (List ℕ)
   outlet_path outlet.Nowhere = None
-  outlet_path outlet.Out = None
+  outlet_path outlet.Stdout = None
   outlet_path (outlet.File file) = Some file.path.now
 
   -- the text, if the outlet is standard output; else empty
   abbrev pub text_if_stdout : Outlet P W → List ℕ → List ℕ
   text_if_stdout outlet.Nowhere text = []
-  text_if_stdout outlet.Out text = text
+  text_if_stdout outlet.Stdout text = text
   text_if_stdout (outlet.File file) text = []
 
   -- no write to the outlet's file failed
   abbrev pub has_no_failure : (W → ℕ) → Outlet P W → Type 0
   has_no_failure failed outlet.Nowhere = ⊤
-  has_no_failure failed outlet.Out = ⊤
+  has_no_failure failed outlet.Stdout = ⊤
   has_no_failure failed (outlet.File file) = failed file.sink ≡ 0
 
   -- the outlet is for this path and, if committed files are reported, its file has received this text so far and no write failed
   abbrev pub HasReceived : (P → List ℕ) → (W → Option (List ℕ)) → (W → ℕ) → Option (List CommittedFile)
       → Option (List ℕ) → List ℕ → Outlet P W → Type 0
   HasReceived pending_path taken failed committed path text outlet.Nowhere = path ≡ None
-  HasReceived pending_path taken failed committed path text outlet.Out = path ≡ Some (codes "-")
+  HasReceived pending_path taken failed committed path text outlet.Stdout = path ≡ Some (codes "-")
   HasReceived pending_path taken failed committed path text (outlet.File file) =
       (path ≡ Some (pending_path file.destination)) × ((is_stdout (pending_path file.destination) ≡ false)
       × (IfSome committed (λ _. taken file.sink ≡ Some text) × (failed file.sink ≡ 0)
@@ -79,7 +79,7 @@ module _ {P W : Type 0} where
   -- the text was written to the outlet, and no write failed
   abbrev pub IsWrittenToOutlet : (W → Option (List ℕ)) → (W → ℕ) → Outlet P W → Outlet P W → List ℕ → Type 0
   IsWrittenToOutlet taken failed outlet.Nowhere outlet.Nowhere text = ⊤
-  IsWrittenToOutlet taken failed outlet.Out outlet.Out text = ⊤
+  IsWrittenToOutlet taken failed outlet.Stdout outlet.Stdout text = ⊤
   IsWrittenToOutlet taken failed (outlet.File before) (outlet.File after) text =
       (after.destination ≡ before.destination) × (Appends (taken before.sink) (taken after.sink) text
       × (failed after.sink ≡ failed before.sink))
@@ -88,7 +88,7 @@ module _ {P W : Type 0} where
   -- the file that an outlet makes when it is committed; none if the sink does not report what it received
   abbrev pub files_of : (P → List ℕ) → (W → Option (List ℕ)) → Outlet P W → Option (List CommittedFile)
   files_of pending_path taken outlet.Nowhere = Some []
-  files_of pending_path taken outlet.Out = Some []
+  files_of pending_path taken outlet.Stdout = Some []
   files_of pending_path taken (outlet.File file) =
       option_map (λ bytes. record { path = pending_path file.destination; bytes = bytes } ∷ []) (taken file.sink)
 

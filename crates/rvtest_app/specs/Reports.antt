@@ -109,10 +109,10 @@ pub record IsPlanCheckOf (contents : Option FileContents) (root : Option (List �
     : Type 0 where
   pub plan : PlanView
   pub listed : job_list_of bytes ≡ Ok plan.jobs
-  pub paths : paths_of plan.answers ≡ paths_used plan.jobs
-  pub kept : AgreeWithContents contents plan.answers
+  pub paths : paths_of plan.results ≡ paths_used plan.jobs
+  pub kept : AgreeWithContents contents plan.results
   pub unread : List UnreadablePath
-  pub noted : HasEntryPerUnreadable plan.answers unread
+  pub noted : HasEntryPerUnreadable plan.results unread
   pub text : output ≡ check_text path bytes root plan unread
   pub judged : status ≡ check_status (refused_job_count plan)
 
@@ -148,10 +148,10 @@ pub record IsJobExplained (contents : Option FileContents) (jobs : List Job) (in
     (status : ℕ) : Type 0 where
   pub plan : PlanView
   pub listed : plan.jobs ≡ jobs
-  pub paths : paths_of plan.answers ≡ paths_used (jobs_needed_for jobs (index ∷ []))
-  pub kept : AgreeWithContents contents plan.answers
+  pub paths : paths_of plan.results ≡ paths_used (jobs_needed_for jobs (index ∷ []))
+  pub kept : AgreeWithContents contents plan.results
   pub unread : List UnreadablePath
-  pub noted : HasEntryPerUnreadable plan.answers unread
+  pub noted : HasEntryPerUnreadable plan.results unread
   pub text : IsTextExplaining plan unread index last output
   pub judged : (d : Job) → status ≡ passing_status
       (has_passed Strict (row_of plan (slice_index_or plan.jobs index d)))

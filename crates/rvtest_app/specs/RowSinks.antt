@@ -25,7 +25,7 @@ module _ {P V : Type 0} where
   -- an outlet, and its parts: the outlet without its sink, and the sink, if it is a file
   abbrev pub AreOutletParts : Outlet P (Unit {0}) → Option V → Outlet P V → Type 0
   AreOutletParts outlet.Nowhere None whole = whole ≡ outlet.Nowhere
-  AreOutletParts outlet.Out None whole = whole ≡ outlet.Out
+  AreOutletParts outlet.Stdout None whole = whole ≡ outlet.Stdout
   AreOutletParts (outlet.File file) (Some sink) whole =
       whole ≡ outlet.File (record { path = file.path; destination = file.destination; sink = sink })
   AreOutletParts _ _ whole = ⊥
@@ -33,5 +33,5 @@ module _ {P V : Type 0} where
   -- whether the outlet is a file
   abbrev pub is_file : Outlet P V → Bool
   is_file outlet.Nowhere = false
-  is_file outlet.Out = false
+  is_file outlet.Stdout = false
   is_file (outlet.File file) = true

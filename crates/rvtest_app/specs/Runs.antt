@@ -80,9 +80,9 @@ pub record AreJobsToRun (contents : Option FileContents) (args : RunArgs) : Type
 pub record IsPlanFor (contents : Option FileContents) (jobs : List Job) (indices : List ℕ) (plan : PlanView)
     (unread : List UnreadablePath) : Type 0 where
   pub listed : plan.jobs ≡ jobs
-  pub paths : paths_of plan.answers ≡ paths_used (jobs_needed_for jobs indices)
-  pub kept : AgreeWithContents contents plan.answers
-  pub noted : length unread ≡ after_increments 0 (unreadable_count plan.answers)
+  pub paths : paths_of plan.results ≡ paths_used (jobs_needed_for jobs indices)
+  pub kept : AgreeWithContents contents plan.results
+  pub noted : length unread ≡ after_increments 0 (unreadable_count plan.results)
 
 -- the JUnit document of the rows of the jobs at these indices, in which each failed row has its lines
 abbrev pub run_junit : RunArgs → RowReporter → List ℕ → List Row → List ℕ

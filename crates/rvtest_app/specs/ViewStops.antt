@@ -78,7 +78,7 @@ IsUncountedStop (view.Profile format) plan indices path stop = IsStackSumOfJobsS
 abbrev pub IsNoViewTableStop : Option FileContents → RunArgs → View → Option (List ℕ) → PlanView → List ℕ → Stop → Type 0
 IsNoViewTableStop contents args shown None plan indices stop = IsUncountedStop shown plan indices args.list.now stop
 IsNoViewTableStop contents args shown (Some path) plan indices stop =
-    IsMismatchedTableStop contents shown path (images_of plan.answers (jobs_at plan indices)) stop
+    IsMismatchedTableStop contents shown path (images_of plan.results (jobs_at plan indices)) stop
 
 -- ---- too many steps
 
@@ -107,7 +107,7 @@ IsTableTextStop (view.Profile format) table images source stop = (stop ≡ stops
 abbrev pub IsViewTextStop : Option FileContents → RunArgs → View → PlanView → List ℕ → Stop → Type 0
 IsViewTextStop contents args shown plan indices stop = (table : CountTable)
     × (IsTableForView contents shown (optional_text args.counts) plan indices table
-    × IsTableTextStop shown table (images_of plan.answers (jobs_at plan indices)) (counts_source args) stop)
+    × IsTableTextStop shown table (images_of plan.results (jobs_at plan indices)) (counts_source args) stop)
 
 -- ---- the command
 

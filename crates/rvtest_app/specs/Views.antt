@@ -53,13 +53,13 @@ pub record IsMatchingTableAt (contents : Option FileContents) (shown : View) (pa
 -- `table` is the table for the view: the table at the path, or without a path the counts of a run of the jobs at these indices
 abbrev pub IsTableForView : Option FileContents → View → Option (List ℕ) → PlanView → List ℕ → CountTable → Type 0
 IsTableForView contents shown None plan indices table = IsRunTableForView shown plan indices table
-IsTableForView contents shown (Some path) plan indices table = IsMatchingTableAt contents shown path (images_of plan.answers (jobs_at plan indices)) table
+IsTableForView contents shown (Some path) plan indices table = IsMatchingTableAt contents shown path (images_of plan.results (jobs_at plan indices)) table
 
 -- the text is the view of the images of the jobs at these indices of the plan
 abbrev pub IsViewOfPlan : Option FileContents → RunArgs → View → PlanView → List ℕ → List ℕ → Type 0
 IsViewOfPlan contents args shown plan indices text = (table : CountTable)
     × (IsTableForView contents shown (optional_text args.counts) plan indices table
-    × IsViewText shown table (images_of plan.answers (jobs_at plan indices)) text)
+    × IsViewText shown table (images_of plan.results (jobs_at plan indices)) text)
 
 -- ---- the command
 

@@ -86,7 +86,7 @@ pub(crate) fn accept_runs<
     O: Sink + Drop,
     E: Sink + Drop,
 >(host: &Host<'_, R, D>, args: &AcceptArgs<'_>, to: &mut Destinations<F, O, E>) -> Result<u8, Stop>
-    ensures low { IfOk result (λ status. status ≤ 1) }
+    ensures status_bound { IfOk result (λ status. status ≤ 1) }
     ensures accepted { IfOk result (λ status. IsAcceptedAt (D.contents host.now.inputs.now) args.now status
         (outputs_of F.committed O.accepted E.accepted E.failure_count to.old) (outputs_of F.committed O.accepted E.accepted E.failure_count to.new)) }
     // A check opens no file for writing, whatever its result.
@@ -119,7 +119,7 @@ fn accept_chosen<
 ) -> Result<u8, Stop>
     requires counted { length chosen.now ≡ length list.now.jobs }
     requires listed { job_list_of list.now.text.items ≡ Ok list.now.jobs }
-    ensures low { IfOk result (λ status. status ≤ 1) }
+    ensures status_bound { IfOk result (λ status. status ≤ 1) }
     ensures accepted { IfOk result (λ status. IsAcceptOfSelected (D.contents host.now.inputs.now) args.now
         list.now.text.items list.now.jobs chosen.now status
         (outputs_of F.committed O.accepted E.accepted E.failure_count to.old) (outputs_of F.committed O.accepted E.accepted E.failure_count to.new)) }
@@ -343,7 +343,7 @@ fn write_accepted<'x, R, D: Inputs, F: Outputs + Drop, O: Sink + Drop, E: Sink +
     outcomes: &'x AcceptChanges,
     to: &mut Destinations<F, O, E>,
 ) -> Result<u8, Stop>
-    ensures low { IfOk result (λ status. status ≤ 1) }
+    ensures status_bound { IfOk result (λ status. status ≤ 1) }
     ensures unwritten { args.now.check ≡ true → to.new.files ≡ to.old.files }
     ensures put { IfOk result (λ status. IsOutcomeWritten args.now.check list.now outcomes.now.new.runs.items
         outcomes.now.golden_texts.items outcomes.now.files.items outcomes.now.new status
@@ -403,7 +403,7 @@ fn write_count_line<O: Sink>(
 // Returns the exit status: 0 if no job or file was skipped (`left`) and no file would change, otherwise 1.
 fn accept_status(left: usize, changed: usize) -> u8
     ensures value { result ≡ accept_status left changed }
-    ensures low { result ≤ 1 }
+    ensures status_bound { result ≤ 1 }
 {
     if left == 0 && changed == 0 {
         DONE

@@ -28,7 +28,7 @@ pub(crate) fn check_list<D: Inputs>(
 ) -> Result<CommandResult, Stop>
     ensures checked { IfOk result (λ found. IsCheckOutputAt (D.contents inputs.now) args.entry
         found.text.items found.status) }
-    ensures low { IfOk result (λ found. found.status ≤ 2) }
+    ensures status_bound { IfOk result (λ found. found.status ≤ 2) }
     ensures stopped { IfErr result (IsCheckStop (D.contents inputs.now) args.entry) }
 {
     let text = read_list_text(inputs, alloc, args.list)?;
@@ -46,7 +46,7 @@ fn check_list_text<D: Inputs>(
         (contents_below (optional_text args.entry.root) (D.contents inputs.now))
         (optional_text args.entry.root) (list_faults text.now)
         args.entry.list.now text.now found.text.items found.status) }
-    ensures low { IfOk result (λ found. found.status ≤ 2) }
+    ensures status_bound { IfOk result (λ found. found.status ≤ 2) }
     ensures stopped { IfErr result (IsListFaultStop args.entry.list.now text.now) }
 {
     let faults = read_faults(alloc, text)?;
@@ -70,7 +70,7 @@ fn check_files<D: Inputs>(
     ensures plan { IfOk result (λ found. IsPlanCheckOf
         (contents_below (optional_text args.entry.root) (D.contents inputs.now))
         (optional_text args.entry.root) args.entry.list.now text.now found.text.items found.status) }
-    ensures low { IfOk result (λ found. found.status ≤ 2) }
+    ensures status_bound { IfOk result (λ found. found.status ≤ 2) }
     ensures stopped { IfErr result (IsListFaultStop args.entry.list.now text.now) }
 {
     let jobs = parse_list(alloc, args.list, text)?;
@@ -88,7 +88,7 @@ fn check_plan(
     plan: &Plan,
     unread: &[UnreadablePath],
 ) -> Result<CommandResult, Stop>
-    ensures low { IfOk result (λ found. found.status ≤ 2) }
+    ensures status_bound { IfOk result (λ found. found.status ≤ 2) }
     ensures text { IfOk result (λ found. found.text.items
         ≡ check_text args.entry.list.now text.now (optional_text args.entry.root) plan.now unread.now) }
     ensures judged { IfOk result (λ found. found.status ≡ check_status (refused_job_count plan.now)) }
@@ -116,7 +116,7 @@ fn check_plan(
 // Returns the exit status of `check` for a list without errors: 0 if no job is refused, and otherwise 2.
 fn check_status(refused: usize) -> u8
     ensures value { result ≡ check_status refused }
-    ensures low { result ≤ 2 }
+    ensures status_bound { result ≤ 2 }
 {
     if refused == 0 { DONE } else { REJECTED }
 }

@@ -43,7 +43,7 @@ pub(crate) fn put_job_console<D: Inputs, F: Outputs + Drop, O: Sink + Drop, E: S
 ) -> Result<u8, Stop>
     ensures put { IfOk result (λ status. IsConsoleWritten (D.contents inputs.now) args.entry status
         (outputs_of F.committed O.accepted E.accepted E.failure_count to.old) (outputs_of F.committed O.accepted E.accepted E.failure_count to.new)) }
-    ensures low { IfOk result (λ status. status ≤ 1) }
+    ensures status_bound { IfOk result (λ status. status ≤ 1) }
     ensures stopped { IfErr result (λ stop. (stop ≡ Stop.WriteFailed)
         ⊎ IsConsoleStop (D.contents inputs.now) args.entry stop) }
 {
@@ -61,7 +61,7 @@ fn run_named_job<D: Inputs>(
 ) -> Result<ReportedRow, Stop>
     ensures told { IfOk result (λ told. IsConsoleAt (D.contents inputs.now) args.entry
         told.row.console told.line.items told.status) }
-    ensures low { IfOk result (λ told. told.status ≤ 1) }
+    ensures status_bound { IfOk result (λ told. told.status ≤ 1) }
     ensures stopped { IfErr result (IsConsoleStop (D.contents inputs.now) args.entry) }
 {
     let text = read_list_text(inputs, alloc, args.list)?;
@@ -78,7 +78,7 @@ fn run_job_of_text<D: Inputs>(
     ensures told { IfOk result (λ told.
         IsConsoleOf (contents_below (optional_text args.entry.root) (D.contents inputs.now))
         text.now args.entry.name.now told.row.console told.line.items told.status) }
-    ensures low { IfOk result (λ told. told.status ≤ 1) }
+    ensures status_bound { IfOk result (λ told. told.status ≤ 1) }
     ensures stopped { IfErr result (IsNoJobStop args.entry.list.now text.now args.entry.name.now) }
 {
     let NamedJob { jobs, index } = find_named_job(alloc, args.list, args.name, text)?;
@@ -97,7 +97,7 @@ fn run_job_at<D: Inputs>(
     ensures told { IfOk result (λ told.
         IsJobConsole (contents_below (optional_text args.entry.root) (D.contents inputs.now))
         jobs index told.row.console told.line.items told.status) }
-    ensures low { IfOk result (λ told. told.status ≤ 1) }
+    ensures status_bound { IfOk result (λ told. told.status ≤ 1) }
     ensures memory { IfErr result (λ stop. stop ≡ Stop.OutOfMemory) }
 {
     let indices = vec![in alloc; index; 1]?;
@@ -120,7 +120,7 @@ fn run_planned_job(
         (row_of plan.now (slice_index_or plan.now.jobs index d))) }
     ensures status { IfOk result (λ told. (d : AJob) → told.status
         ≡ passing_status (has_passed Strict (row_of plan.now (slice_index_or plan.now.jobs index d)))) }
-    ensures low { IfOk result (λ told. told.status ≤ 1) }
+    ensures status_bound { IfOk result (λ told. told.status ≤ 1) }
     ensures memory { IfErr result (λ stop. stop ≡ Stop.OutOfMemory) }
 {
     let row = row_at(alloc, plan, index)?;

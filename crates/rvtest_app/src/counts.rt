@@ -34,7 +34,7 @@ pub(crate) fn put_sum_of_tables<D: Inputs, F: Outputs + Drop, O: Sink + Drop, E:
 ) -> Result<u8, Stop>
     ensures put { IfOk result (λ status. IsSumWritten (D.contents inputs.now) args.now status
         (outputs_of F.committed O.accepted E.accepted E.failure_count to.old) (outputs_of F.committed O.accepted E.accepted E.failure_count to.new)) }
-    ensures low { IfOk result (λ status. status ≤ 1) }
+    ensures status_bound { IfOk result (λ status. status ≤ 1) }
     ensures undone { OnErr result (F.committed to.new.files ≡ F.committed to.old.files) }
     // Only the sum may go to standard output.
     ensures untouched { (is_stdout (written_path (optional_text args.now.out)) ≡ true) ⊎ (to.new.out ≡ to.old.out) }

@@ -40,7 +40,7 @@ pub(crate) fn diff_reports<D: Inputs, F: Outputs + Drop, O: Sink + Drop, E: Sink
 ) -> Result<u8, Stop>
     ensures put { IfOk result (λ status. IsDiffWritten (D.contents inputs.now) args.entry status
         (outputs_of F.committed O.accepted E.accepted E.failure_count to.old) (outputs_of F.committed O.accepted E.accepted E.failure_count to.new)) }
-    ensures low { IfOk result (λ status. status ≤ 1) }
+    ensures status_bound { IfOk result (λ status. status ≤ 1) }
     ensures stopped { IfErr result (λ stop. (stop ≡ WriteFailed)
         ⊎ IsDiffAtStop (D.contents inputs.now) args.entry stop) }
 {
@@ -58,7 +58,7 @@ fn diff_of_files<D: Inputs>(
 ) -> Result<NotedDiff, Stop>
     ensures diff { IfOk result (λ noted. IsDiffAt (D.contents inputs.now) args.entry
         noted.found.text.items noted.notes.items noted.found.status) }
-    ensures low { IfOk result (λ noted. noted.found.status ≤ 1) }
+    ensures status_bound { IfOk result (λ noted. noted.found.status ≤ 1) }
     ensures stopped { IfErr result (IsDiffAtStop (D.contents inputs.now) args.entry) }
 {
     let old = read_result_file(inputs, alloc, args.old)?;
@@ -77,7 +77,7 @@ fn diff_report_texts(
     ensures diff { IfOk result (λ noted. MatchResult new (λ new. IsDiffOf args.entry old.now new.items
         noted.found.text.items noted.notes.items noted.found.status) (λ stop. ⊥)) }
     ensures blamed { IfErr result (IsDiffStop args.entry old.now new) }
-    ensures low { IfOk result (λ noted. noted.found.status ≤ 1) }
+    ensures status_bound { IfOk result (λ noted. noted.found.status ≤ 1) }
 {
     let old = parse_requested_report(alloc, requested(args.old, args), old)?;
     let new_text = new?;
@@ -109,7 +109,7 @@ fn diff_read_reports(
         old.report new.report noted.found.text.items noted.found.status) }
     ensures noted { IfOk result (λ noted. noted.notes.items
         ≡ truncation_note args.entry.old.now old ++ truncation_note args.entry.new.now new) }
-    ensures low { IfOk result (λ noted. noted.found.status ≤ 1) }
+    ensures status_bound { IfOk result (λ noted. noted.found.status ≤ 1) }
     ensures memory { IfErr result (λ stop. stop ≡ OutOfMemory) }
 {
     let mut notes = truncation_note(alloc, args.old, &old)?;
@@ -128,7 +128,7 @@ fn diff_saved_reports(
 ) -> Result<CommandResult, Stop>
     requires old { length old.rows < 2 ^ 32 }
     requires new { length new.rows < 2 ^ 32 }
-    ensures low { IfOk result (λ found. found.status ≤ 1) }
+    ensures status_bound { IfOk result (λ found. found.status ≤ 1) }
     ensures text { IfOk result (λ found. found.text.items
         ≡ diff_text compare (compared_rows new old) (compared_rows old new) (uncompared_row_count old new)) }
     ensures judged { IfOk result (λ found. found.status
@@ -200,7 +200,7 @@ fn diff_rows(
 ) -> Result<CommandResult, Stop>
     requires old { length compared.old.now < 2 ^ 32 }
     requires new { length compared.new.now < 2 ^ 32 }
-    ensures low { IfOk result (λ found. found.status ≤ 1) }
+    ensures status_bound { IfOk result (λ found. found.status ≤ 1) }
     ensures text { IfOk result (λ found. found.text.items
         ≡ diff_text compare compared.entry.old.now compared.entry.new.now compared.entry.not_compared) }
     ensures judged { IfOk result (λ found. found.status
@@ -218,7 +218,7 @@ fn diff_rows(
 // Returns the exit status of `diff`: 0 if no job differs, and otherwise 1.
 fn diff_status(counts: DifferenceCounts) -> u8
     ensures value { result ≡ diff_status counts }
-    ensures low { result ≤ 1 }
+    ensures status_bound { result ≤ 1 }
 {
     if counts.has_differences() {
         SOME_FAIL

@@ -31,7 +31,7 @@ pub(crate) fn explain_named_job<D: Inputs>(
 ) -> Result<CommandResult, Stop>
     ensures explained { IfOk result (λ found. IsExplanationAt (D.contents inputs.now) args.entry
         found.text.items found.status) }
-    ensures low { IfOk result (λ found. found.status ≤ 1) }
+    ensures status_bound { IfOk result (λ found. found.status ≤ 1) }
     ensures stopped { IfErr result (IsExplainStop (D.contents inputs.now) args.entry) }
 {
     let text = read_list_text(inputs, alloc, args.list)?;
@@ -47,7 +47,7 @@ fn explain_job_of_text<D: Inputs>(
 ) -> Result<CommandResult, Stop>
     ensures explanation { IfOk result (λ found. IsExplanationOf (D.contents inputs.now) args.entry text.now
         found.text.items found.status) }
-    ensures low { IfOk result (λ found. found.status ≤ 1) }
+    ensures status_bound { IfOk result (λ found. found.status ≤ 1) }
     ensures stopped { IfErr result (IsNoJobStop args.entry.list.now text.now args.entry.name.now) }
 {
     let NamedJob { jobs, index } = find_named_job(alloc, args.list, args.name, text)?;
@@ -66,7 +66,7 @@ fn explain_job_at<D: Inputs>(
     ensures explained { IfOk result (λ found.
         IsJobExplained (contents_below (optional_text args.entry.root) (D.contents inputs.now))
         (with_budget args.entry.budget jobs) index args.entry.last found.text.items found.status) }
-    ensures low { IfOk result (λ found. found.status ≤ 1) }
+    ensures status_bound { IfOk result (λ found. found.status ≤ 1) }
     ensures memory { IfErr result (λ stop. stop ≡ Stop.OutOfMemory) }
 {
     let indices = vec![in alloc; index; 1]?;
@@ -89,7 +89,7 @@ fn explain_planned_job(
     ensures status { IfOk result (λ found. (d : AJob) → found.status
         ≡ passing_status (has_passed Strict
         (row_of plan.now (slice_index_or plan.now.jobs index d)))) }
-    ensures low { IfOk result (λ found. found.status ≤ 1) }
+    ensures status_bound { IfOk result (λ found. found.status ≤ 1) }
     ensures memory { IfErr result (λ stop. stop ≡ Stop.OutOfMemory) }
 {
     let row = row_at(alloc, plan, index)?;

@@ -187,8 +187,8 @@ fn session_of_plan(
 ) -> Result<Option<Session>, AllocError>
     requires { index < length plan.now.jobs }
     ensures { IfOk result (λ found. (d : AJob) → MatchOption found
-        (is_ok (start_state_in plan.now.answers (slice_index_or plan.now.jobs index d)) ≡ false)
-        (IsSessionOf plan.now.answers (slice_index_or plan.now.jobs index d)
+        (is_ok (start_state_in plan.now.results (slice_index_or plan.now.jobs index d)) ≡ false)
+        (IsSessionOf plan.now.results (slice_index_or plan.now.jobs index d)
         (resolved_path (optional_text root.entry) (slice_index_or plan.now.jobs index d).image))) }
 {
     let path = image_path(alloc, root, plan.job(index).image.as_str())?;

@@ -51,7 +51,7 @@ pub(crate) fn merge_reports<D: Inputs, F: Outputs + Drop, O: Sink + Drop, E: Sin
     args: &MergeArgs<'_>,
     to: &mut Destinations<F, O, E>,
 ) -> Result<u8, Stop>
-    ensures low { IfOk result (λ status. status ≤ 1) }
+    ensures status_bound { IfOk result (λ status. status ≤ 1) }
     ensures merged { IfOk result (λ status. IsMergedAt (D.contents inputs.now) args.now status
         (outputs_of F.committed O.accepted E.accepted E.failure_count to.old) (outputs_of F.committed O.accepted E.accepted E.failure_count to.new)) }
     ensures undone { OnErr result (IsAbortedMergeAt (D.contents inputs.now) args.now
@@ -106,7 +106,7 @@ fn merge_part_texts(alloc: Global, args: &MergeArgs<'_>, texts: &[Vec<u8>]) -> R
         ≡ totals_line (report_judging args.now.lenient) merged.rows) }
     ensures judged { IfOk result (λ merged. merged.status
         ≡ rows_status (report_judging args.now.lenient) merged.rows) }
-    ensures low { IfOk result (λ merged. merged.status ≤ 1) }
+    ensures status_bound { IfOk result (λ merged. merged.status ≤ 1) }
     ensures blamed { IfErr result (IsPartsErrorStop args.now.parts.items (map (λ text. text.items) texts.now)) }
 {
     let judge = report_judge(args.lenient);

@@ -36,7 +36,7 @@ pub(crate) struct OpenFile<'a, P: Drop, W: Drop> {
 pub(crate) enum Outlet<'a, P: Drop, W: Drop> {
     Nowhere,
     /// Standard output.
-    Out,
+    Stdout,
     File(OpenFile<'a, P, W>),
 }
 
@@ -88,7 +88,7 @@ pub(crate) fn open_outlet<'a, F: Outputs>(
 {
     match path {
         None => Ok(Outlet::Nowhere),
-        Some(path) if is_stdout(path) => Ok(Outlet::Out),
+        Some(path) if is_stdout(path) => Ok(Outlet::Stdout),
         Some(path) => open_file(files, alloc, path),
     }
 }
@@ -136,7 +136,7 @@ impl<'a, P: Drop, W: Drop> Outlet<'a, P, W> {
     {
         match self {
             Outlet::Nowhere => (Outlet::Nowhere, None),
-            Outlet::Out => (Outlet::Out, None),
+            Outlet::Stdout => (Outlet::Stdout, None),
             Outlet::File(OpenFile { path, destination, sink }) => {
                 let file = OpenFile {
                     path,
@@ -157,11 +157,11 @@ impl<'a, P: Drop> Outlet<'a, P, ()> {
     {
         match (self, sink) {
             (Outlet::Nowhere, None) => Outlet::Nowhere,
-            (Outlet::Out, None) => Outlet::Out,
+            (Outlet::Stdout, None) => Outlet::Stdout,
             (Outlet::File(OpenFile { path, destination, .. }), Some(sink)) => {
                 Outlet::File(OpenFile { path, destination, sink })
             }
-            (Outlet::Nowhere | Outlet::Out, Some(_)) | (Outlet::File(_), None) => unreachable!(),
+            (Outlet::Nowhere | Outlet::Stdout, Some(_)) | (Outlet::File(_), None) => unreachable!(),
         }
     }
 }
@@ -180,14 +180,14 @@ impl<'a, P: Drop, W: Sink + LastError + Drop> Outlet<'a, P, W> {
     fn is_stdout_outlet(&self) -> bool
         ensures { result ≡ is_stdout_outlet self.now }
     {
-        matches!(self, Outlet::Out)
+        matches!(self, Outlet::Stdout)
     }
 
     /// Returns the reason of the last failed write to the file; an arbitrary reason if the outlet is not a file.
     pub(crate) fn last_error(&self) -> ErrorKind {
         match self {
             Outlet::File(file) => file.sink.last_error(),
-            Outlet::Nowhere | Outlet::Out => ErrorKind::Other,
+            Outlet::Nowhere | Outlet::Stdout => ErrorKind::Other,
         }
     }
 
@@ -210,7 +210,7 @@ impl<'a, P: Drop, W: Sink + LastError + Drop> Outlet<'a, P, W> {
     {
         match self {
             Outlet::Nowhere => Ok(()),
-            Outlet::Out => stdout_result(report.write(alloc, out)),
+            Outlet::Stdout => stdout_result(report.write(alloc, out)),
             Outlet::File(file) => {
                 let written = report.write_rest(alloc, &mut file.sink);
                 file_result(alloc, file.path, file.sink.last_error(), written)
@@ -239,7 +239,7 @@ impl<'a, P: Drop, W: Sink + LastError + Drop> Outlet<'a, P, W> {
     {
         match self {
             Outlet::Nowhere => Ok(()),
-            Outlet::Out => stdout_result(write_junit(alloc, suite, cases, out)),
+            Outlet::Stdout => stdout_result(write_junit(alloc, suite, cases, out)),
             Outlet::File(file) => {
                 let written = write_junit(alloc, suite, cases, &mut file.sink);
                 file_result(alloc, file.path, file.sink.last_error(), written)

@@ -21,7 +21,7 @@ pub(crate) struct PlannedJob {
     pub(crate) unread: Vec<UnreadablePath>,
     pub(crate) index: usize,
     ghost within: { index < length plan.jobs },
-    ghost runs: { (d : AJob) → is_ok (start_state_in plan.answers (slice_index_or plan.jobs index d)) ≡ true },
+    ghost runs: { (d : AJob) → is_ok (start_state_in plan.results (slice_index_or plan.jobs index d)) ≡ true },
 }
 
 impl EndText for PlannedJob {

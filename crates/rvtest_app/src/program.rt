@@ -61,7 +61,7 @@ pub fn run_rvtest<
 ) -> (Destinations<F, O, E>, u8)
 where
     F::File: Send,
-    ensures low { O.closed result.0.out ≡ false → result.1 ≤ 3 }
+    ensures status_bound { O.closed result.0.out ≡ false → result.1 ≤ 3 }
     // A status of 0 or 1 means that everything was written, to standard output in the requested colours.
     ensures answered { result.1 ≤ 1 → IsCarriedOut (D.contents host.now.inputs.now) (I.remaining input.old)
         terminals.is_out_terminal terminals.is_out_colored (map T.text args.entry.now) result.1
@@ -117,7 +117,7 @@ where
     F::File: Send,
     requires colors { requested_colors request terminals.is_out_colored ≡ J.colors }
     requires before { O.accepted to.out ≡ J.before }
-    ensures low { IfOk result.1 (λ status. status ≤ 2) }
+    ensures status_bound { IfOk result.1 (λ status. status ≤ 2) }
     ensures done { IfOk result.1 (λ status. IsDoneInColors (D.contents host.now.inputs.now) (I.remaining input.old)
         terminals.is_out_terminal terminals.is_out_colored request.entry status
         (outputs_of F.committed O.accepted E.accepted E.failure_count to) (outputs_of F.committed O.accepted E.accepted E.failure_count result.0)) }
@@ -167,7 +167,7 @@ fn run_subcommand<
 ) -> (Destinations<F, O, E>, Result<u8, Stop>)
 where
     F::File: Send,
-    ensures low { IfOk result.1 (λ status. status ≤ 2) }
+    ensures status_bound { IfOk result.1 (λ status. status ≤ 2) }
     ensures done { IfOk result.1 (λ status. IsCommandDone (D.contents host.now.inputs.now) (I.remaining input.old)
         terminals.is_out_terminal request.entry status
         (outputs_of F.committed O.accepted E.accepted E.failure_count to) (outputs_of F.committed O.accepted E.accepted E.failure_count result.0)) }
@@ -204,7 +204,7 @@ where
 
 /// Reports that the program cannot get its arguments: memory ran out, or an argument is not UTF-8. Returns the exit status.
 pub fn reject_unreadable_args<E: Sink>(error: &io::Error, errors: &mut E) -> u8
-    ensures low { result ≤ 3 }
+    ensures status_bound { result ≤ 3 }
     ensures status { result ≡ unreadable_args_status (error_kind error.now) }
     ensures told { IsMessageWritten (E.accepted errors.old) (E.accepted errors.new) (E.failure_count errors.old) (E.failure_count errors.new)
         (unreadable_args_message (error_kind error.now)) }

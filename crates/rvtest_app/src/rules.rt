@@ -30,7 +30,7 @@ pub(crate) fn report_judge<'a>(is_lenient: bool) -> Judge<'a>
 /// Returns the exit status for a single job: [`DONE`] if it passed, and otherwise [`SOME_FAIL`].
 pub(crate) fn passing_status(passed: bool) -> u8
     ensures value { result ≡ passing_status passed }
-    ensures low { result ≤ 1 }
+    ensures status_bound { result ≤ 1 }
 {
     if passed { DONE } else { SOME_FAIL }
 }
@@ -38,7 +38,7 @@ pub(crate) fn passing_status(passed: bool) -> u8
 /// Returns the exit status for these rows: [`SOME_FAIL`] if one of them is a failure, and otherwise [`DONE`].
 pub(crate) fn rows_status(judge: &Judge<'_>, rows: &[Row]) -> u8
     ensures value { result ≡ rows_status (judge_view judge.now) rows.now }
-    ensures low { result ≤ 1 }
+    ensures status_bound { result ≤ 1 }
 {
     if judge.any_counts_as_failure(rows) {
         SOME_FAIL

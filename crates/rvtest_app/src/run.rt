@@ -59,7 +59,7 @@ where
         (outputs_of F.committed O.accepted E.accepted E.failure_count to) (outputs_of F.committed O.accepted E.accepted E.failure_count result.0)) }
     ensures undone { OnErr result.1 (IsAbortedRunAt (D.contents host.now.inputs.now) args.now
         (F.committed to.files) (F.committed result.0.files)) }
-    ensures low { IfOk result.1 (λ status. status ≤ 1) }
+    ensures status_bound { IfOk result.1 (λ status. status ≤ 1) }
     ensures untouched { IfOk result.1 (λ _. AreJobsToRun (D.contents host.now.inputs.now) args.now
         ⊎ (result.0.out ≡ to.out)) }
     ensures stopped { IfErr result.1 (IsRunStop (D.contents host.now.inputs.now) args.now) }
@@ -183,11 +183,11 @@ pub(crate) fn gather_jobs_at<S: Store>(
     requires { All (λ index. index < length jobs) indices.now }
     ensures same { S.contents store.new ≡ S.contents store.old }
     ensures jobs { IfOk result (λ plan. plan.jobs ≡ jobs) }
-    ensures paths { IfOk result (λ plan. paths_of plan.answers
+    ensures paths { IfOk result (λ plan. paths_of plan.results
         ≡ paths_used (jobs_needed_for jobs indices.now)) }
-    ensures kept { IfOk result (λ plan. AgreeWithContents (S.contents store.old) plan.answers) }
+    ensures kept { IfOk result (λ plan. AgreeWithContents (S.contents store.old) plan.results) }
     ensures faults { IfOk result (λ plan. S.fault_count store.new
-        ≡ after_increments (S.fault_count store.old) (unreadable_count plan.answers)) }
+        ≡ after_increments (S.fault_count store.old) (unreadable_count plan.results)) }
 {
     gather_jobs(alloc, jobs, Vec::from_slice(alloc, indices)?, store)
 }

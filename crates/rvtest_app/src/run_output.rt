@@ -108,6 +108,6 @@ pub(crate) fn show_stop<P: Drop, W: Sink + LastError + Drop>(
         (ShowError::ReportFailed, Outlet::File(file)) => {
             unwritten_stop(alloc, file.path, file.sink.last_error())
         }
-        (ShowError::ReportFailed, Outlet::Nowhere | Outlet::Out) => unreachable!(),
+        (ShowError::ReportFailed, Outlet::Nowhere | Outlet::Stdout) => unreachable!(),
     }
 }

@@ -46,7 +46,7 @@ pub(crate) fn show_report<D: Inputs, F: Outputs + Drop, O: Sink + Drop, E: Sink 
     args: ShowArgs<'_>,
     to: &mut Destinations<F, O, E>,
 ) -> Result<u8, Stop>
-    ensures low { IfOk result (λ status. status ≤ 1) }
+    ensures status_bound { IfOk result (λ status. status ≤ 1) }
     ensures shown { IfOk result (λ status. IsShowWritten (D.contents inputs.now) args.entry status
         (outputs_of F.committed O.accepted E.accepted E.failure_count to.old) (outputs_of F.committed O.accepted E.accepted E.failure_count to.new)) }
     ensures undone { OnErr result (IsAbortedShowAt (D.contents inputs.now) args.entry
@@ -98,7 +98,7 @@ fn summarize_report(
         ≡ summary_text (report_judging args.entry.lenient) report.rows) }
     ensures judged { IfOk result (λ summarized. summarized.status
         ≡ rows_status (report_judging args.entry.lenient) report.rows) }
-    ensures low { IfOk result (λ summarized. summarized.status ≤ 1) }
+    ensures status_bound { IfOk result (λ summarized. summarized.status ≤ 1) }
 {
     let judge = report_judge(args.lenient);
     let summary = summary_text(alloc, &judge, report.rows.as_slice())?;

@@ -57,7 +57,7 @@ impl<'x, R: Threads + Wait + Sync, D: Inputs> JobsView<'x, R, D> {
         ensures put { IfOk result (λ status. IsViewWritten (D.contents self.now.host.now.inputs.now) self.now.args.now
             self.now.view status
             (outputs_of F.committed O.accepted E.accepted E.failure_count to.old) (outputs_of F.committed O.accepted E.accepted E.failure_count to.new)) }
-        ensures low { IfOk result (λ status. status ≤ 1) }
+        ensures status_bound { IfOk result (λ status. status ≤ 1) }
         ensures stopped { IfErr result (λ stop. (stop ≡ Stop.WriteFailed)
             ⊎ IsViewStop (D.contents self.now.host.now.inputs.now) self.now.args.now self.now.view stop) }
     {
@@ -109,7 +109,7 @@ impl<'x, R: Threads + Wait + Sync, D: Inputs> JobsView<'x, R, D> {
     fn view_of_jobs(&self, plan: &Plan, indices: &[usize]) -> Result<Vec<u8>, Stop>
         requires within { AreJobIndices plan.now indices.now }
         requires rising { IsStrictlyIncreasing indices.now }
-        requires small { AreSmall plan.now.answers }
+        requires small { AreSmall plan.now.results }
         ensures shown { IfOk result (λ text. IsViewOfPlan (D.contents self.now.host.now.inputs.now) self.now.args.now
             self.now.view plan.now indices.now text.items) }
         ensures stopped { IfErr result (IsUnshownStop (D.contents self.now.host.now.inputs.now) self.now.args.now

@@ -40,7 +40,7 @@ impl<'x, R: Threads + Wait + Sync, D: Inputs> JobsView<'x, R, D> {
     ) -> Result<CountTable, Stop>
         requires within { AreJobIndices plan.now indices.now }
         requires rising { IsStrictlyIncreasing indices.now }
-        requires images { images_of_files images.now ≡ images_of plan.now.answers (jobs_at plan.now indices.now) }
+        requires images { images_of_files images.now ≡ images_of plan.now.results (jobs_at plan.now indices.now) }
         ensures table { IfOk result (IsTableForView (D.contents self.now.host.now.inputs.now) self.now.view
             (optional_text self.now.args.now.counts) plan.now indices.now) }
         ensures stopped { IfErr result (IsNoViewTableStop (D.contents self.now.host.now.inputs.now) self.now.args.now

@@ -17,9 +17,9 @@ use std::alloc::{AllocError, Global};
 #[derive(Clone, Copy)]
 pub(crate) enum NotWholeReason<'a> {
     /// It has only this many rows, of a list of this many jobs.
-    Part(usize, u32),
+    Partial(usize, u32),
     /// It has this many rows, but the list has this many jobs.
-    Count(usize, usize),
+    RowCount(usize, usize),
     /// A row has another name than the job of the list.
     Name(NameMismatch<'a>),
 }
@@ -61,10 +61,10 @@ fn not_whole_reason<'a>(report: &'a SavedReport, jobs: &'a [Job]) -> Option<NotW
 {
     let rows = report.rows.as_slice();
     if let Some(count) = jobs_of_partial_report(&report.extent) {
-        return Some(NotWholeReason::Part(rows.len(), count));
+        return Some(NotWholeReason::Partial(rows.len(), count));
     }
     if rows.len() != jobs.len() {
-        return Some(NotWholeReason::Count(rows.len(), jobs.len()));
+        return Some(NotWholeReason::RowCount(rows.len(), jobs.len()));
     }
     match first_name_mismatch(rows, jobs) {
         Some(name) => Some(NotWholeReason::Name(name)),
@@ -112,8 +112,8 @@ fn not_whole_message<'a>(
     ensures { IfOk result (λ text. text.items ≡ not_whole_message path.now list.now other.entry) }
 {
     match other {
-        NotWholeReason::Part(rows, jobs) => partial_report_message(alloc, path, rows, jobs),
-        NotWholeReason::Count(rows, jobs) => row_count_message(alloc, path, list, rows, jobs),
+        NotWholeReason::Partial(rows, jobs) => partial_report_message(alloc, path, rows, jobs),
+        NotWholeReason::RowCount(rows, jobs) => row_count_message(alloc, path, list, rows, jobs),
         NotWholeReason::Name(name) => name_mismatch_message(alloc, path, list, name),
     }
 }

@@ -127,7 +127,7 @@ pub(crate) fn write_to_outlet<F: Outputs + Drop, O: Sink + Drop, E: Sink + Drop>
 {
     match outlet {
         Outlet::Nowhere => Ok(()),
-        Outlet::Out => write_results(&mut to.out, bytes),
+        Outlet::Stdout => write_results(&mut to.out, bytes),
         Outlet::File(file) => finish_file(&mut to.files, alloc, file, bytes),
     }
 }

@@ -42,19 +42,19 @@ module _ {Z : Type 0} where
   none_met (Some b) none = cc
 
 -- a command that is this one has met, with its matches, the subcommand of the words
-pub here : (app : App) (words : List Text) (found : ArgMatches) → app ≡ rvtest_full_app → HasMatchesOf app words found
-    → subcommand_rows_of found ≡ subcommand_of rvtest_full_app words
-here app words found is has = (has (ap is_simple is)).1 ∙ ap (λ a. subcommand_of a words) is
+pub here : (app : App) (args : List Text) (found : ArgMatches) → app ≡ rvtest_full_app → HasMatchesOf app args found
+    → subcommand_rows_of found ≡ subcommand_of rvtest_full_app args
+here app args found is has = (has (ap is_simple is)).1 ∙ ap (λ a. subcommand_of a args) is
 
 -- where `clap` finds no fault, the faults are options that do not go together
-pub faults : (words : List Text) → fault_of rvtest_full_app words ≡ [] → misuse_kinds (plain_misuse words) ≡ plain_error_kinds words
-faults words none = sym (past (fault_of rvtest_full_app words) _ none)
+pub faults : (args : List Text) → fault_of rvtest_full_app args ≡ [] → misuse_kinds (plain_misuse args) ≡ plain_error_kinds args
+faults args none = sym (past (fault_of rvtest_full_app args) _ none)
 
 -- a fault that `clap` finds is one of the faults
-pub refused : (app : App) (words : List Text) (error : Error) → app ≡ rvtest_full_app → HasKind (fault_of app words) error
-    → HasKind (plain_error_kinds words) error
-refused app words error is has =
-    first_fails (fault_of rvtest_full_app words) _ (kind_of error) (subst (λ a. HasKind (fault_of a words) error) is has)
+pub refused : (app : App) (args : List Text) (error : Error) → app ≡ rvtest_full_app → HasKind (fault_of app args) error
+    → HasKind (plain_error_kinds args) error
+refused app args error is has =
+    first_fails (fault_of rvtest_full_app args) _ (kind_of error) (subst (λ a. HasKind (fault_of a args) error) is has)
 
 -- an error of one of these kinds is told as one of them
 pub plan_text : (kinds : Kinds) (met : ErrorKind) (told : ArgsError) → (met ≡ OutOfMemory) ⊎ IsAmong met kinds
@@ -104,49 +104,49 @@ pub help_within : (r : Result (Option Request) ArgsError) → IfOk r (λ request
 help_within r none = IfOk-weaker r _ _ (λ request nothing. subst (λ a. IfSome a IsRequestInRange) (sym nothing) tt) none
 
 -- arguments that request it, in whose place an option requests the same help
-module _ (words help : List Text) (is : help_command_args words ≡ Some help) where
+module _ (args help : List Text) (is : help_command_args args ≡ Some help) where
   pub help_value : (r : Result (Option Request) ArgsError) → IfOk r (λ request. request ≡ None)
-      → IfOk r (λ request. option_map value_of_request request ≡ request_of_args words)
+      → IfOk r (λ request. option_map value_of_request request ≡ request_of_args args)
   help_value r none =
       IfOk-weaker r _ _ (λ request nothing. ap (option_map value_of_request) nothing
-      ∙ sym (ap (λ found. matched_request (option_map_or (λ _. None) found (subcommand_of rvtest_full_app words))) is)) none
+      ∙ sym (ap (λ found. matched_request (option_map_or (λ _. None) found (subcommand_of rvtest_full_app args))) is)) none
 
   pub help_kinds : {T : Type 0} (r : Result T ArgsError) → FailsByKinds (fault_of rvtest_full_app help) r
-      → FailsByKinds (args_error_kinds words) r
+      → FailsByKinds (args_error_kinds args) r
   help_kinds r fails =
-      let kinds : Option (List Text) → Kinds = λ found. or_else (fault_of rvtest_full_app (option_map_or (λ h. h) found words))
-      (misuse_kinds (matched_misuse (option_map_or (λ _. None) found (subcommand_of rvtest_full_app words)))) in
+      let kinds : Option (List Text) → Kinds = λ found. or_else (fault_of rvtest_full_app (option_map_or (λ h. h) found args))
+      (misuse_kinds (matched_misuse (option_map_or (λ _. None) found (subcommand_of rvtest_full_app args)))) in
       subst (λ k. FailsByKinds k r) (sym (or_none (fault_of rvtest_full_app help)) ∙ sym (ap kinds is)) fails
 
   pub help_misused : {T : Type 0} (r : Result T ArgsError) → FailsByKinds (fault_of rvtest_full_app help) r
-      → args_errors words ≡ [] → IfErr r (IsMisuseReported (args_misuse words))
+      → args_errors args ≡ [] → IfErr r (IsMisuseReported (args_misuse args))
   help_misused (Ok x) fails none = tt
   help_misused (Err e) fails none =
-      let found : Option (List Text) → Kinds = λ h. fault_of rvtest_full_app (option_map_or (λ h. h) h words) in
-      none_told (args_misuse words) e (subst (λ kinds. IsErrorOfKinds kinds e) (sym (ap found is) ∙ none) fails)
+      let found : Option (List Text) → Kinds = λ h. fault_of rvtest_full_app (option_map_or (λ h. h) h args) in
+      none_told (args_misuse args) e (subst (λ kinds. IsErrorOfKinds kinds e) (sym (ap found is) ∙ none) fails)
 
 -- other arguments, which are parsed as they are
-module _ (words : List Text) (none : help_command_args words ≡ None) where
+module _ (args : List Text) (none : help_command_args args ≡ None) where
   pub plain_value : (r : Result (Option Request) ArgsError)
-      → IfOk r (λ request. option_map value_of_request request ≡ matched_request (subcommand_of rvtest_full_app words))
-      → IfOk r (λ request. option_map value_of_request request ≡ request_of_args words)
+      → IfOk r (λ request. option_map value_of_request request ≡ matched_request (subcommand_of rvtest_full_app args))
+      → IfOk r (λ request. option_map value_of_request request ≡ request_of_args args)
   plain_value r request = rw none request
 
-  pub plain_kinds : {T : Type 0} (r : Result T ArgsError) → FailsByKinds (plain_error_kinds words) r
-      → FailsByKinds (args_error_kinds words) r
+  pub plain_kinds : {T : Type 0} (r : Result T ArgsError) → FailsByKinds (plain_error_kinds args) r
+      → FailsByKinds (args_error_kinds args) r
   plain_kinds r fails = rw none fails
 
   pub plain_misused : {T : Type 0} (r : Result T ArgsError)
-      → (fault_of rvtest_full_app words ≡ [] → IfErr r (IsMisuseReported (plain_misuse words)))
-      → args_errors words ≡ [] → IfErr r (IsMisuseReported (args_misuse words))
+      → (fault_of rvtest_full_app args ≡ [] → IfErr r (IsMisuseReported (plain_misuse args)))
+      → args_errors args ≡ [] → IfErr r (IsMisuseReported (args_misuse args))
   plain_misused r misused = rw none misused
 
 -- ---- which arguments request the help of a command
 
 module _ {X : Type 0} (text : X → Text) where
-  pub help_of_two : (words : List X) (program word : X) → 2 ≤ length words → length words < 3
-      → program ≡ get_or words 0 program → word ≡ get_or words 1 word → is_help (text word) ≡ true
-      → help_command_args (map text words) ≡ Some (text program ∷ codes "--help" ∷ [])
+  pub help_of_two : (args : List X) (program word : X) → 2 ≤ length args → length args < 3
+      → program ≡ get_or args 0 program → word ≡ get_or args 1 word → is_help (text word) ≡ true
+      → help_command_args (map text args) ≡ Some (text program ∷ codes "--help" ∷ [])
   unfolding help_command_args
   help_of_two [] program word least below first second is = absurd (omega (arith, least))
   help_of_two (x ∷ []) program word least below first second is = absurd (omega (arith, least))
@@ -156,10 +156,10 @@ module _ {X : Type 0} (text : X → Text) where
       ∙ ap (λ one. Some (text one ∷ codes "--help" ∷ [])) (sym first)
   help_of_two (x ∷ y ∷ z ∷ rest) program word least below first second is = absurd (omega (arith, below))
 
-  pub help_of_three : (words : List X) (program word topic : X) → 3 ≤ length words → length words < 4
-      → program ≡ get_or words 0 program → word ≡ get_or words 1 word → topic ≡ get_or words 2 topic
+  pub help_of_three : (args : List X) (program word topic : X) → 3 ≤ length args → length args < 4
+      → program ≡ get_or args 0 program → word ≡ get_or args 1 word → topic ≡ get_or args 2 topic
       → is_command_help (text word) (text topic) ≡ true
-      → help_command_args (map text words) ≡ Some (text program ∷ text topic ∷ codes "--help" ∷ [])
+      → help_command_args (map text args) ≡ Some (text program ∷ text topic ∷ codes "--help" ∷ [])
   unfolding help_command_args
   help_of_three [] program word topic least below first second third is = absurd (omega (arith, least))
   help_of_three (x ∷ []) program word topic least below first second third is = absurd (omega (arith, least))
@@ -173,14 +173,14 @@ module _ {X : Type 0} (text : X → Text) where
 
   -- others do not
 
-  pub few_words : (words : List X) → length words < 2 → help_command_args (map text words) ≡ None
+  pub few_words : (args : List X) → length args < 2 → help_command_args (map text args) ≡ None
   unfolding help_command_args
   few_words [] few = refl
   few_words (x ∷ []) few = refl
   few_words (x ∷ y ∷ rest) few = absurd (omega (arith, few))
 
-  pub other_of_two : (words : List X) (word : X) → 2 ≤ length words → length words < 3 → word ≡ get_or words 1 word
-      → is_help (text word) ≡ false → help_command_args (map text words) ≡ None
+  pub other_of_two : (args : List X) (word : X) → 2 ≤ length args → length args < 3 → word ≡ get_or args 1 word
+      → is_help (text word) ≡ false → help_command_args (map text args) ≡ None
   unfolding help_command_args
   other_of_two [] word least below second is = refl
   other_of_two (x ∷ []) word least below second is = refl
@@ -189,9 +189,9 @@ module _ {X : Type 0} (text : X → Text) where
       ap (λ help. cond help (Some (text x ∷ codes "--help" ∷ [])) None) named
   other_of_two (x ∷ y ∷ z ∷ rest) word least below second is = absurd (omega (arith, below))
 
-  pub other_of_three : (words : List X) (word topic : X) → 3 ≤ length words → length words < 4
-      → word ≡ get_or words 1 word → topic ≡ get_or words 2 topic → is_command_help (text word) (text topic) ≡ false
-      → help_command_args (map text words) ≡ None
+  pub other_of_three : (args : List X) (word topic : X) → 3 ≤ length args → length args < 4
+      → word ≡ get_or args 1 word → topic ≡ get_or args 2 topic → is_command_help (text word) (text topic) ≡ false
+      → help_command_args (map text args) ≡ None
   unfolding help_command_args
   other_of_three [] word topic least below second third is = refl
   other_of_three (x ∷ []) word topic least below second third is = refl
@@ -202,7 +202,7 @@ module _ {X : Type 0} (text : X → Text) where
       ap (λ help. cond help (Some (text x ∷ text z ∷ codes "--help" ∷ [])) None) named
   other_of_three (x ∷ y ∷ z ∷ u ∷ rest) word topic least below second third is = absurd (omega (arith, below))
 
-  pub many_words : (words : List X) → 4 ≤ length words → help_command_args (map text words) ≡ None
+  pub many_words : (args : List X) → 4 ≤ length args → help_command_args (map text args) ≡ None
   unfolding help_command_args
   many_words [] many = refl
   many_words (x ∷ []) many = refl

@@ -386,19 +386,19 @@ unfoldable pub help_command_args : List Text → Option (List Text)
 help_command_args (program ∷ word ∷ []) = if is_help word then Some (program ∷ codes "--help" ∷ []) else None
 help_command_args (program ∷ word ∷ topic ∷ []) =
     if is_command_help word topic then Some (program ∷ topic ∷ codes "--help" ∷ []) else None
-help_command_args words = None
+help_command_args args = None
 
 -- the arguments that `clap` gets: `--help` instead of `help`, `COMMAND --help` instead of `help COMMAND`, and any others unchanged
 abbrev pub args_for_clap : List Text → List Text
-args_for_clap words = option_map_or (λ help. help) (help_command_args words) words
+args_for_clap args = option_map_or (λ help. help) (help_command_args args) args
 
 -- the subcommand that `clap` matches in these arguments, with its matches; `None` if there is none, and for `help` and `help COMMAND`
 abbrev pub requested_subcommand : List Text → Option (Text × List Row)
-requested_subcommand words = option_map_or (λ help. None) (help_command_args words) (subcommand_of rvtest_full_app words)
+requested_subcommand args = option_map_or (λ help. None) (help_command_args args) (subcommand_of rvtest_full_app args)
 
 -- the request that these arguments make; `None` if they make none
 abbrev pub request_of_args : List Text → Option Words
-request_of_args words = matched_request (requested_subcommand words)
+request_of_args args = matched_request (requested_subcommand args)
 
 -- ---- misused options
 
@@ -600,23 +600,23 @@ matched_misuse = option_and_then (λ met. subcommand_misuse met.0 met.1)
 
 -- the first misuse of an option in arguments that `clap` gets unchanged; `None` if there is no misuse
 abbrev pub plain_misuse : List Text → Option Misuse
-plain_misuse words = matched_misuse (subcommand_of rvtest_full_app words)
+plain_misuse args = matched_misuse (subcommand_of rvtest_full_app args)
 
 -- the kinds of the errors in arguments that `clap` gets unchanged: the errors that `clap` finds, or else the misuse of an option
 abbrev pub plain_error_kinds : List Text → Kinds
-plain_error_kinds words = or_else (fault_of rvtest_full_app words) (misuse_kinds (plain_misuse words))
+plain_error_kinds args = or_else (fault_of rvtest_full_app args) (misuse_kinds (plain_misuse args))
 
 -- the first misuse of an option in the arguments; `None` if there is no misuse, and for `help` and `help COMMAND`
 abbrev pub args_misuse : List Text → Option Misuse
-args_misuse words = matched_misuse (requested_subcommand words)
+args_misuse args = matched_misuse (requested_subcommand args)
 
 -- the kinds of the errors that `clap` finds in the arguments
 abbrev pub args_errors : List Text → Kinds
-args_errors words = fault_of rvtest_full_app (args_for_clap words)
+args_errors args = fault_of rvtest_full_app (args_for_clap args)
 
 -- the kinds of the errors in the arguments: the errors that `clap` finds, or else the misuse of an option
 abbrev pub args_error_kinds : List Text → Kinds
-args_error_kinds words = or_else (args_errors words) (misuse_kinds (args_misuse words))
+args_error_kinds args = or_else (args_errors args) (misuse_kinds (args_misuse args))
 
 -- the error says that memory ran out, or it reports the given misuse, with its kind and its message; without a misuse, memory ran out
 abbrev pub IsMisuseReported : Option Misuse → ArgsError → Type 0
@@ -770,11 +770,11 @@ IsRequestInRange (request.Explain value) = (value.last ≤ max_last_instructions
 IsRequestInRange (request.Diff value) = IfSome value.slower (λ percent. percent ≤ max_slower)
 IsRequestInRange _ = Unit {0}
 
--- the parsed request has the value `words`, and its numbers are within the ranges that the command line allows; without a request, `words`
+-- the parsed request has the value `args`, and its numbers are within the ranges that the command line allows; without a request, `args`
 -- is `None`
 abbrev pub IsRequestFor : Option Words → Option Request → Type 0
-IsRequestFor words request = (option_map value_of_request request ≡ words) × IfSome request IsRequestInRange
+IsRequestFor args request = (option_map value_of_request request ≡ args) × IfSome request IsRequestInRange
 
--- if the result is no error, it is the request `words`, and there is no misuse; if it is an error, it reports the misuse, or memory ran out
+-- if the result is no error, it is the request `args`, and there is no misuse; if it is an error, it reports the misuse, or memory ran out
 abbrev pub IsRequestRead : Option Words → Option Misuse → Result (Option Request) ArgsError → Type 0
-IsRequestRead words misuse result = IfOk result (IsRequestFor words) × FailsByMisuse misuse result
+IsRequestRead args misuse result = IfOk result (IsRequestFor args) × FailsByMisuse misuse result

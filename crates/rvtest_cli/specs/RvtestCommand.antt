@@ -116,11 +116,11 @@ with_arguments = fold with_argument
 
 -- the `clap` command that has the name and the arguments of this command of the table
 abbrev pub subcommand_app : Subcommand → App
-subcommand_app stated = with_arguments (new_app stated.name.now) stated.arguments.now
+subcommand_app subcommand = with_arguments (new_app subcommand.name.now) subcommand.arguments.now
 
 -- `app` with this command of the table as a further subcommand
 abbrev pub with_table_command : App → Subcommand → App
-with_table_command app stated = with_subcommand app (subcommand_app stated).top
+with_table_command app subcommand = with_subcommand app (subcommand_app subcommand).top
 
 -- `app` with these commands of the table as further subcommands, in order
 abbrev pub with_subcommands : App → List Subcommand → App

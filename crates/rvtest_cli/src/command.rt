@@ -44,35 +44,35 @@ fn top_command<'a>(alloc: Global) -> Built<'a>
 }
 
 // Returns the command with these subcommands added, in order.
-fn with_subcommands<'a>(alloc: Global, command: Built<'a>, stated: &[Subcommand<'a>]) -> Built<'a>
+fn with_subcommands<'a>(alloc: Global, command: Built<'a>, subcommand: &[Subcommand<'a>]) -> Built<'a>
     ensures { (app : App) → HasApp app command.entry
-        → HasApp (with_subcommands app stated.now) result }
+        → HasApp (with_subcommands app subcommand.now) result }
 {
     let mut command = command;
-    for below in stated {
+    for below in subcommand {
         command = with_subcommand(command, subcommand_of_table(alloc, below));
     }
     command
 }
 
 // Returns the `clap` command for this command of the table, with its arguments.
-fn subcommand_of_table<'a>(alloc: Global, stated: &Subcommand<'a>) -> Built<'a>
-    ensures { IsBuilt (subcommand_app stated.now) result }
+fn subcommand_of_table<'a>(alloc: Global, subcommand: &Subcommand<'a>) -> Built<'a>
+    ensures { IsBuilt (subcommand_app subcommand.now) result }
 {
-    let command = bare_command(alloc, stated);
-    with_arguments(alloc, command, stated.arguments)
+    let command = bare_command(alloc, subcommand);
+    with_arguments(alloc, command, subcommand.arguments)
 }
 
 // Returns the `clap` command for this command of the table, without arguments. Its usage begins with `rvtest` and its name.
-fn bare_command<'a>(alloc: Global, stated: &Subcommand<'a>) -> Built<'a>
-    ensures app { IsBuilt (new_app stated.now.name.now) result }
-    ensures usage { HasUsageOf (codes "rvtest " ++ stated.now.name.now) result }
-    ensures after { HasAfterHelp stated.now.after.now result }
+fn bare_command<'a>(alloc: Global, subcommand: &Subcommand<'a>) -> Built<'a>
+    ensures app { IsBuilt (new_app subcommand.now.name.now) result }
+    ensures usage { HasUsageOf (codes "rvtest " ++ subcommand.now.name.now) result }
+    ensures after { HasAfterHelp subcommand.now.after.now result }
 {
-    match usage_text(alloc, stated.name) {
-        Ok(usage) => Command::new(alloc, stated.name)
-            .about(stated.about)
-            .after_help(stated.after)
+    match usage_text(alloc, subcommand.name) {
+        Ok(usage) => Command::new(alloc, subcommand.name)
+            .about(subcommand.about)
+            .after_help(subcommand.after)
             .bin_name(usage.as_str()),
         Err(error) => Err(error),
     }

@@ -67,27 +67,27 @@ pub enum Request<'a> {
 /// `DisplayVersion`.
 pub fn read_words<'a, T: AsStr>(
     alloc: Global,
-    words: &'a [T],
+    args: &'a [T],
 ) -> Result<Option<Request<'a>>, ArgsError>
     // The result is the request that the arguments make.
     ensures value { IfOk result
-        (λ request. option_map value_of_request request ≡ request_of_args (map T.text words.entry.now)) }
+        (λ request. option_map value_of_request request ≡ request_of_args (map T.text args.entry.now)) }
     // Each number is within the range of its argument.
     ensures within { IfOk result (λ request. IfSome request IsRequestInRange) }
     // Arguments fail because of an error that is found in them or because memory runs out; otherwise they have no error.
-    ensures kinds { FailsByKinds (args_error_kinds (map T.text words.entry.now)) result }
+    ensures kinds { FailsByKinds (args_error_kinds (map T.text args.entry.now)) result }
     // If `clap` finds no error, the message says which options cannot be combined.
-    ensures misused { args_errors (map T.text words.entry.now) ≡ []
-        → IfErr result (IsMisuseReported (args_misuse (map T.text words.entry.now))) }
+    ensures misused { args_errors (map T.text args.entry.now) ≡ []
+        → IfErr result (IsMisuseReported (args_misuse (map T.text args.entry.now))) }
 {
-    match words {
+    match args {
         [program, word] if is_help(word.as_str()) => {
             command_help(alloc, &[program.as_str(), "--help"])
         }
         [program, word, topic] if is_command_help(word.as_str(), topic.as_str()) => {
             command_help(alloc, &[program.as_str(), topic.as_str(), "--help"])
         }
-        _ => read_request(alloc, words),
+        _ => read_request(alloc, args),
     }
 }
 
@@ -106,12 +106,12 @@ fn is_command_help(word: &str, topic: &str) -> bool
 }
 
 // Parses arguments that request help with `--help`. Returns the help as an error, as `clap` does.
-fn command_help<'a, T: AsStr>(alloc: Global, words: &[T]) -> Result<Option<Request<'a>>, ArgsError>
+fn command_help<'a, T: AsStr>(alloc: Global, args: &[T]) -> Result<Option<Request<'a>>, ArgsError>
     ensures value { IfOk result (λ request. request ≡ None) }
-    ensures kinds { FailsByKinds (fault_of rvtest_full_app (map T.text words.entry.now)) result }
+    ensures kinds { FailsByKinds (fault_of rvtest_full_app (map T.text args.entry.now)) result }
 {
     let command = rvtest_command(alloc)?;
-    match command.try_get_matches_from(words) {
+    match command.try_get_matches_from(args) {
         Ok(_) => Ok(None),
         Err(error) => Err(ArgsError::from_clap(alloc, &error, FirstArgument::Topic)),
     }
@@ -120,17 +120,17 @@ fn command_help<'a, T: AsStr>(alloc: Global, words: &[T]) -> Result<Option<Reque
 // Parses arguments other than `help` and `help COMMAND`, and returns their request.
 fn read_request<'a, T: AsStr>(
     alloc: Global,
-    words: &'a [T],
+    args: &'a [T],
 ) -> Result<Option<Request<'a>>, ArgsError>
     ensures value { IfOk result
-        (λ request. option_map value_of_request request ≡ matched_request (subcommand_of rvtest_full_app (map T.text words.entry.now))) }
+        (λ request. option_map value_of_request request ≡ matched_request (subcommand_of rvtest_full_app (map T.text args.entry.now))) }
     ensures within { IfOk result (λ request. IfSome request IsRequestInRange) }
-    ensures kinds { FailsByKinds (plain_error_kinds (map T.text words.entry.now)) result }
-    ensures misused { fault_of rvtest_full_app (map T.text words.entry.now) ≡ []
-        → IfErr result (IsMisuseReported (plain_misuse (map T.text words.entry.now))) }
+    ensures kinds { FailsByKinds (plain_error_kinds (map T.text args.entry.now)) result }
+    ensures misused { fault_of rvtest_full_app (map T.text args.entry.now) ≡ []
+        → IfErr result (IsMisuseReported (plain_misuse (map T.text args.entry.now))) }
 {
     let command = rvtest_command(alloc)?;
-    match command.try_get_matches_from(words) {
+    match command.try_get_matches_from(args) {
         Ok(matches) => matched_request(alloc, &matches),
         Err(error) => Err(ArgsError::from_clap(alloc, &error, FirstArgument::Command)),
     }

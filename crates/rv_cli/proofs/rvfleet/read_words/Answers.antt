@@ -12,15 +12,15 @@ returns-in_err-matches-clause-taken g c =
     let error = err_from_is_err_and c.from_residual-in_err-matches.result c.from_residual-in_err-matches.ensures.1 in
     rw (error.1, error.2)
     (λ taken. c.in_err-matches.ensures.passes
-    (ap (λ app. takes app (map g.T.AsStr.text c.args.words.now)) c.in_ok-command.ensures ∙ taken))
+    (ap (λ app. takes app (map g.T.AsStr.text c.args.args.now)) c.in_ok-command.ensures ∙ taken))
 
 pub returns-in-Some-clause-kinds : goal.returns-in-Some-clause-kinds
 returns-in-Some-clause-kinds g c =
-    sym (ap (λ app. fault_of app (map g.T.AsStr.text c.args.words.now)) c.in_ok-command.ensures)
+    sym (ap (λ app. fault_of app (map g.T.AsStr.text c.args.args.now)) c.in_ok-command.ensures)
     ∙ c.in_ok-matches.ensures.kinds (ap is_simple_and_free c.in_ok-command.ensures)
 
 pub returns-in-Some-clause-asked : goal.returns-in-Some-clause-asked
 returns-in-Some-clause-asked g c =
     let value : option_map request c.subcommand_request.result
-    ≡ request_of (map g.T.AsStr.text c.args.words.now) = search rules in
-    some_asked c.subcommand_request.result (map g.T.AsStr.text c.args.words.now) value
+    ≡ request_of (map g.T.AsStr.text c.args.args.now) = search rules in
+    some_asked c.subcommand_request.result (map g.T.AsStr.text c.args.args.now) value

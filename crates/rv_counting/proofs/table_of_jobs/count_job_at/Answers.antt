@@ -13,7 +13,7 @@ pub returns-in_default : goal.returns-in_default
 returns-in_default c = λ d.
     let plan = c.args.plan.now in
     let job = job_at plan c.args.index d in
-    refused_job plan.answers job c.args.counter.now c.requires.ready (λ s start. no_bytes job s plan.answers (sym (c.in_default.ensures d)) start)
+    refused_job plan.results job c.args.counter.now c.requires.ready (λ s start. no_bytes job s plan.results (sym (c.in_default.ensures d)) start)
 
 pub returns-in_default-2 : goal.returns-in_default-2
 returns-in_default-2 c = λ d.
@@ -22,5 +22,5 @@ returns-in_default-2 c = λ d.
     let same = get_or_read plan.jobs c.args.index c.job.result.now c.requires.within c.job.ensures.value d in
     let none = ap (λ (j : Job). result_ok (image_of j.isa c.in-Some.bytes.now)) (sym same)
     ∙ sym c.in_ok-image.ensures.value ∙ c.in_default-2.is in
-    refused_job plan.answers job c.args.counter.now c.requires.ready
-    (λ s start. no_image job s plan.answers c.in-Some.bytes.now (sym (c.in-Some.ensures d)) none start)
+    refused_job plan.results job c.args.counter.now c.requires.ready
+    (λ s start. no_image job s plan.results c.in-Some.bytes.now (sym (c.in-Some.ensures d)) none start)

@@ -16,7 +16,7 @@ use Rattle.rv_counting.proofs.RunCounts.{few_runs, next_job, none_counted_at_odd
 use Rattle.rv_counting.proofs.table_of_jobs.table_of_jobs_at.Goals as goal
 
 pub loop-k-init : goal.loop-k-init
-loop-k-init c = record { within = omega arith; counted = c.in_ok-counter.ensures c.args.plan.now.answers }
+loop-k-init c = record { within = omega arith; counted = c.in_ok-counter.ensures c.args.plan.now.results }
 
 pub loop-k-preserved : goal.loop-k-preserved
 loop-k-preserved c =
@@ -39,7 +39,7 @@ count_job_at-requires-clause-few c =
     let indices = c.args.indices.now in
     let first = take c.loop-k.k indices in
     let runs = c.loop-k.invariant.counted.runs in
-    let few = few_runs plan.answers (jobs_at plan first) in
+    let few = few_runs plan.results (jobs_at plan first) in
     let long = length-map first (λ index. job_at plan index (single_job [] 0 [])) in
     let most = length-take-le c.loop-k.k indices c.loop-k.invariant.within in
     let t = c.loop-k-test.true in
@@ -55,7 +55,7 @@ returns-then-counter-eq0 c =
     let plan = c.args.plan.now in
     let indices = c.args.indices.now in
     let all = take_all c.loop-k.k indices c.loop-k-test.false in
-    let whole = subst (λ ps. HasCountedJobs plan.answers (jobs_at plan ps) c.loop-k.counter) all c.loop-k.invariant.counted in
+    let whole = subst (λ ps. HasCountedJobs plan.results (jobs_at plan ps) c.loop-k.counter) all c.loop-k.invariant.counted in
     nothing_ran plan indices c.empty_table-then-counter-eq0.result c.empty_table-then-counter-eq0.ensures
     (sym whole.runs ∙ c.if-counter-eq0.true)
 
@@ -65,7 +65,7 @@ table_of_runs-requires-clause-ready c = c.loop-k.invariant.counted.ready
 pub table_of_runs-requires-clause-even : goal.table_of_runs-requires-clause-even
 table_of_runs-requires-clause-even c = λ at odd.
     let plan = c.args.plan.now in
-    none_counted_at_odd plan.answers at odd (jobs_at plan (take c.loop-k.k c.args.indices.now)) c.loop-k.counter c.loop-k.invariant.counted
+    none_counted_at_odd plan.results at odd (jobs_at plan (take c.loop-k.k c.args.indices.now)) c.loop-k.counter c.loop-k.invariant.counted
 
 pub table_of_runs-requires-clause-few : goal.table_of_runs-requires-clause-few
 table_of_runs-requires-clause-few c =
@@ -73,7 +73,7 @@ table_of_runs-requires-clause-few c =
     let indices = c.args.indices.now in
     let first = take c.loop-k.k indices in
     let runs = c.loop-k.invariant.counted.runs in
-    let few = few_runs plan.answers (jobs_at plan first) in
+    let few = few_runs plan.results (jobs_at plan first) in
     let long = length-map first (λ index. job_at plan index (single_job [] 0 [])) in
     let most = length-take-le c.loop-k.k indices c.loop-k.invariant.within in
     let within = c.loop-k.invariant.within in
@@ -92,7 +92,7 @@ returns c =
     let low = All-get_or (λ (index : ℕ). index < length plan.jobs) indices 0 0 c.requires.some c.requires.within in
     let read = get_or_read plan.jobs first c.job.result.now low c.job.ensures.value no_job in
     let all = take_all c.loop-k.k indices c.loop-k-test.false in
-    let whole = subst (λ ps. HasCountedJobs plan.answers (jobs_at plan ps) counter) all c.loop-k.invariant.counted in
+    let whole = subst (λ ps. HasCountedJobs plan.results (jobs_at plan ps) counter) all c.loop-k.invariant.counted in
     let other = c.if-counter-eq0.false in
     both_ok c.table_of_runs.result
     (λ table. (addresses : List AddressCounts) × IsSorted (counts_of counter.counter) addresses

@@ -7,5 +7,5 @@ use Rattle.rv_counting.proofs.table_of_jobs.table_of_jobs_at.Given as goal
 abbrev pub invariant-loop-k : goal.invariant-loop-k
 invariant-loop-k l = record {
   within : l.k ≤ length l.indices;
-  counted : HasCountedJobs l.plan.answers (jobs_at l.plan (take l.k l.indices)) l.counter;
+  counted : HasCountedJobs l.plan.results (jobs_at l.plan (take l.k l.indices)) l.counter;
 }

@@ -13,5 +13,5 @@ loop-index-preserved c =
     let i = c.loop-index.index-index in
     let index = get_or indices i 0 in
     c.in_ok-push_image_at.ensures (single_job [] 0 [])
-    ∙ ap (λ images. with_image_of plan.answers images (job_at plan index (single_job [] 0 []))) c.loop-index.invariant
+    ∙ ap (λ images. with_image_of plan.results images (job_at plan index (single_job [] 0 []))) c.loop-index.invariant
     ∙ sym (images_more plan indices i index c.loop-index-test.true (get_or_default indices i 0 index c.loop-index-test.true))

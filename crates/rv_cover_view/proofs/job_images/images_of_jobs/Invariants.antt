@@ -5,4 +5,4 @@ use Rattle.rv_cover_view.proofs.job_images.images_of_jobs.Given as goal
 
 abbrev pub invariant-loop-index : goal.invariant-loop-index
 invariant-loop-index l =
-    images_of_files l.files.items ≡ images_of l.plan.answers (jobs_at l.plan (take l.index-index l.indices))
+    images_of_files l.files.items ≡ images_of l.plan.results (jobs_at l.plan (take l.index-index l.indices))

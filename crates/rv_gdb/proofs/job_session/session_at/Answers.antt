@@ -11,7 +11,7 @@ use Rattle.rv_gdb.proofs.job_session.session_at.Goals as goal
 pub returns-in_default : goal.returns-in_default
 returns-in_default c = λ d.
     let plan = c.args.plan.now in
-    no_bytes plan.answers (job_at plan c.args.index d) (sym (c.in_default.ensures d))
+    no_bytes plan.results (job_at plan c.args.index d) (sym (c.in_default.ensures d))
 
 pub returns-in_default-2 : goal.returns-in_default-2
 returns-in_default-2 c = λ d.
@@ -20,4 +20,4 @@ returns-in_default-2 c = λ d.
     let same = get_or_read plan.jobs c.args.index c.job-job.result.now c.requires c.job-job.ensures.value d in
     let none = ap (λ (j : Job). result_ok (image_of j.isa c.in-Some.bytes.now)) (sym same)
     ∙ sym c.in_ok-image.ensures.value ∙ c.in_default-2.is in
-    no_image plan.answers job c.in-Some.bytes.now (sym (c.in-Some.ensures d)) none
+    no_image plan.results job c.in-Some.bytes.now (sym (c.in-Some.ensures d)) none

@@ -12,7 +12,7 @@ use Rattle.rv_gdb.proofs.job_session.session_of_image.Goals as goal
 pub invariant_of-start-clause-even : goal.invariant_of-start-clause-even
 invariant_of-start-clause-even c =
     let d = c.job-job.result.now in
-    even_of c.args.plan.now.answers (job_at c.args.plan.now c.args.index d) c.args.image.now c.args.program.image (c.requires.bytes d)
+    even_of c.args.plan.now.results (job_at c.args.plan.now c.args.index d) c.args.image.now c.args.program.image (c.requires.bytes d)
     (c.requires.image d)
 
 pub invariant_of-start-clause-aligned : goal.invariant_of-start-clause-aligned
@@ -22,7 +22,7 @@ invariant_of-start-clause-aligned c =
     let job = job_at plan c.args.index d in
     let same = get_or_read plan.jobs c.args.index c.job-job.result.now c.requires.index c.job-job.ensures.value d in
     rw (ap (λ (j : Job). j.isa) same)
-    (aligned_of plan.answers job c.args.image.now c.args.program.image (c.requires.bytes d) (c.requires.image d))
+    (aligned_of plan.results job c.args.image.now c.args.program.image (c.requires.bytes d) (c.requires.image d))
 
 pub returns-in_ok-new-in-Ok : goal.returns-in_ok-new-in-Ok
 returns-in_ok-new-in-Ok c = λ d.
@@ -36,10 +36,10 @@ returns-in_ok-new-in-Ok c = λ d.
       bus = c.into_bus-bus.result;
       entry = c.args.image.now.entry;
       isa = c.job-job.result.now.isa;
-      even = even_of plan.answers job c.args.image.now c.args.program.image bytes image;
-      aligned = rw isa (aligned_of plan.answers job c.args.image.now c.args.program.image bytes image);
+      even = even_of plan.results job c.args.image.now c.args.program.image bytes image;
+      aligned = rw isa (aligned_of plan.results job c.args.image.now c.args.program.image bytes image);
     } in
-    opened plan.answers job c.args.image.now (state_of c.in-Ok.machine) start c.job-job.result.now.budget
+    opened plan.results job c.args.image.now (state_of c.in-Ok.machine) start c.job-job.result.now.budget
     c.args.program.path c.args.program.image c.in_ok-new-in-Ok.field-0
     (rw c.in-Ok.is at (c.in_ok-machine.ensures d)) image bytes
     c.into_bus-bus.ensures refl isa (ap (λ (j : Job). j.budget) same) c.in_ok-new-in-Ok.ensures

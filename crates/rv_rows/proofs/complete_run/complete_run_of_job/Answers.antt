@@ -9,7 +9,7 @@ pub complete_run_of_file-requires-clause-way : goal.complete_run_of_file-require
 complete_run_of_file-requires-clause-way c =
     let job = c.job.result.now in
     let way = c.requires.way job in
-    let listed : start_of job c.image.result.now _ _ ≡ start_state_in c.args.plan.now.answers (slice_index_or c.args.plan.now.jobs c.args.i job) =
+    let listed : start_of job c.image.result.now _ _ ≡ start_state_in c.args.plan.now.results (slice_index_or c.args.plan.now.jobs c.args.i job) =
     λ k. start_of (c.job.ensures.value k) (c.image.ensures job k) (c.reference.ensures job k) (c.console_reference.ensures job k) in
     record {
       first = way.first;

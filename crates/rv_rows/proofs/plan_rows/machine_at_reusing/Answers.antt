@@ -12,5 +12,5 @@ machine_of_image-requires-clause-image c =
     let listed = slice_index_or c.args.plan.now.jobs c.args.i job in
     image_is_read job.isa c.image.result.now _ _ c.in-Ok.file.now c.args.image.now c.in-Ok.ensures
     (ap (λ (kept : Kept). image_if_read job.isa (content_if_read (Some kept))) (c.image.ensures job)
-    ∙ ap (λ (one : Job). image_if_read one.isa (content_if_read (Some (result_or_unreadable c.args.plan.now.answers listed.image))))
+    ∙ ap (λ (one : Job). image_if_read one.isa (content_if_read (Some (result_or_unreadable c.args.plan.now.results listed.image))))
     c.job.ensures.value ∙ c.requires.image job)

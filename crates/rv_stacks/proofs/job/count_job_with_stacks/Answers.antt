@@ -28,7 +28,7 @@ returns-in_ok-count_with_stacks-in-Ok-clause-table c =
     let plan = c.args.job.now.plan.now in
     let d = c.job.result.now in
     counts_even _ (state_of c.in-Ok.machine) c.in_ok-count_with_stacks-in-Ok.field-0.0 c.in_ok-count_with_stacks-in-Ok.ensures.counts
-    (start_even (get_or plan.jobs c.args.job.now.place d) (state_of c.in-Ok.machine) plan.answers (start d))
+    (start_even (get_or plan.jobs c.args.job.now.place d) (state_of c.in-Ok.machine) plan.results (start d))
 
 pub returns-in_ok-count_with_stacks-in-Ok-clause-budget : goal.returns-in_ok-count_with_stacks-in-Ok-clause-budget
 returns-in_ok-count_with_stacks-in-Ok-clause-budget c d = λ s start.

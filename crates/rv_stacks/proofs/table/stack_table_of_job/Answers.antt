@@ -26,8 +26,8 @@ returns-in_default c =
     let job = job_at plan c.args.index d in
     let table = c.empty_table.result in
     counts_and_stacks plan (c.args.index ∷ []) table
-    (refused plan.answers job table c.empty_table.ensures
-    (λ s start. no_bytes job s plan.answers (sym (c.in_default.ensures d)) start))
+    (refused plan.results job table c.empty_table.ensures
+    (λ s start. no_bytes job s plan.results (sym (c.in_default.ensures d)) start))
 
 pub returns-in_default-2 : goal.returns-in_default-2
 returns-in_default-2 c =
@@ -39,8 +39,8 @@ returns-in_default-2 c =
     ∙ sym c.in_ok-image.ensures.value ∙ c.in_default-2.is in
     let table = c.empty_table-in_default-2.result in
     counts_and_stacks plan (c.args.index ∷ []) table
-    (refused plan.answers job table c.empty_table-in_default-2.ensures
-    (λ s start. no_image job s plan.answers c.in-Some.bytes.now (sym (c.in-Some.ensures d)) none start))
+    (refused plan.results job table c.empty_table-in_default-2.ensures
+    (λ s start. no_image job s plan.results c.in-Some.bytes.now (sym (c.in-Some.ensures d)) none start))
 
 read_as : (r : Result Image ImageError) (image : Image) → result_ok r ≡ Some image → r ≡ Ok image
 read_as (Ok i) image e = cc
@@ -81,13 +81,13 @@ returns-in-Some-3 c =
     its_image is in
     let of_file = subst (λ (b : List ℕ). IsTableOfRun (name_of_function image b) c.as_str.result.now b addresses nodes t) its_bytes of_image in
     let both = subst (λ (o : Option (List AddressCounts × List CallNode)). AreCountsAndStacksOfJob (function_at symbols.image.now symbols.bytes.now) job.budget
-    (start_state_in plan.answers job) o) c.in-Some-3.is (c.in_ok-addresses.ensures.both d) in
-    let by_image = subst (λ (i : Image). AreCountsAndStacksOfJob (function_at i symbols.bytes.now) job.budget (start_state_in plan.answers job) (Some (addresses, nodes)))
+    (start_state_in plan.results job) o) c.in-Some-3.is (c.in_ok-addresses.ensures.both d) in
+    let by_image = subst (λ (i : Image). AreCountsAndStacksOfJob (function_at i symbols.bytes.now) job.budget (start_state_in plan.results job) (Some (addresses, nodes)))
     its_image both in
     counts_and_stacks plan (c.args.index ∷ []) t
-    (ran plan.answers job file image bytes read addresses nodes t
+    (ran plan.results job file image bytes read addresses nodes t
     (subst (λ (p : List ℕ). IsTableOfRun (name_of_function image file) p file addresses nodes t) path of_file)
-    (subst (λ (b : List ℕ). AreCountsAndStacksOfJob (function_at image b) job.budget (start_state_in plan.answers job) (Some (addresses, nodes))) its_bytes by_image)
+    (subst (λ (b : List ℕ). AreCountsAndStacksOfJob (function_at image b) job.budget (start_state_in plan.results job) (Some (addresses, nodes))) its_bytes by_image)
     (c.in_ok-addresses.ensures.budget d)))
     c.table_of_run.ensures
 
@@ -98,9 +98,9 @@ returns c =
     let job = job_at plan c.args.index d in
     let symbols = c.in_ok-symbols.symbols in
     let function = function_at symbols.image.now symbols.bytes.now in
-    let none = subst (λ (o : Option (List AddressCounts × List CallNode)). AreCountsAndStacksOfJob function job.budget (start_state_in plan.answers job) o)
+    let none = subst (λ (o : Option (List AddressCounts × List CallNode)). AreCountsAndStacksOfJob function job.budget (start_state_in plan.results job) o)
     c.in-None.is (c.in_ok-addresses.ensures.both d) in
     let table = c.empty_table-in-None.result in
     counts_and_stacks plan (c.args.index ∷ []) table
-    (refused plan.answers job table c.empty_table-in-None.ensures
-    (λ s start. none_if_unstacked function job.budget (start_state_in plan.answers job) s none start))
+    (refused plan.results job table c.empty_table-in-None.ensures
+    (λ s start. none_if_unstacked function job.budget (start_state_in plan.results job) s none start))

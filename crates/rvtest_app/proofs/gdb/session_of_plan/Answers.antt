@@ -18,5 +18,5 @@ returns c =
     let same = get_or_read plan.jobs c.args.index c.job.result.now c.requires c.job.ensures.value d in
     let path = c.in_ok-path.ensures
     ∙ ap (resolved_path (optional_text c.args.root)) (c.as_str.ensures ∙ ap (λ (j : Job). j.image) same) in
-    subst (λ (p : List ℕ). MatchOption found (is_ok (start_state_in plan.answers job) ≡ false) (IsSessionOf plan.answers job p)) path
+    subst (λ (p : List ℕ). MatchOption found (is_ok (start_state_in plan.results job) ≡ false) (IsSessionOf plan.results job p)) path
     (over d)) c.session_at.ensures

@@ -12,7 +12,7 @@ use Rattle.rvtest_app.proofs.program.run_rvtest.Goals.{in-Ok-Some, in-Ok-None, i
 
 answered : (g : Over) (c : goal.Joined-drop g) → IsCarriedOut (g.D.Inputs.contents c.args.host.now.inputs.now)
     (g.I.Read.remaining c.args.input.now) c.args.terminals.is_out_terminal c.args.terminals.is_out_colored
-    (map g.T.AsStr.text c.args.words.now) c.in-Ok.status
+    (map g.T.AsStr.text c.args.args.now) c.in-Ok.status
     (outputs_of g.F.Outputs.committed g.O.Sink.accepted g.E.Sink.accepted g.E.Sink.failure_count c.args.to)
     (outputs_of g.F.Outputs.committed g.O.Sink.accepted g.E.Sink.accepted g.E.Sink.failure_count c.match-read_words.to.0)
 answered g c =
@@ -20,7 +20,7 @@ answered g c =
     let rest = g.I.Read.remaining c.args.input.now in
     let is_terminal = c.args.terminals.is_out_terminal in
     let is_colored = c.args.terminals.is_out_colored in
-    let args = map g.T.AsStr.text c.args.words.now in
+    let args = map g.T.AsStr.text c.args.args.now in
     let before = outputs_of g.F.Outputs.committed g.O.Sink.accepted g.E.Sink.accepted g.E.Sink.failure_count c.args.to in
     let after = outputs_of g.F.Outputs.committed g.O.Sink.accepted g.E.Sink.accepted g.E.Sink.failure_count c.match-read_words.to.0 in
     let all : IfOk c.match-read_words.to.1 (λ status. IsCarriedOut contents rest is_terminal is_colored args status before after) =
@@ -48,7 +48,7 @@ pub returns-clause-ended : goal.returns-clause-ended
 returns-clause-ended g c =
     let contents = g.D.Inputs.contents c.args.host.now.inputs.now in
     let is_terminal = c.args.terminals.is_out_terminal in
-    let args = map g.T.AsStr.text c.args.words.now in
+    let args = map g.T.AsStr.text c.args.args.now in
     let stopped : IfErr c.match-read_words.to.1 (IsProgramStop contents is_terminal args) = elim c.match-read_words.branch [
       | in-Ok-Some w ↦
           (let request = rw w.in-Ok-Some.field-0-is at w.in-Ok-Some.ensures.value in

@@ -7,10 +7,10 @@ pub returns-in-Nowhere-clause-written : goal.returns-in-Nowhere-clause-written
 returns-in-Nowhere-clause-written g c = λ path earlier has.
     written_where_told earlier path _ _ _ (written_nowhere path _ _ (rw c.in-Nowhere.is at has))
 
-pub returns-in-Out-clause-written : goal.returns-in-Out-clause-written
-returns-in-Out-clause-written g c = λ path earlier has.
+pub returns-in-Stdout-clause-written : goal.returns-in-Stdout-clause-written
+returns-in-Stdout-clause-written g c = λ path earlier has.
     OnOk-map c.write_results.result _ _
-    (λ out. written_where_told earlier path _ _ _ (written_out path _ _ _ (rw c.in-Out.is at has) out refl refl refl))
+    (λ out. written_where_told earlier path _ _ _ (written_out path _ _ _ (rw c.in-Stdout.is at has) out refl refl refl))
     c.write_results.ensures.put
 
 pub returns-in-File-clause-written : goal.returns-in-File-clause-written

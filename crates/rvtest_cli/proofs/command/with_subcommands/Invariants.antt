@@ -6,4 +6,4 @@ use Rattle.rvtest_cli.proofs.command.with_subcommands.Given as goal
 
 abbrev pub invariant-loop-below : goal.invariant-loop-below
 invariant-loop-below l = (app : App) → HasApp app l.initial.command
-    → HasApp (with_subcommands app (take l.below-index l.stated)) l.command
+    → HasApp (with_subcommands app (take l.below-index l.subcommand)) l.command

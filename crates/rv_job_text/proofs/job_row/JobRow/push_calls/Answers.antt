@@ -23,9 +23,9 @@ returns-in-Some-2 c =
     let elf = c.in-Some.elf in
     let calls = c.in-Some-2.calls in
     told_of_each _ _ _ _ (λ d. calls_lines plan (job d))
-    (λ d. sym (text_in_read_file (job d).isa (image_bytes plan.answers (job d)) elf.bytes.now elf.image.now
+    (λ d. sym (text_in_read_file (job d).isa (image_bytes plan.results (job d)) elf.bytes.now elf.image.now
     (sym (told.bytes d) ∙ c.in-Some.ensures.1)
     (read_for _ _ _ _ (c.in-Some.ensures.0 ∙ told.isa d) elf.read) (λ image bytes. calls_text image bytes calls))
-    ∙ ap (λ shown. optional_calls_text (job d).isa (image_bytes plan.answers (job d)) shown)
+    ∙ ap (λ shown. optional_calls_text (job d).isa (image_bytes plan.results (job d)) shown)
     (sym c.in-Some-2.is ∙ c.in_ok-calls.ensures d))
     c.push_calls_text.ensures

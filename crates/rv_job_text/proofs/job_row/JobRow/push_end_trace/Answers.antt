@@ -24,9 +24,9 @@ returns-in-Some-2 c =
     let end = told.row.now.ending in
     let trace = c.in-Some-2.trace in
     told_of_each _ _ _ _ (λ d. end_trace_lines plan (job d) told.row.now c.args.last)
-    (λ d. sym (text_in_read_file (job d).isa (image_bytes plan.answers (job d)) elf.bytes.now elf.image.now
+    (λ d. sym (text_in_read_file (job d).isa (image_bytes plan.results (job d)) elf.bytes.now elf.image.now
     (sym (told.bytes d) ∙ c.in-Some.ensures.1)
     (read_for _ _ _ _ (c.in-Some.ensures.0 ∙ told.isa d) elf.read) (λ image bytes. trace_text image bytes trace end))
-    ∙ ap (λ shown. optional_trace_text (job d).isa (image_bytes plan.answers (job d)) end shown)
+    ∙ ap (λ shown. optional_trace_text (job d).isa (image_bytes plan.results (job d)) end shown)
     (sym c.in-Some-2.is ∙ c.in_ok-trace.ensures d))
     c.push_trace.ensures

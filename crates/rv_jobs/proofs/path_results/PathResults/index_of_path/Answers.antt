@@ -9,5 +9,5 @@ pub returns : goal.returns
 returns c =
     c.copied.ensures ∙ c.get.ensures.value ∙ c.self.invariant.places c.args.path.now
     ∙ ap (λ l. index_in l c.args.path.now)
-    (sym (paths-with (paths_in c.self.inside) c.self.inside.answers.items c.self.invariant.even)
+    (sym (paths-with (paths_in c.self.inside) c.self.inside.results.items c.self.invariant.even)
     ∙ ap paths_of c.self.view_is)

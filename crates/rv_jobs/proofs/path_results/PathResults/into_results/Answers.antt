@@ -5,5 +5,5 @@ use Rattle.rv_jobs.proofs.Answering.{kept-with}
 use Rattle.rv_jobs.proofs.path_results.PathResults.into_results.Goals as goal
 
 pub returns : goal.returns
-returns c = kept-with (paths_in c.self.inside) c.self.inside.answers.items c.self.invariant.even
+returns c = kept-with (paths_in c.self.inside) c.self.inside.results.items c.self.invariant.even
     ∙ ap (map (λ (a : PathResult). a.kept)) c.self.view_is

@@ -31,19 +31,19 @@ invariant_of-asked g c =
 pub returns-in-Some-clause-place : goal.returns-in-Some-clause-place
 returns-in-Some-clause-place g c =
     ap (λ l. index_in l c.args.path.now)
-    (paths-with (paths_in c.self.inside) c.self.inside.answers.items c.self.invariant.even)
+    (paths-with (paths_in c.self.inside) c.self.inside.results.items c.self.invariant.even)
     ∙ sym (c.self.invariant.places c.args.path.now) ∙ sym c.in_ok-place.ensures.old ∙ c.in-Some.is
 
 pub returns-in-Some-clause-paths : goal.returns-in-Some-clause-paths
 returns-in-Some-clause-paths g c =
-    let xs = paths_of (results_with (paths_in c.self.inside) c.self.inside.answers.items) in
+    let xs = paths_of (results_with (paths_in c.self.inside) c.self.inside.results.items) in
     with_path-old xs c.args.path.now (ap is_some (returns-in-Some-clause-place g c))
     ∙ ap (λ (a : List PathResult). with_path (paths_of a) c.args.path.now) c.self.view_is
 
 pub invariant_of-asked-2 : goal.invariant_of-asked-2
 invariant_of-asked-2 g c =
     let ps = paths_in c.self.inside in
-    let ks = c.self.inside.answers.items in
+    let ks = c.self.inside.results.items in
     let p = c.args.path.now in
     let none = not_placed ps p c.in_ok-place.field-0 _ (c.self.invariant.places p) c.in_ok-place.ensures.old
     c.in_default.not-Some in
@@ -57,7 +57,7 @@ invariant_of-asked-2 g c =
           (map (λ (q : Bor (List ℕ)). q.now) c.push-2.new.self.items) p
           c.len-next.result (hash_map_updates_str p c.self.inside.places c.insert.new.self _
           c.in_ok-place.ensures.updates)
-          (c.len-next.ensures ∙ c.self.inside.answers.ok.0 ∙ sym c.self.invariant.even) c.self.invariant.places none
+          (c.len-next.ensures ∙ c.self.inside.results.ok.0 ∙ sym c.self.invariant.even) c.self.invariant.places none
           pathed;
     }
 
@@ -69,7 +69,7 @@ returns-clause-paths g c =
     c.in_default.not-Some in
     let pathed = ap (map (λ (q : Bor (List ℕ)). q.now)) c.in_ok-push-2.ensures.items
     ∙ map-append (λ (q : Bor (List ℕ)). q.now) c.self.inside.paths.items (c.args.path ∷ []) in
-    asked_paths ps (map (λ (q : Bor (List ℕ)). q.now) c.push-2.new.self.items) c.self.inside.answers.items
+    asked_paths ps (map (λ (q : Bor (List ℕ)). q.now) c.push-2.new.self.items) c.self.inside.results.items
     c.push.new.self.items p c.in_ok-kept.kept c.self.invariant.even pathed c.in_ok-push.ensures.items c.args.self
     c.self.view_is none
 
@@ -81,17 +81,17 @@ returns-clause-place g c =
     c.in_default.not-Some in
     let pathed = ap (map (λ (q : Bor (List ℕ)). q.now)) c.in_ok-push-2.ensures.items
     ∙ map-append (λ (q : Bor (List ℕ)). q.now) c.self.inside.paths.items (c.args.path ∷ []) in
-    asked_place ps (map (λ (q : Bor (List ℕ)). q.now) c.push-2.new.self.items) c.self.inside.answers.items
+    asked_place ps (map (λ (q : Bor (List ℕ)). q.now) c.push-2.new.self.items) c.self.inside.results.items
     c.push.new.self.items p c.in_ok-kept.kept c.self.invariant.even pathed c.in_ok-push.ensures.items c.args.self
     c.self.view_is
-    c.len-next.result none (c.len-next.ensures ∙ c.self.inside.answers.ok.0)
+    c.len-next.result none (c.len-next.ensures ∙ c.self.inside.results.ok.0)
 
 pub returns-clause-kept : goal.returns-clause-kept
 returns-clause-kept g c =
     let ps = paths_in c.self.inside in
     let pathed = ap (map (λ (q : Bor (List ℕ)). q.now)) c.in_ok-push-2.ensures.items
     ∙ map-append (λ (q : Bor (List ℕ)). q.now) c.self.inside.paths.items (c.args.path ∷ []) in
-    asked_kept ps (map (λ (q : Bor (List ℕ)). q.now) c.push-2.new.self.items) c.self.inside.answers.items
+    asked_kept ps (map (λ (q : Bor (List ℕ)). q.now) c.push-2.new.self.items) c.self.inside.results.items
     c.push.new.self.items c.args.path.now c.in_ok-kept.kept c.self.invariant.even pathed c.in_ok-push.ensures.items
     c.args.self c.self.view_is
     (g.S.Store.contents c.args.store.now) c.in_ok-kept.ensures.kept
@@ -101,7 +101,7 @@ returns-clause-faults g c = λ n before.
     let ps = paths_in c.self.inside in
     let pathed = ap (map (λ (q : Bor (List ℕ)). q.now)) c.in_ok-push-2.ensures.items
     ∙ map-append (λ (q : Bor (List ℕ)). q.now) c.self.inside.paths.items (c.args.path ∷ []) in
-    asked_faults ps (map (λ (q : Bor (List ℕ)). q.now) c.push-2.new.self.items) c.self.inside.answers.items
+    asked_faults ps (map (λ (q : Bor (List ℕ)). q.now) c.push-2.new.self.items) c.self.inside.results.items
     c.push.new.self.items c.args.path.now c.in_ok-kept.kept c.self.invariant.even pathed c.in_ok-push.ensures.items
     c.args.self c.self.view_is
     n (g.S.Store.fault_count c.args.store.now) (g.S.Store.fault_count c.read_path.new.store) before c.in_ok-kept.ensures.counted

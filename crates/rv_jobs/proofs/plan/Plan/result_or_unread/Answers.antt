@@ -7,18 +7,18 @@ use Rattle.rv_jobs.proofs.plan.Plan.result_or_unread.Goals as goal
 
 pub index-requires : goal.index-requires
 index-requires c =
-    subst (λ n. c.in-Some.place < n) (sym c.self.inside.answers.ok.0)
-    (kept_below c.args.self.now.answers (paths_read c.self.inside) c.self.inside.answers.items c.self.invariant.even
-    (ap (λ (p : PlanView). p.answers) c.self.view_is) c.args.index c.in-Some.place c.in-Some.is c.requires)
+    subst (λ n. c.in-Some.place < n) (sym c.self.inside.results.ok.0)
+    (kept_below c.args.self.now.results (paths_read c.self.inside) c.self.inside.results.items c.self.invariant.even
+    (ap (λ (p : PlanView). p.results) c.self.view_is) c.args.index c.in-Some.place c.in-Some.is c.requires)
 
 pub returns-in-Some : goal.returns-in-Some
 returns-in-Some c = λ path placed.
-    kept_in c.args.self.now.answers (paths_read c.self.inside) c.self.inside.answers.items c.self.invariant.even
-    (ap (λ (p : PlanView). p.answers) c.self.view_is) c.args.index c.in-Some.place c.index.result.now path c.in-Some.is
+    kept_in c.args.self.now.results (paths_read c.self.inside) c.self.inside.results.items c.self.invariant.even
+    (ap (λ (p : PlanView). p.results) c.self.view_is) c.args.index c.in-Some.place c.index.result.now path c.in-Some.is
     c.index.ensures placed
 
 pub returns-in-None : goal.returns-in-None
 returns-in-None c = λ path placed.
-    kept_not_in c.args.self.now.answers (paths_read c.self.inside) c.self.inside.answers.items c.self.invariant.even
-    (ap (λ (p : PlanView). p.answers) c.self.view_is) c.args.index c.self.inside.unread path c.in-None.is
+    kept_not_in c.args.self.now.results (paths_read c.self.inside) c.self.inside.results.items c.self.invariant.even
+    (ap (λ (p : PlanView). p.results) c.self.view_is) c.args.index c.self.inside.unread path c.in-None.is
     c.self.invariant.unread placed

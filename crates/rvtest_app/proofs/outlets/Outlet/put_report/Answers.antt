@@ -11,8 +11,8 @@ pub returns-in-File-clause-part : goal.returns-in-File-clause-part
 returns-in-File-clause-part g c =
     OnErr-from c.file_result.result _ (rw c.in-File.is (begins_nothing (g.O.Sink.accepted c.args.out.now)))
 
-pub returns-in-Out-clause-stopped : goal.returns-in-Out-clause-stopped
-returns-in-Out-clause-stopped g c = rw c.in-Out.is (stdout_stop c.write.result c.stdout_result.result c.stdout_result.ensures.stopped)
+pub returns-in-Stdout-clause-stopped : goal.returns-in-Stdout-clause-stopped
+returns-in-Stdout-clause-stopped g c = rw c.in-Stdout.is (stdout_stop c.write.result c.stdout_result.result c.stdout_result.ensures.stopped)
 
 pub returns-in-File-clause-stopped : goal.returns-in-File-clause-stopped
 returns-in-File-clause-stopped g c =

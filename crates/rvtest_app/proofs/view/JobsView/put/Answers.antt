@@ -28,8 +28,8 @@ returns-in-Some-clause-put g c =
     })
     (rw c.as_slice-in-Some.ensures.value at c.write_selected.ensures.put)
 
-pub returns-in-Some-clause-low : goal.returns-in-Some-clause-low
-returns-in-Some-clause-low g c =
+pub returns-in-Some-clause-status_bound : goal.returns-in-Some-clause-status_bound
+returns-in-Some-clause-status_bound g c =
     IfOk-map c.write_selected.result _ _ (λ status put. omega (arith, put.0)) c.write_selected.ensures.put
 
 pub returns-in-Some-clause-stopped : goal.returns-in-Some-clause-stopped

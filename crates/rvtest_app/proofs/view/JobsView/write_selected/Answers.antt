@@ -5,7 +5,7 @@ use Rattle.rvtest_app.proofs.ViewAnswers.{all_small}
 use Rattle.rvtest_app.proofs.view.JobsView.write_selected.Goals as goal
 
 pub view_of_jobs-requires-clause-small : goal.view_of_jobs-requires-clause-small
-view_of_jobs-requires-clause-small g c = λ _ _. all_small _ c.in_ok-plan.plan.answers c.in_ok-plan.ensures.kept
+view_of_jobs-requires-clause-small g c = λ _ _. all_small _ c.in_ok-plan.plan.results c.in_ok-plan.ensures.kept
 
 pub returns-in_err-text-clause-stopped : goal.returns-in_err-text-clause-stopped
 returns-in_err-text-clause-stopped g c =
