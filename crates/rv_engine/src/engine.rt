@@ -70,7 +70,7 @@ pub fn run_jobs<
         alloc: crew.alloc,
         work,
         group: crew.group,
-        in_order: Mutex::new(DeliveryState::<J, H, L>::new(listener, pending)),
+        delivery: Mutex::new(DeliveryState::<J, H, L>::new(listener, pending)),
     };
     let ran = run_workers(crew, &shop, pieces);
     let (listener, rest) = shop.delivery.into_inner().into_parts();

@@ -19,7 +19,7 @@ pub(crate) struct WorkerContext<'a, J: RunSpec<H>, H: Drop, R, W: Work<H>, L: Li
     pub(crate) alloc: Global,
     pub(crate) work: &'a W,
     pub(crate) group: u32,
-    pub(crate) in_order: Mutex<DeliveryState<J, H, L>>,
+    pub(crate) delivery: Mutex<DeliveryState<J, H, L>>,
     pub(crate) ghost group_in_range: { (0 < group) × (group ≤ max_group) },
     pub(crate) ghost jobs: { J.jobs ≡ W.jobs work.now },
     pub(crate) ghost pieces: { J.group ≡ group },
@@ -50,13 +50,13 @@ impl<
                 piece,
                 &mut worker_state,
             );
-            let mut in_order = self.delivery.lock(self.rt);
+            let mut delivery = self.delivery.lock(self.rt);
             match made {
-                Ok(results) => if let Flow::Stop = in_order.receive_chunk(piece, results) {
+                Ok(results) => if let Flow::Stop = delivery.receive_chunk(piece, results) {
                     return Ok(());
                 },
                 Err(error) => {
-                    in_order.abort();
+                    delivery.abort();
                     return Err(error);
                 }
             }

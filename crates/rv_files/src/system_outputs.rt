@@ -201,9 +201,9 @@ where
     // returns none: it is written directly and stays.
     fn replaced_files(&self, alloc: Global, path: &str) -> Result<Vec<Text>, FileError> {
         match temporary_and_final_path(self.files, alloc, path)? {
-            Some(places) => {
-                check_destination(self.files, &places)?;
-                Ok(places.identities(self.files, alloc)?)
+            Some(paths) => {
+                check_destination(self.files, &paths)?;
+                Ok(paths.identities(self.files, alloc)?)
             }
             None => Ok(Vec::new(alloc)),
         }
@@ -260,8 +260,8 @@ where
     // Removes the temporary file of a destination, if there is one.
     fn abandon(&mut self, place: PendingFile) {
         if let Some(paths) = &place.paths {
-            let _ = self.files.remove_file(places.temporary.as_str());
-            self.remove_uncommitted(places.temporary.as_str());
+            let _ = self.files.remove_file(paths.temporary.as_str());
+            self.remove_uncommitted(paths.temporary.as_str());
         }
     }
 }

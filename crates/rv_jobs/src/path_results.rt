@@ -43,11 +43,11 @@ impl<'a> Model for PathResults<'a> {
 impl<'a> PathResults<'a> {
     /// Returns an empty list of results, with room to look up `capacity` paths.
     pub(crate) fn new(alloc: Global, capacity: usize) -> Result<PathResults<'a>, AllocError>
-        ensures { IfOk result (λ answers. answers ≡ []) }
+        ensures { IfOk result (λ results. results ≡ []) }
     {
         let places = HashMap::with_capacity_and_hasher(alloc, capacity, BuildHasherDefault::new())?;
         Ok(PathResults {
-            answers: Vec::new(alloc),
+            results: Vec::new(alloc),
             paths: Vec::new(alloc),
             places,
         })
@@ -71,25 +71,25 @@ impl<'a> PathResults<'a> {
             → IfOk result (λ a. S.fault_count store.new ≡ after_increments n (unreadable_count a.0)) }
     {
         let PathResults {
-            mut answers,
+            mut results,
             mut paths,
             mut places,
         } = self;
-        let next = answers.len();
+        let next = results.len();
         if let Some(place) = places.insert(path, next)? {
             places.insert(path, place)?;
             let asked = PathResults {
-                answers,
+                results,
                 paths,
                 places,
             };
             return Ok((asked, place));
         }
         let kept = read_path(alloc, store, path)?;
-        answers.push(kept)?;
+        results.push(kept)?;
         paths.push(path)?;
         let asked = PathResults {
-            answers,
+            results,
             paths,
             places,
         };

@@ -82,11 +82,11 @@ pub fn gather_jobs<S: Store>(
         asked = asked.read_paths_for_row(alloc, store, jobs.as_slice(), *place, &mut noted)?;
     }
     let found = result_indices(alloc, &asked, jobs.as_slice(), noted.as_slice())?;
-    let answers = asked.into_results();
+    let results = asked.into_results();
     Ok(Plan {
         jobs,
         chosen: places,
-        answers,
+        results,
         found,
         unread: Kept::Unreadable,
     })

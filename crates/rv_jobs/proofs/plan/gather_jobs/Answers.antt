@@ -49,7 +49,7 @@ invariant_of-result g c =
     record {
       jobs = c.as_slice.ensures.jobs;
       even = sym (ap length used) ∙ length-map c.loop-place.asked (λ (a : PathResult). a.path)
-          ∙ sym (ap (length {A = Kept}) c.into_results-answers.ensures
+          ∙ sym (ap (length {A = Kept}) c.into_results-results.ensures
           ∙ length-map c.loop-place.asked (λ (a : PathResult). a.kept));
       found = subst (λ js. ArePartialResultIndicesOfJobs (paths_used (jobs_needed_for c.args.jobs c.args.places.items)) js
           c.in_ok-found.found.items)
@@ -64,14 +64,14 @@ returns-clause-paths g c =
     let used = c.loop-place.invariant.paths
     ∙ needed_whole c.args.jobs c.args.places.items c.loop-place.place-index (omega arith) in
     ap paths_of (parts_whole c.loop-place.asked (paths_used (jobs_needed_for c.args.jobs c.args.places.items))
-    c.into_results-answers.result.items used c.into_results-answers.ensures) ∙ used
+    c.into_results-results.result.items used c.into_results-results.ensures) ∙ used
 
 pub returns-clause-kept : goal.returns-clause-kept
 returns-clause-kept g c =
     let used = c.loop-place.invariant.paths
     ∙ needed_whole c.args.jobs c.args.places.items c.loop-place.place-index (omega arith) in
     let same = parts_whole c.loop-place.asked (paths_used (jobs_needed_for c.args.jobs c.args.places.items))
-    c.into_results-answers.result.items used c.into_results-answers.ensures in
+    c.into_results-results.result.items used c.into_results-results.ensures in
     subst (AgreeWithContents (g.S.Store.contents c.args.store.now)) (sym same) c.loop-place.invariant.kept
 
 pub returns-clause-faults : goal.returns-clause-faults
@@ -79,6 +79,6 @@ returns-clause-faults g c =
     let used = c.loop-place.invariant.paths
     ∙ needed_whole c.args.jobs c.args.places.items c.loop-place.place-index (omega arith) in
     let same = parts_whole c.loop-place.asked (paths_used (jobs_needed_for c.args.jobs c.args.places.items))
-    c.into_results-answers.result.items used c.into_results-answers.ensures in
+    c.into_results-results.result.items used c.into_results-results.ensures in
     c.loop-place.invariant.faults
     ∙ ap (λ (a : List PathResult). after_increments (g.S.Store.fault_count c.args.store.now) (unreadable_count a)) (sym same)
