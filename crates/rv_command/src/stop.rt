@@ -23,7 +23,7 @@ pub enum Stop {
 #[derive(Clone, Copy)]
 pub enum MessageKind {
     /// Why the request is rejected.
-    Refusal,
+    Rejection,
     /// How the system failed.
     Failure,
 }

@@ -9,7 +9,7 @@ use Rattle.rv_gdb_protocol.specs.declared.stop.Stop.TheVariants as stop
 
 -- the byte at a place of a reply, or 0
 abbrev byte_at : List ℕ → ℕ → ℕ
-byte_at text place = get_or text place 0
+byte_at text index = get_or text index 0
 
 -- of `T05` alone, with a watch, or with the log's begin or end
 abbrev of_trap : List ℕ → EndKind

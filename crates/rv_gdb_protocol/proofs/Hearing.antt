@@ -43,11 +43,11 @@ heard_at_last frame now bytes at heard within quiet here told =
     let before : ReaderState = fold state_after_byte frame (take at bytes) in
     incoming_in-take frame bytes at within
     ∙ ap (λ more. more ++ option_list (incoming_at before byte)) quiet
-    ∙ ap (λ place. option_list (incoming_at place byte)) (sym here)
+    ∙ ap (λ index. option_list (incoming_at index byte)) (sym here)
     ∙ ap option_list (sym told)
 
 pub frame_at_last : (frame now next : ReaderState) (bytes : List ℕ) (at : ℕ) → at < length bytes
     → now ≡ fold state_after_byte frame (take at bytes) → next ≡ state_after_byte now (get_or bytes at 0)
     → next ≡ fold state_after_byte frame (take (at + 1) bytes)
 frame_at_last frame now next bytes at within here behind =
-    behind ∙ ap (λ place. state_after_byte place (get_or bytes at 0)) here ∙ sym (fold-take state_after_byte frame bytes at 0 within)
+    behind ∙ ap (λ index. state_after_byte index (get_or bytes at 0)) here ∙ sym (fold-take state_after_byte frame bytes at 0 within)

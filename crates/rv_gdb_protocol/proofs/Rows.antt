@@ -24,17 +24,17 @@ watch_fits : (kind : WatchKind) (address count : ℕ) → 1 ≤ count → count 
 watch_fits kind address count some few within =
     rw (le-leb 1 count some, le-leb count 65536 few, le-leb (address + count) 4294967296 within) refl
 
-trap_read : (text : List ℕ) (place : Stoppoint) → IsStoppointText text place → parse_stoppoint text ≡ Some (Some place)
+trap_read : (text : List ℕ) (stoppoint : Stoppoint) → IsStoppointText text index → parse_stoppoint text ≡ Some (Some index)
 unfolding text_after parse_watch_range
-trap_read text place (software fields address kind tells) = rw (two_numbers fields address kind tells) refl
-trap_read text place (hardware fields address kind tells) = rw (two_numbers fields address kind tells) refl
-trap_read text place (writes fields address count tells some few within) =
+trap_read text index (software fields address kind tells) = rw (two_numbers fields address kind tells) refl
+trap_read text index (hardware fields address kind tells) = rw (two_numbers fields address kind tells) refl
+trap_read text index (writes fields address count tells some few within) =
     rw (two_numbers fields address count tells)
     (ap (λ (found : Option Stoppoint). Some found) (watch_fits watch.Writes address count some few within))
-trap_read text place (reads fields address count tells some few within) =
+trap_read text index (reads fields address count tells some few within) =
     rw (two_numbers fields address count tells)
     (ap (λ (found : Option Stoppoint). Some found) (watch_fits watch.Reads address count some few within))
-trap_read text place (accesses fields address count tells some few within) =
+trap_read text index (accesses fields address count tells some few within) =
     rw (two_numbers fields address count tells)
     (ap (λ (found : Option Stoppoint). Some found) (watch_fits watch.Accesses address count some few within))
 
@@ -116,8 +116,8 @@ is_read body request (write_data range data_text bytes address count tells told 
       told,
       eq-eqb (length bytes) count long,
     ) refl
-is_read body request (set_stoppoint text place is) = rw (trap_read text place is) refl
-is_read body request (clear_stoppoint text place is) = rw (trap_read text place is) refl
+is_read body request (set_stoppoint text index is) = rw (trap_read text index is) refl
+is_read body request (clear_stoppoint text index is) = rw (trap_read text index is) refl
 is_read body request (plain_move text step continues) = refl
 is_read body request (plain_move text step steps) = refl
 is_read body request (continue_with_signal signal number told) = rw told refl

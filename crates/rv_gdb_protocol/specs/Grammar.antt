@@ -15,11 +15,11 @@ use Rattle.rv_gdb_protocol.specs.declared.request.WatchKind.TheVariants as watch
 
 -- two texts separated by a delimiter
 abbrev pub joined_by : ℕ → List ℕ → List ℕ → List ℕ
-joined_by mark first second = first ++ mark ∷ second
+joined_by delimiter first second = first ++ delimiter ∷ second
 
 -- the text does not contain the delimiter
 abbrev pub HasNoDelimiter : ℕ → List ℕ → Type 0
-HasNoDelimiter mark text = list_all (λ byte. not (byte == mark)) text ≡ true
+HasNoDelimiter delimiter text = list_all (λ byte. not (byte == delimiter)) text ≡ true
 
 -- the text consists of the digits of two numbers, separated by a comma
 pub record AreTwoNumbers (text : List ℕ) (first second : ℕ) : Type 0 where
@@ -80,8 +80,8 @@ pub data IsRequest : List ℕ → Request → Type 0 where
   write_data : (range data_text bytes : List ℕ) (address count : ℕ) → AreTwoNumbers range address count
       → whole_data data_text ≡ Some bytes → length bytes ≡ count
       → IsRequest (codes "X" ++ joined_by colon range data_text) (ask.WriteMemory address bytes)
-  set_stoppoint : (text : List ℕ) (place : Stoppoint) → IsStoppointText text place → IsRequest (codes "Z" ++ text) (ask.Set place)
-  clear_stoppoint : (text : List ℕ) (place : Stoppoint) → IsStoppointText text place → IsRequest (codes "z" ++ text) (ask.Clear place)
+  set_stoppoint : (text : List ℕ) (stoppoint : Stoppoint) → IsStoppointText text stoppoint → IsRequest (codes "Z" ++ text) (ask.Set stoppoint)
+  clear_stoppoint : (text : List ℕ) (stoppoint : Stoppoint) → IsStoppointText text stoppoint → IsRequest (codes "z" ++ text) (ask.Clear stoppoint)
   actions : IsRequest (codes "vCont?") ask.Actions
   plain_move : (text : List ℕ) (step : Move) → IsMove text step → IsRequest text (ask.Move step)
   continue_with_signal : (signal : List ℕ) (number : ℕ) → parse_number signal ≡ Some number

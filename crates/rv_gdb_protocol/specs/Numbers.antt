@@ -45,24 +45,24 @@ parse_value text = value_if_decoded (decode_sized text 4)
 
 -- the index of the first occurrence of a delimiter, or `None` if there is none
 abbrev pub delimiter_index : ℕ → List ℕ → Option ℕ
-delimiter_index mark text = position (λ byte. byte == mark) text
+delimiter_index delimiter text = position (λ byte. byte == delimiter) text
 
 -- the two numbers before and after the first occurrence of a delimiter, or `None` if either is not a number
 unfoldable pub parse_two_numbers : ℕ → List ℕ → Option (ℕ × ℕ)
-parse_two_numbers mark text = do
-  place ← delimiter_index mark text
-  first ← parse_number (take place text)
-  second ← parse_number (drop (place + 1) text)
+parse_two_numbers delimiter text = do
+  index ← delimiter_index delimiter text
+  first ← parse_number (take index text)
+  second ← parse_number (drop (index + 1) text)
   Some (first, second)
 
 -- the text up to this index, or the whole text if there is no index
 abbrev pub text_to : Option ℕ → List ℕ → List ℕ
-text_to (Some place) text = take place text
+text_to (Some index) text = take index text
 text_to None text = text
 
 -- the text before the first occurrence of a delimiter, or all of it if there is none
 unfoldable pub text_before : ℕ → List ℕ → List ℕ
-text_before mark text = text_to (delimiter_index mark text) text
+text_before delimiter text = text_to (delimiter_index delimiter text) text
 
 -- the text after `name`, or `None` if the text does not begin with `name`
 unfoldable pub text_after : List ℕ → List ℕ → Option (List ℕ)

@@ -17,9 +17,9 @@ infixl 5 ◌<|>◌
 abbrev pub ◌<|>◌ : {A : Type 0} → Option A → Option A → Option A
 one <|> other = option_or one other
 
--- the result of `asked` for the arguments of a packet that begins with `name`, or `None` for any other body
+-- the result of `request` for the arguments of a packet that begins with `name`, or `None` for any other body
 abbrev pub request_if_named : List ℕ → (List ℕ → Request) → List ℕ → Option Request
-request_if_named name asked body = option_map asked (text_after name body)
+request_if_named name request body = option_map request (text_after name body)
 
 -- ---- packets without arguments
 

@@ -58,17 +58,17 @@ description args = unwrap_or
 -- other arguments
 unfoldable pub image_path : List ℕ → Request
 image_path args = or_refusal refusal.Failed do
-  place ← delimiter_index colon args
-  part ← parse_part (drop (place + 1) args)
+  index ← delimiter_index colon args
+  part ← parse_part (drop (index + 1) args)
   Some (ask.ImagePath part)
 
 -- the path in the arguments `PATH,FLAGS,MODE`, which is in hexadecimal digits, or `None` if they are malformed or the flags are not 0,
 -- which means reading
 unfoldable pub path_to_open : List ℕ → Option (List ℕ)
 path_to_open args = do
-  place ← delimiter_index comma args
-  flags ← parse_two_numbers comma (drop (place + 1) args)
-  if flags.0 == 0 then parse_bytes (take place args) else None
+  index ← delimiter_index comma args
+  flags ← parse_two_numbers comma (drop (index + 1) args)
+  if flags.0 == 0 then parse_bytes (take index args) else None
 
 -- the request to open the file that the arguments `PATH,FLAGS,MODE` name; a refusal for other arguments
 abbrev pub open_file : List ℕ → Request
@@ -103,9 +103,9 @@ read_register args = or_refusal refusal.Failed (option_map ask.Register (parse_r
 -- the request to write a register, from the arguments `NUMBER=VALUE`, or `None` for other arguments
 abbrev pub register_write : List ℕ → Option Request
 register_write args = do
-  place ← delimiter_index equals args
-  register ← parse_register (take place args)
-  value ← parse_value (drop (place + 1) args)
+  index ← delimiter_index equals args
+  register ← parse_register (take index args)
+  value ← parse_value (drop (index + 1) args)
   Some (ask.WriteRegister register value)
 
 -- the request to write a register, from the arguments `NUMBER=VALUE`, or a refusal for other arguments
@@ -151,9 +151,9 @@ memory_write_or_refusal range bytes = or_refusal refusal.Malformed (bytes >>= me
 -- the request to write memory, from the arguments `ADDRESS,COUNT:BYTES`, where `read` parses the bytes, or `None` if the range is malformed
 abbrev pub write_memory : (List ℕ → Option (List ℕ)) → List ℕ → Option Request
 write_memory read args = do
-  place ← delimiter_index colon args
-  range ← parse_range (take place args)
-  Some (memory_write_or_refusal range (read (drop (place + 1) args)))
+  index ← delimiter_index colon args
+  range ← parse_range (take index args)
+  Some (memory_write_or_refusal range (read (drop (index + 1) args)))
 
 -- the request to write memory, from the arguments `ADDRESS,COUNT:BYTES` with the bytes in hexadecimal digits, or a refusal for other
 -- arguments

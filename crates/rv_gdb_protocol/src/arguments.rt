@@ -36,10 +36,10 @@ fn parse_part(text: &[u8]) -> Option<Part>
 pub(crate) fn image_path(args: &[u8]) -> Request
     ensures { result ≡ image_path args.now }
 {
-    let Some(place) = delimiter_index(b':', args) else {
+    let Some(index) = delimiter_index(b':', args) else {
         return Request::Refused(Refusal::Failed);
     };
-    match parse_part(&args[place + 1..]) {
+    match parse_part(&args[index + 1..]) {
         Some(part) => Request::ImagePath(part),
         None => Request::Refused(Refusal::Failed),
     }
@@ -99,9 +99,9 @@ pub(crate) fn write_register(args: &[u8]) -> Request
 fn register_write(args: &[u8]) -> Option<Request>
     ensures { result ≡ register_write args.now }
 {
-    let place = delimiter_index(b'=', args)?;
-    let register = parse_register(&args[..place])?;
-    let value = parse_value(&args[place + 1..])?;
+    let index = delimiter_index(b'=', args)?;
+    let register = parse_register(&args[..index])?;
+    let value = parse_value(&args[index + 1..])?;
     Some(Request::WriteRegister(register, value))
 }
 

@@ -39,30 +39,30 @@ fn with_hex_digit(value: Option<u32>, byte: u8) -> Option<u32>
 
 /// Returns two numbers that a delimiter separates, as in `80000000,4`, or `None` for any other text.
 #[tactic(auto, unfolding(crate::specs::Numbers::parse_two_numbers))]
-pub(crate) fn parse_two_numbers(mark: u8, text: &[u8]) -> Option<(u32, u32)>
-    ensures { result ≡ parse_two_numbers mark text.now }
+pub(crate) fn parse_two_numbers(delimiter: u8, text: &[u8]) -> Option<(u32, u32)>
+    ensures { result ≡ parse_two_numbers delimiter text.now }
 {
-    let place = delimiter_index(mark, text)?;
-    let first = parse_number(&text[..place])?;
-    let second = parse_number(&text[place + 1..])?;
+    let index = delimiter_index(delimiter, text)?;
+    let first = parse_number(&text[..index])?;
+    let second = parse_number(&text[index + 1..])?;
     Some((first, second))
 }
 
 /// Returns the index of the first occurrence of a delimiter, or `None` if there is none.
-pub(crate) fn delimiter_index(mark: u8, text: &[u8]) -> Option<usize>
-    ensures place { result ≡ delimiter_index mark text.now }
-    ensures within { IfSome result (λ place. place < length text.now) }
+pub(crate) fn delimiter_index(delimiter: u8, text: &[u8]) -> Option<usize>
+    ensures index { result ≡ delimiter_index delimiter text.now }
+    ensures within { IfSome result (λ index. index < length text.now) }
 {
-    text.iter().position(|byte| *byte == mark)
+    text.iter().position(|byte| *byte == delimiter)
 }
 
 /// Returns the text before the first occurrence of a delimiter, or all of it if there is none.
 #[tactic(auto, unfolding(crate::specs::Numbers::text_before))]
-pub(crate) fn text_before(mark: u8, text: &[u8]) -> &[u8]
-    ensures { result.now ≡ text_before mark text.now }
+pub(crate) fn text_before(delimiter: u8, text: &[u8]) -> &[u8]
+    ensures { result.now ≡ text_before delimiter text.now }
 {
-    match delimiter_index(mark, text) {
-        Some(place) => &text[..place],
+    match delimiter_index(delimiter, text) {
+        Some(index) => &text[..index],
         None => text,
     }
 }

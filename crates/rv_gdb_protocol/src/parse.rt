@@ -69,12 +69,12 @@ fn write_registers(alloc: Global, args: &[u8]) -> Result<Request, AllocError>
 fn write_digits(alloc: Global, args: &[u8]) -> Result<Request, AllocError>
     ensures { IfOk result (λ request. request ≡ write_digits args.now) }
 {
-    let Some(place) = delimiter_index(b':', args) else {
+    let Some(index) = delimiter_index(b':', args) else {
         return Ok(Request::Refused(Refusal::Malformed));
     };
-    match parse_range(&args[..place]) {
+    match parse_range(&args[..index]) {
         Some(range) => {
-            let bytes = parse_bytes(alloc, &args[place + 1..])?;
+            let bytes = parse_bytes(alloc, &args[index + 1..])?;
             Ok(memory_write_or_refusal(range, bytes))
         }
         None => Ok(Request::Refused(Refusal::Malformed)),
@@ -87,12 +87,12 @@ fn write_digits(alloc: Global, args: &[u8]) -> Result<Request, AllocError>
 fn write_data(alloc: Global, args: &[u8]) -> Result<Request, AllocError>
     ensures { IfOk result (λ request. request ≡ write_data args.now) }
 {
-    let Some(place) = delimiter_index(b':', args) else {
+    let Some(index) = delimiter_index(b':', args) else {
         return Ok(Request::Refused(Refusal::Malformed));
     };
-    match parse_range(&args[..place]) {
+    match parse_range(&args[..index]) {
         Some(range) => {
-            let bytes = whole_data(alloc, &args[place + 1..])?;
+            let bytes = whole_data(alloc, &args[index + 1..])?;
             Ok(memory_write_or_refusal(range, bytes))
         }
         None => Ok(Request::Refused(Refusal::Malformed)),
@@ -139,11 +139,11 @@ fn open_file(alloc: Global, args: &[u8]) -> Result<Request, AllocError>
 fn path_to_open(alloc: Global, args: &[u8]) -> Result<Option<Vec<u8>>, AllocError>
     ensures { IfOk result (λ path. option_map (λ bytes. bytes.items) path ≡ path_to_open args.now) }
 {
-    let Some(place) = delimiter_index(b',', args) else {
+    let Some(index) = delimiter_index(b',', args) else {
         return Ok(None);
     };
-    match parse_two_numbers(b',', &args[place + 1..]) {
-        Some((flags, _)) if flags == 0 => parse_bytes(alloc, &args[..place]),
+    match parse_two_numbers(b',', &args[index + 1..]) {
+        Some((flags, _)) if flags == 0 => parse_bytes(alloc, &args[..index]),
         _ => Ok(None),
     }
 }

@@ -15,7 +15,7 @@ use Rattle.rv_gdb_protocol.specs.declared.request.Request.{Request}
 use Rattle.rv_gdb_protocol.specs.declared.request.Request.TheVariants as ask
 use Rattle.rv_session.specs.SessionReplies.{IsReply, IsSetReply, IsRegisterWriteHandled, is_reset}
 use Rattle.rv_session.specs.Incoming.{IsByteReceived, IsCheckedPacketResponse, IsRespondedTo, IsResponse, IsResponseUnless, IsPacketResponse, is_wrong_checksum, with_sent}
-use Rattle.rv_session.specs.Replies.{refused}
+use Rattle.rv_session.specs.Replies.{error_reply}
 use Rattle.rv_session.specs.Sessions.{IsOpenIfRequested, at_step}
 use Rattle.rv_session.specs.declared.reply.Reply.{Reply}
 use Rattle.rv_session.specs.declared.session.Session.{Session}
@@ -74,7 +74,7 @@ response_may session next received.Interrupt out going none response = inl (unas
 response_may session next received.Acknowledged out going none response = inl (unasked next session response.1 none)
 response_may session next received.ResendRequested out going none response = inl (unasked next session response.1 none)
 response_may session next received.TooLong out going none response =
-    inl (unasked next (with_sent session (refused refusal.TooLong)) response.1 none)
+    inl (unasked next (with_sent session (error_reply refusal.TooLong)) response.1 none)
 response_may session next (received.Packet body sum) out going none response =
     judged_may session next (session.acknowledges && is_wrong_checksum sum) body out going none response
 

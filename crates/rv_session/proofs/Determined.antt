@@ -68,7 +68,7 @@ moved_one end_text may_break session one other requested reply again never first
     (stop_text (stop_of session requested step outcome)) in
     let stands : ℕ → MoveResult → Session = λ step outcome. record session {
       history = record session.history { step = step };
-      shown = console_sent_after session requested (state_at session step);
+      console_sent = console_sent_after session requested (state_at session step);
       last = stop_of session requested step outcome;
     } in (
       first.reply_is ∙ ap (λ (k : ℕ). said k first.outcome) same.0 ∙ ap (said second.step) same.1 ∙ sym second.reply_is,
@@ -95,7 +95,7 @@ sought_as_one session one other count value false false first second =
 sought_one : (session one other : Session) (count : Count) (value : ℕ) (reply again : Reply)
     → IsSeekHandled session count value reply one → IsSeekHandled session count value again other → (reply ≡ again) × (one ≡ other)
 sought_one session one other count value reply again first second =
-    let same = sought_as_one session one other count value first.is_granted second.is_granted first.sought second.sought in (
+    let same = sought_as_one session one other count value first.succeeds second.succeeds first.sought second.sought in (
       first.reply_is ∙ ap (λ (is : Bool). ok_if is refusal.NotReached) same.0 ∙ sym second.reply_is,
       first.run ∙ ap (at_step session) same.1 ∙ sym second.run,
     )
@@ -132,11 +132,11 @@ watch_of a address count within at long =
 watch_one : (range : Range) (one other : Watch) → is_for_range range one ≡ true → is_for_range range other ≡ true → one ≡ other
 unfolding watch_made
 watch_one range one other first second =
-    let here = and_parts (one.address == range.address) (one.count == range.count) first in
+    let current_state = and_parts (one.address == range.address) (one.count == range.count) first in
     let there = and_parts (other.address == range.address) (other.count == range.count) second in
     watch_of one other.address other.count other.within
-    (eqb-true one.address range.address here.0 ∙ sym (eqb-true other.address range.address there.0))
-    (eqb-true one.count range.count here.1 ∙ sym (eqb-true other.count range.count there.1))
+    (eqb-true one.address range.address current_state.0 ∙ sym (eqb-true other.address range.address there.0))
+    (eqb-true one.count range.count current_state.1 ∙ sym (eqb-true other.count range.count there.1))
 
 added_one : (stops one other : Stops) (stoppoint : Stoppoint) → IsTableAdded stops stoppoint one → IsTableAdded stops stoppoint other → one ≡ other
 added_one stops one other (trap.Break address) first second = first ∙ sym second
@@ -256,25 +256,25 @@ pub fed_one : (end_text : List ℕ) (session one other : Session) (bytes out mor
     → IsReceived end_text false session bytes out one → one.requested ≡ None → IsReceived end_text false session bytes more other
     → other.requested ≡ None → (out ≡ more) × (one ≡ other)
 fed_one end_text session one other bytes out more none (no_bytes same) going (no_bytes again) opened = (refl, refl)
-fed_one end_text session one other bytes out more none (no_bytes same) going (move_first again middle end rest said shown made further) opened =
+fed_one end_text session one other bytes out more none (no_bytes same) going (move_first again middle end rest said console_sent made further) opened =
     absurd (not_asked end_text (is_interrupted bytes false) session middle said going made)
 fed_one end_text session one other bytes out more none (move_first same between last rest told sent made later) going (no_bytes again) opened =
     absurd (not_asked end_text (is_interrupted bytes false) session between told opened made)
 fed_one end_text session one other bytes out more none (move_first same between last rest told sent made later) going
-    (byte_first again middle end again_byte again_rest said shown unasked second further) opened =
+    (byte_first again middle end again_byte again_rest said console_sent unasked second further) opened =
     absurd (not_asked end_text (is_interrupted bytes false) session between told unasked made)
 fed_one end_text session one other bytes out more none (byte_first same between last byte rest told sent unasked first later) going
-    (move_first again middle end again_rest said shown made further) opened =
+    (move_first again middle end again_rest said console_sent made further) opened =
     absurd (not_asked end_text (is_interrupted bytes false) session middle said unasked made)
 fed_one end_text session one other bytes out more none (byte_first same between last byte rest told sent unasked first later) going
-    (byte_first again middle end again_byte again_rest said shown still second further) opened =
-    let here = byte_one session between middle byte told said first second in
-    let there = fed_one end_text between one other rest sent shown none.1 later going
-    (subst (λ (s : Session). IsReceived end_text false s rest shown other) (sym here.1) further) opened in
-    (ap (λ (front : List ℕ). front ++ sent) here.0 ∙ ap (λ (behind : List ℕ). said ++ behind) there.0, there.1)
+    (byte_first again middle end again_byte again_rest said console_sent still second further) opened =
+    let current_state = byte_one session between middle byte told said first second in
+    let there = fed_one end_text between one other rest sent console_sent none.1 later going
+    (subst (λ (s : Session). IsReceived end_text false s rest console_sent other) (sym current_state.1) further) opened in
+    (ap (λ (front : List ℕ). front ++ sent) current_state.0 ∙ ap (λ (behind : List ℕ). said ++ behind) there.0, there.1)
 fed_one end_text session one other bytes out more none (move_first same between last rest told sent made later) going
-    (move_first again middle end again_rest said shown again_made further) opened =
-    let here = worked_one end_text (is_interrupted bytes false) session between middle told said (none_next bytes none) made again_made in
-    let there = fed_one end_text between one other bytes sent shown none later going
-    (subst (λ (s : Session). IsReceived end_text false s bytes shown other) (sym here.1) further) opened in
-    (ap (λ (front : List ℕ). front ++ sent) here.0 ∙ ap (λ (behind : List ℕ). said ++ behind) there.0, there.1)
+    (move_first again middle end again_rest said console_sent again_made further) opened =
+    let current_state = worked_one end_text (is_interrupted bytes false) session between middle told said (none_next bytes none) made again_made in
+    let there = fed_one end_text between one other bytes sent console_sent none later going
+    (subst (λ (s : Session). IsReceived end_text false s bytes console_sent other) (sym current_state.1) further) opened in
+    (ap (λ (front : List ℕ). front ++ sent) current_state.0 ∙ ap (λ (behind : List ℕ). said ++ behind) there.0, there.1)

@@ -17,7 +17,7 @@ use Rattle.rv_history.proofs.Public.{completes}
 use Rattle.rv_history.specs.Trace.{state_after}
 use Rattle.rv_session.specs.Moved.{CanReportHit, IsMoveResult, IsMoved, end_text_at, is_forward, console_before_stop, console_sent_after, stop_of}
 use Rattle.rv_session.specs.Replies.{reply_with_end}
-use Rattle.rv_session.specs.Sessions.{at_step, here, state_at}
+use Rattle.rv_session.specs.Sessions.{at_step, current_state, state_at}
 use Rattle.rv_session.specs.declared.reply.Reply.{Reply}
 use Rattle.rv_session.specs.declared.session.Session.{Session}
 
@@ -72,7 +72,7 @@ moved_at : (end_text : List ℕ) (may_break : Bool) (session next : Session) (re
     → IsMoveResult requested session.stops session.history.budget session.history.start session.history.step step outcome
     → (IsInterrupted outcome → may_break ≡ true) → told ≡ stop_of (at_step session step) requested step outcome
     → reply ≡ reply_with_end (console_before_stop session requested (state_at session step)) (end_text_at end_text outcome) (stop_text told)
-    → next ≡ record (at_step session step) { shown = console_sent_after session requested (state_at session step); last = told }
+    → next ≡ record (at_step session step) { console_sent = console_sent_after session requested (state_at session step); last = told }
     → IsMoved end_text may_break session requested reply next
 moved_at end_text may_break session next requested reply step outcome told gone broken is said stands = record {
   step = step;
@@ -82,7 +82,7 @@ moved_at end_text may_break session next requested reply step outcome told gone 
   reply_is = said ∙ ap (λ (stop : Stop). reply_with_end (console_before_stop session requested (state_at session step)) (end_text_at end_text outcome)
       (stop_text stop)) is;
   next_is = stands ∙ ap (λ (stop : Stop). record (at_step session step) {
-    shown = console_sent_after session requested (state_at session step);
+    console_sent = console_sent_after session requested (state_at session step);
     last = stop;
   }) is;
 }
@@ -91,11 +91,11 @@ pub moved : (end_text : List ℕ) (may_break : Bool) (session between next : Ses
     → between ≡ at_step session between.history.step
     → IsMoveResult requested session.stops session.history.budget session.history.start session.history.step between.history.step outcome
     → (IsInterrupted outcome → may_break ≡ true) → told ≡ stop_of between requested between.history.step outcome
-    → reply ≡ reply_with_end (console_before_stop between requested (here between)) (end_text_at end_text outcome) (stop_text told)
-    → next ≡ record between { shown = console_sent_after between requested (here between); last = told } → IsMoved end_text may_break session requested reply next
+    → reply ≡ reply_with_end (console_before_stop between requested (current_state between)) (end_text_at end_text outcome) (stop_text told)
+    → next ≡ record between { console_sent = console_sent_after between requested (current_state between); last = told } → IsMoved end_text may_break session requested reply next
 moved end_text may_break session between next requested reply outcome told same gone broken =
     let step = between.history.step in
     subst (λ (b : Session). told ≡ stop_of b requested step outcome
     → reply ≡ reply_with_end (console_before_stop b requested (state_at b step)) (end_text_at end_text outcome) (stop_text told)
-    → next ≡ record b { shown = console_sent_after b requested (state_at b step); last = told } → IsMoved end_text may_break session requested reply next)
+    → next ≡ record b { console_sent = console_sent_after b requested (state_at b step); last = told } → IsMoved end_text may_break session requested reply next)
     (sym same) (moved_at end_text may_break session next requested reply step outcome told gone broken)

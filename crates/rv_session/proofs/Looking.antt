@@ -72,7 +72,7 @@ any_left byte_of a n = list_any (λ address. is_some (byte_of address)) (range_w
 
 first_any : (byte_of : ℕ → Option ℕ) (a n : ℕ) (is : Bool) → is_some (byte_of a) ≡ is
     → any_left byte_of a (suc n) ≡ (is || any_left byte_of (a + 1) n)
-first_any byte_of a n is here = ap (λ (first : Bool). first || any_left byte_of (a + 1) n) here
+first_any byte_of a n is current_state = ap (λ (first : Bool). first || any_left byte_of (a + 1) n) current_state
 
 pub any_start : (byte_of : ℕ → Option ℕ) (a n : ℕ) → any_left byte_of a n ≡ any_left byte_of (a + 0) (n - 0)
 any_start byte_of a n =
@@ -82,15 +82,15 @@ any_start byte_of a n =
 
 pub any_later : (byte_of : ℕ → Option ℕ) (a i n : ℕ) (all : Bool) → i < n → is_some (byte_of (a + i)) ≡ false
     → all ≡ any_left byte_of (a + i) (n - i) → all ≡ any_left byte_of (a + (i + 1)) (n - (i + 1))
-any_later byte_of a i n all within here so_far =
+any_later byte_of a i n all within current_state so_far =
     let next : a + i + 1 ≡ a + (i + 1) = omega arith in
-    so_far ∙ ap (any_left byte_of (a + i)) (one_left n i within) ∙ first_any byte_of (a + i) (n - (i + 1)) false here
+    so_far ∙ ap (any_left byte_of (a + i)) (one_left n i within) ∙ first_any byte_of (a + i) (n - (i + 1)) false current_state
     ∙ ap (λ (k : ℕ). any_left byte_of k (n - (i + 1))) next
 
 pub any_here : (byte_of : ℕ → Option ℕ) (a i n : ℕ) (all : Bool) → i < n → is_some (byte_of (a + i)) ≡ true
     → all ≡ any_left byte_of (a + i) (n - i) → true ≡ all
-any_here byte_of a i n all within here so_far =
-    sym (so_far ∙ ap (any_left byte_of (a + i)) (one_left n i within) ∙ first_any byte_of (a + i) (n - (i + 1)) true here)
+any_here byte_of a i n all within current_state so_far =
+    sym (so_far ∙ ap (any_left byte_of (a + i)) (one_left n i within) ∙ first_any byte_of (a + i) (n - (i + 1)) true current_state)
 
 pub any_none : (byte_of : ℕ → Option ℕ) (a i n : ℕ) (all : Bool) → n ≤ i → all ≡ any_left byte_of (a + i) (n - i) → false ≡ all
 any_none byte_of a i n all done so_far =
@@ -121,17 +121,17 @@ stand_start bus a bytes = let at : a ≡ a + 0 = omega arith in ap (λ (k : ℕ)
 pub stand_later : (bus : BusContents) (a i byte : ℕ) (bytes : List ℕ) (all : Bool) → i < length bytes
     → has_byte_at bus (a + i) (get_or bytes i byte) ≡ true → all ≡ has_bytes_at bus (a + i) (drop i bytes)
     → all ≡ has_bytes_at bus (a + (i + 1)) (drop (i + 1) bytes)
-stand_later bus a i byte bytes all within here so_far =
+stand_later bus a i byte bytes all within current_state so_far =
     let next : a + i + 1 ≡ a + (i + 1) = omega arith in
     so_far ∙ stand_more bus a i byte bytes within
-    ∙ ap (λ (is : Bool). is && has_bytes_at bus (a + i + 1) (drop (i + 1) bytes)) here
+    ∙ ap (λ (is : Bool). is && has_bytes_at bus (a + i + 1) (drop (i + 1) bytes)) current_state
     ∙ ap (λ (k : ℕ). has_bytes_at bus k (drop (i + 1) bytes)) next
 
 pub stand_not : (bus : BusContents) (a i byte : ℕ) (bytes : List ℕ) (all : Bool) → i < length bytes
     → has_byte_at bus (a + i) (get_or bytes i byte) ≡ false → all ≡ has_bytes_at bus (a + i) (drop i bytes) → false ≡ all
-stand_not bus a i byte bytes all within here so_far =
+stand_not bus a i byte bytes all within current_state so_far =
     sym (so_far ∙ stand_more bus a i byte bytes within
-    ∙ ap (λ (is : Bool). is && has_bytes_at bus (a + i + 1) (drop (i + 1) bytes)) here)
+    ∙ ap (λ (is : Bool). is && has_bytes_at bus (a + i + 1) (drop (i + 1) bytes)) current_state)
 
 stand_none : (bus : BusContents) (a : ℕ) → has_bytes_at bus a [] ≡ true
 unfolding has_bytes_at
@@ -156,9 +156,9 @@ pub packets_more : (packet : ℕ → List ℕ) (n : ℕ) (front out next : List 
     → out ≡ front ++ flat_map packet (range_with_len 0 n) → next ≡ out ++ packet n
     → next ≡ front ++ flat_map packet (range_with_len 0 (n + 1))
 packets_more packet n front out next so_far one =
-    let here : n ≡ 0 + n = omega arith in
+    let current_state : n ≡ 0 + n = omega arith in
     one ∙ ap (λ (text : List ℕ). text ++ packet n) so_far ∙ flat_map_more packet front (range_with_len 0 n) n
-    ∙ ap (λ (k : ℕ). front ++ flat_map packet (range_with_len 0 n ++ k ∷ [])) here
+    ∙ ap (λ (k : ℕ). front ++ flat_map packet (range_with_len 0 n ++ k ∷ [])) current_state
     ∙ ap (λ (numbers : List ℕ). front ++ flat_map packet numbers) (sym (range_more 0 n))
 
 -- a place that is cut at the end, and at the greatest number

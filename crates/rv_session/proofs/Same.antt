@@ -15,7 +15,7 @@ use Rattle.rv_history.specs.declared.stops.Stops.{Stops}
 use Rattle.rv_gdb_protocol.specs.declared.request.Refusal.TheVariants as refusal
 use Rattle.rv_session.specs.SessionReplies.{IsReply, IsSetReply, IsRegisterWriteHandled, is_reset}
 use Rattle.rv_session.specs.Incoming.{IsByteReceived, IsReceived, IsCheckedPacketResponse, IsRespondedTo, IsResponse, IsResponseUnless, IsPacketResponse, IsRequestedMoveMade, byte_first, is_interrupted, is_wrong_checksum, move_first, no_bytes, with_sent}
-use Rattle.rv_session.specs.Replies.{refused}
+use Rattle.rv_session.specs.Replies.{error_reply}
 use Rattle.rv_session.specs.Sessions.{IsSameRun, at_step}
 use Rattle.rv_session.specs.declared.reply.Reply.{Reply}
 use Rattle.rv_session.specs.declared.session.Session.{Session}
@@ -44,12 +44,12 @@ same_run_on session between next first second = record {
 -- the run is the same, and as many printed bytes went out in front of stops
 record IsQuiet (session next : Session) : Type 0 where
   pub run : IsSameRun session next
-  pub shown_is : next.shown ≡ session.shown
+  pub shown_is : next.console_sent ≡ session.console_sent
 
 quiet_by : (session next other : Session) → next ≡ other → IsQuiet session other → IsQuiet session next
 quiet_by session next other is quiet = record {
   run = same_run_by session next other is quiet.run;
-  shown_is = ap (λ (s : Session). s.shown) is ∙ quiet.shown_is;
+  shown_is = ap (λ (s : Session). s.console_sent) is ∙ quiet.shown_is;
 }
 
 quiet_on : (session between next : Session) → IsQuiet session between → IsQuiet between next → IsQuiet session next
@@ -61,10 +61,10 @@ quiet_on session between next first second = record {
 -- what is the session but for other things
 by_fields : (session next other : Session) → next ≡ other → other.history.start ≡ session.history.start
     → other.history.budget ≡ session.history.budget → other.program ≡ session.program → other.script ≡ session.script
-    → other.shown ≡ session.shown → IsQuiet session next
-by_fields session next other is start budget program script shown = quiet_by session next other is (record {
+    → other.console_sent ≡ session.console_sent → IsQuiet session next
+by_fields session next other is start budget program script console_sent = quiet_by session next other is (record {
   run = record { start_is = start; budget_is = budget; program_is = program; script_is = script };
-  shown_is = shown;
+  shown_is = console_sent;
 })
 
 stays : (session next : Session) → next ≡ session → IsQuiet session next
@@ -125,7 +125,7 @@ response_quiet : (session next : Session) (received : Incoming) (out : List ℕ)
 response_quiet session next received.Interrupt out response = stays session next response.1
 response_quiet session next received.Acknowledged out response = stays session next response.1
 response_quiet session next received.ResendRequested out response = stays session next response.1
-response_quiet session next received.TooLong out response = sent_quiet session next (refused refusal.TooLong) response.1
+response_quiet session next received.TooLong out response = sent_quiet session next (error_reply refusal.TooLong) response.1
 response_quiet session next (received.Packet body sum) out response =
     judged_quiet session next (session.acknowledges && is_wrong_checksum sum) body out response
 
@@ -158,7 +158,7 @@ byte_same session next byte out fed = (byte_quiet session next byte out fed).run
 
 -- and no printed byte goes out in front of a stop
 pub byte_shows_none : (session next : Session) (byte : ℕ) (out : List ℕ) → IsByteReceived session byte out next
-    → next.shown ≡ session.shown
+    → next.console_sent ≡ session.console_sent
 byte_shows_none session next byte out fed = (byte_quiet session next byte out fed).shown_is
 
 -- ---- what is made

@@ -23,23 +23,23 @@ use Rattle.rv_session.specs.declared.session.Session.{Session}
 
 -- ---- of texts
 
-shows_more : (front rest : List ℕ) (shown : ℕ)
-    → take shown (front ++ rest) ++ drop shown front ≡ take (max shown (length front)) (front ++ rest)
-shows_more front rest shown = elim (cases_lt (length front) shown) [
+shows_more : (front rest : List ℕ) (console_sent : ℕ)
+    → take console_sent (front ++ rest) ++ drop console_sent front ≡ take (max console_sent (length front)) (front ++ rest)
+shows_more front rest console_sent = elim (cases_lt (length front) console_sent) [
   | inl past ↦
-      let most : max shown (length front) ≡ shown = omega arith in
-      ap (λ (more : List ℕ). take shown (front ++ rest) ++ more) (drop_all shown front (omega arith))
-      ∙ append-nil (take shown (front ++ rest)) ∙ ap (λ (k : ℕ). take k (front ++ rest)) (sym most)
+      let most : max console_sent (length front) ≡ console_sent = omega arith in
+      ap (λ (more : List ℕ). take console_sent (front ++ rest) ++ more) (drop_all console_sent front (omega arith))
+      ∙ append-nil (take console_sent (front ++ rest)) ∙ ap (λ (k : ℕ). take k (front ++ rest)) (sym most)
   | inr before ↦
-      let most : max shown (length front) ≡ length front = omega arith in
-      ap (λ (text : List ℕ). text ++ drop shown front) (take-append-le shown front rest before)
-      ∙ take-append-drop shown front ∙ sym (take-append_seam front rest)
+      let most : max console_sent (length front) ≡ length front = omega arith in
+      ap (λ (text : List ℕ). text ++ drop console_sent front) (take-append-le console_sent front rest before)
+      ∙ take-append-drop console_sent front ∙ sym (take-append_seam front rest)
       ∙ ap (λ (k : ℕ). take k (front ++ rest)) (sym most)
 ]
 
-shown_within : (front rest : List ℕ) (shown : ℕ) → shown ≤ length (front ++ rest)
-    → max shown (length front) ≤ length (front ++ rest)
-shown_within front rest shown within = let long = length-append front rest in omega arith
+shown_within : (front rest : List ℕ) (console_sent : ℕ) → console_sent ≤ length (front ++ rest)
+    → max console_sent (length front) ≤ length (front ++ rest)
+shown_within front rest console_sent within = let long = length-append front rest in omega arith
 
 -- ---- of moves
 
@@ -65,64 +65,64 @@ went_within move.StepBack stops budget from step start outcome forward gone = ab
 
 -- what goes out on a move, and how many went out then
 abbrev pub Shows : Session → State → List ℕ → ℕ → List ℕ → Type 0
-Shows session end printed counted shown =
-    (shown ++ printed ≡ take counted end.bus.output) × (counted ≤ length end.bus.output)
+Shows session end printed counted console_sent =
+    (console_sent ++ printed ≡ take counted end.bus.output) × (counted ≤ length end.bus.output)
 
-shows_forward : (session : Session) (s end : State) (rest shown : List ℕ) → end.bus.output ≡ s.bus.output ++ rest
-    → shown ≡ take session.shown end.bus.output → session.shown ≤ length end.bus.output
-    → Shows session end (drop session.shown s.bus.output) (max session.shown (length s.bus.output)) shown
-shows_forward session s end rest shown is first within =
+shows_forward : (session : Session) (s end : State) (rest console_sent : List ℕ) → end.bus.output ≡ s.bus.output ++ rest
+    → console_sent ≡ take session.console_sent end.bus.output → session.console_sent ≤ length end.bus.output
+    → Shows session end (drop session.console_sent s.bus.output) (max session.console_sent (length s.bus.output)) console_sent
+shows_forward session s end rest console_sent is first within =
     let front = s.bus.output in
-    let long : session.shown ≤ length (front ++ rest) = subst (λ (text : List ℕ). session.shown ≤ length text) is within in (
-      ap (λ (text : List ℕ). text ++ drop session.shown front) (first ∙ ap (take session.shown) is)
-          ∙ shows_more front rest session.shown ∙ ap (take (max session.shown (length front))) (sym is),
-      subst (λ (text : List ℕ). max session.shown (length front) ≤ length text) (sym is)
-          (shown_within front rest session.shown long),
+    let long : session.console_sent ≤ length (front ++ rest) = subst (λ (text : List ℕ). session.console_sent ≤ length text) is within in (
+      ap (λ (text : List ℕ). text ++ drop session.console_sent front) (first ∙ ap (take session.console_sent) is)
+          ∙ shows_more front rest session.console_sent ∙ ap (take (max session.console_sent (length front))) (sym is),
+      subst (λ (text : List ℕ). max session.console_sent (length front) ≤ length text) (sym is)
+          (shown_within front rest session.console_sent long),
     )
 
-shows_on : (session : Session) (requested : Move) (step : ℕ) (outcome : MoveResult) (shown : List ℕ) (forward : Bool)
+shows_on : (session : Session) (requested : Move) (step : ℕ) (outcome : MoveResult) (console_sent : List ℕ) (forward : Bool)
     → is_forward requested ≡ forward
     → IsMoveResult requested session.stops session.history.budget session.history.start session.history.step step outcome
-    → HasSentConsole session shown
+    → HasSentConsole session console_sent
     → Shows session (state_at session (last_step session.history.budget session.history.start))
-    (console_before_stop session requested (state_at session step)) (console_sent_after session requested (state_at session step)) shown
-shows_on session requested step outcome shown true forward gone before =
+    (console_before_stop session requested (state_at session step)) (console_sent_after session requested (state_at session step)) console_sent
+shows_on session requested step outcome console_sent true forward gone before =
     let last = last_step session.history.budget session.history.start in
     let within = went_within requested session.stops session.history.budget session.history.step step session.history.start outcome
     forward gone in
     let stays = printed_stays step last session.history.start within in
-    rw forward (shows_forward session (state_at session step) (state_at session last) stays.rest shown stays.whole_is
+    rw forward (shows_forward session (state_at session step) (state_at session last) stays.rest console_sent stays.whole_is
     before.first_bytes before.within)
-shows_on session requested step outcome shown false forward gone before =
-    rw forward (append-nil shown ∙ before.first_bytes, before.within)
+shows_on session requested step outcome console_sent false forward gone before =
+    rw forward (append-nil console_sent ∙ before.first_bytes, before.within)
 
-pub shown_once : (end_text : List ℕ) (may_break : Bool) (session next : Session) (requested : Move) (reply : Reply) (shown : List ℕ) → HasSentConsole session shown
-    → IsMoved end_text may_break session requested reply next → HasSentConsole next (shown ++ reply.printed)
-shown_once end_text may_break session next requested reply shown before moved =
+pub shown_once : (end_text : List ℕ) (may_break : Bool) (session next : Session) (requested : Move) (reply : Reply) (console_sent : List ℕ) → HasSentConsole session console_sent
+    → IsMoved end_text may_break session requested reply next → HasSentConsole next (console_sent ++ reply.printed)
+shown_once end_text may_break session next requested reply console_sent before moved =
     let last = last_step session.history.budget session.history.start in
-    let shows = shows_on session requested moved.step moved.outcome shown (is_forward requested) refl moved.gone before in
+    let shows = shows_on session requested moved.step moved.outcome console_sent (is_forward requested) refl moved.gone before in
     let printed : reply.printed ≡ console_before_stop session requested (state_at session moved.step) =
     ap (λ (r : Reply). r.printed) moved.reply_is in
     let same : console_of_run next ≡ console_of_run session = ap console_of_run moved.next_is in
-    let counted : next.shown ≡ console_sent_after session requested (state_at session moved.step) =
-    ap (λ (s : Session). s.shown) moved.next_is in record {
-      first_bytes = ap (λ (text : List ℕ). shown ++ text) printed ∙ shows.0
-          ∙ ap (λ (k : ℕ). take k (console_of_run session)) (sym counted) ∙ ap (take next.shown) (sym same);
-      within = subst (λ (text : List ℕ). next.shown ≤ length text) (sym same)
+    let counted : next.console_sent ≡ console_sent_after session requested (state_at session moved.step) =
+    ap (λ (s : Session). s.console_sent) moved.next_is in record {
+      first_bytes = ap (λ (text : List ℕ). console_sent ++ text) printed ∙ shows.0
+          ∙ ap (λ (k : ℕ). take k (console_of_run session)) (sym counted) ∙ ap (take next.console_sent) (sym same);
+      within = subst (λ (text : List ℕ). next.console_sent ≤ length text) (sym same)
           (subst (λ (k : ℕ). k ≤ length (console_of_run session)) (sym counted) shows.1);
     }
 
 -- ---- of bytes that are heard
 
-pub shown_still : (session next : Session) (byte : ℕ) (out shown : List ℕ) → HasSentConsole session shown → IsByteReceived session byte out next
-    → HasSentConsole next shown
-shown_still session next byte out shown before fed =
+pub shown_still : (session next : Session) (byte : ℕ) (out console_sent : List ℕ) → HasSentConsole session console_sent → IsByteReceived session byte out next
+    → HasSentConsole next console_sent
+shown_still session next byte out console_sent before fed =
     let run = byte_same session next byte out fed in
     let counted = byte_shows_none session next byte out fed in
     let same : console_of_run next ≡ console_of_run session =
     ap (λ (start : State). (state_after (last_step next.history.budget start) start).bus.output) run.start_is
     ∙ ap (λ (budget : ℕ). (state_at session (last_step budget session.history.start)).bus.output) run.budget_is in record {
-      first_bytes = before.first_bytes ∙ ap (λ (k : ℕ). take k (console_of_run session)) (sym counted) ∙ ap (take next.shown) (sym same);
-      within = subst (λ (text : List ℕ). next.shown ≤ length text) (sym same)
+      first_bytes = before.first_bytes ∙ ap (λ (k : ℕ). take k (console_of_run session)) (sym counted) ∙ ap (take next.console_sent) (sym same);
+      within = subst (λ (text : List ℕ). next.console_sent ≤ length text) (sym same)
           (subst (λ (k : ℕ). k ≤ length (console_of_run session)) (sym counted) before.within);
     }

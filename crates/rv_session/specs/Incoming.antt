@@ -13,7 +13,7 @@ use Rattle.rv_gdb_protocol.specs.declared.request.Move.{Move}
 use Rattle.rv_gdb_protocol.specs.declared.request.Refusal.TheVariants as refusal
 use Rattle.rv_session.specs.SessionReplies.{IsReply}
 use Rattle.rv_session.specs.Moved.{IsMoved}
-use Rattle.rv_session.specs.Replies.{refused}
+use Rattle.rv_session.specs.Replies.{error_reply}
 use Rattle.rv_session.specs.declared.reply.Reply.{Reply}
 use Rattle.rv_session.specs.declared.session.Session.{Session}
 
@@ -97,7 +97,7 @@ IsResponse session received.Interrupt out next = (out ≡ []) × (next ≡ sessi
 IsResponse session received.Acknowledged out next = (out ≡ []) × (next ≡ session)
 IsResponse session received.ResendRequested out next = (out ≡ last_packet_if_acknowledged session) × (next ≡ session)
 IsResponse session received.TooLong out next =
-    (out ≡ acknowledgement session ++ packets_of (refused refusal.TooLong)) × (next ≡ with_sent session (refused refusal.TooLong))
+    (out ≡ acknowledgement session ++ packets_of (error_reply refusal.TooLong)) × (next ≡ with_sent session (error_reply refusal.TooLong))
 IsResponse session (received.Packet body sum) out next =
     IsCheckedPacketResponse session (session.acknowledges && is_wrong_checksum sum) body out next
 

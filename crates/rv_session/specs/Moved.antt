@@ -81,11 +81,11 @@ stop_of session requested step outcome.Interrupted = stop.Interrupt
 -- the console output that is sent before the stop in the state `s`: after a forward move, all output that was not sent before; after a
 -- backward move, nothing
 abbrev pub console_before_stop : Session → Move → State → List ℕ
-console_before_stop session requested s = if is_forward requested then drop session.shown s.bus.output else []
+console_before_stop session requested s = if is_forward requested then drop session.console_sent s.bus.output else []
 
 -- the number of console bytes that have been sent once a move has stopped in the state `s`
 abbrev pub console_sent_after : Session → Move → State → ℕ
-console_sent_after session requested s = if is_forward requested then max session.shown (length s.bus.output) else session.shown
+console_sent_after session requested s = if is_forward requested then max session.console_sent (length s.bus.output) else session.console_sent
 
 -- `end_text`, the text about the end of the run, if the move reached the end; otherwise an empty text
 abbrev pub end_text_at : List ℕ → MoveResult → List ℕ
@@ -108,6 +108,6 @@ pub record IsMoved (end_text : List ℕ) (may_break : Bool) (session : Session) 
       (stop_text (stop_of session requested step outcome))
   pub next_is : next ≡ record session {
     history = record session.history { step = step };
-    shown = console_sent_after session requested (state_at session step);
+    console_sent = console_sent_after session requested (state_at session step);
     last = stop_of session requested step outcome;
   }

@@ -21,13 +21,13 @@ abbrev pub reply_with_end : List ℕ → List ℕ → List ℕ → Reply
 reply_with_end printed end_text body = record { printed = printed; end_text = end_text; body = Some body }
 
 -- the reply `OK`
-abbrev pub granted : Reply
-granted = with_body (codes "OK")
+abbrev pub ok_reply : Reply
+ok_reply = with_body (codes "OK")
 
 -- the reply to a request that is refused for this reason
-abbrev pub refused : Refusal → Reply
-refused refusal = with_body (refusal_text refusal)
+abbrev pub error_reply : Refusal → Reply
+error_reply refusal = with_body (refusal_text refusal)
 
 -- the reply `OK` if the Bool is true, because the request is granted, and the refusal otherwise
 abbrev pub ok_if : Bool → Refusal → Reply
-ok_if is_granted refusal = if is_granted then granted else refused refusal
+ok_if succeeds refusal = if succeeds then ok_reply else error_reply refusal

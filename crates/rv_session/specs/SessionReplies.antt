@@ -25,8 +25,8 @@ use Rattle.rv_gdb_protocol.specs.declared.request.Stoppoint.{Stoppoint}
 use Rattle.rv_gdb_protocol.specs.declared.stop.Stop.TheVariants as stop
 use Rattle.rv_gdb_protocol.specs.declared.target.TheConstants.{TARGET}
 use Rattle.rv_session.specs.Memory.{bytes_from, has_bytes_at}
-use Rattle.rv_session.specs.Replies.{granted, ok_if, with_console, refused, with_body, empty_reply}
-use Rattle.rv_session.specs.Sessions.{at_step, here}
+use Rattle.rv_session.specs.Replies.{ok_reply, ok_if, with_console, error_reply, with_body, empty_reply}
+use Rattle.rv_session.specs.Sessions.{at_step, current_state}
 use Rattle.rv_session.specs.Stoppoints.{IsStoppointAdded, without_stoppoint}
 use Rattle.rv_session.specs.declared.monitor.TheConstants.{HELP}
 use Rattle.rv_session.specs.declared.reply.Reply.{Reply}
@@ -40,26 +40,26 @@ shown_count count = min count 4294967295
 
 -- the number of bytes that the program has consumed from the input script at the session's current step
 abbrev pub script_bytes_consumed : Session → ℕ
-script_bytes_consumed session = session.script - length (here session).bus.script
+script_bytes_consumed session = session.script - length (current_state session).bus.script
 
 -- the value at the current step of register x`number` if the number is below 32, and of the pc otherwise
 abbrev pub hart_value : Session → ℕ → ℕ
-hart_value session number = if nat_lt number 32 then register (here session) number else (here session).pc
+hart_value session number = if nat_lt number 32 then register (current_state session) number else (current_state session).pc
 
 -- the value of a register of the target description at the current step
 abbrev pub value_of : Session → Register → ℕ
 value_of session (reg.Hart number) = hart_value session number
 value_of session reg.Steps = session.history.step
-value_of session reg.Printed = shown_count (length (here session).bus.output)
+value_of session reg.Printed = shown_count (length (current_state session).bus.output)
 value_of session reg.Taken = shown_count (script_bytes_consumed session)
 
 -- the values of x0 to x31 and the pc at the current step, as hexadecimal digits
 abbrev pub current_registers : Session → List ℕ
-current_registers session = registers_text (here session).registers (here session).pc
+current_registers session = registers_text (current_state session).registers (current_state session).pc
 
 -- the reply with these bytes of memory as hexadecimal digits; `E01` if there are none
 abbrev pub memory_reply : List ℕ → Reply
-memory_reply bytes = if length bytes == 0 then refused refusal.Failed else with_body (encode_lower bytes)
+memory_reply bytes = if length bytes == 0 then error_reply refusal.Failed else with_body (encode_lower bytes)
 
 -- the beginning of a reply about a file: `F`, the number as eight hexadecimal digits, and `;`
 abbrev pub file_reply_prefix : ℕ → List ℕ
@@ -95,17 +95,17 @@ abbrev pub read_only_reply : Session → Request → Reply
 read_only_reply session ask.LastStop = with_body (stop_text session.last)
 read_only_reply session ask.Registers = with_body (current_registers session)
 read_only_reply session (ask.Register register) = with_body (register_text (value_of session register))
-read_only_reply session (ask.ReadMemory range) = memory_reply (bytes_from (here session).bus range)
+read_only_reply session (ask.ReadMemory range) = memory_reply (bytes_from (current_state session).bus range)
 read_only_reply session (ask.Description part) = with_body (part_text TARGET.now part)
 read_only_reply session (ask.ImagePath part) = with_body (part_text session.program.path part)
 read_only_reply session (ask.OpenFile path) =
-    if bytes_eq session.program.path path then with_body (codes "F5") else refused refusal.OtherFile
+    if bytes_eq session.program.path path then with_body (codes "F5") else error_reply refusal.OtherFile
 read_only_reply session ask.FileSize = size_reply (length session.program.image)
 read_only_reply session (ask.ReadFile part) = file_reply (file_part session.program.image part)
 read_only_reply session (ask.WriteRegisters bytes) =
     ok_if (bytes_eq (current_registers session) (encode_lower bytes)) refusal.WouldChange
 read_only_reply session (ask.WriteMemory address bytes) =
-    ok_if (has_bytes_at (here session).bus address bytes) refusal.WouldChange
+    ok_if (has_bytes_at (current_state session).bus address bytes) refusal.WouldChange
 read_only_reply session request = common_reply request
 
 -- ---- commands
@@ -118,7 +118,7 @@ is_reset text = bytes_eq text (codes "reset") || bytes_eq text (codes "reset hal
 abbrev pub command_text : Session → List ℕ → List ℕ
 command_text session text =
     if bytes_eq text (codes "when") then decimal session.history.step ++ codes " steps executed\n"
-    else if bytes_eq text (codes "console") then (here session).bus.output
+    else if bytes_eq text (codes "console") then (current_state session).bus.output
     else if bytes_eq text (codes "input") then
     decimal (script_bytes_consumed session) ++ codes " of " ++ decimal session.script ++ codes " bytes read\n"
     else HELP.now
@@ -136,9 +136,9 @@ IsSeekResult false session count value next =
 -- a request to move to the first step at which `count` has this value: the reply is `OK` if there is such a step; otherwise it is a
 -- refusal, and the session is unchanged
 pub record IsSeekHandled (session : Session) (count : Count) (value : ℕ) (reply : Reply) (next : Session) : Type 0 where
-  pub is_granted : Bool
-  pub reply_is : reply ≡ ok_if is_granted refusal.NotReached
-  pub sought : IsSeekResult is_granted session count value next
+  pub succeeds : Bool
+  pub reply_is : reply ≡ ok_if succeeds refusal.NotReached
+  pub sought : IsSeekResult succeeds session count value next
   pub run : next ≡ at_step session next.history.step
 
 -- a request to move to the step `step`: the reply is `OK` if the run reaches it; otherwise it is a refusal, and the session is unchanged
@@ -159,18 +159,18 @@ IsRegisterWriteHandled session reg.Taken value reply next = IsSeekHandled sessio
 -- the reply to a request to set a stoppoint, given its result: `OK`, and `next` has the new stops; or the refusal, and `next` is the
 -- unchanged session
 abbrev pub IsSetReply : Session → Result Stops Refusal → Reply → Session → Type 0
-IsSetReply session (Ok stops) reply next = (reply ≡ granted) × (next ≡ record session { stops = stops })
-IsSetReply session (Err refusal) reply next = (reply ≡ refused refusal) × (next ≡ session)
+IsSetReply session (Ok stops) reply next = (reply ≡ ok_reply) × (next ≡ record session { stops = stops })
+IsSetReply session (Err refusal) reply next = (reply ≡ error_reply refusal) × (next ≡ session)
 
 -- `reply` is the reply to a request to set the stoppoint `stoppoint`, and `next` is the session after it
 pub record IsStoppointSet (session : Session) (stoppoint : Stoppoint) (reply : Reply) (next : Session) : Type 0 where
   pub outcome : Result Stops Refusal
-  pub trapped : IsStoppointAdded session.stops (here session).bus stoppoint outcome
+  pub trapped : IsStoppointAdded session.stops (current_state session).bus stoppoint outcome
   pub set : IsSetReply session outcome reply next
 
 -- the reply to a `monitor` command: `OK` for a reset, and otherwise its output followed by `OK`
 abbrev pub command_reply : Session → List ℕ → Reply
-command_reply session text = if is_reset text then granted else with_console (command_text session text) (codes "OK")
+command_reply session text = if is_reset text then ok_reply else with_console (command_text session text) (codes "OK")
 
 -- `reply` is the reply to the `monitor` command `text`, and `next` is the session after it: at step 0 after a reset, and unchanged
 -- otherwise
@@ -185,12 +185,12 @@ IsReply session (ask.Move requested) reply next = (reply ≡ empty_reply) × (ne
 IsReply session (ask.WriteRegister register value) reply next = IsRegisterWriteHandled session register value reply next
 IsReply session (ask.Set stoppoint) reply next = IsStoppointSet session stoppoint reply next
 IsReply session (ask.Clear stoppoint) reply next =
-    (reply ≡ granted) × (next ≡ record session { stops = without_stoppoint session.stops stoppoint })
+    (reply ≡ ok_reply) × (next ≡ record session { stops = without_stoppoint session.stops stoppoint })
 IsReply session (ask.Command text) reply next = IsCommandHandled session text reply next
 IsReply session ask.Restart reply next =
     (reply ≡ with_body (stop_text stop.Trap)) × (next ≡ record (at_step session 0) { last = stop.Trap })
-IsReply session ask.NoAcknowledgements reply next = (reply ≡ granted) × (next ≡ record session { acknowledges = false })
-IsReply session ask.Detach reply next = (reply ≡ granted) × (next ≡ record session { is_over = true })
+IsReply session ask.NoAcknowledgements reply next = (reply ≡ ok_reply) × (next ≡ record session { acknowledges = false })
+IsReply session ask.Detach reply next = (reply ≡ ok_reply) × (next ≡ record session { is_over = true })
 IsReply session ask.Kill reply next =
     (reply ≡ empty_reply) × (next ≡ record session { is_over = true })
 IsReply session request reply next = (reply ≡ read_only_reply session request) × (next ≡ session)

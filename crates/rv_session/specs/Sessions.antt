@@ -18,7 +18,7 @@ at_start start budget program = record {
   script = length start.bus.script;
   stops = record { breaks = []; watches = []; reads = []; accesses = [] };
   acknowledges = true;
-  shown = 0;
+  console_sent = 0;
   last = stop.Trap;
   sent = [];
   requested = None;
@@ -30,8 +30,8 @@ abbrev pub state_at : Session → ℕ → State
 state_at session step = state_after step session.history.start
 
 -- the state at the session's current step
-abbrev pub here : Session → State
-here session = state_at session session.history.step
+abbrev pub current_state : Session → State
+current_state session = state_at session session.history.step
 
 -- the session at the step `step` of its run
 abbrev pub at_step : Session → ℕ → Session

@@ -6,7 +6,7 @@ ghost use Rattle.std.specs.List.{flat_map};
 ghost use Rattle.std.specs.Str.{bytes_eq};
 ghost use Rattle.rv_gdb_protocol.specs.declared.request.Refusal.TheVariants as refusal;
 ghost use Rattle.rv_session.specs.SessionReplies.{file_reply_prefix, file_part, file_reply, size_reply, stat_words};
-ghost use Rattle.rv_session.specs.Replies.{refused, with_body};
+ghost use Rattle.rv_session.specs.Replies.{error_reply, with_body};
 
 use crate::reading::{are_same, shown_count};
 use crate::reply::Reply;
@@ -27,7 +27,7 @@ impl Session {
     /// Handles `vFile:open:`: opens the image file as descriptor 5, and refuses any other file.
     pub(crate) fn open_file(&self, alloc: Global, path: &[u8]) -> Result<Reply, AllocError>
         ensures { IfOk result (λ reply. reply
-            ≡ (if bytes_eq self.now.program.path path.now then with_body (codes "F5") else refused refusal.OtherFile)) }
+            ≡ (if bytes_eq self.now.program.path path.now then with_body (codes "F5") else error_reply refusal.OtherFile)) }
     {
         if are_same(self.program.path.as_slice(), path) {
             Reply::with_text(alloc, "F5")

@@ -27,15 +27,15 @@ pub fn replies_are_determined()
 
 /// The console output that is sent before stops is a prefix of the output of the run: it is sent in order, and each byte once.
 pub fn console_is_sent_once()
-    ensures { (end_text : List ℕ) (may_break : Bool) (session next : Session) (requested : Move) (reply : Reply) (shown : List ℕ)
-        → HasSentConsole session shown → IsMoved end_text may_break session requested reply next
-        → HasSentConsole next (shown ++ reply.printed) }
+    ensures { (end_text : List ℕ) (may_break : Bool) (session next : Session) (requested : Move) (reply : Reply) (console_sent : List ℕ)
+        → HasSentConsole session console_sent → IsMoved end_text may_break session requested reply next
+        → HasSentConsole next (console_sent ++ reply.printed) }
 {}
 
 /// Console output of the run is sent only for moves, never for received bytes.
 pub fn console_is_sent_only_for_moves()
-    ensures { (session next : Session) (byte : ℕ) (out shown : List ℕ)
-        → HasSentConsole session shown → IsByteReceived session byte out next → HasSentConsole next shown }
+    ensures { (session next : Session) (byte : ℕ) (out console_sent : List ℕ)
+        → HasSentConsole session console_sent → IsByteReceived session byte out next → HasSentConsole next console_sent }
 {}
 
 /// A move reports the end of the run if it reaches it, and otherwise reports no end. The text about the run's end is sent with the stop at

@@ -20,7 +20,7 @@ impl Session {
     {
         if is_reset(text) {
             self.go_to_start(alloc)?;
-            return Reply::granted(alloc);
+            return Reply::ok_reply(alloc);
         }
         let printed = self.command_text(alloc, text)?;
         Reply::with_console(alloc, printed)

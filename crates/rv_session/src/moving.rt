@@ -7,7 +7,7 @@ ghost use Rattle.rv_gdb_protocol.specs.Stops.{stop_text};
 ghost use Rattle.rv_session.specs.Moved.{CanReportHit, IsMoveResult, IsMoved, end_stop, end_text_at, is_forward, console_before_stop, console_sent_after, stop_of, watch_stop, stop_of_watch_hit};
 ghost use Rattle.rv_session.specs.Incoming.{IsRequestedMoveMade};
 ghost use Rattle.rv_session.specs.Replies.{reply_with_end};
-ghost use Rattle.rv_session.specs.Sessions.{IsSameRun, at_step, here};
+ghost use Rattle.rv_session.specs.Sessions.{IsSameRun, at_step, current_state};
 
 use crate::end_text::EndText;
 use crate::reply::Reply;
@@ -149,8 +149,8 @@ impl Session {
         text: Vec<u8>,
     ) -> Result<Reply, AllocError>
         ensures reply { IfOk result
-            (λ reply. reply ≡ reply_with_end (console_before_stop self.old requested (here self.old)) text.items (stop_text stop)) }
-        ensures next { OnOk result (self.new ≡ record self.old { shown = console_sent_after self.old requested (here self.old); last = stop }) }
+            (λ reply. reply ≡ reply_with_end (console_before_stop self.old requested (current_state self.old)) text.items (stop_text stop)) }
+        ensures next { OnOk result (self.new ≡ record self.old { console_sent = console_sent_after self.old requested (current_state self.old); last = stop }) }
     {
         let mut body = Vec::new(alloc);
         push_stop(&mut body, stop)?;
@@ -165,15 +165,15 @@ impl Session {
 
     // Returns the console output that was not sent yet and counts it as sent, if the move was forwards; otherwise returns an empty text.
     fn take_unsent_console(&mut self, alloc: Global, requested: Move) -> Result<Vec<u8>, AllocError>
-        ensures printed { IfOk result (λ printed. printed.items ≡ console_before_stop self.old requested (here self.old)) }
-        ensures shown { IfOk result (λ printed. self.new ≡ record self.old { shown = console_sent_after self.old requested (here self.old) }) }
+        ensures printed { IfOk result (λ printed. printed.items ≡ console_before_stop self.old requested (current_state self.old)) }
+        ensures console_sent { IfOk result (λ printed. self.new ≡ record self.old { console_sent = console_sent_after self.old requested (current_state self.old) }) }
     {
         if !is_forward(requested) {
             return Ok(Vec::new(alloc));
         }
         let console = self.history.machine().bus().console();
-        let printed = Vec::from_slice(alloc, &console[self.shown.min(console.len())..])?;
-        self.shown = self.shown.max(console.len());
+        let printed = Vec::from_slice(alloc, &console[self.console_sent.min(console.len())..])?;
+        self.console_sent = self.console_sent.max(console.len());
         Ok(printed)
     }
 }

@@ -6,7 +6,7 @@ ghost use Rattle.rv_gdb_protocol.specs.RegisterTexts.{register_text};
 ghost use Rattle.rv_session.specs.SessionReplies.{hart_value, memory_reply, current_registers, shown_count, script_bytes_consumed, value_of};
 ghost use Rattle.rv_session.specs.Memory.{bytes_requested, bytes_from};
 ghost use Rattle.rv_session.specs.Replies.{with_body};
-ghost use Rattle.rv_session.specs.Sessions.{here};
+ghost use Rattle.rv_session.specs.Sessions.{current_state};
 
 use crate::reply::Reply;
 use crate::session::Session;
@@ -71,7 +71,7 @@ impl Session {
 
     /// Handles `m`: returns the reply with the bytes of a range before the first address that is in no region.
     pub(crate) fn memory(&self, alloc: Global, range: Range) -> Result<Reply, AllocError>
-        ensures { IfOk result (λ reply. reply ≡ memory_reply (bytes_from (here self.now).bus range)) }
+        ensures { IfOk result (λ reply. reply ≡ memory_reply (bytes_from (current_state self.now).bus range)) }
     {
         let bytes = bytes_from(alloc, self.history.machine().bus(), range)?;
         if bytes.as_slice().is_empty() {

@@ -3,7 +3,7 @@
 ghost use Rattle.std.specs.Prelude.{◌≡◌, ◌++◌, ◌∷◌, ◌&&◌, [], IfOk, None, OnOk, Some};
 ghost use Rattle.rv_gdb_protocol.specs.Checksums.{packet_of};
 ghost use Rattle.rv_session.specs.Incoming.{AppendsSome, IsByteReceived, IsRespondedTo, IsPacketResponse, acknowledgement, is_wrong_checksum, packets_of, printed_packet, printed_packets, printed_part, last_packet_if_acknowledged, with_sent};
-ghost use Rattle.rv_session.specs.Replies.{refused};
+ghost use Rattle.rv_session.specs.Replies.{error_reply};
 ghost use Rattle.rv_session.specs.Sessions.{IsSameRun, IsOpenIfRequested};
 ghost use Rattle.rv_gdb_protocol.specs.declared.request.Refusal.TheVariants as refusal;
 
@@ -82,8 +82,8 @@ impl Session {
     // Appends the acknowledgement of a packet that is too long, and the reply that refuses it.
     fn reject_long_packet(&mut self, alloc: Global, out: &mut Vec<u8>) -> Result<(), AllocError>
         ensures out { OnOk result (out.new.items
-            ≡ out.old.items ++ (acknowledgement self.old ++ packets_of (refused refusal.TooLong))) }
-        ensures next { OnOk result (self.new ≡ with_sent self.old (refused refusal.TooLong)) }
+            ≡ out.old.items ++ (acknowledgement self.old ++ packets_of (error_reply refusal.TooLong))) }
+        ensures next { OnOk result (self.new ≡ with_sent self.old (error_reply refusal.TooLong)) }
     {
         self.acknowledge(out)?;
         let reply = Reply::error_reply(alloc, Refusal::TooLong)?;

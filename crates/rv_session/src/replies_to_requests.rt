@@ -5,7 +5,7 @@ ghost use Rattle.rv_gdb_protocol.specs.Replies.{part_text};
 ghost use Rattle.rv_gdb_protocol.specs.Stops.{stop_text};
 ghost use Rattle.rv_gdb_protocol.specs.declared.stop.Stop.TheVariants as stop;
 ghost use Rattle.rv_session.specs.SessionReplies.{IsReply, IsStoppointSet, common_reply, read_only_reply};
-ghost use Rattle.rv_session.specs.Replies.{granted, with_body, empty_reply};
+ghost use Rattle.rv_session.specs.Replies.{ok_reply, with_body, empty_reply};
 ghost use Rattle.rv_session.specs.Sessions.{at_step};
 ghost use Rattle.rv_session.specs.Stoppoints.{without_stoppoint};
 
@@ -75,7 +75,7 @@ impl Session {
     {
         match with_stoppoint(alloc, &self.stops, self.history.machine().bus(), trap)? {
             Ok(stops) => {
-                let reply = Reply::granted(alloc)?;
+                let reply = Reply::ok_reply(alloc)?;
                 self.stops = stops;
                 Ok(reply)
             }
@@ -85,10 +85,10 @@ impl Session {
 
     // Handles `z`: clears a breakpoint or watchpoint, if it is set, and returns `OK`.
     fn clear_stoppoint(&mut self, alloc: Global, trap: Stoppoint) -> Result<Reply, AllocError>
-        ensures { IfOk result (λ reply. (reply ≡ granted)
+        ensures { IfOk result (λ reply. (reply ≡ ok_reply)
             × (self.new ≡ record self.old { stops = without_stoppoint self.old.stops trap })) }
     {
-        let reply = Reply::granted(alloc)?;
+        let reply = Reply::ok_reply(alloc)?;
         self.stops = without_stoppoint(alloc, &self.stops, trap)?;
         Ok(reply)
     }
@@ -105,18 +105,18 @@ impl Session {
 
     // Handles `QStartNoAckMode`: returns `OK`, and no later packet is acknowledged.
     fn end_acknowledgements(&mut self, alloc: Global) -> Result<Reply, AllocError>
-        ensures { IfOk result (λ reply. (reply ≡ granted) × (self.new ≡ record self.old { acknowledges = false })) }
+        ensures { IfOk result (λ reply. (reply ≡ ok_reply) × (self.new ≡ record self.old { acknowledges = false })) }
     {
-        let reply = Reply::granted(alloc)?;
+        let reply = Reply::ok_reply(alloc)?;
         self.acknowledges = false;
         Ok(reply)
     }
 
     // Handles `D`: ends the session, and returns `OK`.
     fn detach(&mut self, alloc: Global) -> Result<Reply, AllocError>
-        ensures { IfOk result (λ reply. (reply ≡ granted) × (self.new ≡ record self.old { is_over = true })) }
+        ensures { IfOk result (λ reply. (reply ≡ ok_reply) × (self.new ≡ record self.old { is_over = true })) }
     {
-        let reply = Reply::granted(alloc)?;
+        let reply = Reply::ok_reply(alloc)?;
         self.is_over = true;
         Ok(reply)
     }

@@ -17,7 +17,7 @@ pub struct Reply {
 }
 
 impl Reply {
-    ghost use Rattle.rv_session.specs.Replies.{granted, ok_if, with_console, refused, with_body, empty_reply};
+    ghost use Rattle.rv_session.specs.Replies.{ok_reply, ok_if, with_console, error_reply, with_body, empty_reply};
 
     /// Creates a reply with only this body.
     pub(crate) fn with_body(alloc: Global, body: Vec<u8>) -> Reply
@@ -45,11 +45,11 @@ impl Reply {
     pub(crate) fn with_console(alloc: Global, text: Vec<u8>) -> Result<Reply, AllocError>
         ensures { IfOk result (λ reply. reply ≡ with_console text.items (codes "OK")) }
     {
-        let granted = Vec::from_slice(alloc, b"OK")?;
+        let ok_reply = Vec::from_slice(alloc, b"OK")?;
         Ok(Reply {
             printed: Bytes::new(text),
             end_text: Bytes::new(Vec::new(alloc)),
-            body: Some(Bytes::new(granted)),
+            body: Some(Bytes::new(ok_reply)),
         })
     }
 
@@ -61,29 +61,29 @@ impl Reply {
     }
 
     /// Creates the reply `OK`.
-    pub(crate) fn granted(alloc: Global) -> Result<Reply, AllocError>
-        ensures { IfOk result (λ reply. reply ≡ granted) }
+    pub(crate) fn ok_reply(alloc: Global) -> Result<Reply, AllocError>
+        ensures { IfOk result (λ reply. reply ≡ ok_reply) }
     {
         Reply::with_text(alloc, "OK")
     }
 
     /// Creates the reply to a request that is refused for this reason.
     pub(crate) fn error_reply(alloc: Global, refusal: Refusal) -> Result<Reply, AllocError>
-        ensures { IfOk result (λ reply. reply ≡ refused refusal) }
+        ensures { IfOk result (λ reply. reply ≡ error_reply refusal) }
     {
         Reply::with_text(alloc, refusal_text(refusal))
     }
 
-    /// Creates the reply `OK` if `is_granted` is true, and the refusal otherwise.
+    /// Creates the reply `OK` if `succeeds` is true, and the refusal otherwise.
     pub(crate) fn ok_if(
         alloc: Global,
-        is_granted: bool,
+        succeeds: bool,
         refusal: Refusal,
     ) -> Result<Reply, AllocError>
-        ensures { IfOk result (λ reply. reply ≡ ok_if is_granted refusal) }
+        ensures { IfOk result (λ reply. reply ≡ ok_if succeeds refusal) }
     {
-        if is_granted {
-            Reply::granted(alloc)
+        if succeeds {
+            Reply::ok_reply(alloc)
         } else {
             Reply::error_reply(alloc, refusal)
         }

@@ -24,8 +24,8 @@ impl Session {
     pub(crate) fn seek_step(&mut self, alloc: Global, step: u32) -> Result<Reply, AllocError>
         ensures { IfOk result (λ reply. IsStepSeekHandled self.old step reply self.new) }
     {
-        let granted = self.history.seek(alloc, step)?;
-        Reply::ok_if(alloc, granted, Refusal::NotReached)
+        let is_reached = self.history.seek(alloc, step)?;
+        Reply::ok_if(alloc, is_reached, Refusal::NotReached)
     }
 
     /// Handles `P22=` and `P23=`: moves to the first step at which a count has this value, and returns `OK`. If there is no such step,
@@ -38,7 +38,7 @@ impl Session {
     ) -> Result<Reply, AllocError>
         ensures { IfOk result (λ reply. IsSeekHandled self.old count value reply self.new) }
     {
-        let granted = self.history.seek_count(alloc, count, value)?;
-        Reply::ok_if(alloc, granted, Refusal::NotReached)
+        let is_reached = self.history.seek_count(alloc, count, value)?;
+        Reply::ok_if(alloc, is_reached, Refusal::NotReached)
     }
 }

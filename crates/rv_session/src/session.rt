@@ -21,7 +21,7 @@ pub struct Session {
     /// Whether packets are acknowledged.
     pub(crate) acknowledges: bool,
     /// The number of console bytes that were sent so far.
-    pub(crate) shown: usize,
+    pub(crate) console_sent: usize,
     /// The stop that was reported last.
     pub(crate) last: Stop,
     /// The packet that was sent last.
@@ -55,7 +55,7 @@ impl Session {
                 accesses: Sequence::new(Vec::new(alloc)),
             },
             acknowledges: true,
-            shown: 0,
+            console_sent: 0,
             last: Stop::Trap,
             sent: Bytes::new(Vec::new(alloc)),
             requested: None,

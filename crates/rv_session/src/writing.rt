@@ -8,7 +8,7 @@ ghost use Rattle.rv_gdb_protocol.specs.declared.request.Refusal.TheVariants as r
 ghost use Rattle.rv_session.specs.SessionReplies.{IsRegisterWriteHandled, current_registers};
 ghost use Rattle.rv_session.specs.Memory.{end_of_addresses, is_byte, has_bytes_at};
 ghost use Rattle.rv_session.specs.Replies.{ok_if};
-ghost use Rattle.rv_session.specs.Sessions.{here};
+ghost use Rattle.rv_session.specs.Sessions.{current_state};
 
 use crate::reading::are_same;
 use crate::reply::Reply;
@@ -27,11 +27,11 @@ impl Session {
             ≡ ok_if (bytes_eq (current_registers self.now) (encode_lower bytes.now)) refusal.WouldChange) }
     {
         let machine = self.history.machine();
-        let mut here = Vec::new(alloc);
-        push_registers(&mut here, &machine.registers(), machine.pc())?;
+        let mut current_state = Vec::new(alloc);
+        push_registers(&mut current_state, &machine.registers(), machine.pc())?;
         let mut requested = Vec::new(alloc);
         push_memory(alloc, &mut requested, bytes)?;
-        let same = are_same(here.as_slice(), requested.as_slice());
+        let same = are_same(current_state.as_slice(), requested.as_slice());
         Reply::ok_if(alloc, same, Refusal::WouldChange)
     }
 
@@ -64,7 +64,7 @@ impl Session {
         bytes: &[u8],
     ) -> Result<Reply, AllocError>
         ensures { IfOk result (λ reply. reply
-            ≡ ok_if (has_bytes_at (here self.now).bus address bytes.now) refusal.WouldChange) }
+            ≡ ok_if (has_bytes_at (current_state self.now).bus address bytes.now) refusal.WouldChange) }
     {
         let same = has_bytes_at(self.history.machine().bus(), address, bytes);
         Reply::ok_if(alloc, same, Refusal::WouldChange)

@@ -2,7 +2,7 @@ use Rattle.std.proofs.Common.{◌∙◌, ℕ, List, ap}
 use Rattle.rv_gdb_protocol.specs.Stops.{stop_text}
 use Rattle.rv_session.specs.Replies.{reply_with_end}
 use Rattle.rv_session.specs.Moved.{console_before_stop}
-use Rattle.rv_session.specs.Sessions.{here}
+use Rattle.rv_session.specs.Sessions.{current_state}
 use Rattle.rv_session.proofs.Appending.{both_if}
 use Rattle.rv_session.proofs.Gone.{can_tell, moved}
 use Rattle.rv_session.proofs.session.Session.make_requested_move.Goals as goal
@@ -17,5 +17,5 @@ returns g c = both_if _ _ _ c.stop_reply.result c.stop_reply.ensures.reply c.sto
     c.make_move.new.self c.stop_reply.new.self c.args.requested reply
     c.in_ok-outcome.outcome c.in_ok-stop.stop c.make_move.ensures.same c.in_ok-outcome.ensures.gone c.in_ok-outcome.ensures.interrupted
     c.in_ok-stop.ensures
-    (said ∙ ap (λ (text : List ℕ). reply_with_end (console_before_stop c.make_move.new.self c.args.requested (here c.make_move.new.self)) text
+    (said ∙ ap (λ (text : List ℕ). reply_with_end (console_before_stop c.make_move.new.self c.args.requested (current_state c.make_move.new.self)) text
     (stop_text c.in_ok-stop.stop)) c.in_ok-text.ensures) stands)
