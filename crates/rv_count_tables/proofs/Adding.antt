@@ -7,7 +7,7 @@ use Rattle.std.specs.Prelude.{nat_le}
 use Rattle.std.specs.List.{AllByRecursion}
 use Rattle.rv_count_tables.specs.declared.table.AddressCounts.{AddressCounts}
 use Rattle.rv_count_tables.specs.declared.sum.SumError.{SumError}
-use Rattle.rv_count_tables.specs.declared.sum.SumError.TheVariants.{OutOfMemory, Count, Spot, Runs, Names}
+use Rattle.rv_count_tables.specs.declared.sum.SumError.TheVariants.{OutOfMemory, Count, Node, Runs, Names}
 use Rattle.rv_count_tables.specs.Table.{executed_at, taken_at, increase_from, IsValidCount, AreValidCounts}
 use Rattle.rv_count_tables.specs.Sum.{IsSumOfCounts, CountsHaveNoSum}
 use Rattle.rv_count_tables.specs.SumSteps.{CountsAddUp, IsNextCount}
@@ -172,7 +172,7 @@ pub too_great_behind : (n m : ℕ) (a b : List AddressCounts) (error : SumError)
 too_great_behind n m a b OutOfMemory h = tt
 too_great_behind n m a b (Count address) h =
     let p = some_left n address a in let q = some_left m address b in omega (arith, h, p, q)
-too_great_behind n m a b (Spot function) h = h
+too_great_behind n m a b (Node function) h = h
 too_great_behind n m a b Runs h = h
 too_great_behind n m a b (Names function) h = h
 

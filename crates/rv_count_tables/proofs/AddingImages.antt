@@ -9,7 +9,7 @@ use Rattle.rv_count_tables.specs.declared.table.FunctionName.{FunctionName}
 use Rattle.rv_count_tables.specs.declared.table.CountTable.{CountTable}
 use Rattle.rv_count_tables.specs.declared.table.ImageCounts.{ImageCounts}
 use Rattle.rv_count_tables.specs.declared.sum.SumError.{SumError}
-use Rattle.rv_count_tables.specs.declared.sum.SumError.TheVariants.{OutOfMemory, Count, Spot, Names, Runs}
+use Rattle.rv_count_tables.specs.declared.sum.SumError.TheVariants.{OutOfMemory, Count, Node, Names, Runs}
 use Rattle.rv_count_tables.specs.declared.sum_of_images.NextImage.{NextImage}
 use Rattle.rv_count_tables.specs.Lines.{lacks}
 use Rattle.rv_count_tables.specs.Table.{executed_at, taken_at, name_at, executed_in, taken_in, next_path, truncated_name, calls_in_image, steps_in, min_text, min_text_of}
@@ -368,7 +368,7 @@ no_sum_of_first (x ∷ xs) (y ∷ ys) z w (Count n) some other is at first secon
     let one : x.digest ≡ y.digest = ap (λ (i : ImageCounts). i.digest) (sym is)
     ∙ same_place z.digest w.digest first second ∙ ap (λ (i : ImageCounts). i.digest) at in
     (x.digest, great_here (λ i. executed_at n i.addresses) x y z w (executed_in x.digest n xs) (executed_in x.digest n ys) is at one h)
-no_sum_of_first (x ∷ xs) (y ∷ ys) z w (Spot f) some other is at first second h =
+no_sum_of_first (x ∷ xs) (y ∷ ys) z w (Node f) some other is at first second h =
     let one : x.digest ≡ y.digest = ap (λ (i : ImageCounts). i.digest) (sym is)
     ∙ same_place z.digest w.digest first second ∙ ap (λ (i : ImageCounts). i.digest) at in (
       x.digest,
@@ -384,14 +384,14 @@ no_sum_of_first (x ∷ xs) (y ∷ ys) z w (Spot f) some other is at first second
 pub no_sum_of_counts : (error : SumError) (a b : ImageCounts) → CountsHaveNoSum error a.addresses b.addresses → ImageHasNoSum error a b
 no_sum_of_counts OutOfMemory a b h = tt
 no_sum_of_counts (Count n) a b h = h
-no_sum_of_counts (Spot f) a b h = absurd h
+no_sum_of_counts (Node f) a b h = absurd h
 no_sum_of_counts (Names f) a b h = absurd h
 no_sum_of_counts Runs a b h = h
 
 no_sum_of_names : (error : SumError) (a b : ImageCounts) → NamesHaveNoSum error a.functions b.functions → ImageHasNoSum error a b
 no_sum_of_names OutOfMemory a b h = tt
 no_sum_of_names (Count n) a b h = absurd h
-no_sum_of_names (Spot f) a b h = absurd h
+no_sum_of_names (Node f) a b h = absurd h
 no_sum_of_names (Names f) a b h = h
 no_sum_of_names Runs a b h = h
 
@@ -471,7 +471,7 @@ no_sum_of_rest n m a b (Count address) h =
     let p = some_images_left n h.0 address a in
     let q = some_images_left m h.0 address b in
     (h.0, omega (arith, k, p, q))
-no_sum_of_rest n m a b (Spot f) h = (
+no_sum_of_rest n m a b (Node f) h = (
   h.0,
   h.1,
   h.2,

@@ -10,7 +10,7 @@ use Rattle.rv_count_tables.specs.declared.sum_of_names.NextName.{NextName}
 use Rattle.rv_count_tables.specs.Table.{name_at, functions_increase_from, min_text_of, AreValidNames, IsValidName}
 use Rattle.rv_count_tables.specs.Sum.{NamesAgree, HasName, IsSumOfNames, NamesHaveNoSum}
 use Rattle.rv_count_tables.specs.declared.sum.SumError.{SumError}
-use Rattle.rv_count_tables.specs.declared.sum.SumError.TheVariants.{OutOfMemory, Count, Spot, Names, Runs}
+use Rattle.rv_count_tables.specs.declared.sum.SumError.TheVariants.{OutOfMemory, Count, Node, Names, Runs}
 use Rattle.rv_count_tables.specs.SumSteps.{NamesAddUp, IsNextName}
 use Rattle.rv_count_tables.proofs.AddingImages.{agree_with_none, least_is, path_parts}
 use Rattle.rv_count_tables.proofs.Paths.{any_first, second_first}
@@ -240,7 +240,7 @@ pub no_sum_of_rest : (n m : ℕ) (a b : List FunctionName) (error : SumError) �
     → NamesHaveNoSum error a b
 no_sum_of_rest n m a b OutOfMemory h = tt
 no_sum_of_rest n m a b (Count address) h = h
-no_sum_of_rest n m a b (Spot function) h = h
+no_sum_of_rest n m a b (Node function) h = h
 no_sum_of_rest n m a b Runs h = h
 no_sum_of_rest n m a b (Names f) h = (h.0, h.1, name_in_rest n f h.0 a h.2, name_in_rest m f h.1 b h.3, h.4)
 

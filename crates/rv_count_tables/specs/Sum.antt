@@ -6,7 +6,7 @@ use Rattle.rv_count_tables.specs.declared.table.FunctionName.{FunctionName}
 use Rattle.rv_count_tables.specs.declared.table.ImageCounts.{ImageCounts}
 use Rattle.rv_count_tables.specs.declared.table.CountTable.{CountTable}
 use Rattle.rv_count_tables.specs.declared.sum.SumError.{SumError}
-use Rattle.rv_count_tables.specs.declared.sum.SumError.TheVariants.{OutOfMemory, Count, Spot, Names, Runs}
+use Rattle.rv_count_tables.specs.declared.sum.SumError.TheVariants.{OutOfMemory, Count, Node, Names, Runs}
 use Rattle.rv_count_tables.specs.Table.{executed_at, taken_at, name_at, executed_in, taken_in, next_path, truncated_name, calls_in_image, steps_in, min_text_of, AreValidCounts, AreValidNames, IsValidTable}
 use Rattle.rv_call_tree.specs.Trees.{ends_with}
 use Rattle.rv_call_tree.specs.declared.sum.CallTreeSumError.{CallTreeSumError}
@@ -54,7 +54,7 @@ pub record IsSumOfTables (a b sum : CountTable) : Type 0 where
 -- the error of a sum of tables, given why their call trees have no sum
 abbrev pub sum_error_of : CallTreeSumError → SumError
 sum_error_of nodes.OutOfMemory = OutOfMemory
-sum_error_of (nodes.Count function) = Spot function
+sum_error_of (nodes.Count function) = Node function
 
 -- the function has this name in the list
 abbrev pub HasName : ℕ → List ℕ → List FunctionName → Type 0
@@ -73,7 +73,7 @@ abbrev pub HaveNoSum : SumError → CountTable → CountTable → Type 0
 HaveNoSum OutOfMemory a b = Unit {0}
 HaveNoSum (Count address) a b = (digest : List ℕ)
     × (2 ^ 64 ≤ executed_in digest address a.images + executed_in digest address b.images)
-HaveNoSum (Spot function) a b = (digest : List ℕ) × (path : List ℕ) × (ends_with function path ≡ true)
+HaveNoSum (Node function) a b = (digest : List ℕ) × (path : List ℕ) × (ends_with function path ≡ true)
     × ((2 ^ 64 ≤ calls_in_image digest path a.images + calls_in_image digest path b.images)
     ⊎ (2 ^ 64 ≤ steps_in digest path a.images + steps_in digest path b.images))
 HaveNoSum (Names function) a b = (digest : List ℕ) × (name : List ℕ) × (other : List ℕ)
@@ -84,7 +84,7 @@ HaveNoSum Runs a b = 2 ^ 64 ≤ a.runs + b.runs
 abbrev pub CountsHaveNoSum : SumError → List AddressCounts → List AddressCounts → Type 0
 CountsHaveNoSum OutOfMemory a b = Unit {0}
 CountsHaveNoSum (Count address) a b = 2 ^ 64 ≤ executed_at address a + executed_at address b
-CountsHaveNoSum (Spot function) a b = ⊥
+CountsHaveNoSum (Node function) a b = ⊥
 CountsHaveNoSum (Names function) a b = ⊥
 CountsHaveNoSum Runs a b = ⊥
 
@@ -92,7 +92,7 @@ CountsHaveNoSum Runs a b = ⊥
 abbrev pub NamesHaveNoSum : SumError → List FunctionName → List FunctionName → Type 0
 NamesHaveNoSum OutOfMemory a b = Unit {0}
 NamesHaveNoSum (Count address) a b = ⊥
-NamesHaveNoSum (Spot function) a b = ⊥
+NamesHaveNoSum (Node function) a b = ⊥
 NamesHaveNoSum (Names function) a b = (name : List ℕ) × (other : List ℕ)
     × HasName function name a × HasName function other b × (name ≡ other → ⊥)
 NamesHaveNoSum Runs a b = ⊥

@@ -5,7 +5,7 @@ use Rattle.rv_count_tables.specs.declared.table.AddressCounts.{AddressCounts}
 use Rattle.rv_count_tables.specs.declared.table.FunctionName.{FunctionName}
 use Rattle.rv_count_tables.specs.declared.table.ImageCounts.{ImageCounts}
 use Rattle.rv_count_tables.specs.declared.sum.SumError.{SumError}
-use Rattle.rv_count_tables.specs.declared.sum.SumError.TheVariants.{OutOfMemory, Count, Spot, Names, Runs}
+use Rattle.rv_count_tables.specs.declared.sum.SumError.TheVariants.{OutOfMemory, Count, Node, Names, Runs}
 use Rattle.rv_count_tables.specs.declared.sum_of_counts.NextCount.{NextCount}
 use Rattle.rv_count_tables.specs.declared.sum_of_images.NextImage.{NextImage}
 use Rattle.rv_count_tables.specs.declared.sum_of_names.NextName.{NextName}
@@ -82,7 +82,7 @@ abbrev pub ImagesHaveNoSum : SumError → List ImageCounts → List ImageCounts 
 ImagesHaveNoSum OutOfMemory a b = Unit {0}
 ImagesHaveNoSum (Count address) a b = (digest : List ℕ)
     × (2 ^ 64 ≤ executed_in digest address a + executed_in digest address b)
-ImagesHaveNoSum (Spot function) a b = (digest : List ℕ) × (path : List ℕ) × (ends_with function path ≡ true)
+ImagesHaveNoSum (Node function) a b = (digest : List ℕ) × (path : List ℕ) × (ends_with function path ≡ true)
     × ((2 ^ 64 ≤ calls_in_image digest path a + calls_in_image digest path b)
     ⊎ (2 ^ 64 ≤ steps_in digest path a + steps_in digest path b))
 ImagesHaveNoSum (Names function) a b = (digest : List ℕ) × (name : List ℕ) × (other : List ℕ)
@@ -93,7 +93,7 @@ ImagesHaveNoSum Runs a b = ⊥
 abbrev pub ImageHasNoSum : SumError → ImageCounts → ImageCounts → Type 0
 ImageHasNoSum OutOfMemory a b = Unit {0}
 ImageHasNoSum (Count address) a b = CountsHaveNoSum (Count address) a.addresses b.addresses
-ImageHasNoSum (Spot function) a b = (path : List ℕ) × (ends_with function path ≡ true)
+ImageHasNoSum (Node function) a b = (path : List ℕ) × (ends_with function path ≡ true)
     × ((2 ^ 64 ≤ calls_at path a.nodes + calls_at path b.nodes)
     ⊎ (2 ^ 64 ≤ steps_at path a.nodes + steps_at path b.nodes))
 ImageHasNoSum (Names function) a b = NamesHaveNoSum (Names function) a.functions b.functions

@@ -22,7 +22,7 @@ pub enum SumError {
     Count(u32),
     /// A number of a node of this function is 2^64 or more, in one image.
     #[error("a stack count of the function at {0:08x} does not fit in 64 bits")]
-    Spot(u32),
+    Node(u32),
     /// This function of an image has different names in the two tables.
     #[error("the function at {0:08x} has two names in one image")]
     Names(u32),
@@ -47,7 +47,7 @@ impl From<CallTreeSumError> for SumError {
     fn from(error: CallTreeSumError) -> SumError {
         match error {
             CallTreeSumError::OutOfMemory => SumError::OutOfMemory,
-            CallTreeSumError::Count(function) => SumError::Spot(function),
+            CallTreeSumError::Count(function) => SumError::Node(function),
         }
     }
 }

@@ -7,7 +7,7 @@ use Rattle.std.proofs.lemmas.Result.{IfErr-weaker, IfOk-weaker}
 use Rattle.std.proofs.lemmas.List.{get_or_append_left, length-append, length-take, map-append, map-id, take_all}
 use Rattle.rv_count_tables.specs.Limits.{max_jobs}
 use Rattle.rv_count_tables.specs.declared.sum.SumError.{SumError}
-use Rattle.rv_count_tables.specs.declared.sum.SumError.TheVariants.{OutOfMemory, Count, Spot, Names, Runs}
+use Rattle.rv_count_tables.specs.declared.sum.SumError.TheVariants.{OutOfMemory, Count, Node, Names, Runs}
 use Rattle.rv_count_tables.specs.declared.table.CountTable.{CountTable}
 use Rattle.rv_count_tables.specs.Sum.{IsSumOfTables, HaveNoSum, no_counts}
 use Rattle.rv_fleet.specs.declared_engine.RunError.{RunError}
@@ -178,7 +178,7 @@ wanting n m t u (Count address) few h k no_sum =
     let b = k.executed no_sum.0 address in
     let c = no_sum.1 in
     absurd (omega (arith, few, a, b, c))
-wanting n m t u (Spot function) few h k no_sum =
+wanting n m t u (Node function) few h k no_sum =
     let digest = no_sum.0 in
     let path = no_sum.1 in
     absurd

@@ -48,7 +48,7 @@ fn alloc_error_of(error: SumError) -> AllocError
 {
     match error {
         SumError::OutOfMemory => AllocError,
-        SumError::Count(_) | SumError::Spot(_) | SumError::Names(_) | SumError::Runs => {
+        SumError::Count(_) | SumError::Node(_) | SumError::Names(_) | SumError::Runs => {
             unreachable!()
         }
     }

@@ -7,7 +7,7 @@ use Rattle.std.specs.Bool.{Decides}
 use Rattle.std.proofs.lemmas.List.{at_drop_more, at_drop_all}
 use Rattle.rv_expect.specs.Difference.{difference_from, first_difference, DifferAt, DifferInLength, IsDifference}
 use Rattle.rv_expect.specs.declared.difference.Difference.{Difference}
-use Rattle.rv_expect.specs.declared.difference.Difference.TheVariants.{At, Lengths, Absent}
+use Rattle.rv_expect.specs.declared.difference.Difference.TheVariants.{At, Lengths, Missing}
 
 -- ---- steps of the loops
 
@@ -63,7 +63,7 @@ differs_here place xs ys i h k other =
 abbrev Says : ℕ → Difference → List ℕ → List ℕ → Type 0
 Says place (At there) xs ys = (k : ℕ) × (there ≡ place + k) × DifferAt k xs ys
 Says place Lengths xs ys = DifferInLength xs ys
-Says place Absent xs ys = ⊥
+Says place Missing xs ys = ⊥
 
 abbrev SaysIf : ℕ → Option Difference → List ℕ → List ℕ → Type 0
 SaysIf place d xs ys = MatchOption d (xs ≡ ys) (λ difference. Says place difference xs ys)
@@ -87,7 +87,7 @@ one_more place x y xs ys (Some Lengths) same h = record {
   before = let e : take (length ys) xs ≡ take (length xs) ys = h.before in cc;
   lengths = λ e. h.lengths (omega arith);
 }
-one_more place x y xs ys (Some Absent) same h = absurd h
+one_more place x y xs ys (Some Missing) same h = absurd h
 
 says_first : (place : ℕ) (xs ys : List ℕ) → SaysIf place (difference_from place xs ys) xs ys
 unfolding difference_from
@@ -114,7 +114,7 @@ from_start (Some (At there)) xs ys h =
     let is : h.0 ≡ there = omega (arith, h.1) in
     rw is at h.2
 from_start (Some Lengths) xs ys h = h
-from_start (Some Absent) xs ys h = h
+from_start (Some Missing) xs ys h = h
 
 pub first_differs : (xs ys : List ℕ)
     → MatchOption (first_difference xs ys) (xs ≡ ys) (λ difference. IsDifference difference xs ys)
@@ -125,7 +125,7 @@ first_differs xs ys = from_start (difference_from 0 xs ys) xs ys (says_first 0 x
 differ : (d : Difference) (xs ys : List ℕ) → IsDifference d xs ys → xs ≡ ys → ⊥
 differ (At place) xs ys h e = h.there (ap (λ (zs : List ℕ). get_or zs place 0) e)
 differ Lengths xs ys h e = h.lengths (ap length e)
-differ Absent xs ys h e = h
+differ Missing xs ys h e = h
 
 some_where : (d : Option Difference) (b : Bool) (xs ys : List ℕ) → Decides b (xs ≡ ys)
     → MatchOption d (xs ≡ ys) (λ difference. IsDifference difference xs ys) → is_some d ≡ not b

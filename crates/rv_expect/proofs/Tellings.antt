@@ -24,7 +24,7 @@ use Rattle.rv_expect.specs.declared.difference.SameAsDifference.TheVariants as s
 use Rattle.rv_expect.specs.declared.reference.Reference.{Reference}
 use Rattle.rv_expect.specs.declared.reference.Reference.TheVariants.{Words, BadLine}
 use Rattle.rv_expect.specs.declared.unmet.UnmetExpectation.{UnmetExpectation}
-use Rattle.rv_expect.specs.declared.unmet.UnmetExpectation.TheVariants.{Exit, End, Console, Signature, Same, Nothing}
+use Rattle.rv_expect.specs.declared.unmet.UnmetExpectation.TheVariants.{Exit, End, Console, Signature, Same, DefaultExit}
 use Rattle.rv_expect.specs.Comparisons.{ComparisonView}
 use Rattle.rv_expect.specs.Difference.{console_difference, difference_of_runs, difference_of_outputs, first_difference}
 use Rattle.rv_expect.specs.Difference.{same_as_difference, signatures_difference}
@@ -285,7 +285,7 @@ no_same (Some place) other outcome none = cc
 
 unasked : (sides : ComparisonView)
     → has_expectations sides.job ≡ false
-    → ReportsUnmetExpectations (option_to_list (cond (has_expected_exit (Some 0) sides.row.ending) None (Some Nothing))) sides.job
+    → ReportsUnmetExpectations (option_to_list (cond (has_expected_exit (Some 0) sides.row.ending) None (Some DefaultExit))) sides.job
     (outcome_in_row sides.row) sides.console sides.reference (named_outcome sides.other)
 unasked sides none =
     let outcome = outcome_in_row sides.row in
@@ -295,15 +295,15 @@ unasked sides none =
     let r = neither _ _ q.1 in
     let s = neither _ _ r.1 in
     record {
-      exit = none_if is_exit Nothing zero refl ∙ sym (ap not (no_exit sides.job.expect_exit sides.row.ending p.0));
-      end = none_if is_end Nothing zero refl ∙ sym (ap not (no_end sides.job.expect_end sides.row.ending q.0));
-      console = none_if is_console Nothing zero refl
+      exit = none_if is_exit DefaultExit zero refl ∙ sym (ap not (no_exit sides.job.expect_exit sides.row.ending p.0));
+      end = none_if is_end DefaultExit zero refl ∙ sym (ap not (no_end sides.job.expect_end sides.row.ending q.0));
+      console = none_if is_console DefaultExit zero refl
           ∙ sym (ap not (no_console sides.job.expect_console sides.console outcome r.0));
-      signature = none_if is_signature Nothing zero refl
+      signature = none_if is_signature DefaultExit zero refl
           ∙ sym (ap not (no_reference sides.job.expect_signature sides.reference outcome s.0));
-      same = none_if is_same Nothing zero refl
+      same = none_if is_same DefaultExit zero refl
           ∙ sym (ap not (no_same sides.job.same_as (named_outcome sides.other) outcome s.1));
-      nothing = any_if is_nothing Nothing zero refl
+      nothing = any_if is_nothing DefaultExit zero refl
           ∙ sym (ap (λ (t : Bool). not t && not (exits_with 0 sides.row.ending)) none);
     }
 
@@ -312,7 +312,7 @@ unasked sides none =
 by_asked : (sides : ComparisonView) (asks : Bool)
     → has_expectations sides.job ≡ asks → did_run sides.row.ending ≡ true → AllByRecursion IsWord (signature_words_or_empty sides.row.signature)
     → ReportsUnmetExpectations (cond asks (unmet_of_expecting_job sides)
-    (option_to_list (cond (has_expected_exit (Some 0) sides.row.ending) None (Some Nothing)))) sides.job (outcome_in_row sides.row) sides.console
+    (option_to_list (cond (has_expected_exit (Some 0) sides.row.ending) None (Some DefaultExit)))) sides.job (outcome_in_row sides.row) sides.console
     sides.reference (named_outcome sides.other)
 by_asked sides true asks runs fit = asked sides runs asks fit
 by_asked sides false none runs fit = unasked sides none
@@ -389,14 +389,14 @@ passes_if false end = refl
 by_verdict : (sides : ComparisonView) (asks : Bool)
     → has_expectations sides.job ≡ asks → did_run sides.row.ending ≡ true → AllByRecursion IsWord (signature_words_or_empty sides.row.signature)
     → (length (cond asks (unmet_of_expecting_job sides)
-    (option_to_list (cond (has_expected_exit (Some 0) sides.row.ending) None (Some Nothing)))) == 0)
+    (option_to_list (cond (has_expected_exit (Some 0) sides.row.ending) None (Some DefaultExit)))) == 0)
     ≡ passes (cond (not asks) verdict.Unasked
     (cond (meets_all_expectations sides.job (outcome_in_row sides.row) sides.reference sides.console (named_outcome sides.other)) verdict.Pass verdict.Fail))
     sides.row.ending
 by_verdict sides true asks runs fit =
     asked_passes sides runs fit ∙ sym (passes_if _ sides.row.ending)
 by_verdict sides false asks runs fit =
-    empty_if Nothing (has_expected_exit (Some 0) sides.row.ending)
+    empty_if DefaultExit (has_expected_exit (Some 0) sides.row.ending)
 
 pub passes_where_empty : (sides : ComparisonView)
     → did_run sides.row.ending ≡ true → AllByRecursion IsWord (signature_words_or_empty sides.row.signature)
@@ -405,7 +405,7 @@ pub passes_where_empty : (sides : ComparisonView)
 unfolding unmet_expectations_of verdict_of
 passes_where_empty sides runs fit has =
     let told = cond (has_expectations sides.job) (unmet_of_expecting_job sides)
-    (option_to_list (cond (has_expected_exit (Some 0) sides.row.ending) None (Some Nothing))) in
+    (option_to_list (cond (has_expected_exit (Some 0) sides.row.ending) None (Some DefaultExit))) in
     ap (λ (t : Bool). length (cond t told []) == 0) runs
     ∙ by_verdict sides (has_expectations sides.job) refl runs fit
     ∙ sym (ap (λ (v : Verdict). passes v sides.row.ending) has)

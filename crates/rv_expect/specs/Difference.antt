@@ -8,7 +8,7 @@ use Rattle.rv_rows.specs.declared_job.ExpectedConsole.TheVariants.{Text, File}
 use Rattle.rv_rows.specs.declared_row.Row.{Row}
 use Rattle.rv_rows.specs.Verdict.{are_alike_endings}
 use Rattle.rv_expect.specs.declared.difference.Difference.{Difference}
-use Rattle.rv_expect.specs.declared.difference.Difference.TheVariants.{At, Lengths, Absent}
+use Rattle.rv_expect.specs.declared.difference.Difference.TheVariants.{At, Lengths, Missing}
 use Rattle.rv_expect.specs.declared.difference.SameAsDifference.{SameAsDifference}
 use Rattle.rv_expect.specs.declared.difference.SameAsDifference.TheVariants as same
 
@@ -39,11 +39,11 @@ pub record DifferInLength (xs ys : List ℕ) : Type 0 where
   pub before : take (length ys) xs ≡ take (length xs) ys
   pub lengths : length xs ≢ length ys
 
--- the two lists differ, and this is their first difference: an index, or their lengths; `Absent` is never the difference of two lists
+-- the two lists differ, and this is their first difference: an index, or their lengths; `Missing` is never the difference of two lists
 abbrev pub IsDifference : Difference → List ℕ → List ℕ → Type 0
 IsDifference (At place) xs ys = DifferAt place xs ys
 IsDifference Lengths xs ys = DifferInLength xs ys
-IsDifference Absent xs ys = ⊥
+IsDifference Missing xs ys = ⊥
 
 -- ---- two consoles
 
@@ -53,7 +53,7 @@ abbrev pub console_difference :
     Option ExpectedConsole → Option (List ℕ) → List ℕ → Option Difference
 console_difference None file console = None
 console_difference (Some (Text text)) file console = first_difference console text
-console_difference (Some (File path)) None console = Some Absent
+console_difference (Some (File path)) None console = Some Missing
 console_difference (Some (File path)) (Some bytes) console = first_difference console bytes
 
 -- ---- two runs
@@ -62,8 +62,8 @@ console_difference (Some (File path)) (Some bytes) console = first_difference co
 abbrev pub signatures_difference : Option (List ℕ) → Option (List ℕ) → Option Difference
 signatures_difference None None = None
 signatures_difference (Some words) (Some others) = first_difference words others
-signatures_difference (Some words) None = Some Absent
-signatures_difference None (Some others) = Some Absent
+signatures_difference (Some words) None = Some Missing
+signatures_difference None (Some others) = Some Missing
 
 -- the first difference between the consoles of two rows, or else between their signatures, or `None` if they agree in both
 abbrev pub difference_of_outputs : Row → Row → Option SameAsDifference
@@ -80,5 +80,5 @@ difference_of_runs row other =
 -- the first difference between a row and the row `other` of the job that `same_as` names, or `None` if they agree or there is no `same_as`
 abbrev pub same_as_difference : Option ℕ → Option Row → Row → Option SameAsDifference
 same_as_difference None other row = None
-same_as_difference (Some place) None row = Some same.Absent
+same_as_difference (Some place) None row = Some same.Missing
 same_as_difference (Some place) (Some other) row = difference_of_runs row other

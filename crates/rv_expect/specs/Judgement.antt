@@ -34,7 +34,7 @@ pub data JudgementView : Type 0 where
 abbrev pub judgement_view : Judgement → JudgementView
 judgement_view counted.Passed = passed
 judgement_view counted.Failed = failed
-judgement_view (counted.Known reason) = known reason.now
+judgement_view (counted.KnownFailure reason) = known reason.now
 judgement_view (counted.NowPasses path) = now_passes path.now
 
 -- the judgement of a row whose job is not listed as a known failure, given whether the row passed

@@ -15,7 +15,7 @@ job_expects job expectation.End = is_some job.expect_end
 job_expects job expectation.Console = is_some job.expect_console
 job_expects job expectation.Signature = is_some job.expect_signature
 job_expects job expectation.Same = is_some job.same_as
-job_expects job expectation.Nothing = not (has_expectations job)
+job_expects job expectation.DefaultExit = not (has_expectations job)
 
 -- whether an unmet expectation is of this kind
 unfoldable pub is_unmet_of_kind : Expectation → UnmetExpectation → Bool
@@ -24,7 +24,7 @@ is_unmet_of_kind expectation.End unmet_expectations.End = true
 is_unmet_of_kind expectation.Console (unmet_expectations.Console difference) = true
 is_unmet_of_kind expectation.Signature (unmet_expectations.Signature difference) = true
 is_unmet_of_kind expectation.Same (unmet_expectations.Same difference) = true
-is_unmet_of_kind expectation.Nothing unmet_expectations.Nothing = true
+is_unmet_of_kind expectation.DefaultExit unmet_expectations.DefaultExit = true
 is_unmet_of_kind _ _ = false
 
 -- whether a job has an expectation of this kind and its run meets it; `unmet_expectations` are the unmet expectations of the job

@@ -12,7 +12,7 @@ use Rattle.rv_expect.specs.declared.difference.Difference.{Difference}
 use Rattle.rv_expect.specs.declared.difference.Difference.TheVariants as difference
 use Rattle.rv_expect.specs.declared.difference.SignatureDifference.{SignatureDifference}
 use Rattle.rv_expect.specs.declared.difference.SignatureDifference.TheVariants.{Line, Word}
-use Rattle.rv_expect.specs.declared.difference.SignatureDifference.TheVariants.{Count, Absent}
+use Rattle.rv_expect.specs.declared.difference.SignatureDifference.TheVariants.{Count, Missing}
 use Rattle.rv_expect.specs.declared.reference.Reference.{Reference}
 use Rattle.rv_expect.specs.declared.reference.Reference.TheVariants.{Words, BadLine}
 
@@ -75,7 +75,7 @@ signature_words_or_empty (Some words) = words
 abbrev pub word_difference : Difference → SignatureDifference
 word_difference (difference.At place) = Word place
 word_difference difference.Lengths = Count
-word_difference difference.Absent = Absent
+word_difference difference.Missing = Missing
 
 -- the first difference between the words of a signature and the contents of the expected file, which are words or have an invalid line;
 -- `None` if the words are equal
@@ -89,6 +89,6 @@ difference_from_reference (BadLine line) words = Some (Line line)
 abbrev pub signature_difference :
     Option (List ℕ) → Option (List ℕ) → Option (List ℕ) → Option SignatureDifference
 signature_difference None bytes signature = None
-signature_difference (Some path) None signature = Some Absent
+signature_difference (Some path) None signature = Some Missing
 signature_difference (Some path) (Some bytes) signature =
     difference_from_reference (read_reference bytes) (signature_words_or_empty signature)

@@ -11,7 +11,7 @@ use Rattle.rv_expect.specs.Reference.{signature_difference}
 use Rattle.rv_expect.specs.declared.difference.SignatureDifference.{SignatureDifference}
 use Rattle.rv_expect.specs.declared.unmet.UnmetExpectation.{UnmetExpectation}
 use Rattle.rv_expect.specs.declared.unmet.UnmetExpectation.TheVariants.{Exit, End, Console, Signature}
-use Rattle.rv_expect.specs.declared.unmet.UnmetExpectation.TheVariants.{Same, Nothing}
+use Rattle.rv_expect.specs.declared.unmet.UnmetExpectation.TheVariants.{Same, DefaultExit}
 
 -- the expectation of an exit code, or `None` if the job does not have it or this ending meets it
 abbrev pub unmet_exit : Job → RowEnd → Option UnmetExpectation
@@ -38,7 +38,7 @@ unmet_same_as job other row = option_map Same (same_as_difference job.same_as ot
 
 -- the default expectation, exit code 0, or `None` if this ending meets it
 abbrev pub unmet_default_exit : RowEnd → Option UnmetExpectation
-unmet_default_exit end = if has_expected_exit (Some 0) end then None else Some Nothing
+unmet_default_exit end = if has_expected_exit (Some 0) end then None else Some DefaultExit
 
 -- the unmet expectations of a job that has expectations and ran, in the order exit, end, console, signature, `same_as`
 abbrev pub unmet_of_expecting_job : ComparisonView → List UnmetExpectation

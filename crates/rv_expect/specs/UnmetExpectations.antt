@@ -13,7 +13,7 @@ use Rattle.rv_rows.specs.Verdict.{matches_same_as, has_expectations, verdict_of}
 use Rattle.rv_expect.specs.Comparisons.{ComparisonView}
 use Rattle.rv_expect.specs.declared.unmet.UnmetExpectation.{UnmetExpectation}
 use Rattle.rv_expect.specs.declared.unmet.UnmetExpectation.TheVariants.{Exit, End, Console, Signature}
-use Rattle.rv_expect.specs.declared.unmet.UnmetExpectation.TheVariants.{Same, Nothing}
+use Rattle.rv_expect.specs.declared.unmet.UnmetExpectation.TheVariants.{Same, DefaultExit}
 
 -- ---- the kind of an unmet expectation
 
@@ -44,7 +44,7 @@ is_same _ = false
 
 -- whether an unmet expectation is the default one: exit code 0
 abbrev pub is_nothing : UnmetExpectation → Bool
-is_nothing Nothing = true
+is_nothing DefaultExit = true
 is_nothing _ = false
 
 -- ---- which expectations are unmet

@@ -14,7 +14,7 @@ pub enum Difference {
     /// One sequence is a proper prefix of the other.
     Lengths,
     /// One of the two is missing, for example because a file was not read.
-    Absent,
+    Missing,
 }
 
 /// The first difference between a signature and the text of the expected one.
@@ -28,7 +28,7 @@ pub enum SignatureDifference {
     /// The numbers of words differ; the words that both have are equal.
     Count,
     /// The reference was not read.
-    Absent,
+    Missing,
 }
 
 /// The first difference between a row and the row of the job that `same_as` names.
@@ -41,7 +41,7 @@ pub enum SameAsDifference {
     /// The words of the signatures, either of which may be missing.
     Signature(Difference),
     /// The row of the named job is missing.
-    Absent,
+    Missing,
 }
 
 /// Returns the first difference between the actual and the expected bytes, or `None` if they are equal.
@@ -96,7 +96,7 @@ pub(crate) fn console_difference(
         (None, _) => None,
         (Some(ExpectedConsole::Text(text)), _) => first_byte_difference(console, text.as_slice()),
         (Some(ExpectedConsole::File(_)), Some(bytes)) => first_byte_difference(console, bytes),
-        (Some(ExpectedConsole::File(_)), None) => Some(Difference::Absent),
+        (Some(ExpectedConsole::File(_)), None) => Some(Difference::Missing),
     }
 }
 
@@ -111,7 +111,7 @@ pub(crate) fn same_as_difference(
 {
     match (same_as, other) {
         (None, _) => None,
-        (Some(_), None) => Some(SameAsDifference::Absent),
+        (Some(_), None) => Some(SameAsDifference::Missing),
         (Some(_), Some(other)) => difference_of_runs(row, other),
     }
 }
@@ -142,6 +142,6 @@ fn signatures_difference(signature: &Option<Words>, other: &Option<Words>) -> Op
     match (signature, other) {
         (Some(words), Some(others)) => first_word_difference(words.as_slice(), others.as_slice()),
         (None, None) => None,
-        _ => Some(Difference::Absent),
+        _ => Some(Difference::Missing),
     }
 }

@@ -113,7 +113,7 @@ fn kind_of_first(ending: RowEnd, first: UnmetExpectation) -> FailureKind
     ensures { result ≡ failure_kind_of_first ending first }
 {
     match first {
-        UnmetExpectation::Exit | UnmetExpectation::End | UnmetExpectation::Nothing =>
+        UnmetExpectation::Exit | UnmetExpectation::End | UnmetExpectation::DefaultExit =>
             FailureKind::of_end(ending),
         UnmetExpectation::Console(_) => FailureKind::Console,
         UnmetExpectation::Signature(_) => FailureKind::Signature,

@@ -24,7 +24,7 @@ pub enum Judgement<'k> {
     Passed,
     Failed,
     /// It failed and is known to fail, for this reason, which may be empty.
-    Known(&'k [u8]),
+    KnownFailure(&'k [u8]),
     /// It passed although the file at this path lists it as a known failure; this counts as a failure.
     NowPasses(&'k str),
 }
@@ -71,7 +71,7 @@ impl<'k> Judgement<'k> {
     {
         match self {
             Judgement::Failed | Judgement::NowPasses(_) => true,
-            Judgement::Passed | Judgement::Known(_) => false,
+            Judgement::Passed | Judgement::KnownFailure(_) => false,
         }
     }
 
@@ -81,7 +81,7 @@ impl<'k> Judgement<'k> {
     {
         match self {
             Judgement::Passed => true,
-            Judgement::Failed | Judgement::Known(_) | Judgement::NowPasses(_) => false,
+            Judgement::Failed | Judgement::KnownFailure(_) | Judgement::NowPasses(_) => false,
         }
     }
 
@@ -91,7 +91,7 @@ impl<'k> Judgement<'k> {
     {
         match self {
             Judgement::Failed => true,
-            Judgement::Passed | Judgement::Known(_) | Judgement::NowPasses(_) => false,
+            Judgement::Passed | Judgement::KnownFailure(_) | Judgement::NowPasses(_) => false,
         }
     }
 
@@ -100,7 +100,7 @@ impl<'k> Judgement<'k> {
         ensures { result ≡ is_known_failure (judgement_view self.entry) }
     {
         match self {
-            Judgement::Known(_) => true,
+            Judgement::KnownFailure(_) => true,
             Judgement::Passed | Judgement::Failed | Judgement::NowPasses(_) => false,
         }
     }
@@ -124,6 +124,6 @@ fn judgement_in_file<'k>(known_jobs: &'k KnownJobs, passed: bool, row: &Row) -> 
     match (passed, known_jobs.reason_of(row.name.as_str().as_bytes())) {
         (_, None) => judgement_of_unknown(passed),
         (true, Some(_)) => Judgement::NowPasses(known_jobs.path.as_str()),
-        (false, Some(reason)) => Judgement::Known(reason),
+        (false, Some(reason)) => Judgement::KnownFailure(reason),
     }
 }

@@ -16,7 +16,7 @@ pub enum Expectation {
     Signature,
     Same,
     /// Exit code 0, which is expected if the job has no other expectation.
-    Nothing,
+    DefaultExit,
 }
 
 /// Whether a job has an expectation of this kind and its run meets it. `unmet_expectations` are the unmet expectations of the job.
@@ -44,7 +44,7 @@ fn job_expects(job: &Job, expectation: Expectation) -> bool
         Expectation::Console => job.expect_console.is_some(),
         Expectation::Signature => job.expect_signature.is_some(),
         Expectation::Same => job.same_as.is_some(),
-        Expectation::Nothing => !has_expectations(job),
+        Expectation::DefaultExit => !has_expectations(job),
     }
 }
 
@@ -59,7 +59,7 @@ fn is_unmet_of_kind(expectation: Expectation, unmet_expectations: UnmetExpectati
         | (Expectation::Console, UnmetExpectation::Console(_))
         | (Expectation::Signature, UnmetExpectation::Signature(_))
         | (Expectation::Same, UnmetExpectation::Same(_))
-        | (Expectation::Nothing, UnmetExpectation::Nothing) => true,
+        | (Expectation::DefaultExit, UnmetExpectation::DefaultExit) => true,
         _ => false,
     }
 }

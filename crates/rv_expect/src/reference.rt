@@ -31,7 +31,7 @@ pub(crate) fn signature_difference(
 {
     match (expected, reference) {
         (None, _) => Ok(None),
-        (Some(_), None) => Ok(Some(SignatureDifference::Absent)),
+        (Some(_), None) => Ok(Some(SignatureDifference::Missing)),
         (Some(_), Some(bytes)) => {
             let reference = read_reference(alloc, bytes)?;
             Ok(difference_from_reference(&reference, signature_words_or_empty(signature)))
@@ -61,7 +61,7 @@ fn difference_from_reference(reference: &Reference, words: &[u32]) -> Option<Sig
     match first_word_difference(words, expected.as_slice()) {
         Some(Difference::At(place)) => Some(SignatureDifference::Word(place)),
         Some(Difference::Lengths) => Some(SignatureDifference::Count),
-        Some(Difference::Absent) => Some(SignatureDifference::Absent),
+        Some(Difference::Missing) => Some(SignatureDifference::Missing),
         None => None,
     }
 }

@@ -25,7 +25,7 @@ pub enum UnmetExpectation {
     /// The result of the job that `same_as` names.
     Same(SameAsDifference),
     /// Exit code 0, for a job without any other expectation.
-    Nothing,
+    DefaultExit,
 }
 
 /// Returns the expectations of a job that its run does not meet, in the order exit, end, console, signature, `same_as`. A refused job has
@@ -76,7 +76,7 @@ fn unmet_default_exit(ending: RowEnd) -> Option<UnmetExpectation>
     if has_expected_exit(Some(0), ending) {
         None
     } else {
-        Some(UnmetExpectation::Nothing)
+        Some(UnmetExpectation::DefaultExit)
     }
 }
 

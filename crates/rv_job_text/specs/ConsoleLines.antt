@@ -143,7 +143,7 @@ console_lines source actual expected = let equal = equal_line_count actual expec
 
 -- whether a difference is shown line by line: no text is missing, and both are UTF-8
 abbrev pub is_shown_by_lines : Difference → List ℕ → List ℕ → Bool
-is_shown_by_lines difference.Absent actual expected = false
+is_shown_by_lines difference.Missing actual expected = false
 is_shown_by_lines (difference.At offset) actual expected = is_utf8 actual && is_utf8 expected
 is_shown_by_lines difference.Lengths actual expected = is_utf8 actual && is_utf8 expected
 
@@ -174,7 +174,7 @@ expected_by_lines sides (unmet.Console difference) =
     shown_by_lines difference sides.row.console (expected_console sides.job.expect_console sides.console)
 expected_by_lines sides (unmet.Signature difference) = None
 expected_by_lines sides (unmet.Same difference) = None
-expected_by_lines sides unmet.Nothing = None
+expected_by_lines sides unmet.DefaultExit = None
 
 -- an `ExpectedText` of the code as contracts see it
 abbrev pub named_text_of : ExpectedText → NamedText

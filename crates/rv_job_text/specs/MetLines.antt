@@ -31,7 +31,7 @@ met_expectation_text sides expectation.Console =
 met_expectation_text sides expectation.Signature =
     codes "signature" ++ optional_path_text sides.job.expect_signature
 met_expectation_text sides expectation.Same = same_as_job_text sides.other
-met_expectation_text sides expectation.Nothing = codes "exit 0, since no expectation is set"
+met_expectation_text sides expectation.DefaultExit = codes "exit 0, since no expectation is set"
 
 -- the line about an expectation; empty if it is not met
 unfoldable pub met_line : ComparisonView → List UnmetExpectation → Expectation → List ℕ
@@ -43,4 +43,4 @@ unfoldable pub met_lines : ComparisonView → List UnmetExpectation → List ℕ
 met_lines sides unmet =
     met_line sides unmet expectation.Exit ++ met_line sides unmet expectation.End
     ++ met_line sides unmet expectation.Console ++ met_line sides unmet expectation.Signature
-    ++ met_line sides unmet expectation.Same ++ met_line sides unmet expectation.Nothing
+    ++ met_line sides unmet expectation.Same ++ met_line sides unmet expectation.DefaultExit

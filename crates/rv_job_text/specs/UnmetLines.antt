@@ -62,7 +62,7 @@ count_difference_text actual what expected =
 unfoldable pub bytes_difference_text : Difference → List ℕ → List ℕ → List ℕ
 bytes_difference_text (difference.At offset) actual expected = byte_difference_text offset actual expected
 bytes_difference_text difference.Lengths actual expected = count_difference_text (length actual) (codes "byte") (length expected)
-bytes_difference_text difference.Absent actual expected = codes ", which was not read"
+bytes_difference_text difference.Missing actual expected = codes ", which was not read"
 
 -- the message that the console differs from the expected one, which is a text of the list or the contents of a file
 unfoldable pub expected_console_text :
@@ -117,7 +117,7 @@ reference_difference_text first words text (signature.Word index) =
     word_difference_text first index (signature_word_digits words index) (printable_text (reference_digits_at text index))
 reference_difference_text first words text signature.Count =
     count_difference_text (length words) (codes "word") (length text / 9)
-reference_difference_text first words text signature.Absent = codes ", which was not read"
+reference_difference_text first words text signature.Missing = codes ", which was not read"
 
 -- the message that a signature differs from the expected one, and where; `bytes` are the contents of the signature file, if it was read
 unfoldable pub signature_difference_text : Option ℕ → Option (List ℕ) → Option (List ℕ) → Option (List ℕ)
@@ -148,7 +148,7 @@ signatures_difference_text first words others (difference.At index) =
     (signature_word_digits (signature_words_or_empty others) index)
 signatures_difference_text first words others difference.Lengths =
     count_difference_text (length (signature_words_or_empty words)) (codes "word") (length (signature_words_or_empty others))
-signatures_difference_text first words others difference.Absent = missing_signature_text words
+signatures_difference_text first words others difference.Missing = missing_signature_text words
 
 -- the first difference between the row of a job and the row `other` of the job that its `same_as` names
 unfoldable pub rows_difference_text : Option ℕ → Row → Row → SameAsDifference → List ℕ
@@ -159,7 +159,7 @@ rows_difference_text first row other (same.Console difference) =
     codes ": console differs" ++ bytes_difference_text difference row.console other.console
 rows_difference_text first row other (same.Signature difference) =
     codes ": signature differs" ++ signatures_difference_text first row.signature other.signature difference
-rows_difference_text first row other same.Absent = codes ", which was not run"
+rows_difference_text first row other same.Missing = codes ", which was not run"
 
 -- the message that the result of a job differs from the result of the job that its `same_as` names
 unfoldable pub same_difference_text : Option ℕ → Row → Option Row → SameAsDifference → List ℕ
@@ -179,7 +179,7 @@ unmet_expectation_text address sides (unmet.Signature difference) =
     signature_difference_text address sides.job.expect_signature sides.row.signature sides.reference difference
 unmet_expectation_text address sides (unmet.Same difference) =
     same_difference_text address sides.row sides.other difference
-unmet_expectation_text address sides unmet.Nothing = codes "exit 0, since no expectation is set"
+unmet_expectation_text address sides unmet.DefaultExit = codes "exit 0, since no expectation is set"
 
 -- the text before an unmet expectation in its line: five spaces, and `expected: ` unless the text itself says what differs
 abbrev pub unmet_margin : UnmetExpectation → List ℕ

@@ -75,7 +75,7 @@ pub(crate) fn push_bytes_difference(
     match difference {
         Difference::At(offset) => push_byte_difference(bytes, offset, actual, expected),
         Difference::Lengths => push_count_difference(bytes, actual.len(), "byte", expected.len()),
-        Difference::Absent => push_text(bytes, ", which was not read"),
+        Difference::Missing => push_text(bytes, ", which was not read"),
     }
 }
 

@@ -32,7 +32,7 @@ pub(crate) fn expected_by_lines<'a>(
         | UnmetExpectation::End
         | UnmetExpectation::Signature(_)
         | UnmetExpectation::Same(_)
-        | UnmetExpectation::Nothing => None,
+        | UnmetExpectation::DefaultExit => None,
     }
 }
 
@@ -77,7 +77,7 @@ fn is_shown_by_lines(difference: Difference, actual: &[u8], expected: &[u8]) -> 
     ensures { result ≡ is_shown_by_lines difference actual.now expected.now }
 {
     match difference {
-        Difference::Absent => false,
+        Difference::Missing => false,
         Difference::At(_) | Difference::Lengths => is_utf8(actual) && is_utf8(expected),
     }
 }

@@ -32,7 +32,7 @@ pub(crate) fn push_met_lines(
             Expectation::Console,
             Expectation::Signature,
             Expectation::Same,
-            Expectation::Nothing,
+            Expectation::DefaultExit,
         ],
     )
 }
@@ -88,7 +88,7 @@ fn push_met_expectation(
         Expectation::Console => push_met_file(bytes, "console", console_path(comparison.job)),
         Expectation::Signature => push_met_file(bytes, "signature", reference_path(comparison.job)),
         Expectation::Same => push_same_as_job(bytes, comparison.other),
-        Expectation::Nothing => push_text(bytes, "exit 0, since no expectation is set"),
+        Expectation::DefaultExit => push_text(bytes, "exit 0, since no expectation is set"),
     }
 }
 

@@ -59,7 +59,7 @@ fn judgement_word(judgement: Judgement<'_>) -> &'static str
     match judgement {
         Judgement::Passed => "PASS ",
         Judgement::Failed | Judgement::NowPasses(_) => "FAIL ",
-        Judgement::Known(_) => "KNOWN ",
+        Judgement::KnownFailure(_) => "KNOWN ",
     }
 }
 
@@ -81,7 +81,7 @@ fn push_judged_ending(
         Judgement::Passed | Judgement::Failed => {
             push_result_ending(alloc, bytes, row, detail.symbol, detail.reason)
         }
-        Judgement::Known(why) => {
+        Judgement::KnownFailure(why) => {
             push_result_ending(alloc, bytes, row, detail.symbol, detail.reason)?;
             push_known_reason(bytes, why)
         }

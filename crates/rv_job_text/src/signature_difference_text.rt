@@ -66,7 +66,7 @@ fn push_reference_difference(
             "word",
             reference.len() / WORD_LINE_LEN,
         ),
-        SignatureDifference::Absent => push_text(bytes, ", which was not read"),
+        SignatureDifference::Missing => push_text(bytes, ", which was not read"),
     }
 }
 
@@ -111,7 +111,7 @@ pub(crate) fn push_signatures_difference(
             )
         }
         Difference::Lengths => push_count_difference(bytes, actual.len(), "word", expected.len()),
-        Difference::Absent => push_text(bytes, missing_signature_text(words)),
+        Difference::Missing => push_text(bytes, missing_signature_text(words)),
     }
 }
 

@@ -73,7 +73,7 @@ fn unmet_margin(unmet: UnmetExpectation) -> &'static str
         UnmetExpectation::Exit
         | UnmetExpectation::End
         | UnmetExpectation::Same(_)
-        | UnmetExpectation::Nothing => "     expected: ",
+        | UnmetExpectation::DefaultExit => "     expected: ",
     }
 }
 
@@ -113,7 +113,7 @@ fn push_unmet_expectation(
             comparison.other,
             difference,
         ),
-        UnmetExpectation::Nothing => push_text(bytes, "exit 0, since no expectation is set"),
+        UnmetExpectation::DefaultExit => push_text(bytes, "exit 0, since no expectation is set"),
     }
 }
 
@@ -198,7 +198,7 @@ fn push_rows_difference(
             push_text(bytes, ": signature differs")?;
             push_signatures_difference(bytes, first, &row.signature, &other.signature, difference)
         }
-        SameAsDifference::Absent => push_text(bytes, ", which was not run"),
+        SameAsDifference::Missing => push_text(bytes, ", which was not run"),
     }
 }
 

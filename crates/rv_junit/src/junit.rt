@@ -169,7 +169,7 @@ fn push_judgement(
     match judgement {
         Judgement::Passed => Ok(()),
         Judgement::Failed | Judgement::NowPasses(_) => push_problem(alloc, text, row, lines),
-        Judgement::Known(why) => push_skipped(alloc, text, why),
+        Judgement::KnownFailure(why) => push_skipped(alloc, text, why),
     }
 }
 

@@ -238,7 +238,7 @@ module _ (texts : List (List ℕ)) (shard : Shard) (sources : List (Option ℕ))
   flawed at (flaw.Line line) w = absurd w
   flawed at flaw.Truncated w = absurd w
   flawed at flaw.Whole w = absurd w
-  flawed at flaw.Choice w = absurd w
+  flawed at flaw.Selection w = absurd w
   flawed at flaw.DifferentShardCount w = absurd w
   flawed at flaw.DifferentJobCount w = absurd w
   flawed at flaw.DifferentStamp w = absurd w

@@ -234,7 +234,7 @@ has_other_run texts at first part flaw.DifferentStamp a b h =
 has_other_run texts at first part (flaw.Line line) a b h = absurd h
 has_other_run texts at first part flaw.Truncated a b h = absurd h
 has_other_run texts at first part flaw.Whole a b h = absurd h
-has_other_run texts at first part flaw.Choice a b h = absurd h
+has_other_run texts at first part flaw.Selection a b h = absurd h
 has_other_run texts at first part (flaw.DifferentText earlier) a b h = absurd h
 has_other_run texts at first part (flaw.RepeatedName n) a b h = absurd h
 
@@ -243,7 +243,7 @@ pub has_other_kind : (texts : List (List ℕ)) (at : ℕ) (report : SavedReport)
     → IsTextOf report (nth_text texts at) → IsExtentFlaw why report.extent → HasFlaw texts at why
 has_other_kind texts at report flaw.Whole is h =
     record { report = report; saved = is.saved; text = is.text; extent = h }
-has_other_kind texts at report flaw.Choice is h =
+has_other_kind texts at report flaw.Selection is h =
     (h.0, record { report = report; saved = is.saved; text = is.text; extent = h.1 })
 has_other_kind texts at report flaw.DifferentShardCount is h = absurd h
 has_other_kind texts at report flaw.DifferentJobCount is h = absurd h

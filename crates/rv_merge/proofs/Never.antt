@@ -101,9 +101,9 @@ flaw_never run rows texts at flaw.Whole parts new within h =
     let p = each_part run rows texts at parts within in
     let e = one_extent extent.Whole (extent.Shard (shard_in run p.0)) (nth_text texts at) h p.1.of in
     cc
-flaw_never run rows texts at flaw.Choice parts new within h =
+flaw_never run rows texts at flaw.Selection parts new within h =
     let p = each_part run rows texts at parts within in
-    let e = one_extent (extent.Choice h.0) (extent.Shard (shard_in run p.0)) (nth_text texts at) h.1 p.1.of in
+    let e = one_extent (extent.Selection h.0) (extent.Shard (shard_in run p.0)) (nth_text texts at) h.1 p.1.of in
     cc
 flaw_never run rows texts at flaw.DifferentShardCount parts new within h =
     let p = each_part run rows texts 0 parts (omega arith) in

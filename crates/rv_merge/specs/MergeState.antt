@@ -34,7 +34,7 @@ pub record IsTextOf (report : SavedReport) (bytes : List ℕ) : Type 0 where
 -- the extent is not a shard, but a whole list or chosen jobs; `flaw` says which of these it is
 abbrev pub IsExtentFlaw : Flaw → Extent → Type 0
 IsExtentFlaw flaw.Whole jobs = jobs ≡ extent.Whole
-IsExtentFlaw flaw.Choice jobs = (count : ℕ) × (jobs ≡ extent.Choice count)
+IsExtentFlaw flaw.Selection jobs = (count : ℕ) × (jobs ≡ extent.Selection count)
 IsExtentFlaw _ jobs = ⊥
 
 -- the two shards belong to different runs: their number of shards, their number of jobs or their stamp differs; the flaw says which

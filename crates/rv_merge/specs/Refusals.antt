@@ -66,7 +66,7 @@ abbrev pub HasFlaw : List (List ℕ) → ℕ → Flaw → Type 0
 HasFlaw texts at (flaw.Line line) = IsUnread (read.Line line) (nth_text texts at)
 HasFlaw texts at flaw.Truncated = IsUnread read.Truncated (nth_text texts at)
 HasFlaw texts at flaw.Whole = IsReportAt extent.Whole (nth_text texts at)
-HasFlaw texts at flaw.Choice = (jobs : ℕ) × IsReportAt (extent.Choice jobs) (nth_text texts at)
+HasFlaw texts at flaw.Selection = (jobs : ℕ) × IsReportAt (extent.Selection jobs) (nth_text texts at)
 HasFlaw texts at flaw.DifferentShardCount =
     Differ (λ (s : Shard). s.shards) (nth_text texts 0) (nth_text texts at)
 HasFlaw texts at flaw.DifferentJobCount =

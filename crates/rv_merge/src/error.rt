@@ -37,7 +37,7 @@ pub enum Flaw {
     Whole,
     /// It is a report of selected jobs.
     #[error("it is a report of selected jobs")]
-    Choice,
+    Selection,
     /// Its run has a different number of shards from the first text's.
     #[error("a different number of shards")]
     DifferentShardCount,

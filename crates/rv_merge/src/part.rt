@@ -52,6 +52,6 @@ fn part_of_report(report: SavedReport) -> Result<Part, Flaw>
             rows,
         }),
         Extent::Whole => Err(Flaw::Whole),
-        Extent::Choice(_) => Err(Flaw::Choice),
+        Extent::Selection(_) => Err(Flaw::Selection),
     }
 }

@@ -9,7 +9,7 @@ use Rattle.rv_base.specs.Names.{is_name, index_in}
 use Rattle.rv_base.specs.Limits.{max_jobs}
 use Rattle.rv_report.specs.declared.row.Row.{Row}
 use Rattle.rv_report.specs.declared.saved.Extent.{Extent}
-use Rattle.rv_report.specs.declared.saved.Extent.TheVariants.{Choice}
+use Rattle.rv_report.specs.declared.saved.Extent.TheVariants.{Selection}
 use Rattle.rv_report.specs.declared.saved.SavedReport.{SavedReport}
 use Rattle.rv_report.specs.LenientReport.{ReaderStateView, increasing_count, count_before_repeated_name, extent_or_selection, state_after_text, lenient_report}
 use Rattle.rv_report.specs.Saved.{IsValidReport, are_increasing, are_distinct, matches_job_numbers, row_names}
@@ -105,8 +105,8 @@ unfolding extent_or_selection matches_job_numbers
 fitting_fits e ns h =
     let P : Extent → Type 0 = λ x. matches_job_numbers x ns ≡ true in
     elim (cases_Bool (matches_job_numbers e ns)) [
-      | inl t ↦ subst P (sym (ap (λ (b : Bool). cond b e (Choice max_jobs)) t)) t
-      | inr t ↦ subst P (sym (ap (λ (b : Bool). cond b e (Choice max_jobs)) t))
+      | inl t ↦ subst P (sym (ap (λ (b : Bool). cond b e (Selection max_jobs)) t)) t
+      | inr t ↦ subst P (sym (ap (λ (b : Bool). cond b e (Selection max_jobs)) t))
           (and_from (nat_le max_jobs max_jobs) (are_increasing 0 max_jobs ns) refl h)
     ]
 

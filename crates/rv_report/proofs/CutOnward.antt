@@ -6,7 +6,7 @@ use Rattle.std.specs.Fmt.{decimal}
 use Rattle.std.proofs.lemmas.Grind.{flat_map-append}
 use Rattle.rv_report.specs.declared.row.Row.{Row}
 use Rattle.rv_report.specs.declared.saved.Extent.{Extent}
-use Rattle.rv_report.specs.declared.saved.Extent.TheVariants.{Whole, Choice}
+use Rattle.rv_report.specs.declared.saved.Extent.TheVariants.{Whole, Selection}
 use Rattle.rv_report.specs.declared.saved.Extent.TheVariants as extent
 use Rattle.rv_report.specs.declared.read.FirstWordState.TheVariants as word
 use Rattle.rv_report.specs.declared.read.ReadError.TheVariants.{Truncated}
@@ -52,8 +52,8 @@ last_line_cut : (e : Extent) (count m : ℕ) (p : List ℕ) → lacks 10 (106 �
     → read_error_from m word.NotStarted (line (last_words e count) ++ []) (106 ∷ p) ≡ Truncated
 last_line_cut extent.Whole count m p plain row =
     row_cut p (drop 1 (line (last_words extent.Whole count) ++ [])) 100 m plain refl refl row
-last_line_cut (extent.Choice jobs) count m p plain row =
-    row_cut p (drop 1 (line (last_words (extent.Choice jobs) count) ++ [])) 112 m plain refl refl row
+last_line_cut (extent.Selection jobs) count m p plain row =
+    row_cut p (drop 1 (line (last_words (extent.Selection jobs) count) ++ [])) 112 m plain refl refl row
 last_line_cut (extent.Shard s) count m p plain row =
     row_cut p (drop 1 (line (last_words (extent.Shard s) count) ++ [])) 112 m plain refl refl row
 

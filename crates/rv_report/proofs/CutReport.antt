@@ -8,7 +8,7 @@ use Rattle.std.proofs.lemmas.List.{take-append-le}
 use Rattle.rv_base.specs.Limits.{max_jobs}
 use Rattle.rv_report.specs.declared.row.Row.{Row}
 use Rattle.rv_report.specs.declared.saved.Extent.{Extent}
-use Rattle.rv_report.specs.declared.saved.Extent.TheVariants.{Whole, Choice}
+use Rattle.rv_report.specs.declared.saved.Extent.TheVariants.{Whole, Selection}
 use Rattle.rv_report.specs.declared.saved.Extent.TheVariants as extent
 use Rattle.rv_report.specs.declared.saved.Shard.{Shard}
 use Rattle.rv_report.specs.declared.saved.SavedReport.{SavedReport}
@@ -100,7 +100,7 @@ rows_cut r h k b p q plain within begins =
 abbrev IsPartLine : Extent → Type 0
 IsPartLine e = (count : ℕ) → (t : List ℕ) × (last_words e count ≡ codes "part" ++ 32 ∷ t)
 
-choice_line : (jobs : ℕ) → IsPartLine (extent.Choice jobs)
+choice_line : (jobs : ℕ) → IsPartLine (extent.Selection jobs)
 choice_line jobs count = (decimal count ++ codes " of " ++ decimal jobs, refl)
 
 shard_line : (s : Shard) → IsPartLine (extent.Shard s)
@@ -112,11 +112,11 @@ part_line_of l =
     let jobs = drop 3 (text_after_byte 32 (drop 5 l)) in
     let shard = drop 6 (text_after_byte 32 jobs) in
     let number = decimal_number (text_before_byte 32 jobs) in
-    chosen IsPartLine (length shard == 0) (extent.Choice number) (shard_of_text number shard) (choice_line number) (shard_line _)
+    chosen IsPartLine (length shard == 0) (extent.Selection number) (shard_of_text number shard) (choice_line number) (shard_line _)
 
 chosen_line : (e : Extent) (ns : List ℕ) → IsPartLine e → IsPartLine (extent_or_selection e ns)
 unfolding extent_or_selection
-chosen_line e ns h = chosen IsPartLine (matches_job_numbers e ns) e (Choice max_jobs) h (choice_line max_jobs)
+chosen_line e ns h = chosen IsPartLine (matches_job_numbers e ns) e (Selection max_jobs) h (choice_line max_jobs)
 
 -- what is gathered of all rows and a beginning of the last line
 gathered_last : (r : SavedReport) → IsValidReport r → (b : ℕ) (p : List ℕ) → lacks 10 (b ∷ p) ≡ true
@@ -237,7 +237,7 @@ last_cut r h extent.Whole b p q plain is begins =
     subst (λ (c : ℕ). IsCut (joined (numbered_lines r.numbers r.rows) ++ c ∷ p)) first
     (done_cut r h p q (subst (λ (c : ℕ). lacks 10 (c ∷ p) ≡ true) (sym first) plain) is
     (subst (λ (c : ℕ). last_words r.extent count ≡ (c ∷ p) ++ q) (sym first) begins))
-last_cut r h (extent.Choice jobs) b p q plain is begins =
+last_cut r h (extent.Selection jobs) b p q plain is begins =
     let count = length r.rows in
     let start = sym (ap (λ (e : Extent). last_words e count) is) ∙ begins in
     let first : 112 ≡ b = ap (λ (t : List ℕ). get_or t 0 0) start in

@@ -32,7 +32,7 @@ rising_first before last (suc count) (n ∷ ns) rising =
     and_from (nat_lt before n) (nat_le n last && are_increasing n last (take count ns)) first.0
     (and_from (nat_le n last) (are_increasing n last (take count ns)) then.0 (rising_first n last count ns then.1))
 
-fits : (ns : List ℕ) → are_increasing 0 max_jobs ns ≡ true → matches_job_numbers (extent.Choice max_jobs) ns ≡ true
+fits : (ns : List ℕ) → are_increasing 0 max_jobs ns ≡ true → matches_job_numbers (extent.Selection max_jobs) ns ≡ true
 unfolding matches_job_numbers
 fits ns rising = and_from (nat_le max_jobs max_jobs) (are_increasing 0 max_jobs ns) refl rising
 

@@ -11,7 +11,7 @@ use Rattle.rv_base.specs.Limits.{max_jobs}
 use Rattle.rv_report.specs.declared.row.Row.{Row}
 use Rattle.rv_report.specs.Report.{line, done_line}
 use Rattle.rv_report.specs.declared.saved.Extent.{Extent}
-use Rattle.rv_report.specs.declared.saved.Extent.TheVariants.{Whole, Choice}
+use Rattle.rv_report.specs.declared.saved.Extent.TheVariants.{Whole, Selection}
 use Rattle.rv_report.specs.declared.saved.Extent.TheVariants as extent
 use Rattle.rv_report.specs.declared.saved.Shard.{Shard}
 use Rattle.rv_report.specs.LenientReport.{text_before_byte, text_after_byte, decimal_number, name_or_dash, shard_of_text, part_extent_of_line, state_between_rows, with_stage_done}
@@ -30,7 +30,7 @@ pub record IsSearchedPart (s : Shard) : Type 0 where
 
 abbrev pub HasNumbers : Extent → Type 0
 HasNumbers extent.Whole = Unit {0}
-HasNumbers (extent.Choice jobs) = jobs ≤ max_jobs
+HasNumbers (extent.Selection jobs) = jobs ≤ max_jobs
 HasNumbers (extent.Shard s) = IsSearchedPart s
 
 pub is_part : (s : Shard) → is_valid_shard s ≡ true → IsSearchedPart s
@@ -50,7 +50,7 @@ is_part s h =
 pub prove_row_has_numbers : (e : Extent) (ns : List ℕ) → matches_job_numbers e ns ≡ true → HasNumbers e
 unfolding matches_job_numbers
 prove_row_has_numbers extent.Whole ns h = tt
-prove_row_has_numbers (extent.Choice jobs) ns h =
+prove_row_has_numbers (extent.Selection jobs) ns h =
     let first = (and_parts (nat_le jobs max_jobs) (are_increasing 0 jobs ns) h).0 in grind (arith, nat_tests)
 prove_row_has_numbers (extent.Shard s) ns h =
     is_part s (and_parts (is_valid_shard s) (are_evenly_spaced s.number s.shards s.jobs ns) h).0
@@ -59,13 +59,13 @@ prove_row_has_numbers (extent.Shard s) ns h =
 
 abbrev pub last_words : Extent → ℕ → List ℕ
 last_words extent.Whole count = codes "done " ++ decimal count
-last_words (extent.Choice jobs) count = part_text count jobs
+last_words (extent.Selection jobs) count = part_text count jobs
 last_words (extent.Shard s) count = part_text count s.jobs ++ shard_text s
 
 pub last_is_line : (e : Extent) (count : ℕ) → extent_line e count ≡ line (last_words e count)
 unfolding extent_line done_line
 last_is_line extent.Whole count = refl
-last_is_line (extent.Choice jobs) count = refl
+last_is_line (extent.Selection jobs) count = refl
 last_is_line (extent.Shard s) count = refl
 
 lacks-part : (byte count jobs : ℕ) → lacks byte (codes "part ") ≡ true → lacks byte (codes " of ") ≡ true → byte < 48
@@ -94,7 +94,7 @@ lacks-shard s is =
 
 pub lacks-last : (e : Extent) (count : ℕ) → HasNumbers e → count < 2 ^ 32 → lacks 10 (last_words e count) ≡ true
 lacks-last extent.Whole count h few = lacks-decimal 10 count (omega arith) (omega arith)
-lacks-last (extent.Choice jobs) count h few = lacks-part 10 count jobs refl refl (omega arith) few h
+lacks-last (extent.Selection jobs) count h few = lacks-part 10 count jobs refl refl (omega arith) few h
 lacks-last (extent.Shard s) count h few =
     lacks-append 10 (part_text count s.jobs) (shard_text s)
     (lacks-part 10 count s.jobs refl refl (omega arith) few h.jobs)
@@ -130,12 +130,12 @@ after_none byte xs h =
 -- the number of jobs and what follows it
 abbrev extent_from : List ℕ → List ℕ → Extent
 extent_from jobs shard =
-    cond (length shard == 0) (Choice (decimal_number jobs)) (shard_of_text (decimal_number jobs) shard)
+    cond (length shard == 0) (Selection (decimal_number jobs)) (shard_of_text (decimal_number jobs) shard)
 
 choice_regroup : (count jobs : List ℕ) → count ++ codes " of " ++ jobs ≡ count ++ 32 ∷ (codes "of " ++ jobs)
 choice_regroup count jobs = simp append_assoc
 
-choice_is : (count jobs : ℕ) → count < 2 ^ 32 → jobs ≤ max_jobs → part_extent_of_line (part_text count jobs) ≡ Choice jobs
+choice_is : (count jobs : ℕ) → count < 2 ^ 32 → jobs ≤ max_jobs → part_extent_of_line (part_text count jobs) ≡ Selection jobs
 unfolding part_extent_of_line
 choice_is count jobs few small =
     let js = decimal jobs in
@@ -147,8 +147,8 @@ choice_is count jobs few small =
     ∙ ap (λ (t : List ℕ). extent_from (text_before_byte 32 (drop 3 t)) (drop 6 (text_after_byte 32 (drop 3 t))))
     (after_at 32 (decimal count) rest (lacks-decimal 32 count (omega arith) (omega arith)))
     ∙ ap (λ (t : List ℕ). extent_from (text_before_byte 32 js) (drop 6 t)) (after_none 32 js plain)
-    ∙ ap (λ (t : List ℕ). Choice (decimal_number t)) (before_none 32 js plain)
-    ∙ ap Choice (number_of-decimal jobs (omega arith))
+    ∙ ap (λ (t : List ℕ). Selection (decimal_number t)) (before_none 32 js plain)
+    ∙ ap Selection (number_of-decimal jobs (omega arith))
 
 shard_regroup : (n jobs number shards stamp : List ℕ)
     → n ++ codes " of " ++ jobs ++ (codes " shard " ++ number ++ codes "/" ++ shards ++ codes " stamp " ++ stamp)
@@ -207,7 +207,7 @@ shard_is count s is few =
     (after_at 32 n (codes "of " ++ t1) (lacks-decimal 32 count (omega arith) (omega arith)))
     ∙ ap (λ (t : List ℕ). extent_from (text_before_byte 32 t1) (drop 6 t)) (after_at 32 jobs (codes "shard " ++ t2) plain)
     ∙ ap (λ (t : List ℕ). extent_from t t2) (before_at 32 jobs (codes "shard " ++ t2) plain)
-    ∙ ap (λ (b : Bool). cond b (Choice (decimal_number jobs)) (shard_of_text (decimal_number jobs) t2))
+    ∙ ap (λ (b : Bool). cond b (Selection (decimal_number jobs)) (shard_of_text (decimal_number jobs) t2))
     (longer (decimal s.number) 47 (decimal s.shards ++ 32 ∷ (codes "stamp " ++ s.stamp)))
     ∙ ap (λ (k : ℕ). shard_of_text k t2) (number_of-decimal s.jobs (omega arith))
     ∙ shard_says s.jobs s is
@@ -225,8 +225,8 @@ done_says text numbers rows = refl
 pub last_says : (e : Extent) (count : ℕ) (numbers : List ℕ) (rows : List Row) → HasNumbers e → count < 2 ^ 32
     → with_line (last_words e count) (state_between_rows numbers rows Whole) ≡ with_stage_done (state_between_rows numbers rows e)
 last_says extent.Whole count numbers rows h few = done_says (decimal count) numbers rows
-last_says (extent.Choice jobs) count numbers rows h few =
-    part_says (decimal count ++ codes " of " ++ decimal jobs) numbers rows (Choice jobs) (choice_is count jobs few h)
+last_says (extent.Selection jobs) count numbers rows h few =
+    part_says (decimal count ++ codes " of " ++ decimal jobs) numbers rows (Selection jobs) (choice_is count jobs few h)
 last_says (extent.Shard s) count numbers rows h few =
     part_says ((decimal count ++ codes " of " ++ decimal s.jobs) ++ shard_text s) numbers rows (extent.Shard s)
     (shard_is count s h few)

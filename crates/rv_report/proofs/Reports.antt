@@ -11,7 +11,7 @@ use Rattle.rv_base.specs.Limits.{max_jobs}
 use Rattle.rv_report.specs.declared.row.Row.{Row}
 use Rattle.rv_report.specs.Report.{line, row_text}
 use Rattle.rv_report.specs.declared.saved.Extent.{Extent}
-use Rattle.rv_report.specs.declared.saved.Extent.TheVariants.{Whole, Choice}
+use Rattle.rv_report.specs.declared.saved.Extent.TheVariants.{Whole, Selection}
 use Rattle.rv_report.specs.declared.saved.SavedReport.{SavedReport}
 use Rattle.rv_report.specs.LenientReport.{lines, ReaderStateView, state_between_rows, with_stage_done, with_line, with_lines, with_unfinished_row, state_after_text}
 use Rattle.rv_report.specs.LenientReport.{lenient_report, increasing_count, count_before_repeated_name, extent_or_selection}
@@ -105,7 +105,7 @@ new_all earlier (t ∷ ts) h =
 
 fitting_same : (e : Extent) (ns : List ℕ) → matches_job_numbers e ns ≡ true → extent_or_selection e ns ≡ e
 unfolding extent_or_selection
-fitting_same e ns h = ap (λ (t : Bool). cond t e (Choice max_jobs)) h
+fitting_same e ns h = ap (λ (t : Bool). cond t e (Selection max_jobs)) h
 
 -- what is kept of rows that were gathered
 abbrev pub kept : ℕ → List Row → ReaderStateView → SavedReport

@@ -173,7 +173,7 @@ unfoldable pub part_extent_of_line : List ℕ → Extent
 part_extent_of_line line =
     let jobs = drop 3 (text_after_byte 32 (drop 5 line)) in
     let shard = drop 6 (text_after_byte 32 jobs) in
-    if length shard == 0 then extent.Choice (decimal_number (text_before_byte 32 jobs))
+    if length shard == 0 then extent.Selection (decimal_number (text_before_byte 32 jobs))
     else shard_of_text (decimal_number (text_before_byte 32 jobs)) shard
 
 -- ---- the values of all lines
@@ -332,9 +332,9 @@ count_before_repeated_name earlier [] = 0
 count_before_repeated_name earlier (text ∷ texts) =
     if is_some (index_in earlier text) then 0 else count_before_repeated_name (earlier ++ text ∷ []) texts + 1
 
--- the extent `e` if it has these job numbers, and otherwise `Choice max_jobs`, which can have any increasing job numbers
+-- the extent `e` if it has these job numbers, and otherwise `Selection max_jobs`, which can have any increasing job numbers
 unfoldable pub extent_or_selection : Extent → List ℕ → Extent
-extent_or_selection e numbers = if matches_job_numbers e numbers then e else extent.Choice max_jobs
+extent_or_selection e numbers = if matches_job_numbers e numbers then e else extent.Selection max_jobs
 
 -- the report that the lenient reader returns for a text: its rows before the first whose job number does not increase or whose name is
 -- repeated

@@ -19,7 +19,7 @@ complete_lines bytes = first_lines (line_feed_count bytes) bytes
 -- how many it has
 abbrev pub first_rows : ℕ → SavedReport → SavedReport
 first_rows count report = record {
-  extent = extent.Choice max_jobs;
+  extent = extent.Selection max_jobs;
   numbers = take count report.numbers;
   rows = take count report.rows;
 }

@@ -41,7 +41,7 @@ is_valid_shard s = nat_le 1 s.number && (nat_le s.number s.shards && (nat_le s.s
 -- numbers of a shard
 unfoldable pub matches_job_numbers : Extent → List ℕ → Bool
 matches_job_numbers extent.Whole ns = are_evenly_spaced 1 1 (length ns) ns
-matches_job_numbers (extent.Choice jobs) ns = nat_le jobs max_jobs && are_increasing 0 jobs ns
+matches_job_numbers (extent.Selection jobs) ns = nat_le jobs max_jobs && are_increasing 0 jobs ns
 matches_job_numbers (extent.Shard s) ns = is_valid_shard s && are_evenly_spaced s.number s.shards s.jobs ns
 
 -- ---- the text
@@ -64,7 +64,7 @@ shard_text s = codes " shard " ++ decimal s.number ++ codes "/" ++ decimal s.sha
 -- the last line of a report with this extent and `count` rows
 unfoldable pub extent_line : Extent → ℕ → List ℕ
 extent_line extent.Whole count = done_line count
-extent_line (extent.Choice jobs) count = line (part_text count jobs)
+extent_line (extent.Selection jobs) count = line (part_text count jobs)
 extent_line (extent.Shard s) count = line (part_text count s.jobs ++ shard_text s)
 
 -- the text of a report

@@ -34,7 +34,7 @@ pub(crate) fn lenient_report(alloc: Global, text: &[u8]) -> Result<SavedReport, 
     })
 }
 
-// Returns the given extent if it has these job numbers, and otherwise `Extent::Choice(MAX_JOBS)`, which can have any increasing job
+// Returns the given extent if it has these job numbers, and otherwise `Extent::Selection(MAX_JOBS)`, which can have any increasing job
 // numbers.
 #[tactic(auto, unfolding(crate::specs::LenientReport::extent_or_selection))]
 fn extent_or_selection(extent: Extent, numbers: &[u32]) -> Extent
@@ -44,7 +44,7 @@ fn extent_or_selection(extent: Extent, numbers: &[u32]) -> Extent
     if extent.matches_job_numbers(numbers) {
         extent
     } else {
-        Extent::Choice(MAX_JOBS as u32)
+        Extent::Selection(MAX_JOBS as u32)
     }
 }
 

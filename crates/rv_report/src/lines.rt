@@ -85,7 +85,7 @@ pub(crate) fn part_extent_of_line(alloc: Global, line: &[u8]) -> Result<Extent, 
     let shard = tail_from(text_after_byte(b' ', jobs), 6);
     let count = decimal_number(text_before_byte(b' ', jobs));
     if shard.is_empty() {
-        Ok(Extent::Choice(count))
+        Ok(Extent::Selection(count))
     } else {
         shard_of_text(alloc, count, shard)
     }

@@ -98,7 +98,7 @@ fn first_rows(report: SavedReport, count: usize) -> SavedReport
     numbers.truncate(count);
     rows.truncate(count);
     SavedReport {
-        extent: Extent::Choice(MAX_JOBS as u32),
+        extent: Extent::Selection(MAX_JOBS as u32),
         numbers: Numbers::new(numbers),
         rows: Rows::new(rows),
     }

@@ -17,7 +17,7 @@ pub enum Extent {
     /// All of them.
     Whole,
     /// Some of them, from a list with this many jobs, up to 4,096.
-    Choice(u32),
+    Selection(u32),
     /// Those of a shard.
     Shard(Shard),
 }
@@ -53,7 +53,7 @@ impl Extent {
     {
         match self {
             Extent::Whole => are_evenly_spaced(1, 1, numbers.len(), numbers),
-            Extent::Choice(jobs) => *jobs as usize <= MAX_JOBS && are_increasing(0, *jobs, numbers),
+            Extent::Selection(jobs) => *jobs as usize <= MAX_JOBS && are_increasing(0, *jobs, numbers),
             Extent::Shard(shard) => shard.matches_job_numbers(numbers),
         }
     }

@@ -48,7 +48,7 @@ pub fn push_extent_line(text: &mut String, extent: &Extent, count: usize) -> Res
 {
     match extent {
         Extent::Whole => push_done_line(text, count),
-        Extent::Choice(jobs) => write!(text, "part {count} of {jobs}\n"),
+        Extent::Selection(jobs) => write!(text, "part {count} of {jobs}\n"),
         Extent::Shard(shard) => push_shard_line(text, shard, count),
     }
 }

@@ -7,7 +7,7 @@ use Rattle.std.specs.Result.{result_ok}
 use Rattle.std.specs.Prelude.{is_ok}
 use Rattle.rv_count_tables.specs.Limits.{max_jobs}
 use Rattle.rv_count_tables.specs.declared.sum.SumError.{SumError}
-use Rattle.rv_count_tables.specs.declared.sum.SumError.TheVariants.{OutOfMemory, Count, Spot, Names, Runs}
+use Rattle.rv_count_tables.specs.declared.sum.SumError.TheVariants.{OutOfMemory, Count, Node, Names, Runs}
 use Rattle.rv_count_tables.specs.declared.table.CountTable.{CountTable}
 use Rattle.rv_count_tables.specs.Sum.{HaveNoSum}
 use Rattle.rv_count_tables.specs.Table.{executed_in, calls_in_image, steps_in}
@@ -105,7 +105,7 @@ told n m t u (Count address) few h k no_sum =
     let b = k.executed no_sum.0 address in
     let c = no_sum.1 in
     absurd (omega (arith, few, a, b, c))
-told n m t u (Spot function) few h k no_sum =
+told n m t u (Node function) few h k no_sum =
     let digest = no_sum.0 in
     let path = no_sum.1 in
     absurd

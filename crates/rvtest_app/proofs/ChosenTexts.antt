@@ -62,13 +62,13 @@ whole_split indices rows up within even =
 
 choice_split : (jobs : ℕ) (indices : List ℕ) (rows : List Row) (all : Bool) → (length indices == jobs) ≡ all
     → IsStrictlyIncreasing indices → All (λ index. index < jobs) indices → length rows ≡ length indices
-    → (if all then report_text rows else part_text (extent.Choice jobs) indices rows)
+    → (if all then report_text rows else part_text (extent.Selection jobs) indices rows)
     ≡ joined_row_texts row_text indices rows
-    ++ extent_line (if all then extent.Whole else extent.Choice jobs) (length rows)
+    ++ extent_line (if all then extent.Whole else extent.Selection jobs) (length rows)
 choice_split jobs indices rows true is up within even =
     let same : length indices ≡ jobs = eqb-true (length indices) jobs is in
     whole_split indices rows up (λ k d inside. let low = within k d inside in omega (arith, low, same)) even
-choice_split jobs indices rows false is up within even = part_split (extent.Choice jobs) indices rows
+choice_split jobs indices rows false is up within even = part_split (extent.Selection jobs) indices rows
 
 -- the report of chosen rows in two
 chosen_split : (jobs : ℕ) (indices : List ℕ) (shard : Option Shard) (rows : List Row) → IsStrictlyIncreasing indices

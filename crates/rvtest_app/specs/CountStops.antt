@@ -44,7 +44,7 @@ two_names_message path function = codes "rvtest: " ++ printable_text path ++ cod
 abbrev pub IsSumErrorStop : List ℕ → SumError → Stop → Type 0
 IsSumErrorStop path sum.OutOfMemory stop = stop ≡ stops.OutOfMemory
 IsSumErrorStop path (sum.Count address) stop = IsStop 2 (count_overflow_message path (codes ": the count at ") address) stop
-IsSumErrorStop path (sum.Spot function) stop =
+IsSumErrorStop path (sum.Node function) stop =
     IsStop 2 (count_overflow_message path (codes ": a stack count of the function at ") function) stop
 IsSumErrorStop path (sum.Names function) stop = IsStop 2 (two_names_message path function) stop
 IsSumErrorStop path sum.Runs stop = IsStop 2 (path_message path (codes "the number of runs does not fit in 64 bits")) stop

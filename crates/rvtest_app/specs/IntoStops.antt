@@ -52,7 +52,7 @@ not_whole_message path list (reason.Name name) = name_mismatch_message path list
 -- the number of jobs in the list of a partial report; none for a whole report
 abbrev pub jobs_of_partial_report : Extent → Option ℕ
 jobs_of_partial_report extent.Whole = None
-jobs_of_partial_report (extent.Choice jobs) = Some jobs
+jobs_of_partial_report (extent.Selection jobs) = Some jobs
 jobs_of_partial_report (extent.Shard shard) = Some shard.jobs
 
 -- `reason` describes the first index at which the two lists have different names: its number, counted from 1, and the name in each list

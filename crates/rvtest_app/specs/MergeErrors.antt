@@ -35,7 +35,7 @@ abbrev pub flaw_message : List (Bor (List ℕ)) → List ℕ → List ℕ → Fl
 flaw_message parts path text (flaw.Line number) = invalid_line_message expected.Part path text number
 flaw_message parts path text flaw.Truncated = path_message path (codes "the part is truncated")
 flaw_message parts path text flaw.Whole = path_message path (codes "expected a part of a run, found a whole report")
-flaw_message parts path text flaw.Choice =
+flaw_message parts path text flaw.Selection =
     path_message path (codes "expected the part of a shard, found a report of selected jobs")
 flaw_message parts path text flaw.DifferentShardCount = other_run_message parts path (codes "a different number of shards than \"")
 flaw_message parts path text flaw.DifferentJobCount = other_run_message parts path (codes "a list with a different number of jobs than \"")

@@ -54,7 +54,7 @@ requested_comparison false None = Outcomes
 
 -- whether the first report has only chosen jobs of a list, and the second has all of them
 abbrev pub is_partial_of_whole : Extent → Extent → Bool
-is_partial_of_whole (extent.Choice jobs) extent.Whole = true
+is_partial_of_whole (extent.Selection jobs) extent.Whole = true
 is_partial_of_whole _ _ = false
 
 -- the rows of `report` that `diff` compares with `other`: if `other` has only chosen jobs and `report` is whole, the rows of jobs in

@@ -40,13 +40,13 @@ abbrev pub chosen_report_text : ℕ → List ℕ → Option Shard → List Row �
 chosen_report_text jobs indices (Some shard) rows = part_text (extent.Shard shard) indices rows
 chosen_report_text jobs indices None rows =
     if length indices == jobs then report_text rows
-    else part_text (extent.Choice jobs) indices rows
+    else part_text (extent.Selection jobs) indices rows
 
 -- the extent of a report: a shard if one is given, else the whole list if there are `jobs` indices, as many as jobs in the list, else
 -- chosen jobs
 abbrev pub chosen_extent : ℕ → List ℕ → Option Shard → Extent
 chosen_extent jobs indices (Some shard) = extent.Shard shard
-chosen_extent jobs indices None = if length indices == jobs then extent.Whole else extent.Choice jobs
+chosen_extent jobs indices None = if length indices == jobs then extent.Whole else extent.Selection jobs
 
 -- the last line of the report that `chosen_report_text` describes, which follows its rows
 abbrev pub chosen_last_line : ℕ → List ℕ → Option Shard → List Row → List ℕ

@@ -141,7 +141,7 @@ pub(crate) fn sum_error_stop(alloc: Global, path: &str, error: SumError) -> Stop
             let what = ": the count at ";
             Stop::rejection(count_overflow_message(alloc, path, what, address))
         }
-        SumError::Spot(function) => {
+        SumError::Node(function) => {
             let what = ": a stack count of the function at ";
             Stop::rejection(count_overflow_message(alloc, path, what, function))
         }

@@ -261,6 +261,6 @@ fn is_same_as(unmet: UnmetExpectation) -> bool
         | UnmetExpectation::End
         | UnmetExpectation::Console(_)
         | UnmetExpectation::Signature(_)
-        | UnmetExpectation::Nothing => false,
+        | UnmetExpectation::DefaultExit => false,
     }
 }

@@ -176,7 +176,7 @@ fn is_partial_of_whole(part: &Extent, other: &Extent) -> bool
     ensures { result ≡ is_partial_of_whole part.now other.now }
 {
     match (part, other) {
-        (Extent::Choice(_), Extent::Whole) => true,
+        (Extent::Selection(_), Extent::Whole) => true,
         _ => false,
     }
 }

@@ -290,7 +290,7 @@ fn part_flaw_message(
             path,
             "expected a part of a run, found a whole report",
         ),
-        Flaw::Choice => path_message(
+        Flaw::Selection => path_message(
             alloc,
             path,
             "expected the part of a shard, found a report of selected jobs",

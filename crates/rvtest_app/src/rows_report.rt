@@ -37,7 +37,7 @@ pub(crate) fn write_chosen_report<W: Sink>(
         None if chosen.indices.len() == chosen.jobs => {
             return write_report(alloc, &Report { rows: chosen.rows }, out);
         }
-        None => Extent::Choice(chosen.jobs as u32),
+        None => Extent::Selection(chosen.jobs as u32),
     };
     write_part_report(alloc, extent, chosen, out)
 }
@@ -60,7 +60,7 @@ pub(crate) fn write_last_line<W: Sink>(
     let extent = match shard {
         Some(shard) => Extent::Shard(shard),
         None if chosen.indices.len() == chosen.jobs => Extent::Whole,
-        None => Extent::Choice(chosen.jobs as u32),
+        None => Extent::Selection(chosen.jobs as u32),
     };
     let mut line = String::new(alloc);
     push_extent_line(&mut line, &extent, chosen.rows.as_slice().len())?;

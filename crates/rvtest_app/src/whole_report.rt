@@ -78,7 +78,7 @@ fn jobs_of_partial_report(extent: &Extent) -> Option<u32>
 {
     match extent {
         Extent::Whole => None,
-        Extent::Choice(jobs) => Some(*jobs),
+        Extent::Selection(jobs) => Some(*jobs),
         Extent::Shard(shard) => Some(shard.jobs),
     }
 }

@@ -21,6 +21,6 @@ pub returns-in-Same : goal.returns-in-Same
 unfolding met_expectation_text
 returns-in-Same c = rw c.in-Same.is c.push_same_as_job.ensures
 
-pub returns-in-Nothing : goal.returns-in-Nothing
+pub returns-in-DefaultExit : goal.returns-in-DefaultExit
 unfolding met_expectation_text
-returns-in-Nothing c = rw c.in-Nothing.is c.push_text.ensures
+returns-in-DefaultExit c = rw c.in-DefaultExit.is c.push_text.ensures

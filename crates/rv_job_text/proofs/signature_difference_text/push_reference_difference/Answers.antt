@@ -13,6 +13,6 @@ pub returns-in-Count : goal.returns-in-Count
 unfolding reference_difference_text
 returns-in-Count c = rw c.in-Count.is c.push_count_difference.ensures
 
-pub returns-in-Absent : goal.returns-in-Absent
+pub returns-in-Missing : goal.returns-in-Missing
 unfolding reference_difference_text
-returns-in-Absent c = rw c.in-Absent.is c.push_text.ensures
+returns-in-Missing c = rw c.in-Missing.is c.push_text.ensures

@@ -18,6 +18,6 @@ unfolding signatures_difference_text
 returns-in-Lengths c =
     rw (c.in-Lengths.is, ← c.signature_words_or_empty-actual.ensures, ← c.signature_words_or_empty-expected.ensures) c.push_count_difference.ensures
 
-pub returns-in-Absent : goal.returns-in-Absent
+pub returns-in-Missing : goal.returns-in-Missing
 unfolding signatures_difference_text
-returns-in-Absent c = rw (c.in-Absent.is, ← c.missing_signature_text.ensures) c.push_text.ensures
+returns-in-Missing c = rw (c.in-Missing.is, ← c.missing_signature_text.ensures) c.push_text.ensures

@@ -29,6 +29,6 @@ returns-in_ok-push_text-in-Signature c =
     (ended _ _ _ _ (codes ": signature differs") (signatures_difference_text c.args.first actual expected c.in-Signature.difference)
     c.in_ok-push_text-in-Signature.ensures c.push_signatures_difference.ensures)
 
-pub returns-in-Absent : goal.returns-in-Absent
+pub returns-in-Missing : goal.returns-in-Missing
 unfolding rows_difference_text
-returns-in-Absent c = rw c.in-Absent.is c.push_text-in-Absent.ensures
+returns-in-Missing c = rw c.in-Missing.is c.push_text-in-Missing.ensures
