@@ -41,7 +41,7 @@ impl Model for Claims {
 }
 
 /// The number of pass indices. An index is never assigned again.
-const PLACES: usize = 64;
+const PASS_INDICES: usize = 64;
 
 impl Claims {
     /// Returns a counter for at most 4,096 chunks, and its first pass, which has index 0.
@@ -163,7 +163,7 @@ impl Claims {
         requires blank { seat.me ≡ (view self.now.pieces [] [] [], []) }
         ensures { IfSome result (λ p. IsNewPass self.now assigned p) }
     {
-        for place in 0..PLACES {
+        for place in 0..PASS_INDICES {
             if assigned >> place & 1 == 0
                 && self.table.shared.swap::<Sit>(&mut seat, place + 1, 1) == 0
             {
@@ -196,7 +196,7 @@ fn has_all_assigned_indices(closed: &Closed<(), Global>, bits: u64) -> bool
         → get_elem? (slots_items closed.now.words) (p + 1) ≡ some 1 → bit_at bits p ≡ 1)
         → result ≡ true }
 {
-    for place in 0..PLACES {
+    for place in 0..PASS_INDICES {
         if closed.word(place + 1) == 1 && bits >> place & 1 == 0 {
             return false;
         }

@@ -50,13 +50,13 @@ pub fn read_table(alloc: Global, bytes: &[u8]) -> Result<CountTable, ReadError>
     ensures least { IfErr result (λ error. IsFirstError error bytes.now) }
 {
     if whole_line(bytes) != "rvcounts 1\n".as_bytes() {
-        return Err(refused_at(bytes, 0));
+        return Err(read_error_at(bytes, 0));
     }
     let read = read_images(alloc, tail_from(bytes, 11))?;
     let place = 11 + read.length;
     let line = whole_line(tail_from(bytes, place));
     match runs_of_last_line(alloc, line, read.images.as_slice().len())? {
-        None => Err(refused_at(bytes, place)),
+        None => Err(read_error_at(bytes, place)),
         Some(runs) => {
             let end = place + line.len();
             if end == bytes.len() {
@@ -72,7 +72,7 @@ pub fn read_table(alloc: Global, bytes: &[u8]) -> Result<CountTable, ReadError>
 }
 
 // Returns the error for the invalid line that begins at an index: `Truncated` if it has no line feed, or else its number, counted from 1.
-fn refused_at(bytes: &[u8], place: usize) -> ReadError
+fn read_error_at(bytes: &[u8], place: usize) -> ReadError
     ensures { result ≡ read_error_at place bytes.now }
 {
     if whole_line(tail_from(bytes, place)).is_empty() {

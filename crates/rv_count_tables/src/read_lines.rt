@@ -79,7 +79,7 @@ fn read_image(
 {
     let line = whole_line(text);
     let mut image = image_of_line(alloc, line)?;
-    if !can_follow(image.digest.as_slice(), earlier) {
+    if !can_follow_images(image.digest.as_slice(), earlier) {
         return Ok(None);
     }
     if !has_image_line(alloc, &image, line)? {
@@ -96,7 +96,7 @@ fn read_image(
 }
 
 // Whether these bytes are a digest that is greater than the digest of the last of the earlier images, if there are any.
-fn can_follow(digest: &[u8], earlier: &[ImageCounts]) -> bool
+fn can_follow_images(digest: &[u8], earlier: &[ImageCounts]) -> bool
     ensures value { result ≡ ((length digest.now == 32) && is_greater_than_last (last_digest None earlier.now) digest.now) }
     ensures bytes { AllByRecursion (λ b. b < 256) digest.now }
 {

@@ -45,7 +45,7 @@ done 2 6
 ";
 
 // Checks that the sum of two tables has the expected text, whether the tables are passed by reference or by value.
-fn sum_is(alloc: Global, a: &str, b: &str, expected: &str) -> Result<(), Fail> {
+fn check_sum(alloc: Global, a: &str, b: &str, expected: &str) -> Result<(), Fail> {
     let first = read_table(alloc, a.as_bytes())?;
     let second = read_table(alloc, b.as_bytes())?;
     let sum = sum_of_tables(alloc, &first, &second)?;
@@ -62,15 +62,15 @@ fn sum_is(alloc: Global, a: &str, b: &str, expected: &str) -> Result<(), Fail> {
 #[test]
 fn adds_tables(rt: HostRuntime) -> Result<(), Fail> {
     let alloc = rt.alloc();
-    sum_is(alloc, A, B, BOTH)?;
-    sum_is(alloc, B, A, BOTH)?;
-    sum_is(alloc, "rvcounts 1\ndone 0 0\n", A, A)?;
-    sum_is(alloc, "rvcounts 1\ndone 0 4\n", B, B_AND_RUNS)?;
-    sum_is(alloc, B, "rvcounts 1\ndone 0 4\n", B_AND_RUNS)
+    check_sum(alloc, A, B, BOTH)?;
+    check_sum(alloc, B, A, BOTH)?;
+    check_sum(alloc, "rvcounts 1\ndone 0 0\n", A, A)?;
+    check_sum(alloc, "rvcounts 1\ndone 0 4\n", B, B_AND_RUNS)?;
+    check_sum(alloc, B, "rvcounts 1\ndone 0 4\n", B_AND_RUNS)
 }
 
 // Texts that are not tables, each with the line that is rejected, or 0 if the text is truncated.
-const REFUSED: [(&str, usize); 16] = [
+const REJECTED: [(&str, usize); 16] = [
     ("", 0),
     ("rvcounts 1", 0),
     ("rvcounts 2\n", 1),
@@ -107,10 +107,10 @@ const REFUSED: [(&str, usize); 16] = [
     ),
 ];
 
-// Each text in `REFUSED` is rejected at its line.
+// Each text in `REJECTED` is rejected at its line.
 #[test]
-fn refuses_texts(rt: HostRuntime) -> Result<(), Fail> {
-    for (text, expected) in REFUSED {
+fn rejects_texts(rt: HostRuntime) -> Result<(), Fail> {
+    for (text, expected) in REJECTED {
         let line = match read_table(rt.alloc(), text.as_bytes()) {
             Err(ReadError::Line(line)) => line,
             Err(ReadError::Truncated) => 0,
@@ -139,7 +139,7 @@ done 1 0
 
 // Two tables have no sum if a count or the number of runs would not fit in 64 bits.
 #[test]
-fn refuses_sums(rt: HostRuntime) -> Result<(), Fail> {
+fn rejects_sums(rt: HostRuntime) -> Result<(), Fail> {
     let full = read_table(rt.alloc(), FULL.as_bytes())?;
     let one = read_table(rt.alloc(), ONE.as_bytes())?;
     let run = read_table(rt.alloc(), b"rvcounts 1\ndone 0 1\n")?;
@@ -206,9 +206,9 @@ done 1 2
 #[test]
 fn adds_stacks(rt: HostRuntime) -> Result<(), Fail> {
     let alloc = rt.alloc();
-    sum_is(alloc, STACKS, OTHER, BOTH_STACKS)?;
-    sum_is(alloc, OTHER, STACKS, BOTH_STACKS)?;
-    sum_is(alloc, "rvcounts 1\ndone 0 0\n", STACKS, STACKS)
+    check_sum(alloc, STACKS, OTHER, BOTH_STACKS)?;
+    check_sum(alloc, OTHER, STACKS, BOTH_STACKS)?;
+    check_sum(alloc, "rvcounts 1\ndone 0 0\n", STACKS, STACKS)
 }
 
 const OTHER_NAME: &str = "\
@@ -220,7 +220,7 @@ done 1 1
 
 // Two tables have no sum if a function has different names in them.
 #[test]
-fn refuses_two_names(rt: HostRuntime) -> Result<(), Fail> {
+fn rejects_two_names(rt: HostRuntime) -> Result<(), Fail> {
     let first = read_table(rt.alloc(), STACKS.as_bytes())?;
     let second = read_table(rt.alloc(), OTHER_NAME.as_bytes())?;
     match sum_of_tables(rt.alloc(), &first, &second) {
@@ -251,7 +251,7 @@ const REFUSED_STACKS: [(&str, usize); 13] = [
 
 // Each text in `REFUSED_STACKS` is rejected at its line.
 #[test]
-fn refuses_stacks(rt: HostRuntime) -> Result<(), Fail> {
+fn rejects_stacks(rt: HostRuntime) -> Result<(), Fail> {
     let alloc = rt.alloc();
     for (lines, expected) in REFUSED_STACKS {
         let mut text = String::from_str(alloc, FIRST_LINES)?;
@@ -272,5 +272,5 @@ image 428abbe1347171d7e00df3badf31776c1ef4445e0516044cf7a638356db5f470 a
 // A table can have the lowest address, the highest one, and one that begins with `d`, as the last line does.
 #[test]
 fn reads_addresses_from_end_to_end(rt: HostRuntime) -> Result<(), Fail> {
-    sum_is(rt.alloc(), HIGH, "rvcounts 1\ndone 0 0\n", HIGH)
+    check_sum(rt.alloc(), HIGH, "rvcounts 1\ndone 0 0\n", HIGH)
 }

@@ -65,9 +65,9 @@ failure_kind_of_end (ending.Refused why) = failure.Refused
 
 -- the kind of a failure, given how the job ended and the first expectation that its run does not meet
 abbrev pub failure_kind_of_first : RowEnd → UnmetExpectation → FailureKind
-failure_kind_of_first end (unmet_expectations.Console difference) = failure.Console
-failure_kind_of_first end (unmet_expectations.Signature difference) = failure.Signature
-failure_kind_of_first end (unmet_expectations.Same difference) = failure.SameAs
+failure_kind_of_first end (unmet.Console difference) = failure.Console
+failure_kind_of_first end (unmet.Signature difference) = failure.Signature
+failure_kind_of_first end (unmet.Same difference) = failure.SameAs
 failure_kind_of_first end _ = failure_kind_of_end end
 
 -- the kind of a failure, given how the job ended and its unmet expectations: the first one decides, or the ending if there are none, as for

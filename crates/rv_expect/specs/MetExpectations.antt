@@ -19,12 +19,12 @@ job_expects job expectation.DefaultExit = not (has_expectations job)
 
 -- whether an unmet expectation is of this kind
 unfoldable pub is_unmet_of_kind : Expectation → UnmetExpectation → Bool
-is_unmet_of_kind expectation.Exit unmet_expectations.Exit = true
-is_unmet_of_kind expectation.End unmet_expectations.End = true
-is_unmet_of_kind expectation.Console (unmet_expectations.Console difference) = true
-is_unmet_of_kind expectation.Signature (unmet_expectations.Signature difference) = true
-is_unmet_of_kind expectation.Same (unmet_expectations.Same difference) = true
-is_unmet_of_kind expectation.DefaultExit unmet_expectations.DefaultExit = true
+is_unmet_of_kind expectation.Exit unmet.Exit = true
+is_unmet_of_kind expectation.End unmet.End = true
+is_unmet_of_kind expectation.Console (unmet.Console difference) = true
+is_unmet_of_kind expectation.Signature (unmet.Signature difference) = true
+is_unmet_of_kind expectation.Same (unmet.Same difference) = true
+is_unmet_of_kind expectation.DefaultExit unmet.DefaultExit = true
 is_unmet_of_kind _ _ = false
 
 -- whether a job has an expectation of this kind and its run meets it; `unmet_expectations` are the unmet expectations of the job

@@ -64,7 +64,7 @@ impl FailureKind {
         ensures { result ≡ failure_kind_of_unmet ending unmet_expectations.now }
     {
         match unmet_expectations.first() {
-            Some(first) => kind_of_first(ending, *first),
+            Some(first) => failure_kind_of_first(ending, *first),
             None => FailureKind::of_end(ending),
         }
     }
@@ -109,7 +109,7 @@ fn failure_kind_after_faults(index: usize) -> FailureKind
 }
 
 // Returns the kind of a failure, given how the job ended and its first unmet expectation.
-fn kind_of_first(ending: RowEnd, first: UnmetExpectation) -> FailureKind
+fn failure_kind_of_first(ending: RowEnd, first: UnmetExpectation) -> FailureKind
     ensures { result ≡ failure_kind_of_first ending first }
 {
     match first {

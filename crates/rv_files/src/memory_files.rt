@@ -168,7 +168,7 @@ impl Outputs for MemoryOutputs {
     // Returns the path itself, which is the only file that writing to it replaces.
     fn replaced_files(&self, alloc: Global, path: &str) -> Result<Vec<Text>, FileError> {
         let mut replaced = Vec::with_capacity(alloc, 1)?;
-        add_text(&mut replaced, Text::copy(alloc, path)?)?;
+        push_text(&mut replaced, Text::copy(alloc, path)?)?;
         Ok(replaced)
     }
 
@@ -202,7 +202,7 @@ impl Outputs for MemoryOutputs {
 }
 
 // Appends a text to a list of texts.
-fn add_text(texts: &mut Vec<Text>, text: Text) -> Result<(), AllocError>
+fn push_text(texts: &mut Vec<Text>, text: Text) -> Result<(), AllocError>
     ensures { OnOk result (texts.new.items ≡ texts.old.items ++ text ∷ []) }
 {
     texts.push(text)?;

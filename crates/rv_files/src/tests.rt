@@ -36,7 +36,7 @@ fn write_file<F: Outputs>(
 }
 
 // Returns the outcome of writing a file as a text.
-fn answer_text(outcome: Result<(), FileError>) -> &'static str {
+fn outcome_text(outcome: Result<(), FileError>) -> &'static str {
     match outcome {
         Ok(()) => "placed",
         Err(FileError::SameFile) => "the same place",
@@ -61,7 +61,7 @@ report|missing/report|failed|first
 
 // Writes a second file while a first one is not yet placed, and checks the outcome, and the contents of the first file once it is placed,
 // as in the line `FIRST|SECOND|OUTCOME|CONTENTS`.
-fn writes_pair<R: Files + Abort>(rt: &R, alloc: Global, line: &str) -> Result<(), Fail>
+fn check_pair<R: Files + Abort>(rt: &R, alloc: Global, line: &str) -> Result<(), Fail>
 where
     R::File: FileLock,
 {
@@ -73,7 +73,7 @@ where
     let mut outputs = SystemOutputs::new(rt, alloc);
     let (place, mut file) = outputs.create(alloc, first)?;
     put_all(&mut file, b"first")?;
-    let answer = answer_text(write_file(&mut outputs, alloc, second, b"second"));
+    let answer = outcome_text(write_file(&mut outputs, alloc, second, b"second"));
     assert_eq!(rt; answer, wanted, "{line}");
     let synced = outputs.sync(file)?;
     outputs.place(place, synced)?;
@@ -90,7 +90,7 @@ fn files_of_one_command(rt: HostRuntime) -> Result<(), Fail> {
     for line in PAIRS.lines() {
         fs::write(&rt, "report", "old")?;
         rt.symlink("report", "link")?;
-        writes_pair(&rt, rt.alloc(), line)?;
+        check_pair(&rt, rt.alloc(), line)?;
         for path in ["report", "link", "junit", "report.new"] {
             let _ = fs::remove_file(&rt, path);
         }
@@ -193,7 +193,7 @@ fn a_file_is_below_a_directory(rt: HostRuntime) -> Result<(), Fail> {
 
 // A path is rejected if a read-only file is there, or if its directory does not exist.
 #[test]
-fn a_path_that_takes_no_file_is_refused(rt: HostRuntime) -> Result<(), Fail> {
+fn a_path_where_no_file_can_be_written_is_rejected(rt: HostRuntime) -> Result<(), Fail> {
     fs::write(&rt, "fixed", "old")?;
     rt.set_permissions("fixed", Permissions::from_mode(0o444))?;
     let outputs = SystemOutputs::new(&rt, rt.alloc());
@@ -249,7 +249,7 @@ fn modes_are_kept(rt: HostRuntime) -> Result<(), Fail> {
     rt.set_permissions("mode", Permissions::from_mode(0o444))?;
     let mut outputs = SystemOutputs::new(&rt, rt.alloc());
     assert_eq!(rt;
-        answer_text(write_file(&mut outputs, rt.alloc(), "mode", b"new")),
+        outcome_text(write_file(&mut outputs, rt.alloc(), "mode", b"new")),
         "failed"
     );
     assert_eq!(rt; fs::read(&rt, "mode")?.as_slice(), b"old".as_slice());
@@ -276,7 +276,7 @@ fn a_file_is_abandoned(rt: HostRuntime) -> Result<(), Fail> {
 
 // If a directory is at the path in the meantime, placing the file fails, and its temporary file is removed.
 #[test]
-fn a_file_that_cannot_be_placed_is_taken_away(rt: HostRuntime) -> Result<(), Fail> {
+fn a_file_that_cannot_be_placed_is_removed(rt: HostRuntime) -> Result<(), Fail> {
     fs::write(&rt, "turned", "old")?;
     let mut outputs = SystemOutputs::new(&rt, rt.alloc());
     let (place, mut file) = outputs.create(rt.alloc(), "turned")?;
@@ -296,7 +296,7 @@ fn a_file_that_cannot_be_placed_is_taken_away(rt: HostRuntime) -> Result<(), Fai
 
 // Outputs in memory fail after the number of steps that they allow.
 #[test]
-fn steps_are_refused(rt: HostRuntime) -> Result<(), Fail> {
+fn steps_beyond_the_limit_fail(rt: HostRuntime) -> Result<(), Fail> {
     for (steps, wanted, count) in [
         (0, "failed", 0),
         (1, "failed", 0),
@@ -304,7 +304,7 @@ fn steps_are_refused(rt: HostRuntime) -> Result<(), Fail> {
         (3, "placed", 1),
     ] {
         let mut outputs = MemoryOutputs::with_steps(rt.alloc(), steps);
-        let answer = answer_text(write_file(&mut outputs, rt.alloc(), "path", b"bytes"));
+        let answer = outcome_text(write_file(&mut outputs, rt.alloc(), "path", b"bytes"));
         assert_eq!(rt; answer, wanted, "{steps} steps");
         assert_eq!(rt; outputs.committed_files().len(), count, "{steps} steps");
     }
@@ -321,7 +321,7 @@ fn memory_file(alloc: Global, path: &str, bytes: &[u8]) -> Result<MemoryFile, Al
 
 // Files in memory are read at paths relative to a directory, if one is given.
 #[test]
-fn memory_is_read(rt: HostRuntime) -> Result<(), Fail> {
+fn memory_files_are_read(rt: HostRuntime) -> Result<(), Fail> {
     let mut files = Vec::new(rt.alloc());
     files.push(memory_file(rt.alloc(), "image", b"here")?)?;
     files.push(memory_file(rt.alloc(), "folder/image", b"below")?)?;

@@ -58,12 +58,12 @@ IsNextRead end_text session chunk before after None next = (after ≡ before) ×
 IsNextRead end_text session chunk before after (Some bytes) next =
     IsChunkRead before after bytes × IsOpenAfter end_text session chunk bytes
 
--- the bytes of a chunk were handled, and the next chunk `coming` was read unless the session was over
-pub record IsChunkHandled (end_text : List ℕ) (session : Session) (chunk : List ℕ) (before after old new coming : Option (List ℕ))
+-- the bytes of a chunk were handled, and the next chunk `next_chunk` was read unless the session was over
+pub record IsChunkHandled (end_text : List ℕ) (session : Session) (chunk : List ℕ) (before after old new next_chunk : Option (List ℕ))
     (next : Session) : Type 0 where
   -- the replies to the chunk
   pub replies : List ℕ
-  pub fed : IsReceived end_text (is_interrupted_by_next coming) session chunk replies next
+  pub fed : IsReceived end_text (is_interrupted_by_next next_chunk) session chunk replies next
   pub made : next.requested ≡ None
   pub put : Appends old new replies
-  pub read : IsNextRead end_text session chunk before after coming next
+  pub read : IsNextRead end_text session chunk before after next_chunk next

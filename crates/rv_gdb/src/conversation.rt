@@ -127,7 +127,7 @@ fn respond_to_byte<R, E: EndText, O: Sink>(
     requires within { index < length chunk.now }
     requires requested { session.old.requested ≡ None }
     requires of_run { E.start context.now.end.now ≡ session.old.history.start }
-    ensures answered { IfOk result (λ waits. IsByteHandled (E.end_text context.now.end.now) session.old chunk.now index waits
+    ensures answered { IfOk result (λ is_move_pending. IsByteHandled (E.end_text context.now.end.now) session.old chunk.now index is_move_pending
         (O.accepted out.old) (O.accepted out.new) session.new) }
     ensures not_over { OnOk result (IsOpenIfRequested session.new) }
     ensures run { OnOk result (IsSameRun session.old session.new) }
@@ -268,17 +268,17 @@ fn move_while_reading_into<R: Threads, E: EndText, I: Read + Send, O: Sink>(
     ensures counted { OnOk result (O.failure_count out.new ≡ O.failure_count out.old) }
 {
     let alloc = context.alloc;
-    let mut coming = SharedInterrupt {
+    let mut next_chunk = SharedInterrupt {
         raised,
         was_seen: false,
     };
     let (read, put) = join_mut(
         context.rt,
         &mut || read_ahead(alloc, input, raised),
-        &mut || write_move_reply(context, session, &mut coming, out),
+        &mut || write_move_reply(context, session, &mut next_chunk, out),
     );
     put?;
     let chunk = read?;
-    check_interrupt(coming.was_seen, chunk.as_slice())?;
+    check_interrupt(next_chunk.was_seen, chunk.as_slice())?;
     Ok(chunk)
 }

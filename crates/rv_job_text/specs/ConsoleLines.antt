@@ -168,13 +168,13 @@ shown_by_lines difference actual (Some expected) =
 
 -- the expected text of an unmet expectation of a console, or `None` if the difference from it is not shown line by line
 abbrev pub expected_by_lines : ComparisonView → UnmetExpectation → Option NamedText
-expected_by_lines sides unmet.Exit = None
-expected_by_lines sides unmet.End = None
-expected_by_lines sides (unmet.Console difference) =
-    shown_by_lines difference sides.row.console (expected_console sides.job.expect_console sides.console)
-expected_by_lines sides (unmet.Signature difference) = None
-expected_by_lines sides (unmet.Same difference) = None
-expected_by_lines sides unmet.DefaultExit = None
+expected_by_lines comparison unmet.Exit = None
+expected_by_lines comparison unmet.End = None
+expected_by_lines comparison (unmet.Console difference) =
+    shown_by_lines difference comparison.row.console (expected_console comparison.job.expect_console comparison.console)
+expected_by_lines comparison (unmet.Signature difference) = None
+expected_by_lines comparison (unmet.Same difference) = None
+expected_by_lines comparison unmet.DefaultExit = None
 
 -- an `ExpectedText` of the code as contracts see it
 abbrev pub named_text_of : ExpectedText → NamedText

@@ -24,23 +24,23 @@ same_as_job_text (Some other) = codes "the same result as " ++ printable_text ot
 
 -- the text of a met expectation, such as `exit 0`
 unfoldable pub met_expectation_text : ComparisonView → Expectation → List ℕ
-met_expectation_text sides expectation.Exit = expected_exit_text sides.job.expect_exit
-met_expectation_text sides expectation.End = expected_end_text sides.job.expect_end
-met_expectation_text sides expectation.Console =
-    codes "console" ++ optional_path_text (console_path sides.job.expect_console)
-met_expectation_text sides expectation.Signature =
-    codes "signature" ++ optional_path_text sides.job.expect_signature
-met_expectation_text sides expectation.Same = same_as_job_text sides.other
-met_expectation_text sides expectation.DefaultExit = codes "exit 0, since no expectation is set"
+met_expectation_text comparison expectation.Exit = expected_exit_text comparison.job.expect_exit
+met_expectation_text comparison expectation.End = expected_end_text comparison.job.expect_end
+met_expectation_text comparison expectation.Console =
+    codes "console" ++ optional_path_text (console_path comparison.job.expect_console)
+met_expectation_text comparison expectation.Signature =
+    codes "signature" ++ optional_path_text comparison.job.expect_signature
+met_expectation_text comparison expectation.Same = same_as_job_text comparison.other
+met_expectation_text comparison expectation.DefaultExit = codes "exit 0, since no expectation is set"
 
 -- the line about an expectation; empty if it is not met
 unfoldable pub met_line : ComparisonView → List UnmetExpectation → Expectation → List ℕ
-met_line sides unmet one =
-    if is_expectation_met sides.job unmet one then line (codes "     as expected: " ++ met_expectation_text sides one) else []
+met_line comparison unmet one =
+    if is_expectation_met comparison.job unmet one then line (codes "     as expected: " ++ met_expectation_text comparison one) else []
 
 -- the lines about all met expectations
 unfoldable pub met_lines : ComparisonView → List UnmetExpectation → List ℕ
-met_lines sides unmet =
-    met_line sides unmet expectation.Exit ++ met_line sides unmet expectation.End
-    ++ met_line sides unmet expectation.Console ++ met_line sides unmet expectation.Signature
-    ++ met_line sides unmet expectation.Same ++ met_line sides unmet expectation.DefaultExit
+met_lines comparison unmet =
+    met_line comparison unmet expectation.Exit ++ met_line comparison unmet expectation.End
+    ++ met_line comparison unmet expectation.Console ++ met_line comparison unmet expectation.Signature
+    ++ met_line comparison unmet expectation.Same ++ met_line comparison unmet expectation.DefaultExit

@@ -71,9 +71,9 @@ end_trace_if_requested plan job row (Some last) = end_trace_lines plan job row l
 
 -- the lines about these unmet expectations and, if `Detail` says so, about the met ones
 abbrev pub compared_lines : Detail → Option ℕ → ComparisonView → List UnmetExpectation → List ℕ
-compared_lines detail.UnmetExpectation address sides unmet = unmet_lines address sides unmet
-compared_lines detail.All address sides unmet =
-    unmet_lines address sides unmet ++ met_lines sides unmet
+compared_lines detail.UnmetExpectation address comparison unmet = unmet_lines address comparison unmet
+compared_lines detail.All address comparison unmet =
+    unmet_lines address comparison unmet ++ met_lines comparison unmet
 
 -- the lines about the unmet expectations of a row and, if `Detail` says so, about the met ones
 abbrev pub expectation_lines : Detail → PlanView → Job → Row → List ℕ

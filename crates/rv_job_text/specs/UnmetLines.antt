@@ -171,15 +171,15 @@ same_difference_text first row (Some other) difference =
 
 -- the text of an unmet expectation, such as `exit 0`; `address` is the address of the signature's first word, if it is known
 unfoldable pub unmet_expectation_text : Option ℕ → ComparisonView → UnmetExpectation → List ℕ
-unmet_expectation_text address sides unmet.Exit = expected_exit_text sides.job.expect_exit
-unmet_expectation_text address sides unmet.End = expected_end_text sides.job.expect_end
-unmet_expectation_text address sides (unmet.Console difference) =
-    console_difference_text sides.job.expect_console sides.console sides.row.console difference
-unmet_expectation_text address sides (unmet.Signature difference) =
-    signature_difference_text address sides.job.expect_signature sides.row.signature sides.reference difference
-unmet_expectation_text address sides (unmet.Same difference) =
-    same_difference_text address sides.row sides.other difference
-unmet_expectation_text address sides unmet.DefaultExit = codes "exit 0, since no expectation is set"
+unmet_expectation_text address comparison unmet.Exit = expected_exit_text comparison.job.expect_exit
+unmet_expectation_text address comparison unmet.End = expected_end_text comparison.job.expect_end
+unmet_expectation_text address comparison (unmet.Console difference) =
+    console_difference_text comparison.job.expect_console comparison.console comparison.row.console difference
+unmet_expectation_text address comparison (unmet.Signature difference) =
+    signature_difference_text address comparison.job.expect_signature comparison.row.signature comparison.reference difference
+unmet_expectation_text address comparison (unmet.Same difference) =
+    same_difference_text address comparison.row comparison.other difference
+unmet_expectation_text address comparison unmet.DefaultExit = codes "exit 0, since no expectation is set"
 
 -- the text before an unmet expectation in its line: five spaces, and `expected: ` unless the text itself says what differs
 abbrev pub unmet_margin : UnmetExpectation → List ℕ
@@ -189,14 +189,14 @@ unmet_margin _ = codes "     expected: "
 
 -- the lines about an unmet expectation: the differing lines if the expected text is given, and otherwise a single line
 abbrev pub unmet_line_with : Option ℕ → ComparisonView → UnmetExpectation → Option NamedText → List ℕ
-unmet_line_with address sides unmet None =
-    line (unmet_margin unmet ++ unmet_expectation_text address sides unmet)
-unmet_line_with address sides unmet (Some expected) = console_lines expected.source sides.row.console expected.text
+unmet_line_with address comparison unmet None =
+    line (unmet_margin unmet ++ unmet_expectation_text address comparison unmet)
+unmet_line_with address comparison unmet (Some expected) = console_lines expected.source comparison.row.console expected.text
 
 -- the lines about an unmet expectation
 unfoldable pub unmet_line : Option ℕ → ComparisonView → UnmetExpectation → List ℕ
-unmet_line address sides unmet = unmet_line_with address sides unmet (expected_by_lines sides unmet)
+unmet_line address comparison unmet = unmet_line_with address comparison unmet (expected_by_lines comparison unmet)
 
 -- the lines about the unmet expectations, in order
 abbrev pub unmet_lines : Option ℕ → ComparisonView → List UnmetExpectation → List ℕ
-unmet_lines address sides unmet = flat_map (unmet_line address sides) unmet
+unmet_lines address comparison unmet = flat_map (unmet_line address comparison) unmet

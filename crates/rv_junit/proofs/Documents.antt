@@ -72,17 +72,17 @@ xml_problem row lines are =
     (xml_plain (codes ">") refl)) (xml_escaped Element lines are)) (xml_plain (codes "</") refl))
     (xml_problem_name row)) (xml_plain (codes ">\n") refl)
 
-xml_skipped : (why : List ℕ) → IsBytes why → IsXmlCharacters (skipped_text why)
+xml_skipped : (reason : List ℕ) → IsBytes reason → IsXmlCharacters (skipped_text reason)
 unfolding skipped_text
-xml_skipped why are =
+xml_skipped reason are =
     xml_append _ _ (xml_append _ _ (xml_plain (codes "<skipped") refl)
-    (xml_either (length why == 0) [] (attribute (codes "message") why) xml_nil
-    (xml_attribute (codes "message") why (xml_plain (codes "message") refl) are))) (xml_plain (codes "/>\n") refl)
+    (xml_either (length reason == 0) [] (attribute (codes "message") reason) xml_nil
+    (xml_attribute (codes "message") reason (xml_plain (codes "message") refl) are))) (xml_plain (codes "/>\n") refl)
 
 -- ---- what a row counts as, of which the reason is bytes
 
 abbrev pub IsForBytes : JudgementView → Type 0
-IsForBytes (known why) = IsBytes why
+IsForBytes (known reason) = IsBytes reason
 IsForBytes _ = ⊤
 
 reason_here : (test : Bool) (job : KnownJob) (rest : Option KnownJob) → IsBytes job.reason
@@ -121,7 +121,7 @@ xml_judged : (judged : JudgementView) (row : Row) (lines : List ℕ) → IsForBy
     → IsXmlCharacters (judged_text judged row lines)
 xml_judged passed row lines reason are = xml_nil
 xml_judged failed row lines reason are = xml_problem row lines are
-xml_judged (known why) row lines reason are = xml_skipped why reason
+xml_judged (known known_reason) row lines reason are = xml_skipped known_reason reason
 xml_judged (now_passes path) row lines reason are = xml_problem row lines are
 
 xml_count : (number : ℕ) (noun : List ℕ) → number < 2 ^ 64 → IsXmlCharacters noun → IsXmlCharacters (count_text number noun)

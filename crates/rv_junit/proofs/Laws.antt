@@ -16,7 +16,7 @@ one_of_four : (judged : JudgementView) (ran : Bool) (failures errors skips passe
 one_of_four passed ran failures errors skips passes count all = omega arith
 one_of_four failed true failures errors skips passes count all = omega arith
 one_of_four failed false failures errors skips passes count all = omega arith
-one_of_four (known why) ran failures errors skips passes count all = omega arith
+one_of_four (known reason) ran failures errors skips passes count all = omega arith
 one_of_four (now_passes path) true failures errors skips passes count all = omega arith
 one_of_four (now_passes path) false failures errors skips passes count all = omega arith
 

@@ -38,18 +38,18 @@ problem_text row lines =
 
 -- the XML attribute with the reason of a known failure; empty if there is no reason
 abbrev pub reason_attribute : List ℕ → List ℕ
-reason_attribute why = if length why == 0 then [] else attribute (codes "message") why
+reason_attribute reason = if length reason == 0 then [] else attribute (codes "message") reason
 
 -- the XML element for a known failure with this reason
 unfoldable pub skipped_text : List ℕ → List ℕ
-skipped_text why = codes "<skipped" ++ reason_attribute why ++ codes "/>\n"
+skipped_text reason = codes "<skipped" ++ reason_attribute reason ++ codes "/>\n"
 
 -- the XML element with the judgement of a row: for a failure, for a job that passes although it is known to fail, or for a known failure;
 -- empty if the row passed
 abbrev pub judged_text : JudgementView → Row → List ℕ → List ℕ
 judged_text passed row lines = []
 judged_text failed row lines = problem_text row lines
-judged_text (known why) row lines = skipped_text why
+judged_text (known reason) row lines = skipped_text reason
 judged_text (now_passes path) row lines = problem_text row lines
 
 -- the XML element with the steps and the console of a row

@@ -20,7 +20,7 @@ pub struct FailureTexts<'k, J: StreamSpec> {
     judge: Judge<'k>,
     texts: Vec<Option<Vec<u8>>>,
     // How many more bytes can be kept.
-    room: usize,
+    free_bytes: usize,
     // Whether nothing is kept: texts are not needed, or an allocation failed.
     is_closed: bool,
     of: PhantomData<J>,
@@ -39,7 +39,7 @@ impl<'k, J: StreamSpec> FailureTexts<'k, J> {
             alloc,
             judge,
             texts: Vec::new(alloc),
-            room: MAX_KEPT_BYTES,
+            free_bytes: MAX_KEPT_BYTES,
             is_closed: !is_needed,
             of: PhantomData,
         }
@@ -57,7 +57,7 @@ impl<'k, J: StreamSpec> FailureTexts<'k, J> {
     fn text_if_kept(&self, made: &ReportedRow) -> Option<Vec<u8>>
         ensures { IfSome result (λ text. IsFailureText J.judging made.now text.items) }
     {
-        if !self.judge.fails(&made.row) || made.text.len() > self.room {
+        if !self.judge.fails(&made.row) || made.text.len() > self.free_bytes {
             return None;
         }
         made.text.as_slice().to_vec(self.alloc).ok()
@@ -78,7 +78,7 @@ impl<J: StreamSpec> Observer<ReportedRow> for FailureTexts<'_, J> {
         }
         let text = self.text_if_kept(output);
         if let Some(text) = &text {
-            self.room = self.room.saturating_sub(text.len());
+            self.free_bytes = self.free_bytes.saturating_sub(text.len());
         }
         if self.texts.push(text).is_err() {
             self.texts.clear();

@@ -169,28 +169,28 @@ fn push_judgement(
     match judgement {
         Judgement::Passed => Ok(()),
         Judgement::Failed | Judgement::NowPasses(_) => push_problem(alloc, text, row, lines),
-        Judgement::KnownFailure(why) => push_skipped(alloc, text, why),
+        Judgement::KnownFailure(reason) => push_skipped(alloc, text, reason),
     }
 }
 
 // Appends the XML element for a known failure with this reason.
 #[tactic(auto, unfolding(crate::specs::Junit::skipped_text))]
-fn push_skipped(alloc: Global, text: &mut String, why: &[u8]) -> Result<(), AllocError>
-    ensures { OnOk result (string_bytes text.new ≡ string_bytes text.old ++ skipped_text why.now) }
+fn push_skipped(alloc: Global, text: &mut String, reason: &[u8]) -> Result<(), AllocError>
+    ensures { OnOk result (string_bytes text.new ≡ string_bytes text.old ++ skipped_text reason.now) }
 {
     text.push_str("<skipped")?;
-    push_reason_attribute(alloc, text, why)?;
+    push_reason_attribute(alloc, text, reason)?;
     text.push_str("/>\n")
 }
 
 // Appends the XML attribute with the reason of a known failure, or nothing if there is no reason.
-fn push_reason_attribute(alloc: Global, text: &mut String, why: &[u8]) -> Result<(), AllocError>
-    ensures { OnOk result (string_bytes text.new ≡ string_bytes text.old ++ reason_attribute why.now) }
+fn push_reason_attribute(alloc: Global, text: &mut String, reason: &[u8]) -> Result<(), AllocError>
+    ensures { OnOk result (string_bytes text.new ≡ string_bytes text.old ++ reason_attribute reason.now) }
 {
-    if why.is_empty() {
+    if reason.is_empty() {
         return Ok(());
     }
-    push_attribute(alloc, text, "message", why)
+    push_attribute(alloc, text, "message", reason)
 }
 
 // Appends the XML element for a failed row with these lines, of which the first one is its message.

@@ -80,5 +80,5 @@ borrowed_names names = map borrowed_name names
 
 -- the text between the path and the explanation of an error of the job with this number, given the list as it was parsed again
 abbrev pub location_in_view : FaultView → ℕ → List ℕ
-location_in_view (view.NoToml text error) number = []
-location_in_view (view.List list) number = fault_location list.lines.items (borrowed_names list.names.items) number
+location_in_view (look.NoToml text error) number = []
+location_in_view (look.List list) number = fault_location list.lines.items (borrowed_names list.names.items) number

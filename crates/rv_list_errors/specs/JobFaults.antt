@@ -316,8 +316,8 @@ ExplainsFaultOfList list fault told = 0 < fault.job → ExplainsJobFault
 
 -- `told` explains this error of a list that was parsed again; if it is not a document, any text will do
 abbrev pub ExplainsFaultInView : FaultView → JobError → List ℕ → Type 0
-ExplainsFaultInView (view.NoToml text error) fault told = ⊤
-ExplainsFaultInView (view.List list) fault told = ExplainsFaultOfList list fault told
+ExplainsFaultInView (look.NoToml text error) fault told = ⊤
+ExplainsFaultInView (look.List list) fault told = ExplainsFaultOfList list fault told
 
 -- the message is `head`, followed by a text that satisfies the predicate
 abbrev pub HasHeadAndTail : (List ℕ → Type 0) → List ℕ → List ℕ → Type 0

@@ -115,9 +115,9 @@ fn end_text_explanation(end: Option<&str>) -> Explanation
     ensures { (explained_key result, explained_text result) ≡ end_explanation (borrowed_name end.entry) }
 {
     match end {
-        Some(end) if end == "exit" => Explanation::Text(EXIT),
+        Some(end) if end == "exit" => Explanation::Text(EXIT_IS_NO_END),
         _ => Explanation::Expected(&EXPECT_END),
     }
 }
 
-const EXIT: &str = "expect_end = \"exit\": to expect an exit, set \"expect_exit\" to its code";
+const EXIT_IS_NO_END: &str = "expect_end = \"exit\": to expect an exit, set \"expect_exit\" to its code";

@@ -92,7 +92,7 @@ pub(crate) const INPUT_HEX: Expected = Expected {
     bytes: Bytes::Pairs,
 };
 
-pub(crate) const PAIRS: Expected = Expected {
+pub(crate) const HEX_PAIRS: Expected = Expected {
     key: "input_hex",
     before: "expected pairs of hexadecimal digits",
     rest: InsertedText::Nothing,

@@ -14,7 +14,7 @@ ghost use Rattle.rv_list_errors.specs.Explanation.{AppendsTextThat, is_unsimulat
 use crate::expectation_fault::expectation_explanation;
 use crate::explanations::{
     BUDGET, Explanation, IMAGE, INPUT, INPUT_HEX, ISA, ISA_OF_64_BITS, ISA_WITH_A, ISA_WITH_FLOATS,
-    LOAD, MISALIGNED, NAME, PAIRS, SIGNATURE, push_explanation,
+    LOAD, MISALIGNED, NAME, HEX_PAIRS, SIGNATURE, push_explanation,
 };
 use crate::key_faults::FaultyJob;
 use crate::keys::push_unknown_job_key;
@@ -93,10 +93,10 @@ pub(crate) fn push_duplicate_name(message: &mut Message, list: &List<'_>, table:
     ensures { AppendsTextThat message.old message.new
         (ExplainsName (borrowed_names list.now.names.items) (codes "name") unique_name_text (table_view table.now)) }
 {
-    push_name_fault(message, list, table, "name", FREE)
+    push_name_fault(message, list, table, "name", UNIQUE_NAME)
 }
 
-const FREE: &str = "expected a unique name";
+const UNIQUE_NAME: &str = "expected a unique name";
 
 // Appends the explanation of an error that does not depend on the other jobs.
 fn push_fault_within_job(message: &mut Message, table: &Table, what: What)
@@ -210,7 +210,7 @@ fn digits_explanation(digits: &str) -> Explanation
     if are_hex_digit_pairs(digits) {
         Explanation::Expected(&INPUT_HEX)
     } else {
-        Explanation::Expected(&PAIRS)
+        Explanation::Expected(&HEX_PAIRS)
     }
 }
 

@@ -5,7 +5,7 @@ ghost use Rattle.std.specs.Prelude.{◌<◌, IfSome};
 use crate::expectation_fault::{BOTH_CONSOLES, end_explanation, exit_explanation};
 use crate::explanations::{
     BUDGET, EXPECT_CONSOLE, EXPECT_CONSOLE_FILE, EXPECT_SIGNATURE, Explanation, IMAGE, INPUT,
-    INPUT_HEX, LOAD, MISALIGNED, NAME, PAIRS, SIGNATURE, WITHOUT_SIGNATURE, push_explanation,
+    INPUT_HEX, LOAD, MISALIGNED, NAME, HEX_PAIRS, SIGNATURE, WITHOUT_SIGNATURE, push_explanation,
 };
 use crate::job_fault::{BOTH_INPUTS, are_hex_digit_pairs, isa_explanation, push_duplicate_name};
 use crate::keys::{has_region_with_unknown_key, push_unknown_key_of_job, push_unknown_region_key};
@@ -186,7 +186,7 @@ impl<'a> FaultyJob<'a> {
                 self.both_set_explanation("input_hex", met, BOTH_INPUTS)
             }
         } else if !are_hex_digit_pairs(text) {
-            Some(Explanation::Expected(&PAIRS))
+            Some(Explanation::Expected(&HEX_PAIRS))
         } else if MAX_SCRIPT_LEN < text.len() / 2 {
             Some(Explanation::Expected(&INPUT_HEX))
         } else {

@@ -79,16 +79,16 @@ pub(crate) fn push_list_fault(message: &mut Message, list: &List<'_>, what: What
     }
 }
 
-const TABLES: &str = "expected an array of tables, [[job]]";
+const EXPECTED_TABLES: &str = "expected an array of tables, [[job]]";
 
 // Appends that `job` is not an array. The contents of a table are not shown: its header, `[job]`, lacks a pair of brackets.
 fn push_not_an_array(message: &mut Message, table: &Table) {
     match value_at_key(table, "job") {
         Some(value) if value.is_table() => {
             message.push("\"job\" is a table: ");
-            message.push(TABLES);
+            message.push(EXPECTED_TABLES);
         }
-        _ => push_expected_value(message, table, "job", TABLES),
+        _ => push_expected_value(message, table, "job", EXPECTED_TABLES),
     }
 }
 

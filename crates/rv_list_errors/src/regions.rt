@@ -11,9 +11,9 @@ use crate::values::{elements_at_key, push_expected_value, word_at_key};
 use rv_lists::{Map, MapError, Region, What};
 use toml::{Table, Value};
 
-const BASE: &str = "expected a multiple of 4 from 0 to 0xfffffffc";
+const EXPECTED_BASE: &str = "expected a multiple of 4 from 0 to 0xfffffffc";
 
-const SIZE: &str = "expected a multiple of 4 from 4 to 16777216";
+const EXPECTED_SIZE: &str = "expected a multiple of 4 from 4 to 16777216";
 
 /// Appends the number of the region at an index, counted from 1, as in `region 1`.
 pub(crate) fn push_region_number(message: &mut Message, at: usize)
@@ -111,9 +111,9 @@ fn push_bad_base_or_size(message: &mut Message, at: usize, element: &Value)
     message.push(": ");
     match element {
         Value::Table(table) if word_at_key(table, "base").is_some() => {
-            push_expected_value(message, table, "size", SIZE)
+            push_expected_value(message, table, "size", EXPECTED_SIZE)
         }
-        Value::Table(table) => push_expected_value(message, table, "base", BASE),
+        Value::Table(table) => push_expected_value(message, table, "base", EXPECTED_BASE),
         _ => message.push("expected a table"),
     }
 }
@@ -165,7 +165,7 @@ fn push_unaligned(message: &mut Message, at: usize, region: &Region)
     if region.base % 4 != 0 {
         push_region_base(message, at, region.base);
         message.push(": ");
-        message.push(BASE);
+        message.push(EXPECTED_BASE);
     } else {
         push_wrong_region_size(message, at, region.size);
     }
@@ -246,5 +246,5 @@ fn push_wrong_region_size(message: &mut Message, at: usize, size: u32)
 {
     push_region_number(message, at);
     message.push_number_between(": size = ", u64::from(size), ": ");
-    message.push(SIZE);
+    message.push(EXPECTED_SIZE);
 }

@@ -121,9 +121,9 @@ fn region_key_of_wrong_type(table: &Table) -> Option<(&'static str, &'static str
     ensures { is_some result ≡ not (has_key_types region_keys (table_view table.now)) }
 {
     if is_not_number(value_at_key(table, "base")) {
-        Some(("base", NUMBER))
+        Some(("base", EXPECTED_INTEGER))
     } else if is_not_number(value_at_key(table, "size")) {
-        Some(("size", NUMBER))
+        Some(("size", EXPECTED_INTEGER))
     } else if is_not_boolean(value_at_key(table, "write")) {
         Some(("write", "expected true or false"))
     } else {
@@ -151,7 +151,7 @@ fn is_not_boolean(value: Option<&Value>) -> bool
     }
 }
 
-const NUMBER: &str = "expected an integer";
+const EXPECTED_INTEGER: &str = "expected an integer";
 
 /// Appends a key whose value does not have this type, its value, and the expected type. For regions, appends the bad region.
 pub(crate) fn push_value_of_wrong_type(
@@ -164,7 +164,7 @@ pub(crate) fn push_value_of_wrong_type(
 {
     match kind {
         ValueType::Text => push_text_of_wrong_type(message, table, key),
-        ValueType::Number => push_expected_value(message, table, key, NUMBER),
+        ValueType::Number => push_expected_value(message, table, key, EXPECTED_INTEGER),
         ValueType::Texts => push_expected_value(
             message,
             table,

@@ -40,7 +40,7 @@ impl<'a> Cursor<'a> {
         if place < self.counted {
             *self = Cursor::new(self.text);
         }
-        *self = self.moved_to(place.min(self.text.len()));
+        *self = self.advanced_to(place.min(self.text.len()));
         Location {
             line: self.line,
             column: self.column,
@@ -48,7 +48,7 @@ impl<'a> Cursor<'a> {
     }
 
     // Returns the cursor advanced to a later index.
-    fn moved_to(self, place: usize) -> Cursor<'a>
+    fn advanced_to(self, place: usize) -> Cursor<'a>
         requires later { self.counted ≤ place }
         requires within { place ≤ length self.text.now }
         ensures text { result.text.now ≡ self.entry.text.now }

@@ -14,7 +14,7 @@ ghost use Rattle.rv_rows.specs.Verdict.{are_same_outcomes, matches_same_as};
 
 use crate::job_run::{image_file_or_refusal, machine_of_image, refusal_of_job, run_image};
 use crate::outcome::{Attempt, Outcome};
-use crate::recent_outcomes::{MOST, RecentOutcomes};
+use crate::recent_outcomes::{MAX_OUTCOMES, RecentOutcomes};
 use crate::spare_bus::SpareBus;
 use crate::verdict::{are_same_outcomes, is_same_as_attempt, verdict_of};
 use rv_elf::Image;
@@ -249,7 +249,7 @@ fn cache_outcome_if_named(
 fn is_named_by_next_jobs(plan: &Plan, i: usize) -> bool
     requires { i < length plan.now.jobs }
 {
-    let end = plan.jobs().min(i + 1 + MOST);
+    let end = plan.jobs().min(i + 1 + MAX_OUTCOMES);
     for j in i + 1..end {
         if plan.job(j).same_as == Some(i) {
             return true;

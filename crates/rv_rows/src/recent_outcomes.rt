@@ -16,10 +16,10 @@ pub struct CachedOutcome {
 }
 
 /// The maximum number of cached outcomes.
-pub(crate) const MOST: usize = 8;
+pub(crate) const MAX_OUTCOMES: usize = 8;
 
 /// The maximum total size of all cached consoles and signatures, in bytes. With their overhead, this is less than 64 KiB.
-const ROOM: usize = 64_000;
+const MAX_TOTAL_SIZE: usize = 64_000;
 
 /// A cache of a few outcomes, the oldest first.
 #[derive(Drop)]
@@ -69,7 +69,7 @@ impl RecentOutcomes {
     pub fn make_room(&mut self, size: usize) -> bool
         ensures { (plan : PlanView) → AreOutcomesOfPlan plan self.old → AreOutcomesOfPlan plan self.new }
     {
-        if ROOM < size {
+        if MAX_TOTAL_SIZE < size {
             return false;
         }
         while !self.items.is_empty() && self.lacks_room_for(size) {
@@ -94,6 +94,6 @@ impl RecentOutcomes {
         for kept in &self.items {
             total = total.saturating_add(kept.outcome.size());
         }
-        self.items.len() >= MOST || ROOM < total
+        self.items.len() >= MAX_OUTCOMES || MAX_TOTAL_SIZE < total
     }
 }

@@ -59,7 +59,7 @@ impl<J: StreamSpec> Listener<ReportedRow> for RowsUpToFailure<'_, J> {
     fn receive(&mut self, output: ReportedRow) -> Flow {
         let failed = self.judge.fails(&output.row);
         self.left = failures_left_after_row(self.left, failed);
-        self.refused = keep_row(&mut self.rows, output.row);
+        self.refused = push_row(&mut self.rows, output.row);
         if self.refused || self.left == Some(0) {
             Flow::Stop
         } else {
@@ -74,7 +74,7 @@ impl<J: StreamSpec> Listener<ReportedRow> for RowsUpToFailure<'_, J> {
 }
 
 // Appends a row. Returns true if an allocation failed, so that the row was dropped.
-fn keep_row(rows: &mut Vec<Row>, row: Row) -> bool
+fn push_row(rows: &mut Vec<Row>, row: Row) -> bool
     ensures { result ≡ false → rows.new.items ≡ rows.old.items ++ row ∷ [] }
 {
     // `push` fails only if an allocation does.

@@ -79,7 +79,7 @@ impl LinePosition {
     }
 
     /// Returns the position after a byte at this position.
-    pub(crate) fn behind(self, byte: u8) -> LinePosition
+    pub(crate) fn after(self, byte: u8) -> LinePosition
         ensures { result ≡ position_after self byte }
     {
         match byte {
@@ -113,7 +113,7 @@ impl LinePosition {
     {
         let mut position = self;
         for byte in bytes {
-            position = position.behind(*byte);
+            position = position.after(*byte);
         }
         position
     }

@@ -110,9 +110,9 @@ fn span_len(position: LinePosition, bytes: &[u8]) -> usize
         → colored position (take count bytes.now) ≡ mark_text (mark_before position (slice_index bytes.now 0)) ++ take count bytes.now }
 {
     let mut at = 1;
-    let mut here = position.behind(bytes[0]);
+    let mut here = position.after(bytes[0]);
     while at < bytes.len() && here.mark_before(bytes[at]).is_empty() {
-        here = here.behind(bytes[at]);
+        here = here.after(bytes[at]);
         at += 1;
     }
     at

@@ -9,7 +9,7 @@ use Rattle.rv_fleet.specs.Report.{report_text}
 use Rattle.rv_fleet.specs.Rows.{rows_of}
 use Rattle.rv_fleet.specs.declared_job.Job.{Job}
 use Rattle.rv_fleet.specs.Plans.{PlanView}
-use Rattle.rvfleet_app.specs.Answers.{Answers, IsReportPrefixWritten, IsReportSent, verdicts_status}
+use Rattle.rvfleet_app.specs.Responses.{IsResponse, IsReportPrefixWritten, IsReportSent, verdicts_status}
 use Rattle.rv_cli.specs.RvfleetCommand.{Request, raw}
 use Rattle.rvfleet_app.specs.declared.error.Failure.{Failure}
 use Rattle.rvfleet_app.specs.Plans.{AreJobRows, IsPossiblePlan, Stored}
@@ -20,7 +20,7 @@ use Rattle.rvfleet_app.specs.FlatImage.{AreRawRows}
 module _ (request : Option Request) (input : Option (List ℕ)) (store : Stored) (before after : Option (List ℕ))
     (status : ℕ) where
   -- the program failed
-  pub failed_at_once : status ≡ 3 → Keeps before after → Answers request input store before after status
+  pub failed_at_once : status ≡ 3 → Keeps before after → IsResponse request input store before after status
   failed_at_once is kept = record {
     reported = λ low. elim low [ inl nought ↦ absurd (omega arith) | inr one ↦ absurd (omega arith) ];
     accepted = λ low. elim low [ inl nought ↦ absurd (omega arith) | inr one ↦ absurd (omega arith) ];
@@ -48,7 +48,7 @@ pub raw_answers : (input : Option (List ℕ)) (store : Stored) (before after : O
     → (status ≡ 0 → (rows : List Row) × (AreRawRows input budget rows × IsReportSent before after 0 rows))
     → (status ≡ 3
     → Keeps before after ⊎ ((rows : List Row) × (AreRawRows input budget rows × IsReportPrefixWritten before after rows)))
-    → status ≡ 0 ⊎ status ≡ 3 → Answers (Some (raw budget)) input store before after status
+    → status ≡ 0 ⊎ status ≡ 3 → IsResponse (Some (raw budget)) input store before after status
 raw_answers input store before after status budget reported part range = record {
   reported = λ low. elim range [
     | inl nought ↦

@@ -8,7 +8,7 @@ use Rattle.rvfleet_app.specs.declared.error.Failure.{Failure}
 use Rattle.rvfleet_app.specs.declared.error.Failure.TheVariants as failure
 use Rattle.rvfleet_app.specs.declared.error.RunError.{RunError}
 use Rattle.rvfleet_app.specs.declared.error.RunError.TheVariants as run_error
-use Rattle.rvfleet_app.specs.Answers.{may_fail}
+use Rattle.rvfleet_app.specs.Responses.{may_fail}
 use Rattle.rv_cli.specs.RvfleetCommand.{Request, one, raw, run}
 use Rattle.rvfleet_app.specs.Failures.{fleet_failure, is_list_failure, is_raw_failure, is_write_failure, run_failure, send_failure}
 

@@ -7,7 +7,7 @@ use Rattle.clap.specs.declared.error.kind.ErrorKind.{ErrorKind}
 use Rattle.clap.specs.declared.error.kind.ErrorKind.TheVariants.{OutOfMemory}
 use Rattle.rv_files.specs.Files.{FileContents}
 use Rattle.rvfleet_app.proofs.Failing.{any_why}
-use Rattle.rvfleet_app.specs.Answers.{IsQuiet, ReportsReason, ReportsFailure, is_request_rejected}
+use Rattle.rvfleet_app.specs.Responses.{IsQuiet, ReportsReason, ReportsFailure, is_request_rejected}
 use Rattle.rv_cli.specs.RvfleetCommand.{IsToBeHandled, Request, request_without_errors, fleet_app, are_arguments_accepted, request_unless_errors, request_of}
 use Rattle.rvfleet_app.specs.Lines.{IsLineWritten, bad_arguments_line}
 use Rattle.rv_cli.specs.RvfleetRequests.{request}

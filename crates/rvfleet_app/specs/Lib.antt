@@ -1,4 +1,4 @@
-pub mod Answers
+pub mod Responses
 pub mod Failures
 pub mod Lines
 pub mod ElfImage

@@ -7,7 +7,7 @@ ghost use Rattle.std.specs.Io.KnownBytes.{Keeps};
 ghost use Rattle.rv_fleet.specs.declared_row.Row.{Row as ARow};
 ghost use Rattle.rv_files.specs.Counts.{HasIncreased};
 ghost use Rattle.rv_files.specs.Limits.{max_path_len, max_script_len};
-ghost use Rattle.rvfleet_app.specs.Answers.{IsReportPrefixWritten, IsReportSent};
+ghost use Rattle.rvfleet_app.specs.Responses.{IsReportPrefixWritten, IsReportSent};
 ghost use Rattle.rvfleet_app.specs.Failures.{is_write_failure};
 ghost use Rattle.rvfleet_app.specs.ElfImage.{script_bytes, is_bad_path, is_bad_script, single_image_jobs};
 ghost use Rattle.rvfleet_app.specs.Plans.{AreJobRows, stored_contents};

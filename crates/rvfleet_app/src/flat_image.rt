@@ -7,7 +7,7 @@ ghost use Rattle.rv_fleet.specs.Flat.{flat_row_of};
 ghost use Rattle.rv_fleet.specs.Report.{report_text};
 ghost use Rattle.rv_files.specs.Counts.{HasIncreased};
 ghost use Rattle.rv_files.specs.Input.{ConsumesFirstBytes};
-ghost use Rattle.rvfleet_app.specs.Answers.{IsReportPrefixWritten};
+ghost use Rattle.rvfleet_app.specs.Responses.{IsReportPrefixWritten};
 ghost use Rattle.rvfleet_app.specs.FlatImage.{AreRawRows, IsInputBeginning, max_read};
 
 use crate::error::RunError;

@@ -4,7 +4,7 @@ ghost use Rattle.std.specs.Prelude.{true, List, ◌≡◌, ◌≤◌, ◌⊎◌,
 ghost use Rattle.std.specs.Io.KnownBytes.{Keeps};
 ghost use Rattle.rv_fleet.specs.declared_row.Row.{Row as ARow};
 ghost use Rattle.rv_files.specs.Counts.{HasIncreased};
-ghost use Rattle.rvfleet_app.specs.Answers.{IsReportPrefixWritten, IsReportSent};
+ghost use Rattle.rvfleet_app.specs.Responses.{IsReportPrefixWritten, IsReportSent};
 ghost use Rattle.rvfleet_app.specs.Failures.{IsListError, IsListFailure, is_list_failure};
 ghost use Rattle.rvfleet_app.specs.Plans.{AreJobRows, IsPossibleList, IsListFault, stored_contents};
 

@@ -6,8 +6,8 @@ ghost use Rattle.std.specs.Prelude.{true, false};
 ghost use Rattle.std.specs.Io.KnownBytes.{Keeps};
 ghost use Rattle.clap.specs.Words.{kind_of};
 ghost use Rattle.rv_fleet.specs.declared_row.Row.{Row};
-ghost use Rattle.rvfleet_app.specs.Answers.{Answers, IsReportPrefixWritten, IsQuiet, IsReportSent, ReportsReason, ReportsFailure};
-ghost use Rattle.rvfleet_app.specs.Answers.{reads_input, reads_store};
+ghost use Rattle.rvfleet_app.specs.Responses.{IsResponse, IsReportPrefixWritten, IsQuiet, IsReportSent, ReportsReason, ReportsFailure};
+ghost use Rattle.rvfleet_app.specs.Responses.{reads_input, reads_store};
 ghost use Rattle.rv_cli.specs.RvfleetCommand.{RequestsHelp, IsToBeHandled, request_without_errors, are_arguments_accepted, one};
 ghost use Rattle.rv_cli.specs.RvfleetCommand.{raw, request_of, run};
 ghost use Rattle.rvfleet_app.specs.Lines.{IsLineWritten, bad_arguments_line};
@@ -53,7 +53,7 @@ pub fn run_words<'a, R: Threads + Wait, T: AsStr, S: Store, I: Read, O: Sink, E:
     // For arguments that it accepts, or in which it finds no error, the report of their request is written whole, in part, or not at all,
     // as the status says.
     ensures answers { IsToBeHandled (map T.text words.entry.now)
-        → Answers (request_of (map T.text words.entry.now)) (I.remaining input.old)
+        → IsResponse (request_of (map T.text words.entry.now)) (I.remaining input.old)
         (stored_contents (S.contents store.old) (S.fault_count store.old) (S.fault_count store.new))
         (O.accepted out.old) (O.accepted out.new) result }
     // No write to `out` failed if the status is 0 or 1.
@@ -120,7 +120,7 @@ impl<'a, R: Threads + Wait, G: Gate> Host<'a, R, G> {
         errors: &mut E,
     ) -> u8
         requires { IsRequestInRange asked }
-        ensures answers { Answers (Some (request asked.entry)) (I.remaining input.old)
+        ensures answers { IsResponse (Some (request asked.entry)) (I.remaining input.old)
             (stored_contents (S.contents store.old) (S.fault_count store.old) (S.fault_count store.new))
             (O.accepted out.old) (O.accepted out.new) result }
         ensures told { ReportsReason (Some (request asked.entry)) (S.contents store.old)
@@ -173,7 +173,7 @@ impl<'a, R: Threads + Wait, G: Gate> Host<'a, R, G> {
     ) -> u8
         requires workers { (1 ≤ asked.now.workers) × (asked.now.workers ≤ max_workers) }
         requires group { (1 ≤ asked.now.group) × (asked.now.group ≤ max_group) }
-        ensures answers { Answers
+        ensures answers { IsResponse
             (Some (run asked.now.path.now asked.now.workers asked.now.group)) None
             (stored_contents (S.contents store.old) (S.fault_count store.old) (S.fault_count store.new))
             (O.accepted out.old) (O.accepted out.new) result }
@@ -237,7 +237,7 @@ fn respond_to_image<S: Store, O: Sink, E: Sink>(
     errors: &mut E,
 ) -> u8
     requires { (1 ≤ asked.now.budget) × (asked.now.budget ≤ max_budget) }
-    ensures answers { Answers
+    ensures answers { IsResponse
         (Some (one asked.now.path.now asked.now.budget
         (option_map (λ text. text.now) asked.now.digits))) None
         (stored_contents (S.contents store.old) (S.fault_count store.old) (S.fault_count store.new))

@@ -2,7 +2,7 @@
 
 ghost use Rattle.std.specs.Prelude.{true, ◌≡◌, ◌≤◌, IfErr, IfOk, OnErr, OnOk};
 ghost use Rattle.rv_files.specs.Counts.{HasIncreased};
-ghost use Rattle.rvfleet_app.specs.Answers.{IsReportPrefixWritten, IsReportSent, has_failed_row, is_fail_verdict, verdicts_status};
+ghost use Rattle.rvfleet_app.specs.Responses.{IsReportPrefixWritten, IsReportSent, has_failed_row, is_fail_verdict, verdicts_status};
 ghost use Rattle.rvfleet_app.specs.Failures.{is_write_failure};
 
 use crate::error::Failure;

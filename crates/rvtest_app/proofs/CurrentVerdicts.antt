@@ -51,38 +51,38 @@ any_end : (how : Option ExpectedEnd) (end : RowEnd) → is_some how ≡ false �
 any_end None end is = refl
 any_end (Some how) end is = cc
 
-pub ended_well : (sides : ComparisonView) → verdict_of_comparison sides ≡ current.Passes → HasExpectedEnd sides.job sides.row
+pub ended_well : (comparison : ComparisonView) → verdict_of_comparison comparison ≡ current.Passes → HasExpectedEnd comparison.job comparison.row
 unfolding unmet_expectations_of
-ended_well sides passes =
-    let none = passes_by (did_run sides.row.ending) (unmet_expectations_of sides) passes in
-    go (has_expectations sides.job) refl none.0 (rw none.0 at none.1)
+ended_well comparison passes =
+    let none = passes_by (did_run comparison.row.ending) (unmet_expectations_of comparison) passes in
+    go (has_expectations comparison.job) refl none.0 (rw none.0 at none.1)
   where
-    go : (asks : Bool) → has_expectations sides.job ≡ asks → did_run sides.row.ending ≡ true
-        → (if asks then unmet_of_expecting_job sides else option_to_list (unmet_default_exit sides.row.ending)) ≡ []
-        → HasExpectedEnd sides.job sides.row
+    go : (asks : Bool) → has_expectations comparison.job ≡ asks → did_run comparison.row.ending ≡ true
+        → (if asks then unmet_of_expecting_job comparison else option_to_list (unmet_default_exit comparison.row.ending)) ≡ []
+        → HasExpectedEnd comparison.job comparison.row
     go true asks ran none =
-        let exit = option_to_list (unmet_exit sides.job sides.row.ending) in
-        let end = option_to_list (unmet_end sides.job sides.row.ending) in
-        let console = option_to_list (unmet_console sides.job sides.console sides.row) in
+        let exit = option_to_list (unmet_exit comparison.job comparison.row.ending) in
+        let end = option_to_list (unmet_end comparison.job comparison.row.ending) in
+        let console = option_to_list (unmet_console comparison.job comparison.console comparison.row) in
         let signature = option_to_list (unmet_signature
-        (signature_difference sides.job.expect_signature sides.reference sides.row.signature)) in
-        let same = option_to_list (unmet_same_as sides.job sides.other sides.row) in
+        (signature_difference comparison.job.expect_signature comparison.reference comparison.row.signature)) in
+        let same = option_to_list (unmet_same_as comparison.job comparison.other comparison.row) in
         let four = none_of (exit ++ end ++ console ++ signature) same none in
         let three = none_of (exit ++ end ++ console) signature four.0 in
         let two = none_of (exit ++ end) console three.0 in
         let one = none_of exit end two.0 in
         record {
           ran = ran;
-          exit = is_met (has_expected_exit sides.job.expect_exit sides.row.ending) unmet.Exit one.0;
-          end = is_met (has_expected_end sides.job.expect_end sides.row.ending) unmet.End one.1;
+          exit = is_met (has_expected_exit comparison.job.expect_exit comparison.row.ending) unmet.Exit one.0;
+          end = is_met (has_expected_end comparison.job.expect_end comparison.row.ending) unmet.End one.1;
         }
     go false asks ran none =
-        let first = both_false (is_some sides.job.expect_exit) _ asks in
-        let second = both_false (is_some sides.job.expect_end) _ first.1 in
+        let first = both_false (is_some comparison.job.expect_exit) _ asks in
+        let second = both_false (is_some comparison.job.expect_end) _ first.1 in
         record {
           ran = ran;
-          exit = any_exit sides.job.expect_exit sides.row.ending first.0;
-          end = any_end sides.job.expect_end sides.row.ending second.0;
+          exit = any_exit comparison.job.expect_exit comparison.row.ending first.0;
+          end = any_end comparison.job.expect_end comparison.row.ending second.0;
         }
 
 -- ---- candidates, one more at a time

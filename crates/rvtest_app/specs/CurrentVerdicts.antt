@@ -62,9 +62,9 @@ abbrev pub verdict_by : Bool → List UnmetExpectation → CurrentVerdict
 verdict_by ran unmet = if ran && are_all_met unmet then current.Passes
     else if list_any is_same unmet then current.Differs else current.Fails
 
--- the verdict on the job in `sides`, from its row and the golden texts and the row that its row is compared with
+-- the verdict on the job in `comparison`, from its row and the golden texts and the row that its row is compared with
 abbrev pub verdict_of_comparison : ComparisonView → CurrentVerdict
-verdict_of_comparison sides = verdict_by (did_run sides.row.ending) (unmet_expectations_of sides)
+verdict_of_comparison comparison = verdict_by (did_run comparison.row.ending) (unmet_expectations_of comparison)
 
 -- a row and its job, with the contents of the golden files and the row of the compared job
 abbrev pub comparison_with : List (Option Row) → Job → Row → Option (List ℕ) → Option (List ℕ) → ComparisonView

@@ -351,52 +351,52 @@ fn write_accepted<'x, R, D: Inputs, F: Outputs + Drop, O: Sink + Drop, E: Sink +
     ensures stopped { IfErr result (IsAcceptanceWriteStop (D.contents host.now.inputs.now) args.now.check
         list.now.path.now outcomes.now.files.items) }
 {
-    let accepting = AcceptSummary {
+    let summary = AcceptSummary {
         list: *list,
         runs: outcomes.new.runs.as_slice(),
         golden_texts: outcomes.golden_texts.as_slice(),
         files: outcomes.files.as_slice(),
         new: &outcomes.new,
     };
-    write_lines(host.alloc, &accepting, &mut to.out)?;
+    write_lines(host.alloc, &summary, &mut to.out)?;
     if args.check {
-        write_count_line(host.alloc, &accepting, Writing::CheckOnly, &mut to.out)?;
-        return Ok(accept_status(accepting.skipped_count(), accepting.changed_count()));
+        write_count_line(host.alloc, &summary, Writing::CheckOnly, &mut to.out)?;
+        return Ok(accept_status(summary.skipped_count(), summary.changed_count()));
     }
-    check_unchanged_files(host.inputs, host.alloc, &accepting)?;
-    write_accepted_files(&mut to.files, host.alloc, &accepting)?;
-    check_written_files(host.inputs, host.alloc, &accepting)?;
-    write_count_line(host.alloc, &accepting, Writing::Written, &mut to.out)?;
-    Ok(accept_status(accepting.skipped_count(), 0))
+    check_unchanged_files(host.inputs, host.alloc, &summary)?;
+    write_accepted_files(&mut to.files, host.alloc, &summary)?;
+    check_written_files(host.inputs, host.alloc, &summary)?;
+    write_count_line(host.alloc, &summary, Writing::Written, &mut to.out)?;
+    Ok(accept_status(summary.skipped_count(), 0))
 }
 
 // Writes the lines about jobs and golden files to standard output.
 fn write_lines<O: Sink>(
     alloc: Global,
-    accepting: &AcceptSummary<'_>,
+    summary: &AcceptSummary<'_>,
     out: &mut O,
 ) -> Result<(), Stop>
-    ensures put { OnOk result (Appends (O.accepted out.old) (O.accepted out.new) (accept_lines accepting.now)) }
+    ensures put { OnOk result (Appends (O.accepted out.old) (O.accepted out.new) (accept_lines summary.now)) }
     ensures stopped { IfErr result (λ stop. (stop ≡ Stop.OutOfMemory) ⊎ (stop ≡ Stop.WriteFailed)) }
 {
     let mut lines = Vec::new(alloc);
-    accepting.push_lines(alloc, &mut lines)?;
+    summary.push_lines(alloc, &mut lines)?;
     write_results(out, lines.as_slice())
 }
 
 // Writes the summary line to standard output.
 fn write_count_line<O: Sink>(
     alloc: Global,
-    accepting: &AcceptSummary<'_>,
+    summary: &AcceptSummary<'_>,
     writing: Writing,
     out: &mut O,
 ) -> Result<(), Stop>
     ensures put { OnOk result (Appends (O.accepted out.old) (O.accepted out.new)
-        (count_line writing (changed_count accepting.now) (skipped_count accepting.now))) }
+        (count_line writing (changed_count summary.now) (skipped_count summary.now))) }
     ensures stopped { IfErr result (λ stop. (stop ≡ Stop.OutOfMemory) ⊎ (stop ≡ Stop.WriteFailed)) }
 {
     let mut line = Vec::new(alloc);
-    accepting.push_count_line(&mut line, writing)?;
+    summary.push_count_line(&mut line, writing)?;
     write_results(out, line.as_slice())
 }
 

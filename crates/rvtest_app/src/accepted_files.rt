@@ -92,20 +92,20 @@ fn read_golden_file<D: Inputs>(inputs: &D, alloc: Global, path: &str) -> Result<
 pub(crate) fn check_unchanged_files<D: Inputs>(
     inputs: &D,
     alloc: Global,
-    accepting: &AcceptSummary<'_>,
+    summary: &AcceptSummary<'_>,
 ) -> Result<(), Stop>
     ensures { IfErr result (IsStopForSomeFile (IsUnverifiedStop (D.contents inputs.now))
-        accepting.now.list.path.now accepting.now.files.now) }
+        summary.now.list.path.now summary.now.files.now) }
 {
-    for file in accepting.files {
-        if file.new_text(&accepting.list).is_some() {
+    for file in summary.files {
+        if file.new_text(&summary.list).is_some() {
             check_unchanged(inputs, alloc, file.resolved_path.as_str(), old_text(file))?;
         }
     }
-    if accepting.new.text.is_none() {
+    if summary.new.text.is_none() {
         return Ok(());
     }
-    let list = &accepting.list;
+    let list = &summary.list;
     check_unchanged(inputs, alloc, list.path, Some(list.text))
 }
 
@@ -158,19 +158,19 @@ fn changed_stop(alloc: Global, path: &str) -> Stop
 pub(crate) fn write_accepted_files<F: Outputs>(
     files: &mut F,
     alloc: Global,
-    accepting: &AcceptSummary<'_>,
+    summary: &AcceptSummary<'_>,
 ) -> Result<(), Stop>
-    ensures committed { OnOk result (AreFilesCommitted (F.committed files.old) (F.committed files.new) (Some (written_files accepting.now))) }
+    ensures committed { OnOk result (AreFilesCommitted (F.committed files.old) (F.committed files.new) (Some (written_files summary.now))) }
     ensures stopped { IfErr result
-        (IsStopForSomeFile IsFileNotCreatedStop accepting.now.list.path.now accepting.now.files.now) }
+        (IsStopForSomeFile IsFileNotCreatedStop summary.now.list.path.now summary.now.files.now) }
 {
-    for file in accepting.files {
-        if let Some(text) = file.new_text(&accepting.list) {
+    for file in summary.files {
+        if let Some(text) = file.new_text(&summary.list) {
             write_file(files, alloc, file.resolved_path.as_str(), text)?;
         }
     }
-    match &accepting.new.text {
-        Some(text) => write_file(files, alloc, accepting.list.path, text.as_slice()),
+    match &summary.new.text {
+        Some(text) => write_file(files, alloc, summary.list.path, text.as_slice()),
         None => Ok(()),
     }
 }
@@ -180,18 +180,18 @@ pub(crate) fn write_accepted_files<F: Outputs>(
 pub(crate) fn check_written_files<D: Inputs>(
     inputs: &D,
     alloc: Global,
-    accepting: &AcceptSummary<'_>,
+    summary: &AcceptSummary<'_>,
 ) -> Result<(), Stop>
     ensures { IfErr result (IsStopForSomeFile (IsUnverifiedStop (D.contents inputs.now))
-        accepting.now.list.path.now accepting.now.files.now) }
+        summary.now.list.path.now summary.now.files.now) }
 {
-    for file in accepting.files {
-        if let Some(text) = file.agreed_text(&accepting.list) {
+    for file in summary.files {
+        if let Some(text) = file.agreed_text(&summary.list) {
             check_written(inputs, alloc, file.resolved_path.as_str(), text)?;
         }
     }
-    match &accepting.new.text {
-        Some(text) => check_written(inputs, alloc, accepting.list.path, text.as_slice()),
+    match &summary.new.text {
+        Some(text) => check_written(inputs, alloc, summary.list.path, text.as_slice()),
         None => Ok(()),
     }
 }

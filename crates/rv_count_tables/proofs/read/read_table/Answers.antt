@@ -24,7 +24,7 @@ returns-then-ne-clause-least c =
     let bytes = c.args.bytes.now in
     let other = other_first c.whole_line.result.now c.as_bytes.result.now bytes c.ne.result c.ne.ensures c.if-ne.true
     c.whole_line.ensures c.as_bytes.ensures.value in
-    subst (λ (e : ReadError). IsFirstError e bytes) (sym c.refused_at.ensures) (least_first bytes other)
+    subst (λ (e : ReadError). IsFirstError e bytes) (sym c.read_error_at.ensures) (least_first bytes other)
 
 pub overflow_add-end : goal.overflow_add-end
 overflow_add-end c =
@@ -74,7 +74,7 @@ returns-in-None-clause-least c =
     let none = rw c.in-None.is at c.in_ok-runs_of_last_line.ensures.none in
     let no_last = λ (r : ℕ) (small : r < 2 ^ 64) (e : whole_line (drop place bytes) ≡ last_line (length read.images) r).
     none r small (w ∙ e ∙ ap (λ (is : List ImageCounts). last_line (length is) r) (sym c.as_slice.ensures)) in
-    subst (λ (e : ReadError). IsFirstError e bytes) (sym c.refused_at-in-None.ensures)
+    subst (λ (e : ReadError). IsFirstError e bytes) (sym c.read_error_at-in-None.ensures)
     (least_behind bytes read.images place behind no_last)
 
 pub returns-then-end-bytes-clause-text : goal.returns-then-end-bytes-clause-text

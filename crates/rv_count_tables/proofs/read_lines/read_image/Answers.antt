@@ -31,12 +31,12 @@ returns-clause-found c =
     (sym c.in_ok-has_image_line.ensures ∙ c.if-not-branch.false) in
     let d = c.as_slice.ensures in
     let both = and_parts (length c.as_slice.result.now == 32) (is_greater_than_last (last_digest None c.args.earlier.now) c.as_slice.result.now)
-    (sym c.can_follow.ensures.value ∙ c.if-not-can_follow.false) in
+    (sym c.can_follow_images.ensures.value ∙ c.if-not-can_follow_images.false) in
     one_image (last_digest None c.args.earlier.now) text image lines nodes
     _ (sym w ∙ same)
     (ap (λ (s : List ℕ). length s) (sym d) ∙ eqb-true (length c.as_slice.result.now) 32 both.0)
     (ap (is_greater_than_last (last_digest None c.args.earlier.now)) (sym d) ∙ both.1)
-    (subst (λ (s : List ℕ). AllByRecursion (λ b. b < 256) s) d c.can_follow.ensures.bytes) c.in_ok-image.ensures.text
+    (subst (λ (s : List ℕ). AllByRecursion (λ b. b < 256) s) d c.can_follow_images.ensures.bytes) c.in_ok-image.ensures.text
     (record {
       addresses = subst (λ (t : List ℕ). AreParsedAddresses t lines)
           (c.tail_from.ensures ∙ ap (λ (s : List ℕ). drop (length s) text) w) c.in_ok-lines.ensures;

@@ -16,12 +16,12 @@ pub returns-then-branch-clause-answered : goal.returns-then-branch-clause-answer
 returns-then-branch-clause-answered g c =
     let end_text = g.E.EndText.end_text c.args.context.now.end.now in
     let within : c.loop-index.index < length c.args.chunk.now = search rules in
-    let waits = rw c.if-branch.true at c.in_ok-respond_to_byte.ensures.answered in
+    let is_move_pending = rw c.if-branch.true at c.in_ok-respond_to_byte.ensures.answered in
     chunk_moved end_text c.args.session.now c.respond_to_byte.new.session c.move_while_reading.new.session c.args.chunk.now
-    c.in_ok-move_while_reading.field-0.items c.loop-index.index _ _ _ _ _ waits.0
+    c.in_ok-move_while_reading.field-0.items c.loop-index.index _ _ _ _ _ is_move_pending.0
     (heard_byte end_text c.args.session.now c.loop-index.session c.respond_to_byte.new.session c.args.chunk.now c.loop-index.index 0 _ _ _
-    within c.loop-index.invariant.0 waits.1.0)
-    (asked_going c.respond_to_byte.new.session c.in_ok-respond_to_byte.ensures.not_over waits.1.1)
+    within c.loop-index.invariant.0 is_move_pending.1.0)
+    (asked_going c.respond_to_byte.new.session c.in_ok-respond_to_byte.ensures.not_over is_move_pending.1.1)
     c.in_ok-move_while_reading.ensures.moved
     (subst (λ (before : Option (List ℕ)). IsChunkRead before (g.I.Read.remaining c.move_while_reading.new.input)
     c.in_ok-move_while_reading.field-0.items) c.loop-index.invariant.1.1.0 c.in_ok-move_while_reading.ensures.read)

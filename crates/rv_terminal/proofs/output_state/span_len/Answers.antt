@@ -9,7 +9,7 @@ pub loop-at-init : goal.loop-at-init
 loop-at-init c = record {
   least = omega arith;
   within = omega (arith, c.requires);
-  here = c.behind-here.ensures ∙ sym (fold_more position_after c.args.position c.args.bytes.now 0 0 c.requires);
+  here = c.after-here.ensures ∙ sym (fold_more position_after c.args.position c.args.bytes.now 0 0 c.requires);
   marked = marked_one c.args.position c.args.bytes.now c.requires;
 }
 
@@ -21,7 +21,7 @@ loop-at-preserved c =
     record {
       least = omega arith;
       within = omega (arith, c.loop-at-test.true);
-      here = c.behind-here-in-loop-at.ensures ∙ ap (λ position. position_after position (slice_index bytes at)) here
+      here = c.after-here-in-loop-at.ensures ∙ ap (λ position. position_after position (slice_index bytes at)) here
           ∙ sym (fold_more position_after c.args.position bytes at 0 c.loop-at-test.true);
       marked = marked_more c.args.position bytes at c.loop-at.invariant.least c.loop-at-test.true
           c.loop-at.invariant.marked

@@ -3,7 +3,7 @@ use Rattle.clap.specs.Words.{kind_of}
 use Rattle.rvfleet_app.proofs.Answering.{failed_at_once}
 use Rattle.rv_cli.proofs.Public.{taken_asks}
 use Rattle.rvfleet_app.proofs.RowReporter.{asked_as_read, bad_words, error_is_memory, error_told}
-use Rattle.rvfleet_app.specs.Answers.{is_request_rejected}
+use Rattle.rvfleet_app.specs.Responses.{is_request_rejected}
 use Rattle.rvfleet_app.proofs.program.run_words.Goals as goal
 
 pub returns-in-Ok-Some-clause-told : goal.returns-in-Ok-Some-clause-told

@@ -7,4 +7,4 @@ use Rattle.rvtest_app.proofs.accepted_files.write_accepted_files.Given as goal
 
 abbrev pub invariant-loop-file : goal.invariant-loop-file
 invariant-loop-file g l = AreFilesCommitted (g.F.Outputs.committed l.fn.files) (g.F.Outputs.committed l.files)
-    (Some (flat_map (λ file. file_if_text file.resolved_path (new_text l.accepting.list file)) (take l.file-index l.accepting.files.now)))
+    (Some (flat_map (λ file. file_if_text file.resolved_path (new_text l.summary.list file)) (take l.file-index l.summary.files.now)))

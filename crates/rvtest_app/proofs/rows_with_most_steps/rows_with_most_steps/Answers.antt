@@ -9,9 +9,9 @@ pub loop-left-init : goal.loop-left-init
 loop-left-init c =
     let rows = c.args.rows.now in
     record {
-      rows = ap (map now) c.new-most.ensures.items
+      rows = ap (map now) c.new-top_rows.ensures.items
           ∙ sym (ap (take MAX_SHOWN) (rows_by_steps-none rows (length rows) (omega arith)));
-      few = omega (arith, ap length c.new-most.ensures.items);
+      few = omega (arith, ap length c.new-top_rows.ensures.items);
       within = omega arith;
     }
 
@@ -23,7 +23,7 @@ loop-left-preserved c =
     let front = drop-row rows left row (omega arith) (omega arith) c.index-rows-left.is in
     record {
       rows = c.in_ok-insert_by_steps.ensures.rows
-          ∙ ap (λ most. take MAX_SHOWN (inserted_by_steps row most)) c.loop-left.invariant.rows
+          ∙ ap (λ top_rows. take MAX_SHOWN (inserted_by_steps row top_rows)) c.loop-left.invariant.rows
           ∙ take-ranked MAX_SHOWN row (rows_by_steps (drop left rows))
           ∙ sym (ap (take MAX_SHOWN) (rows_by_steps-more rows left row front));
       few = c.in_ok-insert_by_steps.ensures.few;

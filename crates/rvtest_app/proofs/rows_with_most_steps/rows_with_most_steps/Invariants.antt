@@ -6,8 +6,8 @@ use Rattle.rvtest_app.proofs.rows_with_most_steps.rows_with_most_steps.Given as 
 
 abbrev pub invariant-loop-left : goal.invariant-loop-left
 invariant-loop-left l = record {
-  rows : map now l.most.items ≡ take MAX_SHOWN (rows_by_steps (drop l.left l.rows));
-  few : length l.most.items ≤ MAX_SHOWN;
+  rows : map now l.top_rows.items ≡ take MAX_SHOWN (rows_by_steps (drop l.left l.rows));
+  few : length l.top_rows.items ≤ MAX_SHOWN;
   within : l.left ≤ length l.rows;
 }
 

@@ -17,14 +17,14 @@ returns-then-eq-clause-received g c = λ results received.
     let most = g.J.StreamSpec.max_failures in
     let judging = g.J.StreamSpec.judge in (
       received.0,
-      subst (λ (rows : List Row). AreRowsUpToFailure most judging c.failures_left_after_row-self.result c.keep_row-self.result c.keep_row-self.new.rows.items rows)
+      subst (λ (rows : List Row). AreRowsUpToFailure most judging c.failures_left_after_row-self.result c.push_row-self.result c.push_row-self.new.rows.items rows)
           (sym (map-append (λ (t : ReportedRow). t.row) results (c.args.output ∷ [])))
-          (one_row_more most judging s.left c.failures_left_after_row-self.result s.refused c.keep_row-self.result s.rows.items c.keep_row-self.new.rows.items
+          (one_row_more most judging s.left c.failures_left_after_row-self.result s.refused c.push_row-self.result s.rows.items c.push_row-self.new.rows.items
           (rows_of_reported results) row received.1 (λ none. c.requires.goes (inl none)) (false_from_ne_true _ (λ yes. c.requires.goes (inr yes)))
           (c.failures_left_after_row-self.ensures
           ∙ ap (λ (b : Bool). if b then option_map (λ (n : ℕ). n - 1) s.left else s.left)
           (c.fails-failed.ensures ∙ ap (λ (j : JudgeView). fails j row) received.0))
-          c.keep_row-self.ensures),
+          c.push_row-self.ensures),
     )
 
 pub returns-clause-received : goal.returns-clause-received
@@ -34,12 +34,12 @@ returns-clause-received g c = λ results received.
     let most = g.J.StreamSpec.max_failures in
     let judging = g.J.StreamSpec.judge in (
       received.0,
-      subst (λ (rows : List Row). AreRowsUpToFailure most judging c.failures_left_after_row-self.result c.keep_row-self.result c.keep_row-self.new.rows.items rows)
+      subst (λ (rows : List Row). AreRowsUpToFailure most judging c.failures_left_after_row-self.result c.push_row-self.result c.push_row-self.new.rows.items rows)
           (sym (map-append (λ (t : ReportedRow). t.row) results (c.args.output ∷ [])))
-          (one_row_more most judging s.left c.failures_left_after_row-self.result s.refused c.keep_row-self.result s.rows.items c.keep_row-self.new.rows.items
+          (one_row_more most judging s.left c.failures_left_after_row-self.result s.refused c.push_row-self.result s.rows.items c.push_row-self.new.rows.items
           (rows_of_reported results) row received.1 (λ none. c.requires.goes (inl none)) (false_from_ne_true _ (λ yes. c.requires.goes (inr yes)))
           (c.failures_left_after_row-self.ensures
           ∙ ap (λ (b : Bool). if b then option_map (λ (n : ℕ). n - 1) s.left else s.left)
           (c.fails-failed.ensures ∙ ap (λ (j : JudgeView). fails j row) received.0))
-          c.keep_row-self.ensures),
+          c.push_row-self.ensures),
     )

@@ -2,7 +2,7 @@
 use Rattle.std.proofs.Common.{◌∙◌, None, ap}
 use Rattle.rv_count_tables.specs.Table.{is_before}
 use Rattle.rv_count_tables.proofs.ReadingLines.{last_of, follows, all_fit}
-use Rattle.rv_count_tables.proofs.read_lines.can_follow.Goals as goal
+use Rattle.rv_count_tables.proofs.read_lines.can_follow_images.Goals as goal
 
 pub returns-in-Some-clause-value : goal.returns-in-Some-clause-value
 returns-in-Some-clause-value c =

@@ -103,7 +103,7 @@ IsReportPrefixWritten before after rows = AppendsPrefix before after (report_tex
 
 -- how the program responds to a request: if the status is 0 or 1, its report was written; if it is 2, nothing was written, because the
 -- request was rejected or its list has an error; if it is 3, nothing or a prefix of its report was written
-pub record Answers (request : Option Request) (input : Option (List ℕ)) (store : Stored)
+pub record IsResponse (request : Option Request) (input : Option (List ℕ)) (store : Stored)
     (before after : Option (List ℕ)) (status : ℕ) : Type 0 where
   pub reported : status ≡ 0 ⊎ status ≡ 1
       → (rows : List Row) × (AreRows request input store rows × IsReportSent before after status rows)
