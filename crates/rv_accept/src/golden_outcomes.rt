@@ -85,7 +85,9 @@ fn first_skipped_text<'a>(path: &str, golden_texts: &'a [GoldenText]) -> Option<
 pub fn first_text_for_file<'a>(path: &str, golden_texts: &'a [GoldenText]) -> Option<&'a GoldenText>
     ensures { option_map (λ golden_text. golden_text.now) result ≡ find (is_for_file path.now) golden_texts.now }
 {
-    golden_texts.iter().find(|golden_text| is_for_file(path, golden_text))
+    golden_texts
+        .iter()
+        .find(|golden_text| is_for_file(path, golden_text))
 }
 
 /// Returns the first golden text for the file at the path that differs from `text`, or `None` if there is none.

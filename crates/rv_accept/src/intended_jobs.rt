@@ -96,7 +96,9 @@ fn actual_end(expected: Option<ExpectedEnd>, ending: RowEnd) -> Option<ExpectedE
     ensures { result ≡ actual_end expected ending }
 {
     match (expected, ending) {
-        (Some(ExpectedEnd::Fault(_)), RowEnd::Fault(actual, ..)) => Some(ExpectedEnd::Fault(actual)),
+        (Some(ExpectedEnd::Fault(_)), RowEnd::Fault(actual, ..)) => Some(ExpectedEnd::Fault(
+            actual,
+        )),
         _ => expected,
     }
 }

@@ -158,10 +158,7 @@ fn judged_run_if(
 fn judged_run(acceptance: Acceptance, job: &Job, candidate: Candidate, row: Row) -> JobRun
     ensures { result ≡ judged_run acceptance job.now candidate row }
 {
-    let Candidate {
-        is_chosen,
-        verdict,
-    } = candidate;
+    let Candidate { is_chosen, verdict } = candidate;
     let skipped = if is_chosen {
         chosen_skip_reason(acceptance, verdict, job, &row)
     } else {

@@ -65,8 +65,8 @@ fn is_index(index: usize, named: Option<usize>) -> bool
     }
 }
 
-// Appends for each job whether it is chosen or shares a golden file with a chosen job. `list_and_selection` has all jobs of the list, and which of them
-// are chosen.
+// Appends for each job whether it is chosen or shares a golden file with a chosen job. `list_and_selection` has all jobs of the list, and
+// which of them are chosen.
 #[tactic(auto, unfolding(crate::specs::Sharing::with_sharing_jobs))]
 fn push_with_sharing_jobs(
     selection: &mut Vec<bool>,
@@ -79,7 +79,9 @@ fn push_with_sharing_jobs(
 {
     match (jobs, chosen) {
         ([job, jobs @ ..], [is_chosen, chosen @ ..]) => {
-            selection.push(*is_chosen || shares_with_selected(list_and_selection.0, list_and_selection.1, job))?;
+            selection.push(
+                *is_chosen || shares_with_selected(list_and_selection.0, list_and_selection.1, job),
+            )?;
             push_with_sharing_jobs(selection, list_and_selection, jobs, chosen)
         }
         ([], _) => Ok(()),
@@ -112,7 +114,8 @@ fn is_named_by_selected(path: &str, jobs: &[Job], selection: &[bool]) -> bool
 {
     match (jobs, selection) {
         ([job, jobs @ ..], [selected, selection @ ..]) => {
-            (*selected && names_golden_file(path, job)) || is_named_by_selected(path, jobs, selection)
+            (*selected && names_golden_file(path, job))
+                || is_named_by_selected(path, jobs, selection)
         }
         ([], _) => false,
         ([_job, _jobs @ ..], []) => false,

@@ -325,6 +325,9 @@ fn push_actual_end(out: &mut Vec<u8>, ending: RowEnd) -> Result<(), AllocError>
             &[Span::Text("fault "), Span::Text(kind.name())],
         ),
         RowEnd::Budget => push_text(out, "budget"),
-        RowEnd::Refused(reason) => push_spans(out, &[Span::Text("refused "), Span::Text(reason.name())]),
+        RowEnd::Refused(reason) => push_spans(
+            out,
+            &[Span::Text("refused "), Span::Text(reason.name())],
+        ),
     }
 }

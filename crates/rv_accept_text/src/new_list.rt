@@ -253,7 +253,10 @@ fn editable_values(alloc: Global, text: &[u8]) -> Result<EditableValues, AllocEr
         Ok(text) if !is_generated => value_spans(alloc, text)?,
         _ => Vec::new(alloc),
     };
-    Ok(EditableValues { spans, is_generated })
+    Ok(EditableValues {
+        spans,
+        is_generated,
+    })
 }
 
 // Returns for each run the reason to skip its job, which names the first changed value that cannot be edited, or `None` if there is none.
@@ -282,7 +285,9 @@ fn uneditable_reason(
     editable: &EditableValues,
 ) -> Option<SkipReason> {
     for key in ValueKey::ALL {
-        if is_value_changed(key, job, &run.row) && !is_editable(at, key, editable.spans.as_slice()) {
+        if is_value_changed(key, job, &run.row)
+            && !is_editable(at, key, editable.spans.as_slice())
+        {
             return Some(if editable.is_generated {
                 SkipReason::Generated(key)
             } else {

@@ -13,8 +13,8 @@ has_function function path = list_any (λ f. f == function) path
 abbrev pub calls_of_function : ℕ → List CallNode → ℕ
 calls_of_function function nodes = sum_over_nodes (λ s. steps_if (s.function == function) s.calls) nodes
 
--- the inclusive steps of a function: the sum of the steps of the nodes whose paths have it, each node counted once; `previous_path` is the path of
--- the node before these nodes
+-- the inclusive steps of a function: the sum of the steps of the nodes whose paths have it, each node counted once; `previous_path` is the
+-- path of the node before these nodes
 abbrev pub inclusive_steps_after : ℕ → List ℕ → List CallNode → ℕ
 inclusive_steps_after function previous_path [] = 0
 inclusive_steps_after function previous_path (s ∷ ss) = steps_if (has_function function (path_after previous_path s)) s.steps

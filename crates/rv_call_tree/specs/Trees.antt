@@ -6,8 +6,8 @@ use Rattle.rv_call_tree.specs.declared.call_node.CallNode.{CallNode}
 
 -- ---- the path of a node
 
--- the path of the node `s`, which follows a node with the path `previous_path`: as many of the first functions of `previous_path` as the depth of `s` says,
--- and then its own function
+-- the path of the node `s`, which follows a node with the path `previous_path`: as many of the first functions of `previous_path` as the
+-- depth of `s` says, and then its own function
 abbrev pub path_after : List ℕ → CallNode → List ℕ
 path_after previous_path s = take s.depth previous_path ++ s.function ∷ []
 
@@ -77,8 +77,8 @@ ends_with function (f ∷ g ∷ gs) = ends_with function (g ∷ gs)
 
 -- ---- nodes that form a tree
 
--- the node may follow a node with the path `previous_path`: it is at most one deeper; if it is not deeper, its function address is greater than the
--- address of its preceding sibling, which is the function in `previous_path` at its depth
+-- the node may follow a node with the path `previous_path`: it is at most one deeper; if it is not deeper, its function address is greater
+-- than the address of its preceding sibling, which is the function in `previous_path` at its depth
 pub record FollowsInPreorder (previous_path : List ℕ) (s : CallNode) : Type 0 where
   pub within : s.depth ≤ length previous_path
   pub rising : s.depth < length previous_path → slice_index_or previous_path s.depth 0 < s.function

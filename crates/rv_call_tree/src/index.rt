@@ -6,8 +6,8 @@ ghost use Rattle.rv_call_tree.specs.Profiles.{AreStepsOf};
 ghost use Rattle.rv_call_tree.specs.Subtrees.{subtrees_of_function, AreSubtreesByFunction};
 ghost use Rattle.rv_call_tree.specs.Trees.{all_calls, all_steps, IsTree, FollowInPreorder-prop};
 
-use crate::function_steps::FunctionSteps;
 use crate::call_node::CallNode;
+use crate::function_steps::FunctionSteps;
 use crate::subtree::{Subtree, subtrees_of};
 use std::alloc::{AllocError, Global};
 

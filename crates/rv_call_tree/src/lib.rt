@@ -4,17 +4,17 @@
 //! `rv_stacks` builds them as a run enters functions, returns from them, and counts instructions. [`sum_of_call_trees`] adds two trees.
 #![tactic(auto)]
 
+mod call_node;
+mod function_steps;
 mod index;
 mod law;
-mod function_steps;
-mod call_node;
 mod subtree;
 mod sum;
 
+pub use call_node::{CallNode, CallNodes};
+pub use function_steps::{FunctionSteps, functions_of};
 pub use index::CallTreeIndex;
 pub use law::{own_steps_sum_to_all, trees_with_equal_counts_are_equal};
-pub use function_steps::{FunctionSteps, functions_of};
-pub use call_node::{CallNode, CallNodes};
 pub use sum::{CallTreeSumError, sum_of_call_trees};
 
 // From the crates below: what this interface names, and what its callers need with it.

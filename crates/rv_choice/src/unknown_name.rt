@@ -141,6 +141,10 @@ fn push_more_names(message: &mut Vec<u8>, count: usize) -> Result<(), AllocError
     let remaining = (count - MAX_SHOWN) as u64;
     push_spans(
         message,
-        &[Span::Text(" and "), Span::Number(remaining), Span::Text(" more")],
+        &[
+            Span::Text(" and "),
+            Span::Number(remaining),
+            Span::Text(" more"),
+        ],
     )
 }

@@ -7,13 +7,13 @@
 //! [`sums_of_counts_commute`] and [`sums_of_counts_associate`].
 #![tactic(auto)]
 
-mod push_item;
 mod law;
 mod line_parts;
 mod lookup;
 mod names;
 mod names_by_function;
 mod order;
+mod push_item;
 mod read;
 mod read_lines;
 mod read_stacks;

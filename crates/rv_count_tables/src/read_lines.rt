@@ -11,12 +11,12 @@ ghost use Rattle.rv_count_tables.specs.Table.{IsValidCount, IsValidImage, is_gre
 ghost use Rattle.rv_count_tables.specs.Text.{address_line, image_line, last_line};
 ghost use Rattle.rv_count_tables.specs.ReadSteps.{AreParsedAddresses, AreParsedImages, IsParsedImage, IsNotAnAddress, IsNotAnImage, last_digest};
 
-use crate::push_item::push_item;
 use crate::line_parts::{
     decimal_number, hex_bytes, hex_word, leading_bytes, text_after_byte, text_before_byte,
     whole_line,
 };
 use crate::order::is_before;
+use crate::push_item::push_item;
 use crate::read_stacks::read_nodes;
 use crate::table::{AddressCounts, Addresses, Digest, FunctionNames, ImageCounts, Images};
 use crate::text::{push_address_line, push_image_line, push_last_line};

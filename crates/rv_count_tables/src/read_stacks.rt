@@ -9,11 +9,11 @@ ghost use Rattle.rv_count_tables.specs.Table.{name_of, IsValidNamedNode, IsValid
 ghost use Rattle.rv_count_tables.specs.Text.{node_line};
 ghost use Rattle.rv_call_tree.specs.Trees.{FollowsInPreorder};
 
-use crate::push_item::push_item;
 use crate::line_parts::{
     decimal_number, hex_word, leading_bytes, text_after_byte, text_before_byte, whole_line,
 };
 use crate::names_by_function::NamesByFunction;
+use crate::push_item::push_item;
 use crate::table::{FunctionName, FunctionNames, NamedCallNode};
 use crate::text::push_node_line;
 use rv_call_tree::{CallNode, CallNodes, Text};

@@ -8,8 +8,8 @@ ghost use Rattle.rv_count_tables.specs.SumSteps.{ImagesAddUp, IsNextImage, Image
 ghost use Rattle.rv_count_tables.specs.Table.{AreNamesOf, AreValidNodes, IsValidImage, is_before, min_text};
 ghost use Rattle.rv_call_tree.specs.Sums.{IsSumOfCallTrees};
 
-use crate::push_item::push_item;
 use crate::order::{is_before, min_text};
+use crate::push_item::push_item;
 use crate::sum::SumError;
 use crate::sum_of_counts::sum_of_counts;
 use crate::sum_of_names::{copy_of_names, sum_of_names};

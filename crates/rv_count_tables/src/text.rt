@@ -228,7 +228,11 @@ fn push_number(text: &mut String, number: u64) -> Result<(), AllocError>
 
 /// Appends the last line of a table with these numbers of images and runs.
 #[tactic(auto, unfolding(crate::specs::Text::last_line))]
-pub(crate) fn push_last_line(text: &mut String, image_count: usize, run_count: u64) -> Result<(), AllocError>
+pub(crate) fn push_last_line(
+    text: &mut String,
+    image_count: usize,
+    run_count: u64,
+) -> Result<(), AllocError>
     ensures { OnOk result (string_bytes text.new ≡ string_bytes text.old ++ last_line image_count run_count) }
 {
     write!(text, "done {image_count} {run_count}\n")

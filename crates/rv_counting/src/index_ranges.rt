@@ -31,12 +31,18 @@ pub(crate) fn ranges_of_images(
     requires workers { 0 < workers }
     ensures { IfOk result (λ pieces. AreIndexRanges plan.now indices.now pieces.items) }
 {
-    let max_jobs = (indices.len() / (workers as usize * RANGES_PER_WORKER)).clamp(1, MAX_JOBS_IN_RANGE);
+    let max_jobs = (indices.len() / (workers as usize * RANGES_PER_WORKER)).clamp(
+        1,
+        MAX_JOBS_IN_RANGE,
+    );
     let mut pieces = Vec::new(alloc);
     let mut from = 0;
     while from < indices.len() {
         let to = range_end(plan, indices, from, max_jobs);
-        pieces.push(IndexRange { begin: from, end: to })?;
+        pieces.push(IndexRange {
+            begin: from,
+            end: to,
+        })?;
         from = to;
     }
     Ok(pieces)
@@ -50,7 +56,10 @@ fn range_end(plan: &Plan, indices: &[usize], from: usize, max_jobs: usize) -> us
 {
     let image = plan.job(indices[from]).image.as_str();
     let mut to = from + 1;
-    while to < indices.len() && to - from < max_jobs && plan.job(indices[to]).image.as_str() == image {
+    while to < indices.len()
+        && to - from < max_jobs
+        && plan.job(indices[to]).image.as_str() == image
+    {
         to += 1;
     }
     to

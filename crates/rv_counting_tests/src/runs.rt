@@ -86,7 +86,11 @@ fn check(alloc: Global, row: &str) -> Result<(), Fail> {
     };
     let budget = cell_of(row, 2).parse::<u32>()?;
     let machine = machine_of(alloc, isa, cell_of(row, 3))?;
-    agree(row, counts_text(alloc, machine, budget)?.as_str(), cell_of(row, 4))
+    agree(
+        row,
+        counts_text(alloc, machine, budget)?.as_str(),
+        cell_of(row, 4),
+    )
 }
 
 // Runs have the counts that were found by hand.

@@ -12,8 +12,8 @@ ghost use Rattle.rv_history.specs.declared.outcome.MoveResult.TheVariants.{Inter
 
 use crate::checkpoints::Checkpoints;
 use crate::forward_move::{ForwardMove, MoveEnd};
-use crate::outcome::MoveResult;
 use crate::interrupt::Interrupt;
+use crate::outcome::MoveResult;
 use crate::search_back::{SearchedPart, last_stop_after};
 use crate::slices::{is_at_least_a_slice, is_slice_end, slice_end};
 use crate::stepping::{StepResult, execute_step};
@@ -75,10 +75,7 @@ pub(crate) fn search_breakpoints<I: Interrupt>(
     let begin = at.step;
     let mut last = None;
     'places: while at.step < end {
-        if is_slice_end(at.step)
-            && is_at_least_a_slice(at.step - begin)
-            && interrupt.is_raised()
-        {
+        if is_slice_end(at.step) && is_at_least_a_slice(at.step - begin) && interrupt.is_raised() {
             return Ok(None);
         }
         let slice = slice_end(at.step, end);

@@ -8,9 +8,9 @@ ghost use Rattle.rv_history.specs.Stops.{halts_at};
 
 use crate::bounds::Bounds;
 use crate::checkpoints::Checkpoints;
-use crate::outcome::MoveResult;
 use crate::interrupt::Interrupt;
 use crate::machine_at::MachineAt;
+use crate::outcome::MoveResult;
 use crate::slices::{is_at_least_a_slice, is_slice_end};
 use crate::stops::Stops;
 use rv_trace::Ending;
@@ -39,7 +39,10 @@ impl ForwardMove {
     pub(crate) fn arrived(self, outcome: MoveResult) -> MoveEnd
         ensures { result ≡ record { at = self.at; outcome = outcome } }
     {
-        MoveEnd { at: self.at, outcome }
+        MoveEnd {
+            at: self.at,
+            outcome,
+        }
     }
 
     /// Whether the move must stop at its current step: it is after its first step, and at a breakpoint or outside of the bounds.

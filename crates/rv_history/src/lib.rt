@@ -12,11 +12,11 @@ mod checkpoint_list;
 mod checkpoints;
 mod counts;
 mod forward_move;
-mod outcome;
 mod history;
 mod interrupt;
 mod law;
 mod machine_at;
+mod outcome;
 mod search;
 mod search_back;
 mod slices;
@@ -27,10 +27,10 @@ mod watch_hits;
 
 pub use bounds::Bounds;
 pub use counts::Count;
-pub use outcome::MoveResult;
 pub use history::History;
 pub use interrupt::Interrupt;
 pub use law::{console_only_grows, moves_are_determined};
+pub use outcome::MoveResult;
 pub use start::Start;
 pub use stops::{Stops, Watch, WatchHit};
 

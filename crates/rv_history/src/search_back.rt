@@ -8,8 +8,8 @@ ghost use Rattle.rv_history.specs.declared.outcome.MoveResult.TheVariants.{Inter
 
 use crate::breaks::search_breakpoints;
 use crate::checkpoints::Checkpoints;
-use crate::outcome::{MoveResult, SearchEnd};
 use crate::interrupt::Interrupt;
+use crate::outcome::{MoveResult, SearchEnd};
 use crate::slices::{is_at_least_a_slice, is_slice_end};
 use crate::stepping::{StepResult, step_watched, step_with_watched_bytes};
 use crate::stops::Stops;

@@ -109,7 +109,12 @@ pub fn found_text(alloc: Global, found: MoveResult) -> Result<String, AllocError
 
 // Makes a move or a seek. Returns as text, for a move, the step at which it ended and the reason; for a seek, whether the run reaches the
 // requested step, and the step afterwards.
-fn move_result(alloc: Global, history: &mut History, stops: &Stops, asked: &str) -> Result<String, Fail> {
+fn move_result(
+    alloc: Global,
+    history: &mut History,
+    stops: &Stops,
+    asked: &str,
+) -> Result<String, Fail> {
     if let Some(step) = asked.strip_prefix("seek ") {
         let granted = history.seek(alloc, step.parse()?)?;
         let told = if granted { "yes" } else { "no" };

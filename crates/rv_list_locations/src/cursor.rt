@@ -9,23 +9,23 @@ use crate::lines::Location;
 #[derive(Clone, Copy)]
 pub struct Cursor<'a> {
     text: &'a [u8],
-    counted: usize,
+    offset: usize,
     line: usize,
     column: usize,
-    ghost within: { counted ≤ length text.now },
-    ghost line_is: { line ≡ line_at counted text.now },
-    ghost column_is: { column ≡ column_at counted text.now },
+    ghost within: { offset ≤ length text.now },
+    ghost line_is: { line ≡ line_at offset text.now },
+    ghost column_is: { column ≡ column_at offset text.now },
 }
 
 impl<'a> Cursor<'a> {
     /// Returns a cursor that is at the beginning of a text.
     pub fn new(text: &'a [u8]) -> Cursor<'a>
         ensures text { result.text.now ≡ text.now }
-        ensures counted { result.counted ≡ 0 }
+        ensures offset { result.offset ≡ 0 }
     {
         Cursor {
             text,
-            counted: 0,
+            offset: 0,
             line: 1,
             column: 1,
         }
@@ -37,7 +37,7 @@ impl<'a> Cursor<'a> {
         ensures line { result.line ≡ line_at place self.old.text.now }
         ensures column { result.column ≡ column_at place self.old.text.now }
     {
-        if place < self.counted {
+        if place < self.offset {
             *self = Cursor::new(self.text);
         }
         *self = self.advanced_to(place.min(self.text.len()));
@@ -49,14 +49,14 @@ impl<'a> Cursor<'a> {
 
     // Returns the cursor advanced to a later index.
     fn advanced_to(self, place: usize) -> Cursor<'a>
-        requires later { self.counted ≤ place }
+        requires later { self.offset ≤ place }
         requires within { place ≤ length self.text.now }
         ensures text { result.text.now ≡ self.entry.text.now }
-        ensures counted { result.counted ≡ place }
+        ensures offset { result.offset ≡ place }
     {
         let mut line = self.line;
         let mut column = self.column;
-        for at in self.counted..place {
+        for at in self.offset..place {
             let byte = self.text[at];
             if byte == b'\n' {
                 line += 1;
@@ -67,7 +67,7 @@ impl<'a> Cursor<'a> {
         }
         Cursor {
             text: self.text,
-            counted: place,
+            offset: place,
             line,
             column,
         }

@@ -12,53 +12,53 @@ use std::alloc::{AllocError, Global};
 pub(crate) struct LineRecorder<'a> {
     text: &'a [u8],
     // The number of bytes counted, and the line of the next one.
-    counted: usize,
+    offset: usize,
     line: usize,
-    noted: Vec<usize>,
-    ghost within: { counted ≤ length text.now },
-    ghost here: { line ≡ line_at counted text.now },
-    ghost below: { All (λ line_noted. (0 < line_noted) × (line_noted ≤ line)) noted.items },
-    ghost rising: { IsNonDecreasing noted.items },
+    recorded: Vec<usize>,
+    ghost within: { offset ≤ length text.now },
+    ghost line_is: { line ≡ line_at offset text.now },
+    ghost within_line: { All (λ line_noted. (0 < line_noted) × (line_noted ≤ line)) recorded.items },
+    ghost rising: { IsNonDecreasing recorded.items },
 }
 
 impl<'a> LineRecorder<'a> {
     /// Returns an empty record of lines of a text. Does not allocate.
     pub(crate) fn new(alloc: Global, text: &'a str) -> LineRecorder<'a>
         ensures text { result.text.now ≡ text.now }
-        ensures counted { result.counted ≡ 0 }
-        ensures noted { result.noted.items ≡ [] }
+        ensures offset { result.offset ≡ 0 }
+        ensures recorded { result.recorded.items ≡ [] }
     {
         LineRecorder {
             text: text.as_bytes(),
-            counted: 0,
+            offset: 0,
             line: 1,
-            noted: Vec::new(alloc),
+            recorded: Vec::new(alloc),
         }
     }
 
     /// Records the line of the byte before which the text has all but `remaining` bytes, or the line of the last recorded byte if that is later.
     pub(crate) fn push_line(&mut self, remaining: usize) -> Result<(), AllocError>
         ensures text { self.new.text.now ≡ self.old.text.now }
-        ensures counted { self.new.counted ≡ max (length self.old.text.now - remaining) self.old.counted }
-        ensures noted { OnOk result (self.new.noted.items
-            ≡ self.old.noted.items ++ line_at self.new.counted self.old.text.now ∷ []) }
+        ensures offset { self.new.offset ≡ max (length self.old.text.now - remaining) self.old.offset }
+        ensures recorded { OnOk result (self.new.recorded.items
+            ≡ self.old.recorded.items ++ line_at self.new.offset self.old.text.now ∷ []) }
     {
-        let place = self.text.len().saturating_sub(remaining).max(self.counted);
-        let line = self.line + line_feed_count(&self.text[self.counted..place]);
-        self.counted = place;
+        let place = self.text.len().saturating_sub(remaining).max(self.offset);
+        let line = self.line + line_feed_count(&self.text[self.offset..place]);
+        self.offset = place;
         self.line = line;
-        self.noted.push(line)?;
+        self.recorded.push(line)?;
         Ok(())
     }
 
     /// Returns the recorded lines.
     pub(crate) fn into_line_numbers(self) -> Vec<usize>
-        ensures lines { result.items ≡ self.entry.noted.items }
+        ensures lines { result.items ≡ self.entry.recorded.items }
         ensures rising { IsNonDecreasing result.items }
         ensures within { All (λ line. (0 < line) × (line ≤ text_line_count self.entry.text.now))
             result.items }
     {
-        self.noted
+        self.recorded
     }
 }
 

@@ -94,9 +94,9 @@ fn push_job_texts<'a>(
 
 // Records the line on which each job begins, for a list's text without a byte order mark.
 fn push_job_lines(alloc: Global, text: &str, lines: &mut LineRecorder<'_>) -> Result<(), ParseError>
-    requires { lines.old.counted + length text.now ≤ length lines.old.text.now }
+    requires { lines.old.offset + length text.now ≤ length lines.old.text.now }
     ensures text { lines.new.text.now ≡ lines.old.text.now }
-    ensures noted { UnlessOutOfMemory result (lines.new.noted.items ≡ lines.old.noted.items
+    ensures recorded { UnlessOutOfMemory result (lines.new.recorded.items ≡ lines.old.recorded.items
         ++ map (spec.line_of_suffix lines.old.text.now) (spec.jobs_of_text text.now)) }
 {
     let mut here = skip_blank_lines(text);

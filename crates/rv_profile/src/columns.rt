@@ -26,7 +26,8 @@ pub(crate) fn columns_of(alloc: Global, sums: Sums) -> Result<Columns, AllocErro
     })
 }
 
-// Returns the width of a column whose greatest number is `greatest`: `min_width`, or two more than the number of its digits if that is more.
+// Returns the width of a column whose greatest number is `greatest`: `min_width`, or two more than the number of its digits if that is
+// more.
 fn width(alloc: Global, min_width: usize, greatest: u64) -> Result<usize, AllocError>
     ensures { IfOk result (λ count. count ≡ width min_width greatest) }
 {

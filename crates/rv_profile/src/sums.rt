@@ -28,10 +28,7 @@ impl Sums {
 pub(crate) fn sums_of(nodes: &[CallNode]) -> Option<Sums>
     ensures { result ≡ if_fitting (sums_of nodes.now) }
 {
-    let mut sums = Sums {
-        steps: 0,
-        calls: 0,
-    };
+    let mut sums = Sums { steps: 0, calls: 0 };
     for node in nodes {
         sums = sums.with_node(*node)?;
     }

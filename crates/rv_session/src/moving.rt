@@ -87,7 +87,12 @@ impl Session {
     }
 
     // Returns the stop that reports the result of a move.
-    fn stop_of(&self, alloc: Global, requested: Move, outcome: MoveResult) -> Result<Stop, AllocError>
+    fn stop_of(
+        &self,
+        alloc: Global,
+        requested: Move,
+        outcome: MoveResult,
+    ) -> Result<Stop, AllocError>
         requires { CanReportHit self.now requested outcome }
         ensures { IfOk result (λ stop. stop ≡ stop_of self.now requested self.now.history.step outcome) }
     {

@@ -93,7 +93,11 @@ impl PreorderBuilder {
     }
 
     // Moves the counts of the node `number`, a child of the current node, to the preorder nodes, and makes it the current node.
-    fn enter_child(&mut self, remaining: &mut Vec<WalkNode>, number: usize) -> Result<(), AllocError>
+    fn enter_child(
+        &mut self,
+        remaining: &mut Vec<WalkNode>,
+        number: usize,
+    ) -> Result<(), AllocError>
         requires is_preorder { IsPreorderBuilder remaining.old.items self.old }
         requires next { (d : ℕ) → IsNextChild (slice_index_or self.old.trail.items (length self.old.path.items) d) self.old.from number
             remaining.old.items }

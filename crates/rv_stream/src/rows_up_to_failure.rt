@@ -18,10 +18,10 @@ pub(crate) struct RowsUpToFailure<'k, J: StreamSpec> {
     // Which rows are failures.
     judge: Judge<'k>,
     /// How many more failures stop the run.
-    pub(crate) left: Option<u32>,
+    pub(crate) failures_left: Option<u32>,
     pub(crate) rows: Vec<Row>,
     /// Whether an allocation failed.
-    pub(crate) refused: bool,
+    pub(crate) allocation_failed: bool,
     of: PhantomData<J>,
 }
 
@@ -31,15 +31,15 @@ impl<'k, J: StreamSpec> RowsUpToFailure<'k, J> {
         requires most { J.max_failures ≡ limit.now.failures }
         requires judging { J.judge ≡ judge_view limit.now.judge }
         ensures judging { judge_view result.judge ≡ J.judge }
-        ensures first { AreRowsUpToFailure J.max_failures J.judge result.left result.refused result.rows.items [] }
-        ensures left { result.left ≡ J.max_failures }
-        ensures refused { result.refused ≡ false }
+        ensures first { AreRowsUpToFailure J.max_failures J.judge result.failures_left result.allocation_failed result.rows.items [] }
+        ensures failures_left { result.failures_left ≡ J.max_failures }
+        ensures allocation_failed { result.allocation_failed ≡ false }
     {
         RowsUpToFailure {
             judge: limit.judge,
-            left: limit.failures,
+            failures_left: limit.failures,
             rows: Vec::new(alloc),
-            refused: false,
+            allocation_failed: false,
             of: PhantomData,
         }
     }
@@ -51,16 +51,16 @@ impl<J: StreamSpec> Listener<ReportedRow> for RowsUpToFailure<'_, J> {
     ghost use Rattle.rv_stream.specs.ReportedRows.{rows_of_reported, AreRowsUpToFailure};
 
     ghost has_received = { λ s told. (judge_view s.judge ≡ J.judge)
-        × AreRowsUpToFailure J.max_failures J.judge s.left s.refused s.rows.items (rows_of_reported told) };
+        × AreRowsUpToFailure J.max_failures J.judge s.failures_left s.allocation_failed s.rows.items (rows_of_reported told) };
 
-    ghost stops = { λ s. (s.left ≡ Some 0) ⊎ (s.refused ≡ true) };
+    ghost stops = { λ s. (s.failures_left ≡ Some 0) ⊎ (s.allocation_failed ≡ true) };
 
     // Stores a row, and returns whether the run should continue: not after the failure that stops it.
     fn receive(&mut self, output: ReportedRow) -> Flow {
         let failed = self.judge.fails(&output.row);
-        self.left = failures_left_after_row(self.left, failed);
-        self.refused = push_row(&mut self.rows, output.row);
-        if self.refused || self.left == Some(0) {
+        self.failures_left = failures_left_after_row(self.failures_left, failed);
+        self.allocation_failed = push_row(&mut self.rows, output.row);
+        if self.allocation_failed || self.failures_left == Some(0) {
             Flow::Stop
         } else {
             Flow::Continue

@@ -107,19 +107,19 @@ fn rows_of_run<J: StreamSpec>(
     listener: RowsUpToFailure<'_, J>,
 ) -> Result<Rows, StreamError>
     ensures rows { IfOk result (λ rows. rows ≡ listener.entry.rows.items) }
-    ensures kept { IfOk result (λ _. listener.entry.refused ≡ false) }
+    ensures kept { IfOk result (λ _. listener.entry.allocation_failed ≡ false) }
     ensures ran { IfOk result (λ _. is_ok outcome ≡ true) }
-    ensures ended { IfOk result (λ _. outcome ≡ Ok Stop → listener.entry.left ≡ Some 0) }
+    ensures ended { IfOk result (λ _. outcome ≡ Ok Stop → listener.entry.failures_left ≡ Some 0) }
     ensures stopped { IfErr result (λ error. error ≡ ObserverStopped
-        → (outcome ≡ Ok Stop) × ((listener.entry.refused ≡ false) × (listener.entry.left ≡ Some 0 → ⊥))) }
+        → (outcome ≡ Ok Stop) × ((listener.entry.allocation_failed ≡ false) × (listener.entry.failures_left ≡ Some 0 → ⊥))) }
 {
     let flow = outcome?;
-    if listener.refused {
+    if listener.allocation_failed {
         // Out of memory: keeping a row fails for that alone.
         return Err(StreamError::OutOfMemory);
     }
     match flow {
-        Flow::Stop if listener.left != Some(0) => Err(StreamError::ObserverStopped),
+        Flow::Stop if listener.failures_left != Some(0) => Err(StreamError::ObserverStopped),
         _ => Ok(Rows::new(listener.rows)),
     }
 }

@@ -66,7 +66,11 @@ pub(crate) fn write_in_state<S: Sink>(
 
 // Writes the bytes with their marks, piece by piece, until all are written or a write fails. Returns how many were written, and the new
 // state of the output.
-fn write_colored<S: Sink>(sink: &mut S, position: LinePosition, bytes: &[u8]) -> (usize, OutputState)
+fn write_colored<S: Sink>(
+    sink: &mut S,
+    position: LinePosition,
+    bytes: &[u8],
+) -> (usize, OutputState)
     requires { 0 < length bytes.now }
     ensures within { result.0 ≤ length bytes.now }
     ensures put { IsWrittenFrom position result.1 (take result.0 bytes.now) (S.accepted sink.old) (S.accepted sink.new) }
@@ -88,7 +92,11 @@ fn write_colored<S: Sink>(sink: &mut S, position: LinePosition, bytes: &[u8]) ->
 }
 
 // Writes the mark before the first byte, and then leading bytes up to the next mark. Returns how many bytes were written.
-fn write_span<S: Sink>(sink: &mut S, position: LinePosition, bytes: &[u8]) -> Result<usize, SinkFailed>
+fn write_span<S: Sink>(
+    sink: &mut S,
+    position: LinePosition,
+    bytes: &[u8],
+) -> Result<usize, SinkFailed>
     requires { 0 < length bytes.now }
     ensures within { IfOk result (λ count. (1 ≤ count) × (count ≤ length bytes.now)) }
     ensures colored { IfOk result (λ count. Appends (S.accepted sink.old) (S.accepted sink.new) (colored position (take count bytes.now))) }

@@ -43,7 +43,11 @@ impl<'a, 'k, R: Wait, S: Sink + Drop, W: Write + Drop> TerminalSink<'a, 'k, R, S
             rt,
             alloc,
             sink,
-            progress: if is_same_terminal { Some(progress) } else { None },
+            progress: if is_same_terminal {
+                Some(progress)
+            } else {
+                None
+            },
         }
     }
 

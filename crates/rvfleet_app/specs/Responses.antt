@@ -28,8 +28,8 @@ is_request_rejected (Some (one path budget digits)) = is_bad_image_request path 
 is_request_rejected (Some (run path workers group)) = is_bad_path path
 is_request_rejected None = true
 
--- the request runs the list at a path, and some contents that the store may have there are a list with this error; `contents` are the store's
--- contents, if they are known
+-- the request runs the list at a path, and some contents that the store may have there are a list with this error; `contents` are the
+-- store's contents, if they are known
 abbrev pub IsListErrorOf : Option Request → Option FileContents → JobError → Type 0
 IsListErrorOf (Some (raw budget)) contents error = ⊥
 IsListErrorOf (Some (one path budget digits)) contents error = ⊥

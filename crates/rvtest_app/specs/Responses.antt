@@ -22,8 +22,8 @@ use Rattle.rvtest_app.specs.CommandOutputs.{IsOnlyStandardOutput, CommandOutputs
 use Rattle.rvtest_app.specs.Shows.{IsShowWritten}
 
 -- a command did what the request asks for: `status` is its exit status, and `before` and `after` are the outputs before and after it.
--- `contents` and `input` are the contents of files and of standard input, if they are known; `is_terminal` says whether standard output is a
--- terminal
+-- `contents` and `input` are the contents of files and of standard input, if they are known; `is_terminal` says whether standard output is
+-- a terminal
 abbrev pub IsCommandDone : Option FileContents → Option (List ℕ) → Bool → Request → ℕ → CommandOutputs → CommandOutputs → Type 0
 IsCommandDone contents input is_terminal (request.Run args) status before after =
     IsRunAt contents args status before after

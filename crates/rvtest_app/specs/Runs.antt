@@ -43,8 +43,8 @@ use Rattle.rvtest_app.specs.WrittenTexts.{IsWrittenAt}
 abbrev pub selected_job_indices : List Bool → List ℕ
 selected_job_indices selection = selected_indices selection (length selection)
 
--- `selection` selects the jobs to run: the jobs of the shard if one is given, and otherwise the chosen jobs; `notes` are the notes about the
--- choice
+-- `selection` selects the jobs to run: the jobs of the shard if one is given, and otherwise the chosen jobs; `notes` are the notes about
+-- the choice
 abbrev pub IsRequestedSelection : Option FileContents → Option Shard → RunArgs → List Job → Option (List Bool) → List ℕ
     → Type 0
 IsRequestedSelection contents (Some shard) args jobs selection notes =
@@ -52,8 +52,8 @@ IsRequestedSelection contents (Some shard) args jobs selection notes =
 IsRequestedSelection contents None args jobs selection notes =
     IsChoice contents args (failure_rule args.lenient) jobs selection notes
 
--- the list at the path in the arguments has the jobs `jobs`; `selection` selects those to run, `shard` is their shard, `old` are the rows that
--- the run updates, and `notes` are the notes about the choice
+-- the list at the path in the arguments has the jobs `jobs`; `selection` selects those to run, `shard` is their shard, `old` are the rows
+-- that the run updates, and `notes` are the notes about the choice
 pub record AreRequestedJobs (contents : Option FileContents) (args : RunArgs) (jobs : List Job)
     (selection : Option (List Bool)) (shard : Option Shard) (old : Option (List Row)) (notes : List ℕ) : Type 0 where
   pub bytes : List ℕ

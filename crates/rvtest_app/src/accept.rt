@@ -371,11 +371,7 @@ fn write_accepted<'x, R, D: Inputs, F: Outputs + Drop, O: Sink + Drop, E: Sink +
 }
 
 // Writes the lines about jobs and golden files to standard output.
-fn write_lines<O: Sink>(
-    alloc: Global,
-    summary: &AcceptSummary<'_>,
-    out: &mut O,
-) -> Result<(), Stop>
+fn write_lines<O: Sink>(alloc: Global, summary: &AcceptSummary<'_>, out: &mut O) -> Result<(), Stop>
     ensures put { OnOk result (Appends (O.accepted out.old) (O.accepted out.new) (accept_lines summary.now)) }
     ensures stopped { IfErr result (λ stop. (stop ≡ Stop.OutOfMemory) ⊎ (stop ≡ Stop.WriteFailed)) }
 {

@@ -273,7 +273,11 @@ impl<'a> CheckedList<'a> {
 }
 
 // Appends "refused" and the name of the refusal, and then details if they are given.
-fn push_refusal(text: &mut Vec<u8>, refusal: Refusal, reason: Option<Vec<u8>>) -> Result<(), AllocError>
+fn push_refusal(
+    text: &mut Vec<u8>,
+    refusal: Refusal,
+    reason: Option<Vec<u8>>,
+) -> Result<(), AllocError>
     ensures { OnOk result (text.new.items ≡ text.old.items
         ++ refusal_text refusal (option_map (λ text. text.items) reason)) }
 {

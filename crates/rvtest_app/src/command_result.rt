@@ -28,7 +28,7 @@ pub(crate) fn write_command_result<O: Sink>(
         (λ stop. O.accepted out.new ≡ O.accepted out.old)) }
     ensures failed { IfErr result (λ _. MatchResult found
         (λ _. O.failure_count out.new ≡ one_more (O.failure_count out.old)) (λ _. O.failure_count out.new ≡ O.failure_count out.old)) }
-    ensures stopped { IfErr result (λ stop. MatchResult found (λ _. stop ≡ Stop.WriteFailed) (λ stop. stop ≡ stop)) }
+    ensures stopped { IfErr result (λ stop. MatchResult found (λ _. stop ≡ Stop.WriteFailed) (λ found_stop. stop ≡ found_stop)) }
 {
     let CommandResult { text, status } = found?;
     write_results(out, text.as_slice())?;

@@ -97,9 +97,17 @@ fn sync_outlet<'a, F: Outputs>(
     let Outlet::File(file) = outlet else {
         return Ok(None);
     };
-    let OpenFile { path, destination, sink } = file;
+    let OpenFile {
+        path,
+        destination,
+        sink,
+    } = file;
     match files.sync(sink) {
-        Ok(file) => Ok(Some(SyncedFile { path, destination, file })),
+        Ok(file) => Ok(Some(SyncedFile {
+            path,
+            destination,
+            file,
+        })),
         Err(error) => {
             files.abandon(destination);
             Err(file_error_stop(alloc, path, error))
@@ -154,7 +162,11 @@ fn commit_synced<F: Outputs>(
     let Some(synced) = synced else {
         return Ok(());
     };
-    let SyncedFile { path, destination, file } = synced;
+    let SyncedFile {
+        path,
+        destination,
+        file,
+    } = synced;
     match files.place(destination, file) {
         Ok(()) => Ok(()),
         Err(error) => Err(file_error_stop(alloc, path, error)),

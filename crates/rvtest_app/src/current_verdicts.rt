@@ -64,10 +64,7 @@ impl<'x, D: Inputs> CurrentFiles<'x, D> {
         match self.row_at(index) {
             Some(row) => {
                 let verdict = self.current_verdict(job, row)?;
-                Ok(Candidate {
-                    is_chosen,
-                    verdict,
-                })
+                Ok(Candidate { is_chosen, verdict })
             }
             None => Ok(Candidate {
                 is_chosen,

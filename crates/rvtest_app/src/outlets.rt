@@ -123,7 +123,11 @@ fn open_file<'a, F: Outputs>(
     ensures stopped { IfErr result (IsUnopenedJobStop path.now) }
 {
     match files.create(alloc, path) {
-        Ok((destination, sink)) => Ok(Outlet::File(OpenFile { path, destination, sink })),
+        Ok((destination, sink)) => Ok(Outlet::File(OpenFile {
+            path,
+            destination,
+            sink,
+        })),
         Err(error) => Err(file_error_stop(alloc, path, error)),
     }
 }
@@ -137,7 +141,13 @@ impl<'a, P: Drop, W: Drop> Outlet<'a, P, W> {
         match self {
             Outlet::Nowhere => (Outlet::Nowhere, None),
             Outlet::Stdout => (Outlet::Stdout, None),
-            Outlet::File(OpenFile { path, destination, sink }) => {
+            Outlet::File(
+                OpenFile {
+                    path,
+                    destination,
+                    sink,
+                },
+            ) => {
                 let file = OpenFile {
                     path,
                     destination,
@@ -158,8 +168,21 @@ impl<'a, P: Drop> Outlet<'a, P, ()> {
         match (self, sink) {
             (Outlet::Nowhere, None) => Outlet::Nowhere,
             (Outlet::Stdout, None) => Outlet::Stdout,
-            (Outlet::File(OpenFile { path, destination, .. }), Some(sink)) => {
-                Outlet::File(OpenFile { path, destination, sink })
+            (
+                Outlet::File(
+                    OpenFile {
+                        path,
+                        destination,
+                        ..
+                    },
+                ),
+                Some(sink),
+            ) => {
+                Outlet::File(OpenFile {
+                    path,
+                    destination,
+                    sink,
+                })
             }
             (Outlet::Nowhere | Outlet::Stdout, Some(_)) | (Outlet::File(_), None) => unreachable!(),
         }

@@ -66,7 +66,16 @@ pub(crate) fn write_file<F: Outputs>(
     ensures stopped { IfErr result (IsFileNotCreatedStop path.now) }
 {
     match files.create(alloc, path) {
-        Ok((destination, sink)) => finish_file(files, alloc, OpenFile { path, destination, sink }, bytes),
+        Ok((destination, sink)) => finish_file(
+            files,
+            alloc,
+            OpenFile {
+                path,
+                destination,
+                sink,
+            },
+            bytes,
+        ),
         Err(error) => Err(file_error_stop(alloc, path, error)),
     }
 }

@@ -44,7 +44,11 @@ fn top_command<'a>(alloc: Global) -> Built<'a>
 }
 
 // Returns the command with these subcommands added, in order.
-fn with_subcommands<'a>(alloc: Global, command: Built<'a>, subcommand: &[Subcommand<'a>]) -> Built<'a>
+fn with_subcommands<'a>(
+    alloc: Global,
+    command: Built<'a>,
+    subcommand: &[Subcommand<'a>],
+) -> Built<'a>
     ensures { (app : App) → HasApp app command.entry
         → HasApp (with_subcommands app subcommand.now) result }
 {

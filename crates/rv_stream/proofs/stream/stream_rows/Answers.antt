@@ -41,15 +41,15 @@ returns-in-Ok-clause-rows g c =
     (concat (texts_of_reported told))
     × (g.B.Observer.has_seen observer told
     × ((judge_view kept.judge ≡ judging)
-    × AreRowsUpToFailure most judging kept.left kept.refused kept.rows.items (rows_of_reported told))) in
+    × AreRowsUpToFailure most judging kept.failures_left kept.allocation_failed kept.rows.items (rows_of_reported told))) in
     let stops : Type 0 = (is_some box.failed ≡ true)
-    ⊎ (g.B.Observer.stops observer ⊎ ((kept.left ≡ Some 0) ⊎ (kept.refused ≡ true))) in
+    ⊎ (g.B.Observer.stops observer ⊎ ((kept.failures_left ≡ Some 0) ⊎ (kept.allocation_failed ≡ true))) in
     let every = rows_up_to most (fails judging) (batch_rows batch) in
     let same : every ≡ rows_within c.args.limit.now (batch_rows batch) =
     λ i. rows_up_to (c.requires.ends.0 i) (fails (c.requires.ends.1 i)) (batch_rows batch) in
-    let ended : kept.refused ≡ false → is_ok c.run_jobs-received.result.1 ≡ true → (c.run_jobs-received.result.1 ≡ Ok Stop → kept.left ≡ Some 0)
+    let ended : kept.allocation_failed ≡ false → is_ok c.run_jobs-received.result.1 ≡ true → (c.run_jobs-received.result.1 ≡ Ok Stop → kept.failures_left ≡ Some 0)
     → HasEnded received line places every kept.rows.items =
-    λ there ok over. has_ended_well line batch most judging kept.left kept.refused kept.rows.items received stops (λ told h. h.1.1.1)
+    λ there ok over. has_ended_well line batch most judging kept.failures_left kept.allocation_failed kept.rows.items received stops (λ told h. h.1.1.1)
     c.run_jobs-received.result.1 c.run_jobs-received.ensures ok there over in
     if_each c.rows_of_run.result _ _ _ _ _
     (λ rows is there ok over. is ∙ (ended there ok over).collected_all ∙ same) c.rows_of_run.ensures.rows c.rows_of_run.ensures.kept c.rows_of_run.ensures.ran c.rows_of_run.ensures.ended
@@ -72,15 +72,15 @@ returns-in-Ok-clause-few g c =
     (concat (texts_of_reported told))
     × (g.B.Observer.has_seen observer told
     × ((judge_view kept.judge ≡ judging)
-    × AreRowsUpToFailure most judging kept.left kept.refused kept.rows.items (rows_of_reported told))) in
+    × AreRowsUpToFailure most judging kept.failures_left kept.allocation_failed kept.rows.items (rows_of_reported told))) in
     let stops : Type 0 = (is_some box.failed ≡ true)
-    ⊎ (g.B.Observer.stops observer ⊎ ((kept.left ≡ Some 0) ⊎ (kept.refused ≡ true))) in
+    ⊎ (g.B.Observer.stops observer ⊎ ((kept.failures_left ≡ Some 0) ⊎ (kept.allocation_failed ≡ true))) in
     let every = rows_up_to most (fails judging) (batch_rows batch) in
     let same : every ≡ rows_within c.args.limit.now (batch_rows batch) =
     λ i. rows_up_to (c.requires.ends.0 i) (fails (c.requires.ends.1 i)) (batch_rows batch) in
-    let ended : kept.refused ≡ false → is_ok c.run_jobs-received.result.1 ≡ true → (c.run_jobs-received.result.1 ≡ Ok Stop → kept.left ≡ Some 0)
+    let ended : kept.allocation_failed ≡ false → is_ok c.run_jobs-received.result.1 ≡ true → (c.run_jobs-received.result.1 ≡ Ok Stop → kept.failures_left ≡ Some 0)
     → HasEnded received line places every kept.rows.items =
-    λ there ok over. has_ended_well line batch most judging kept.left kept.refused kept.rows.items received stops (λ told h. h.1.1.1)
+    λ there ok over. has_ended_well line batch most judging kept.failures_left kept.allocation_failed kept.rows.items received stops (λ told h. h.1.1.1)
     c.run_jobs-received.result.1 c.run_jobs-received.ensures ok there over in
     if_each c.rows_of_run.result _ _ _ _ _
     (λ rows is there ok over.
@@ -108,15 +108,15 @@ returns-in-Ok-clause-all g c =
     (concat (texts_of_reported told))
     × (g.B.Observer.has_seen observer told
     × ((judge_view kept.judge ≡ judging)
-    × AreRowsUpToFailure most judging kept.left kept.refused kept.rows.items (rows_of_reported told))) in
+    × AreRowsUpToFailure most judging kept.failures_left kept.allocation_failed kept.rows.items (rows_of_reported told))) in
     let stops : Type 0 = (is_some box.failed ≡ true)
-    ⊎ (g.B.Observer.stops observer ⊎ ((kept.left ≡ Some 0) ⊎ (kept.refused ≡ true))) in
+    ⊎ (g.B.Observer.stops observer ⊎ ((kept.failures_left ≡ Some 0) ⊎ (kept.allocation_failed ≡ true))) in
     let every = rows_up_to most (fails judging) (batch_rows batch) in
     let same : every ≡ rows_within c.args.limit.now (batch_rows batch) =
     λ i. rows_up_to (c.requires.ends.0 i) (fails (c.requires.ends.1 i)) (batch_rows batch) in
-    let ended : kept.refused ≡ false → is_ok c.run_jobs-received.result.1 ≡ true → (c.run_jobs-received.result.1 ≡ Ok Stop → kept.left ≡ Some 0)
+    let ended : kept.allocation_failed ≡ false → is_ok c.run_jobs-received.result.1 ≡ true → (c.run_jobs-received.result.1 ≡ Ok Stop → kept.failures_left ≡ Some 0)
     → HasEnded received line places every kept.rows.items =
-    λ there ok over. has_ended_well line batch most judging kept.left kept.refused kept.rows.items received stops (λ told h. h.1.1.1)
+    λ there ok over. has_ended_well line batch most judging kept.failures_left kept.allocation_failed kept.rows.items received stops (λ told h. h.1.1.1)
     c.run_jobs-received.result.1 c.run_jobs-received.ensures ok there over in
     on_each c.rows_of_run.result _ _ _ _
     (λ rows there ok over.
@@ -143,15 +143,15 @@ returns-in-Ok-clause-counted g c =
     (concat (texts_of_reported told))
     × (g.B.Observer.has_seen observer told
     × ((judge_view kept.judge ≡ judging)
-    × AreRowsUpToFailure most judging kept.left kept.refused kept.rows.items (rows_of_reported told))) in
+    × AreRowsUpToFailure most judging kept.failures_left kept.allocation_failed kept.rows.items (rows_of_reported told))) in
     let stops : Type 0 = (is_some box.failed ≡ true)
-    ⊎ (g.B.Observer.stops observer ⊎ ((kept.left ≡ Some 0) ⊎ (kept.refused ≡ true))) in
+    ⊎ (g.B.Observer.stops observer ⊎ ((kept.failures_left ≡ Some 0) ⊎ (kept.allocation_failed ≡ true))) in
     let every = rows_up_to most (fails judging) (batch_rows batch) in
     let same : every ≡ rows_within c.args.limit.now (batch_rows batch) =
     λ i. rows_up_to (c.requires.ends.0 i) (fails (c.requires.ends.1 i)) (batch_rows batch) in
-    let ended : kept.refused ≡ false → is_ok c.run_jobs-received.result.1 ≡ true → (c.run_jobs-received.result.1 ≡ Ok Stop → kept.left ≡ Some 0)
+    let ended : kept.allocation_failed ≡ false → is_ok c.run_jobs-received.result.1 ≡ true → (c.run_jobs-received.result.1 ≡ Ok Stop → kept.failures_left ≡ Some 0)
     → HasEnded received line places every kept.rows.items =
-    λ there ok over. has_ended_well line batch most judging kept.left kept.refused kept.rows.items received stops (λ told h. h.1.1.1)
+    λ there ok over. has_ended_well line batch most judging kept.failures_left kept.allocation_failed kept.rows.items received stops (λ told h. h.1.1.1)
     c.run_jobs-received.result.1 c.run_jobs-received.ensures ok there over in
     on_each c.rows_of_run.result _ _ _ _
     (λ rows there ok over.
@@ -177,13 +177,13 @@ returns-in-Ok-clause-part g c =
     (concat (texts_of_reported told))
     × (g.B.Observer.has_seen observer told
     × ((judge_view kept.judge ≡ judging)
-    × AreRowsUpToFailure most judging kept.left kept.refused kept.rows.items (rows_of_reported told))) in
+    × AreRowsUpToFailure most judging kept.failures_left kept.allocation_failed kept.rows.items (rows_of_reported told))) in
     let stops : Type 0 = (is_some box.failed ≡ true)
-    ⊎ (g.B.Observer.stops observer ⊎ ((kept.left ≡ Some 0) ⊎ (kept.refused ≡ true))) in
+    ⊎ (g.B.Observer.stops observer ⊎ ((kept.failures_left ≡ Some 0) ⊎ (kept.allocation_failed ≡ true))) in
     let every = rows_up_to most (fails judging) (batch_rows batch) in
     let same : every ≡ rows_within c.args.limit.now (batch_rows batch) =
     λ i. rows_up_to (c.requires.ends.0 i) (fails (c.requires.ends.1 i)) (batch_rows batch) in
-    let begun = has_begun line batch most judging kept.left kept.refused kept.rows.items received stops (λ told h. h.1.1.1)
+    let begun = has_begun line batch most judging kept.failures_left kept.allocation_failed kept.rows.items received stops (λ told h. h.1.1.1)
     c.run_jobs-received.result.1 c.run_jobs-received.ensures in
     let part = subst (AppendsPrefix before taken) (ap (joined_row_texts line places) same)
     (begun_of_all received line places every begun before taken
@@ -211,13 +211,13 @@ returns-in-Err-clause-part g c =
     (concat (texts_of_reported told))
     × (g.B.Observer.has_seen observer told
     × ((judge_view kept.judge ≡ judging)
-    × AreRowsUpToFailure most judging kept.left kept.refused kept.rows.items (rows_of_reported told))) in
+    × AreRowsUpToFailure most judging kept.failures_left kept.allocation_failed kept.rows.items (rows_of_reported told))) in
     let stops : Type 0 = (is_some box.failed ≡ true)
-    ⊎ (g.B.Observer.stops observer ⊎ ((kept.left ≡ Some 0) ⊎ (kept.refused ≡ true))) in
+    ⊎ (g.B.Observer.stops observer ⊎ ((kept.failures_left ≡ Some 0) ⊎ (kept.allocation_failed ≡ true))) in
     let every = rows_up_to most (fails judging) (batch_rows batch) in
     let same : every ≡ rows_within c.args.limit.now (batch_rows batch) =
     λ i. rows_up_to (c.requires.ends.0 i) (fails (c.requires.ends.1 i)) (batch_rows batch) in
-    let begun = has_begun line batch most judging kept.left kept.refused kept.rows.items received stops (λ told h. h.1.1.1)
+    let begun = has_begun line batch most judging kept.failures_left kept.allocation_failed kept.rows.items received stops (λ told h. h.1.1.1)
     c.run_jobs-received.result.1 c.run_jobs-received.ensures in
     let part = subst (AppendsPrefix before taken) (ap (joined_row_texts line places) same)
     (begun_of_all received line places every begun before taken
@@ -245,15 +245,15 @@ returns-in-Ok-clause-seen g c =
     (concat (texts_of_reported told))
     × (g.B.Observer.has_seen observer told
     × ((judge_view kept.judge ≡ judging)
-    × AreRowsUpToFailure most judging kept.left kept.refused kept.rows.items (rows_of_reported told))) in
+    × AreRowsUpToFailure most judging kept.failures_left kept.allocation_failed kept.rows.items (rows_of_reported told))) in
     let stops : Type 0 = (is_some box.failed ≡ true)
-    ⊎ (g.B.Observer.stops observer ⊎ ((kept.left ≡ Some 0) ⊎ (kept.refused ≡ true))) in
+    ⊎ (g.B.Observer.stops observer ⊎ ((kept.failures_left ≡ Some 0) ⊎ (kept.allocation_failed ≡ true))) in
     let every = rows_up_to most (fails judging) (batch_rows batch) in
     let same : every ≡ rows_within c.args.limit.now (batch_rows batch) =
     λ i. rows_up_to (c.requires.ends.0 i) (fails (c.requires.ends.1 i)) (batch_rows batch) in
-    let ended : kept.refused ≡ false → is_ok c.run_jobs-received.result.1 ≡ true → (c.run_jobs-received.result.1 ≡ Ok Stop → kept.left ≡ Some 0)
+    let ended : kept.allocation_failed ≡ false → is_ok c.run_jobs-received.result.1 ≡ true → (c.run_jobs-received.result.1 ≡ Ok Stop → kept.failures_left ≡ Some 0)
     → HasEnded received line places every kept.rows.items =
-    λ there ok over. has_ended_well line batch most judging kept.left kept.refused kept.rows.items received stops (λ told h. h.1.1.1)
+    λ there ok over. has_ended_well line batch most judging kept.failures_left kept.allocation_failed kept.rows.items received stops (λ told h. h.1.1.1)
     c.run_jobs-received.result.1 c.run_jobs-received.ensures ok there over in
     on_each c.rows_of_run.result _ _ _ _
     (λ rows there ok over.
@@ -279,13 +279,13 @@ returns-in-Ok-clause-seen_some g c =
     (concat (texts_of_reported told))
     × (g.B.Observer.has_seen observer told
     × ((judge_view kept.judge ≡ judging)
-    × AreRowsUpToFailure most judging kept.left kept.refused kept.rows.items (rows_of_reported told))) in
+    × AreRowsUpToFailure most judging kept.failures_left kept.allocation_failed kept.rows.items (rows_of_reported told))) in
     let stops : Type 0 = (is_some box.failed ≡ true)
-    ⊎ (g.B.Observer.stops observer ⊎ ((kept.left ≡ Some 0) ⊎ (kept.refused ≡ true))) in
+    ⊎ (g.B.Observer.stops observer ⊎ ((kept.failures_left ≡ Some 0) ⊎ (kept.allocation_failed ≡ true))) in
     let every = rows_up_to most (fails judging) (batch_rows batch) in
     let same : every ≡ rows_within c.args.limit.now (batch_rows batch) =
     λ i. rows_up_to (c.requires.ends.0 i) (fails (c.requires.ends.1 i)) (batch_rows batch) in
-    let begun = has_begun line batch most judging kept.left kept.refused kept.rows.items received stops (λ told h. h.1.1.1)
+    let begun = has_begun line batch most judging kept.failures_left kept.allocation_failed kept.rows.items received stops (λ told h. h.1.1.1)
     c.run_jobs-received.result.1 c.run_jobs-received.ensures in
     let some = subst (HasSeenSomeRows (g.B.Observer.has_seen observer) line places) same
     (seen_some_as received (g.B.Observer.has_seen observer) line places every (λ told h. h.1.0) begun) in
@@ -309,13 +309,13 @@ returns-in-Err-clause-seen_some g c =
     (concat (texts_of_reported told))
     × (g.B.Observer.has_seen observer told
     × ((judge_view kept.judge ≡ judging)
-    × AreRowsUpToFailure most judging kept.left kept.refused kept.rows.items (rows_of_reported told))) in
+    × AreRowsUpToFailure most judging kept.failures_left kept.allocation_failed kept.rows.items (rows_of_reported told))) in
     let stops : Type 0 = (is_some box.failed ≡ true)
-    ⊎ (g.B.Observer.stops observer ⊎ ((kept.left ≡ Some 0) ⊎ (kept.refused ≡ true))) in
+    ⊎ (g.B.Observer.stops observer ⊎ ((kept.failures_left ≡ Some 0) ⊎ (kept.allocation_failed ≡ true))) in
     let every = rows_up_to most (fails judging) (batch_rows batch) in
     let same : every ≡ rows_within c.args.limit.now (batch_rows batch) =
     λ i. rows_up_to (c.requires.ends.0 i) (fails (c.requires.ends.1 i)) (batch_rows batch) in
-    let begun = has_begun line batch most judging kept.left kept.refused kept.rows.items received stops (λ told h. h.1.1.1)
+    let begun = has_begun line batch most judging kept.failures_left kept.allocation_failed kept.rows.items received stops (λ told h. h.1.1.1)
     c.run_jobs-received.result.1 c.run_jobs-received.ensures in
     let some = subst (HasSeenSomeRows (g.B.Observer.has_seen observer) line places) same
     (seen_some_as received (g.B.Observer.has_seen observer) line places every (λ told h. h.1.0) begun) in

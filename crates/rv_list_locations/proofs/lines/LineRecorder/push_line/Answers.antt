@@ -8,14 +8,14 @@ invariant_of-self c =
     let self = c.args.self.now in
     let line = self.line + c.line_feed_count.result in
     let later : self.line ≤ line = omega arith in
-    let behind : self.counted ≤ c.max-place.result = omega (arith, c.max-place.ensures) in
+    let behind : self.offset ≤ c.max-place.result = omega (arith, c.max-place.ensures) in
     record {
       within = omega (arith, self.within, c.max-place.ensures, c.saturating_sub.ensures);
-      here = ap (λ n. n + c.line_feed_count.result) self.here
-          ∙ ap (λ n. line_at self.counted self.text.now + n) c.line_feed_count.ensures
-          ∙ line_later self.text.now self.counted c.max-place.result behind;
-      below = within_noted (is_ok c.push.result) self.noted.items c.push.new.self.items self.line line
-          c.push.ensures.items (omega (arith, self.here)) later self.below;
-      rising = rising_noted (is_ok c.push.result) self.noted.items c.push.new.self.items self.line line
-          c.push.ensures.items later self.below self.rising;
+      line_is = ap (λ n. n + c.line_feed_count.result) self.line_is
+          ∙ ap (λ n. line_at self.offset self.text.now + n) c.line_feed_count.ensures
+          ∙ line_later self.text.now self.offset c.max-place.result behind;
+      within_line = within_noted (is_ok c.push.result) self.recorded.items c.push.new.self.items self.line line
+          c.push.ensures.items (omega (arith, self.line_is)) later self.within_line;
+      rising = rising_noted (is_ok c.push.result) self.recorded.items c.push.new.self.items self.line line
+          c.push.ensures.items later self.within_line self.rising;
     }
