@@ -160,7 +160,12 @@ fn send_byte(
 }
 
 // Returns as text all that is sent when bytes from a debugger are received.
-fn response_text(alloc: Global, session: &mut Session, end: &End, heard: &[u8]) -> Result<String, Fail>
+fn response_text(
+    alloc: Global,
+    session: &mut Session,
+    end: &End,
+    heard: &[u8],
+) -> Result<String, Fail>
     requires { IsReady (start_of end.now.start) session.old }
     ensures { OnOk result (IsReady (start_of end.now.start) session.new) }
 {

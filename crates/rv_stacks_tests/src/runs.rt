@@ -96,12 +96,7 @@ fn nodes_text(alloc: Global, row: &str) -> Result<String, Fail> {
     let mut text = String::new(alloc);
     for spot in spots.as_slice() {
         let comma = if text.is_empty() { "" } else { ", " };
-        let (depth, function, calls, steps) = (
-            spot.depth,
-            spot.function,
-            spot.calls,
-            spot.steps,
-        );
+        let (depth, function, calls, steps) = (spot.depth, spot.function, spot.calls, spot.steps);
         write!(text, "{comma}{depth} {function:08x} {calls} {steps}")?;
     }
     Ok(text)

@@ -44,7 +44,11 @@ impl<J: StreamSpec, W: Sink + Drop> Observer<ReportedRow> for TextSender<J, W> {
 
     // Buffers the text of a row, and returns whether the run should continue.
     fn see(&mut self, output: &ReportedRow) -> Flow {
-        match self.outbox.buffered.extend_from_slice(output.text.as_slice()) {
+        match self
+            .outbox
+            .buffered
+            .extend_from_slice(output.text.as_slice())
+        {
             Ok(()) => Flow::Continue,
             Err(_) => {
                 // Out of memory: `extend_from_slice` fails by that alone.

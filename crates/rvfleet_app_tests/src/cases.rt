@@ -82,7 +82,12 @@ fn compared_part(alloc: Global, view: &str, told: &str) -> Result<String, AllocE
 }
 
 // Returns the part of the output for a row that is compared; `ask` is the form of the input.
-fn actual_output(rt: &(impl Threads + Wait), alloc: Global, ask: &str, row: &str) -> Result<String, Fail> {
+fn actual_output(
+    rt: &(impl Threads + Wait),
+    alloc: Global,
+    ask: &str,
+    row: &str,
+) -> Result<String, Fail> {
     let case = form_text(alloc, ask, row)?;
     let told = told(rt, alloc, case.as_str())?;
     Ok(compared_part(alloc, part(case.as_str(), 1), told.as_str())?)

@@ -28,7 +28,12 @@ fn outcome_of(alloc: Global, size: &str) -> Result<Outcome, Fail> {
 }
 
 // Caches an outcome of this size for the job at an index, if it is small enough.
-fn cache_outcome(alloc: Global, recent: &mut RecentOutcomes, place: usize, size: &str) -> Result<(), Fail> {
+fn cache_outcome(
+    alloc: Global,
+    recent: &mut RecentOutcomes,
+    place: usize,
+    size: &str,
+) -> Result<(), Fail> {
     let outcome = outcome_of(alloc, size)?;
     if recent.make_room(outcome.size()) {
         recent.keep(place, outcome)?;
