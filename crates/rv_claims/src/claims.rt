@@ -9,8 +9,8 @@ ghost use Rattle.rv_claims.specs.Passes.{pass_of, has_ended, with_draw, AllBelow
 ghost use Rattle.rv_claims.specs.Passes.{IsWholeHistory, opening_row, IsNewPass};
 ghost use Rattle.rv_claims.specs.Split.{pass_of_error};
 
-use crate::pass::{Pass, SplitError};
 use crate::counter_rule::{CounterRule, Draw, JoinedSeat, Look, NewSeat, Note, Sit};
+use crate::pass::{Pass, SplitError};
 use crate::view::View;
 use atomic_table::{Closed, Seat, Table};
 use std::alloc::{AllocError, Global};

@@ -6,8 +6,8 @@
 #![tactic(auto)]
 
 mod claims;
-mod pass;
 mod counter_rule;
+mod pass;
 mod view;
 
 pub use claims::Claims;

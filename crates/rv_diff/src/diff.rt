@@ -8,9 +8,9 @@ ghost use Rattle.rv_diff.specs.Diff.{count_line, diff_text, difference_counts, d
 ghost use Rattle.rv_diff.specs.Diff.{change_counts_text, changes_of_row, differ_text, differing_text, is_changed, not_compared_text, step_sums};
 ghost use Rattle.rv_diff.specs.Diff.{rows_in_both, sums_text, total_steps};
 
-use crate::rows_by_name::RowsByName;
 use crate::change::{Change, CompareMode, change_of};
 use crate::differences::push_change_lines;
+use crate::rows_by_name::RowsByName;
 use rv_rows::{Row, Span, push_spans, push_text};
 use std::alloc::{AllocError, Global};
 
@@ -68,7 +68,11 @@ pub fn push_diff(
     ensures counts { IfOk result (λ counts. counts
         ≡ difference_counts mode compared.entry.old.now compared.entry.new.now) }
 {
-    let ComparedReports { old, new, not_compared } = compared;
+    let ComparedReports {
+        old,
+        new,
+        not_compared,
+    } = compared;
     let gone = push_gone_lines(alloc, text, mode, old, new)?;
     let (added, changed) = push_added_and_changed_lines(alloc, text, mode, old, new)?;
     let counts = DifferenceCounts {
@@ -262,7 +266,11 @@ fn differ_text(jobs: usize) -> &'static str
 }
 
 // Appends how many of the compared jobs differ, and how many are gone, new and changed.
-fn push_counts(text: &mut Vec<u8>, job_count: usize, counts: DifferenceCounts) -> Result<(), AllocError>
+fn push_counts(
+    text: &mut Vec<u8>,
+    job_count: usize,
+    counts: DifferenceCounts,
+) -> Result<(), AllocError>
     requires { differing_count counts < 2 ^ 64 }
     ensures { OnOk result (text.new.items ≡ text.old.items
         ++ (differing_text (differing_count counts) job_count ++ change_counts_text counts)) }

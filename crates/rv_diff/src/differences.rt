@@ -65,7 +65,11 @@ fn push_ending<'a>(text: &mut Vec<u8>, ending: RowEnd, suffix: &'a str) -> Resul
     match ending {
         RowEnd::Exit(code) => push_spans(
             text,
-            &[Span::Text("exit "), Span::ExitCode(code), Span::Text(suffix)],
+            &[
+                Span::Text("exit "),
+                Span::ExitCode(code),
+                Span::Text(suffix),
+            ],
         ),
         RowEnd::Fault(kind, pc, value) => push_spans(
             text,
@@ -124,12 +128,7 @@ fn push_steps_change(
 
 // Appends the increase of the steps in percent of the old number, if `mode` looks for slower jobs and the old number is not 0; otherwise
 // nothing.
-fn push_percent(
-    text: &mut Vec<u8>,
-    mode: CompareMode,
-    old: u32,
-    new: u32,
-) -> Result<(), AllocError>
+fn push_percent(text: &mut Vec<u8>, mode: CompareMode, old: u32, new: u32) -> Result<(), AllocError>
     ensures { OnOk result (text.new.items ≡ text.old.items ++ percent_text mode old new) }
 {
     match mode {

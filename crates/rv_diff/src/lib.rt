@@ -6,11 +6,11 @@
 //! [`jobs_differ_iff_some_line`].
 #![tactic(auto)]
 
-mod rows_by_name;
 mod change;
 mod diff;
 mod differences;
 mod law;
+mod rows_by_name;
 mod signature_line;
 
 pub use change::CompareMode;

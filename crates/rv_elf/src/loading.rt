@@ -93,7 +93,8 @@ pub fn unfit_segment<'a>(map: &Map, load_at: LoadAt, segments: &'a [Segment]) ->
 pub fn segment_fits(map: &Map, load_at: LoadAt, segment: &Segment) -> bool
     ensures { result ≡ segment_fits map.now load_at segment.now }
 {
-    map.in_one(load_at.load_address(segment), segment.filesz) && map.in_one(segment.vaddr, segment.memsz)
+    map.in_one(load_at.load_address(segment), segment.filesz)
+        && map.in_one(segment.vaddr, segment.memsz)
 }
 
 // Whether the file bytes of any two segments share a byte of memory.

@@ -4,12 +4,12 @@ ghost use Rattle.std.specs.Prelude.{◌≡◌, [], IfOk};
 ghost use Rattle.rv_engine.specs.Results.{ArePending, OutputsAreAllowed, IsRunDelivered, HasReceivedUpTo, IsInOrder, chunk_count};
 ghost use Rattle.rv_engine.specs.declared.engine.RunError.TheVariants.{OutOfMemory};
 
+use crate::chunk::{chunk_count, compute_chunk};
 use crate::crew::Crew;
 use crate::delivery::{
     DeliveryState, End, RunSpec, Undelivered, deliver_chunk, empty_pending, take_pending,
 };
 use crate::listener::{Flow, Listener};
-use crate::chunk::{chunk_count, compute_chunk};
 use crate::threads::run_workers;
 use crate::work::Work;
 use crate::worker::WorkerContext;

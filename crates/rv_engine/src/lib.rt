@@ -6,11 +6,11 @@
 #![tactic(auto)]
 
 mod both;
-mod crew;
-mod engine;
-mod delivery;
-mod listener;
 mod chunk;
+mod crew;
+mod delivery;
+mod engine;
+mod listener;
 mod threads;
 mod work;
 mod worker;
@@ -18,8 +18,8 @@ mod worker_state;
 
 pub use both::Both;
 pub use crew::Crew;
-pub use engine::{RunError, run_jobs};
 pub use delivery::RunSpec;
+pub use engine::{RunError, run_jobs};
 pub use listener::{Flow, Listener, Observer};
 pub use work::Work;
 pub use worker_state::WorkerState;

@@ -3,9 +3,9 @@
 ghost use Rattle.rv_rows.specs.Limits.{max_group};
 ghost use Rattle.std.specs.Prelude.{◌≡◌, ◌<◌, ◌≤◌};
 
+use crate::chunk::compute_chunk;
 use crate::delivery::{DeliveryState, RunSpec};
 use crate::listener::{Flow, Listener};
-use crate::chunk::compute_chunk;
 use crate::threads::Worker;
 use crate::work::Work;
 use rv_claims::{Claims, Pass};

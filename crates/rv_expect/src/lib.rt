@@ -14,6 +14,7 @@
 mod comparison;
 mod difference;
 mod failure_kind;
+mod failure_or_error;
 mod failures;
 mod judgement;
 mod known_jobs;
@@ -21,9 +22,8 @@ mod known_lines;
 mod known_reader;
 mod law;
 mod met_expectations;
-mod rule;
-mod failure_or_error;
 mod reference;
+mod rule;
 mod same_as_job;
 mod two_ends;
 mod unmet;
@@ -31,6 +31,7 @@ mod unmet;
 pub use comparison::Comparison;
 pub use difference::{Difference, SameAsDifference, SignatureDifference};
 pub use failure_kind::FailureKind;
+pub use failure_or_error::{is_error, is_failure};
 pub use failures::{failures_by_end, failures_in_plan};
 pub use judgement::{Judge, Judgement};
 pub use known_jobs::{KnownFault, KnownFaultKind, KnownJob, KnownJobs};
@@ -40,9 +41,8 @@ pub use law::{
     unmet_is_what_does_not_hold, unmet_of_a_plan_is_what_does_not_hold,
 };
 pub use met_expectations::{Expectation, is_expectation_met};
-pub use rule::{Rule, has_passed};
-pub use failure_or_error::{is_error, is_failure};
 pub use reference::signature_words_or_empty;
+pub use rule::{Rule, has_passed};
 pub use same_as_job::row_of_same_as_job;
 pub use two_ends::{expects_two_ends, two_ends_fail};
 pub use unmet::{UnmetExpectation, unmet_expectations};

@@ -20,7 +20,11 @@ pub enum Expectation {
 }
 
 /// Whether a job has an expectation of this kind and its run meets it. `unmet_expectations` are the unmet expectations of the job.
-pub fn is_expectation_met(job: &Job, unmet_expectations: &[UnmetExpectation], expectation: Expectation) -> bool
+pub fn is_expectation_met(
+    job: &Job,
+    unmet_expectations: &[UnmetExpectation],
+    expectation: Expectation,
+) -> bool
     ensures { result ≡ is_expectation_met job.now unmet_expectations.now expectation }
 {
     job_expects(job, expectation) && !is_expectation_unmet(unmet_expectations, expectation)
@@ -30,7 +34,9 @@ pub fn is_expectation_met(job: &Job, unmet_expectations: &[UnmetExpectation], ex
 fn is_expectation_unmet(unmet_expectations: &[UnmetExpectation], expectation: Expectation) -> bool
     ensures { result ≡ list_any (is_unmet_of_kind expectation) unmet_expectations.now }
 {
-    unmet_expectations.iter().any(|other| is_unmet_of_kind(expectation, *other))
+    unmet_expectations
+        .iter()
+        .any(|other| is_unmet_of_kind(expectation, *other))
 }
 
 // Whether a job has an expectation of this kind; a job without any other has the default one, exit code 0.

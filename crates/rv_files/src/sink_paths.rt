@@ -49,7 +49,10 @@ pub(crate) fn temporary_and_final_path<R: Files>(
     }
     let destination = follow_links(files, alloc, path)?;
     let temporary = with_new_suffix(alloc, destination.as_str())?;
-    Ok(Some(FilePaths { temporary, destination }))
+    Ok(Some(FilePaths {
+        temporary,
+        destination,
+    }))
 }
 
 // Whether a file may be placed at a path: a regular file is there, or nothing. A link is followed.

@@ -84,11 +84,7 @@ where
     }
 
     // Creates a file at its temporary path, and records that it is not yet placed.
-    fn create_uncommitted(
-        &mut self,
-        alloc: Global,
-        paths: &FilePaths,
-    ) -> Result<R::File, FileError>
+    fn create_uncommitted(&mut self, alloc: Global, paths: &FilePaths) -> Result<R::File, FileError>
         ensures first { IfErr result (λ error. error ≡ FileError.SameFile → 0 < vec_len self.old.uncommitted) }
     {
         self.check_not_same_file(alloc, paths)?;

@@ -5,11 +5,11 @@ ghost use Rattle.std.specs.Prelude.{◌≡◌, ◌<◌, ◌≤◌, IfOk};
 ghost use Rattle.rv_rows.specs.Rows.{rows_of};
 ghost use Rattle.rv_fleet.specs.declared.fleet.FleetError.TheVariants.{OutOfMemory};
 
+use crate::all_indices::all_indices;
 use crate::batch::Batch;
 use crate::collect::rows_of_all_chunks;
 use crate::gate::Gate;
 use crate::pieces::Pieces;
-use crate::all_indices::all_indices;
 use crate::threads::compute_chunks;
 use rv_engine::Crew;
 use rv_rows::{Plan, Report};

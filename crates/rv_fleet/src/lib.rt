@@ -5,6 +5,7 @@
 //! and returns its rows. The rows and the shared counter of the crates below are re-exported.
 #![tactic(auto)]
 
+mod all_indices;
 mod batch;
 mod batch_rows;
 mod collect;
@@ -12,7 +13,6 @@ mod fleet;
 mod gate;
 mod piece;
 mod pieces;
-mod all_indices;
 mod threads;
 mod worker;
 mod worker_promise;

@@ -8,11 +8,11 @@ ghost use Rattle.rv_fleet.specs.Batches.{batch_rows};
 ghost use Rattle.rv_fleet.specs.Pieces.{piece_count, piece_at, numbered_piece, piece_count_of_plan};
 ghost use Rattle.rv_fleet.specs.WorkerPromises.{KeepsPromise};
 
+use crate::all_indices::all_indices;
 use crate::batch::Batch;
 use crate::gate::Gate;
 use crate::piece::{Piece, compute_chunk};
 use crate::pieces::Pieces;
-use crate::all_indices::all_indices;
 use crate::worker_promise::WorkerResult;
 use rv_engine::{Claims, Pass, WorkerState};
 use rv_rows::Plan;

@@ -5,18 +5,18 @@
 //! `rv_lists`, which this crate re-exports.
 #![tactic(auto)]
 
-mod path_results;
-mod selection;
 mod kept;
 mod law;
 mod path_reading;
+mod path_results;
 mod plan;
+mod selection;
 
-pub use path_results::PathResult;
-pub use selection::selected_indices;
 pub use kept::Kept;
 pub use law::used_paths_have_results;
+pub use path_results::PathResult;
 pub use plan::{Plan, gather, gather_jobs};
+pub use selection::selected_indices;
 
 // From the crates below: what this interface names, and what its callers need with it.
 pub use rv_lists::{

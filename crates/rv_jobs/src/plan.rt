@@ -10,11 +10,11 @@ ghost use Rattle.rv_lists.specs.Names.{index_in};
 ghost use Rattle.rv_jobs.specs.Plans.{paths_of, paths_used, jobs_needed_for, result_or_unreadable};
 ghost use Rattle.rv_jobs.specs.Plans.{AgreeWithContents, unreadable_count, after_increments};
 
-use crate::path_results::PathResults;
 use crate::kept::Kept;
 use crate::path_reading::{
     Found, console_path, empty_result_indices, reference_path, result_indices,
 };
+use crate::path_results::PathResults;
 use rv_lists::{Job, JobList, Store};
 use std::alloc::{AllocError, Global};
 use std::marker::Model;

@@ -9,8 +9,8 @@ ghost use Rattle.rv_list_errors.specs.LocatedFaults.{located_head};
 
 use crate::fault_text::{list_fault_message, push_job_number_and_name};
 use crate::faults::{push_faults, suggestion_for_fault};
-use crate::located_faults::{LocatedFault, faults_of_job};
 use crate::list::List;
+use crate::located_faults::{LocatedFault, faults_of_job};
 use crate::names::Suggestion;
 use rv_list_locations::{Cursor, Location, job_texts};
 use rv_lists::JobError;

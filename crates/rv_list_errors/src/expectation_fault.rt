@@ -54,7 +54,11 @@ fn reference_or_console_explanation(table: &Table) -> Explanation
 
 // Returns the explanation of a bad `expect_signature`, or `otherwise` if it is missing or good. `path` is its text, and `has_signature` is whether
 // the job has a signature.
-fn reference_explanation(has_signature: bool, path: Option<&str>, otherwise: Explanation) -> Explanation
+fn reference_explanation(
+    has_signature: bool,
+    path: Option<&str>,
+    otherwise: Explanation,
+) -> Explanation
     ensures { (explained_key result, explained_text result)
         ≡ reference_explanation has_signature (borrowed_name path.entry) (explained_key otherwise, explained_text otherwise) }
 {
@@ -120,4 +124,5 @@ fn end_text_explanation(end: Option<&str>) -> Explanation
     }
 }
 
-const EXIT_IS_NO_END: &str = "expect_end = \"exit\": to expect an exit, set \"expect_exit\" to its code";
+const EXIT_IS_NO_END: &str =
+    "expect_end = \"exit\": to expect an exit, set \"expect_exit\" to its code";

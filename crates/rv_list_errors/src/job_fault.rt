@@ -13,16 +13,16 @@ ghost use Rattle.rv_list_errors.specs.Explanation.{AppendsTextThat, is_unsimulat
 
 use crate::expectation_fault::expectation_explanation;
 use crate::explanations::{
-    BUDGET, Explanation, IMAGE, INPUT, INPUT_HEX, ISA, ISA_OF_64_BITS, ISA_WITH_A, ISA_WITH_FLOATS,
-    LOAD, MISALIGNED, NAME, HEX_PAIRS, SIGNATURE, push_explanation,
+    BUDGET, Explanation, HEX_PAIRS, IMAGE, INPUT, INPUT_HEX, ISA, ISA_OF_64_BITS, ISA_WITH_A,
+    ISA_WITH_FLOATS, LOAD, MISALIGNED, NAME, SIGNATURE, push_explanation,
 };
 use crate::key_faults::FaultyJob;
 use crate::keys::push_unknown_job_key;
-use crate::value_types::push_wrong_type;
 use crate::list::List;
 use crate::message::Message;
 use crate::names::{Suggestion, push_name_fault, push_unknown_same_as};
 use crate::regions::push_region_fault;
+use crate::value_types::push_wrong_type;
 use crate::values::text_at_key;
 use rv_lists::What;
 use toml::{Table, Value};

@@ -4,16 +4,16 @@ ghost use Rattle.std.specs.Prelude.{◌<◌, IfSome};
 
 use crate::expectation_fault::{BOTH_CONSOLES, end_explanation, exit_explanation};
 use crate::explanations::{
-    BUDGET, EXPECT_CONSOLE, EXPECT_CONSOLE_FILE, EXPECT_SIGNATURE, Explanation, IMAGE, INPUT,
-    INPUT_HEX, LOAD, MISALIGNED, NAME, HEX_PAIRS, SIGNATURE, WITHOUT_SIGNATURE, push_explanation,
+    BUDGET, EXPECT_CONSOLE, EXPECT_CONSOLE_FILE, EXPECT_SIGNATURE, Explanation, HEX_PAIRS, IMAGE,
+    INPUT, INPUT_HEX, LOAD, MISALIGNED, NAME, SIGNATURE, WITHOUT_SIGNATURE, push_explanation,
 };
 use crate::job_fault::{BOTH_INPUTS, are_hex_digit_pairs, isa_explanation, push_duplicate_name};
 use crate::keys::{has_region_with_unknown_key, push_unknown_key_of_job, push_unknown_region_key};
-use crate::value_types::{is_value_of_type, push_value_of_wrong_type};
 use crate::list::List;
 use crate::message::Message;
 use crate::names::{Suggestion, push_unknown_same_as};
 use crate::regions::{form_memory_map, push_region_fault};
+use crate::value_types::{is_value_of_type, push_value_of_wrong_type};
 use crate::values::{elements_at_key, text_at_key, value_at_key};
 use rv_lists::limits::{MAX_BUDGET, MAX_CONSOLE_LEN, MAX_PATH_LEN, MAX_SCRIPT_LEN, MAX_SYMBOL_LEN};
 use rv_lists::{FaultKind, JOB_KEYS, ValueType, is_name};

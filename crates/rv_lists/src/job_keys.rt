@@ -11,13 +11,13 @@ ghost use Rattle.std.specs.Prelude.{MatchResult, Ok, Err};
 
 use crate::earlier_jobs::EarlierJobs;
 use crate::error::What;
+use crate::expected_results::{ExpectedResults, expected_results_from_table};
 use crate::job::Job;
 use crate::keys::{number_at_key, text_at_key};
-use crate::value_types::{has_unknown_job_or_region_key, has_wrong_type};
-use crate::expected_results::{ExpectedResults, expected_results_from_table};
 use crate::run_keys::{RunOptions, run_options_from_table};
 use crate::setup::{Setup, setup_from_table};
 use crate::texts::is_same_path;
+use crate::value_types::{has_unknown_job_or_region_key, has_wrong_type};
 use rv_base::limits::MAX_BUDGET;
 use rv_base::{Text, is_name};
 use std::alloc::Global;

@@ -15,9 +15,9 @@ mod execute;
 mod fetch;
 mod hart;
 mod instruction_kinds;
-mod run_ending;
 mod limits;
 mod machine;
+mod run_ending;
 mod transfers;
 
 pub use ending::{Ending, FaultKind, Outcome};

@@ -9,18 +9,18 @@
 #![tactic(auto)]
 
 mod error;
-mod merge_state;
-mod parts_law;
 mod list_rows_law;
 mod merge;
+mod merge_state;
 mod names;
 mod part;
+mod parts_law;
 mod shards;
 mod whole_list_law;
 
 pub use error::{Flaw, MergeError};
-pub use parts_law::shards_give_the_parts_of_the_whole;
 pub use list_rows_law::rows_form_a_list;
 pub use merge::merge_parts;
+pub use parts_law::shards_give_the_parts_of_the_whole;
 pub use shards::shard_selection;
 pub use whole_list_law::shards_give_the_whole;

@@ -9,8 +9,8 @@ ghost use Rattle.rv_merge.specs.Shards.{AreShardTexts, IsRunOf};
 ghost use Rattle.rv_rows.specs.Rows.{rows_of};
 ghost use Rattle.rv_rows.specs.SameResults.{plan_of_jobs};
 
-use crate::parts_law::shards_give_the_parts_of_the_whole;
 use crate::list_rows_law::rows_form_a_list;
+use crate::parts_law::shards_give_the_parts_of_the_whole;
 use rv_rows::Row;
 
 /// Proves that the shards of a list merge into its whole report. Suppose a list that was read runs in shards, and each machine reads the

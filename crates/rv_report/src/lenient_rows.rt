@@ -165,11 +165,7 @@ fn add_steps_line(state: &mut ReaderState, line: &[u8])
 
 // Reads the line that should have the console of a row.
 #[tactic(auto, unfolding(crate::specs::LenientReport::after_console_line))]
-fn add_console_line(
-    alloc: Global,
-    state: &mut ReaderState,
-    line: &[u8],
-) -> Result<(), AllocError>
+fn add_console_line(alloc: Global, state: &mut ReaderState, line: &[u8]) -> Result<(), AllocError>
     ensures { OnOk result (reader_state_view state.new ≡ after_console_line line.now (reader_state_view state.old)) }
 {
     if byte_at(line, 0) == b'c' {
@@ -242,11 +238,7 @@ fn pad_signature_words(words: &mut Vec<u32>, count: u32) -> Result<(), AllocErro
 
 // Finishes the unfinished row with this verdict, and adds it to the rows.
 #[tactic(auto, unfolding(crate::specs::LenientReport::with_finished_row, crate::specs::LenientReport::state_between_rows, crate::specs::LenientReport::unfinished_row))]
-fn finish_row(
-    alloc: Global,
-    state: &mut ReaderState,
-    verdict: Verdict,
-) -> Result<(), AllocError>
+fn finish_row(alloc: Global, state: &mut ReaderState, verdict: Verdict) -> Result<(), AllocError>
     ensures { OnOk result (reader_state_view state.new ≡ with_finished_row verdict (reader_state_view state.old)) }
 {
     state.numbers.push(state.number)?;

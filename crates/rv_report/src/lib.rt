@@ -8,9 +8,9 @@
 #![tactic(auto)]
 
 mod fields;
-mod lenient_rows;
 mod law;
 mod lenient_reader;
+mod lenient_rows;
 mod lines;
 mod names;
 mod partial;

@@ -53,7 +53,8 @@ impl Extent {
     {
         match self {
             Extent::Whole => are_evenly_spaced(1, 1, numbers.len(), numbers),
-            Extent::Selection(jobs) => *jobs as usize <= MAX_JOBS && are_increasing(0, *jobs, numbers),
+            Extent::Selection(jobs) => *jobs as usize <= MAX_JOBS
+                && are_increasing(0, *jobs, numbers),
             Extent::Shard(shard) => shard.matches_job_numbers(numbers),
         }
     }

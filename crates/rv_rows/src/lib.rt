@@ -7,9 +7,9 @@
 //! `rv_report`, which this crate re-exports.
 #![tactic(auto)]
 
-mod job_run;
 mod complete_run;
 mod flat;
+mod job_run;
 mod law;
 mod outcome;
 mod plan_rows;
