@@ -17,7 +17,7 @@ tie a b = grind (arith, nat_tests)
 
 -- one of the function
 abbrev any_of : ℕ → Subtree
-any_of f = record { function = f; place = 0; end = 0; own = 0; inclusive = 0; calls = 0 }
+any_of f = record { function = f; index = 0; end = 0; own = 0; inclusive = 0; calls = 0 }
 
 abbrev pub key_of : Subtree → ℕ
 key_of s = s.function

@@ -94,7 +94,7 @@ gone f front s depth h low =
 -- of subtrees of one function by their places: of each that does not begin in the one counted before it
 abbrev pub inclusive_from : ℕ → List Subtree → ℕ
 inclusive_from end [] = 0
-inclusive_from end (t ∷ ts) = cond (leb end t.place) (t.inclusive + inclusive_from t.end ts) (inclusive_from end ts)
+inclusive_from end (t ∷ ts) = cond (leb end t.index) (t.inclusive + inclusive_from t.end ts) (inclusive_from end ts)
 
 -- what is left of the subtree of a spot that is so deep, where it ends, and the steps there
 abbrev EndsAt : Option ℕ → ℕ → List CallNode → ℕ → Type 0
@@ -218,14 +218,14 @@ sum_step field run all k d is within =
     ∙ sum_by-cons field (get_or run k d) (drop (k + 1) run)
     ∙ ap (λ (ts : List Subtree). field (get_or run k d) + sum_by field (drop (k + 1) ts)) is
 
-pub inclusive_step : (run all : List Subtree) (k end : ℕ) (d : Subtree) → run ≡ all → k < length run → end ≤ (get_or run k d).place
+pub inclusive_step : (run all : List Subtree) (k end : ℕ) (d : Subtree) → run ≡ all → k < length run → end ≤ (get_or run k d).index
     → inclusive_from end (drop k all) ≡ (get_or run k d).inclusive + inclusive_from (get_or run k d).end (drop (k + 1) all)
 inclusive_step run all k end d is within past =
     let t = get_or run k d in
     let rest = drop (k + 1) run in
     ap (λ (ts : List Subtree). inclusive_from end (drop k ts)) (sym is)
     ∙ ap (inclusive_from end) (drop_more run k d within)
-    ∙ ap (λ (b : Bool). cond b (t.inclusive + inclusive_from t.end rest) (inclusive_from end rest)) (le-leb end t.place past)
+    ∙ ap (λ (b : Bool). cond b (t.inclusive + inclusive_from t.end rest) (inclusive_from end rest)) (le-leb end t.index past)
     ∙ ap (λ (ts : List Subtree). t.inclusive + inclusive_from t.end (drop (k + 1) ts)) is
 
 -- ---- sums that fit

@@ -10,21 +10,21 @@ abbrev pub below : ℕ → List CallNode → List CallNode
 below depth [] = []
 below depth (s ∷ ss) = if nat_lt depth s.depth then s ∷ below depth ss else []
 
--- the subtree of the node `s` at the index `place`, given the nodes `later` after it
+-- the subtree of the node `s` at the index `index`, given the nodes `later` after it
 abbrev pub subtree : ℕ → CallNode → List CallNode → Subtree
-subtree place s later = record {
+subtree index s later = record {
   function = s.function;
-  place = place;
-  end = place + 1 + length (below s.depth later);
+  index = index;
+  end = index + 1 + length (below s.depth later);
   own = s.steps;
   inclusive = s.steps + all_steps (below s.depth later);
   calls = s.calls;
 }
 
--- the subtrees of these nodes, in order; `place` is the index of the first node
+-- the subtrees of these nodes, in order; `index` is the index of the first node
 abbrev pub subtrees_from : ℕ → List CallNode → List Subtree
-subtrees_from place [] = []
-subtrees_from place (s ∷ ss) = subtree place s ss ∷ subtrees_from (place + 1) ss
+subtrees_from index [] = []
+subtrees_from index (s ∷ ss) = subtree index s ss ∷ subtrees_from (index + 1) ss
 
 -- ---- by function
 

@@ -52,7 +52,7 @@ impl<'s> CallTreeIndex<'s> {
         for subtree in self.subtrees_of_function(function) {
             found.own += subtree.own;
             found.calls += subtree.calls;
-            if end <= subtree.place {
+            if end <= subtree.index {
                 found.inclusive += subtree.inclusive;
                 end = subtree.end;
             }

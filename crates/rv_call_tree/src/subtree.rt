@@ -13,7 +13,7 @@ pub(crate) struct Subtree {
     /// The node's function.
     pub(crate) function: u32,
     /// The node's index.
-    pub(crate) place: usize,
+    pub(crate) index: usize,
     /// The index of the first node after it that is not a descendant.
     pub(crate) end: usize,
     /// The node's own steps.
@@ -40,14 +40,14 @@ pub(crate) fn subtrees_of(alloc: Global, nodes: &[CallNode]) -> Result<Vec<Subtr
 
 // Returns the subtree of the node at an index. `later` has the subtrees of the nodes after it, last first. The search goes from child to
 // child, so that each subtree is read for one node only.
-fn subtree_at(nodes: &[CallNode], place: usize, later: &[Subtree]) -> Subtree
-    requires within { place < length nodes.now }
+fn subtree_at(nodes: &[CallNode], index: usize, later: &[Subtree]) -> Subtree
+    requires within { index < length nodes.now }
     requires steps { all_steps nodes.now < 2 ^ 64 }
-    requires behind { reverse later.now ≡ subtrees_from (place + 1) (drop (place + 1) nodes.now) }
-    ensures { result ∷ subtrees_from (place + 1) (drop (place + 1) nodes.now) ≡ subtrees_from place (drop place nodes.now) }
+    requires behind { reverse later.now ≡ subtrees_from (index + 1) (drop (index + 1) nodes.now) }
+    ensures { result ∷ subtrees_from (index + 1) (drop (index + 1) nodes.now) ≡ subtrees_from index (drop index nodes.now) }
 {
-    let node = nodes[place];
-    let mut end = place + 1;
+    let node = nodes[index];
+    let mut end = index + 1;
     let mut inclusive = node.steps;
     while end < nodes.len() && node.depth < nodes[end].depth {
         let child = later[nodes.len() - 1 - end];
@@ -56,7 +56,7 @@ fn subtree_at(nodes: &[CallNode], place: usize, later: &[Subtree]) -> Subtree
     }
     Subtree {
         function: node.function,
-        place,
+        index,
         end,
         own: node.steps,
         inclusive,

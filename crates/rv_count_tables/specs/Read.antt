@@ -28,7 +28,7 @@ abbrev pub IsOkOrOutOfMemory : {X : Type 0} → X → Result X ReadError → Typ
 IsOkOrOutOfMemory x (Ok y) = y ≡ x
 IsOkOrOutOfMemory x (Err e) = e ≡ OutOfMemory
 
--- the error for the line that begins at the index `place`: `Truncated` if it has no line feed, or else its number, counted from 1
+-- the error for the line that begins at the index `index`: `Truncated` if it has no line feed, or else its number, counted from 1
 abbrev pub read_error_at : ℕ → List ℕ → ReadError
-read_error_at place bytes =
-    if length (whole_line (drop place bytes)) == 0 then Truncated else Line (line_feed_count (take place bytes) + 1)
+read_error_at index bytes =
+    if length (whole_line (drop index bytes)) == 0 then Truncated else Line (line_feed_count (take index bytes) + 1)

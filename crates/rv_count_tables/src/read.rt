@@ -72,21 +72,21 @@ pub fn read_table(alloc: Global, bytes: &[u8]) -> Result<CountTable, ReadError>
 }
 
 // Returns the error for the invalid line that begins at an index: `Truncated` if it has no line feed, or else its number, counted from 1.
-fn read_error_at(bytes: &[u8], place: usize) -> ReadError
-    ensures { result ≡ read_error_at place bytes.now }
+fn read_error_at(bytes: &[u8], index: usize) -> ReadError
+    ensures { result ≡ read_error_at index bytes.now }
 {
-    if whole_line(tail_from(bytes, place)).is_empty() {
+    if whole_line(tail_from(bytes, index)).is_empty() {
         ReadError::Truncated
     } else {
-        ReadError::Line(line_number_at(bytes, place))
+        ReadError::Line(line_number_at(bytes, index))
     }
 }
 
 // Returns the number, counted from 1, of the line that begins at an index.
-fn line_number_at(bytes: &[u8], place: usize) -> usize
-    ensures { result ≡ line_feed_count (take place bytes.now) + 1 }
+fn line_number_at(bytes: &[u8], index: usize) -> usize
+    ensures { result ≡ line_feed_count (take index bytes.now) + 1 }
 {
-    let front = leading_bytes(bytes, place);
+    let front = leading_bytes(bytes, index);
     let mut number = 1;
     for b in front {
         if *b == b'\n' {

@@ -44,8 +44,8 @@ counts_text noun old new = becomes (count_text (length old) noun) (count_text (l
 
 -- how two consoles differ: the bytes from the first difference, at the given index, or the lengths if there is no such index
 abbrev pub byte_change_text : Option ℕ → List ℕ → List ℕ → List ℕ
-byte_change_text (Some place) old new = codes "byte " ++ decimal place ++ codes ": "
-    ++ becomes (value_in_quotes (drop place old)) (value_in_quotes (drop place new))
+byte_change_text (Some index) old new = codes "byte " ++ decimal index ++ codes ": "
+    ++ becomes (value_in_quotes (drop index old)) (value_in_quotes (drop index new))
 byte_change_text None old new = counts_text (codes "byte") old new
 
 -- the text for a console that changed from `old` to `new`
@@ -54,8 +54,8 @@ console_change_text old new = codes "console " ++ byte_change_text (first_differ
 
 -- how the words of two signatures differ: the first word that differs, at the given index, or the lengths if there is no such index
 abbrev pub word_change_text : Option ℕ → List ℕ → List ℕ → List ℕ
-word_change_text (Some place) old new = codes "word " ++ decimal place ++ codes ": "
-    ++ becomes (word_digits (slice_index old place)) (word_digits (slice_index new place))
+word_change_text (Some index) old new = codes "word " ++ decimal index ++ codes ": "
+    ++ becomes (word_digits (slice_index old index)) (word_digits (slice_index new index))
 word_change_text None old new = counts_text (codes "word") old new
 
 -- the number of words of a signature, or `none` if there is no signature

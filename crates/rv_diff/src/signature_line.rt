@@ -121,8 +121,8 @@ fn first_differing_word(old: &[u32], new: &[u32]) -> Option<usize>
 }
 
 // Returns the word at an index, or 0 if there are too few words.
-fn word_or_zero(words: &[u32], place: usize) -> u32
-    ensures { result ≡ slice_index words.now place }
+fn word_or_zero(words: &[u32], index: usize) -> u32
+    ensures { result ≡ slice_index words.now index }
 {
-    if place < words.len() { words[place] } else { 0 }
+    if index < words.len() { words[index] } else { 0 }
 }

@@ -14,25 +14,25 @@ use Rattle.rv_expect.specs.declared.difference.SameAsDifference.TheVariants as s
 
 -- ---- two lists
 
--- the first difference of two lists, or `None` if they are equal; the reported index is `place` for the first elements, and one more for
+-- the first difference of two lists, or `None` if they are equal; the reported index is `index` for the first elements, and one more for
 -- each later element
 unfoldable pub difference_from : ℕ → List ℕ → List ℕ → Option Difference
-difference_from place [] [] = None
-difference_from place [] (y ∷ ys) = Some Lengths
-difference_from place (x ∷ xs) [] = Some Lengths
-difference_from place (x ∷ xs) (y ∷ ys) =
-    if x == y then difference_from (place + 1) xs ys else Some (At place)
+difference_from index [] [] = None
+difference_from index [] (y ∷ ys) = Some Lengths
+difference_from index (x ∷ xs) [] = Some Lengths
+difference_from index (x ∷ xs) (y ∷ ys) =
+    if x == y then difference_from (index + 1) xs ys else Some (At index)
 
 -- the first difference of two lists, or `None` if they are equal
 abbrev pub first_difference : List ℕ → List ℕ → Option Difference
 first_difference xs ys = difference_from 0 xs ys
 
--- both lists have an element at the index `place`; these elements differ, and all earlier elements are equal
-pub record DifferAt (place : ℕ) (xs ys : List ℕ) : Type 0 where
-  pub in_one : place < length xs
-  pub in_other : place < length ys
-  pub before : take place xs ≡ take place ys
-  pub there : slice_index xs place ≢ slice_index ys place
+-- both lists have an element at the index `index`; these elements differ, and all earlier elements are equal
+pub record DifferAt (index : ℕ) (xs ys : List ℕ) : Type 0 where
+  pub in_one : index < length xs
+  pub in_other : index < length ys
+  pub before : take index xs ≡ take index ys
+  pub there : slice_index xs index ≢ slice_index ys index
 
 -- one list is a proper prefix of the other
 pub record DifferInLength (xs ys : List ℕ) : Type 0 where
@@ -41,7 +41,7 @@ pub record DifferInLength (xs ys : List ℕ) : Type 0 where
 
 -- the two lists differ, and this is their first difference: an index, or their lengths; `Missing` is never the difference of two lists
 abbrev pub IsDifference : Difference → List ℕ → List ℕ → Type 0
-IsDifference (At place) xs ys = DifferAt place xs ys
+IsDifference (At index) xs ys = DifferAt index xs ys
 IsDifference Lengths xs ys = DifferInLength xs ys
 IsDifference Missing xs ys = ⊥
 
@@ -80,5 +80,5 @@ difference_of_runs row other =
 -- the first difference between a row and the row `other` of the job that `same_as` names, or `None` if they agree or there is no `same_as`
 abbrev pub same_as_difference : Option ℕ → Option Row → Row → Option SameAsDifference
 same_as_difference None other row = None
-same_as_difference (Some place) None row = Some same.Missing
-same_as_difference (Some place) (Some other) row = difference_of_runs row other
+same_as_difference (Some index) None row = Some same.Missing
+same_as_difference (Some index) (Some other) row = difference_of_runs row other

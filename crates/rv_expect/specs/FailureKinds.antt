@@ -99,12 +99,12 @@ failure_kind_in_plan judging plan (Some job) row = if is_unknown_failure (judgem
     then failure_kind_of_unmet row.ending (unmet_expectations_of (comparison_without_same_as plan job row))
     else failure_kind_of_end row.ending
 
--- the kind of failure of a row, or `None` if the row does not count as a failure; `place` is the index of its job in the plan
+-- the kind of failure of a row, or `None` if the row does not count as a failure; `index` is the index of its job in the plan
 abbrev pub failure_in_plan : JudgeView → PlanView → ℕ → Row → Option FailureKind
-failure_in_plan judging plan place row =
-    if fails judging row then Some (failure_kind_in_plan judging plan (slice_get plan.jobs place) row) else None
+failure_in_plan judging plan index row =
+    if fails judging row then Some (failure_kind_in_plan judging plan (slice_get plan.jobs index) row) else None
 
--- the kind of failure of each row that counts as a failure, in order; `places` are the indices in the plan of the rows' jobs
+-- the kind of failure of each row that counts as a failure, in order; `indices` are the indices in the plan of the rows' jobs
 abbrev pub failures_in_plan : JudgeView → PlanView → List ℕ → List Row → List FailureKind
-failures_in_plan judging plan places rows =
-    flat_map (λ placed. option_to_list (failure_in_plan judging plan placed.0 placed.1)) (zip places rows)
+failures_in_plan judging plan indices rows =
+    flat_map (λ placed. option_to_list (failure_in_plan judging plan placed.0 placed.1)) (zip indices rows)

@@ -73,7 +73,7 @@ signature_words_or_empty (Some words) = words
 
 -- a difference between two lists of words, as a difference between signatures
 abbrev pub word_difference : Difference → SignatureDifference
-word_difference (difference.At place) = Word place
+word_difference (difference.At index) = Word index
 word_difference difference.Lengths = Count
 word_difference difference.Missing = Missing
 

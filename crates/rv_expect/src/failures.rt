@@ -30,21 +30,21 @@ pub fn failures_by_end(
     Ok(failures)
 }
 
-/// Returns the kind of failure of each row that counts as a failure, in order. `places` are the indices in the plan of the rows' jobs.
+/// Returns the kind of failure of each row that counts as a failure, in order. `indices` are the indices in the plan of the rows' jobs.
 pub fn failures_in_plan(
     alloc: Global,
     judge: &Judge<'_>,
     plan: &Plan,
-    places: &[usize],
+    indices: &[usize],
     rows: &[Row],
 ) -> Result<Vec<FailureKind>, AllocError>
-    requires { length rows.now ≤ length places.now }
+    requires { length rows.now ≤ length indices.now }
     ensures { IfOk result (λ failures. failures.items
-        ≡ failures_in_plan (judge_view judge.now) plan.now places.now rows.now) }
+        ≡ failures_in_plan (judge_view judge.now) plan.now indices.now rows.now) }
 {
     let mut failures = Vec::new(alloc);
     for i in 0..rows.len() {
-        let failure = failure_in_plan(alloc, judge, plan, places[i], &rows[i])?;
+        let failure = failure_in_plan(alloc, judge, plan, indices[i], &rows[i])?;
         push_if_failed(&mut failures, failure)?;
     }
     Ok(failures)
@@ -74,44 +74,44 @@ fn failure_by_end(judge: &Judge<'_>, row: &Row) -> Option<FailureKind>
     }
 }
 
-// Returns the kind of failure of a row, or `None` if the row does not count as a failure. `place` is the index of its job in the plan.
+// Returns the kind of failure of a row, or `None` if the row does not count as a failure. `index` is the index of its job in the plan.
 fn failure_in_plan(
     alloc: Global,
     judge: &Judge<'_>,
     plan: &Plan,
-    place: usize,
+    index: usize,
     row: &Row,
 ) -> Result<Option<FailureKind>, AllocError>
-    ensures { IfOk result (λ failure. failure ≡ failure_in_plan (judge_view judge.now) plan.now place row.now) }
+    ensures { IfOk result (λ failure. failure ≡ failure_in_plan (judge_view judge.now) plan.now index row.now) }
 {
     if !judge.fails(row) {
         return Ok(None);
     }
-    if !judge.judgement(row).is_unknown_failure() || place >= plan.jobs() {
+    if !judge.judgement(row).is_unknown_failure() || index >= plan.jobs() {
         return Ok(Some(FailureKind::of_end(row.ending)));
     }
-    let kind = failure_kind_of_job(alloc, plan, place, row)?;
+    let kind = failure_kind_of_job(alloc, plan, index, row)?;
     Ok(Some(kind))
 }
 
-// Returns the kind of failure of a row, by the first unmet expectation of its job, which is at the index `place` of the plan. The job that
+// Returns the kind of failure of a row, by the first unmet expectation of its job, which is at the index `index` of the plan. The job that
 // `same_as` names is not run again: `same_as` counts as unmet.
 fn failure_kind_of_job(
     alloc: Global,
     plan: &Plan,
-    place: usize,
+    index: usize,
     row: &Row,
 ) -> Result<FailureKind, AllocError>
-    requires { place < length plan.now.jobs }
+    requires { index < length plan.now.jobs }
     ensures { IfOk result (λ kind. (d : AJob)
         → kind ≡ failure_kind_of_unmet row.now.ending
-        (unmet_expectations_of (comparison_without_same_as plan.now (slice_index_or plan.now.jobs place d) row.now))) }
+        (unmet_expectations_of (comparison_without_same_as plan.now (slice_index_or plan.now.jobs index d) row.now))) }
 {
     let comparison = Comparison {
-        job: plan.job(place),
+        job: plan.job(index),
         row,
-        console: expected_console_bytes(plan, place),
-        reference: signature_reference_bytes(plan, place),
+        console: expected_console_bytes(plan, index),
+        reference: signature_reference_bytes(plan, index),
         other: None,
     };
     let unmet = unmet_expectations(alloc, &comparison)?;

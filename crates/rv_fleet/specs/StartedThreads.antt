@@ -13,16 +13,16 @@ use Rattle.rv_fleet.specs.JobIndices.{AreJobIndices}
 use Rattle.rv_fleet.specs.Pieces.{piece_count_of_rows}
 
 -- the jobs at these indices form a batch of the plan, and `group` is a valid chunk size
-pub record IsGroupedBatch (plan : PlanView) (places : List ℕ) (group : ℕ) : Type 0 where
-  pub within : AreJobIndices plan places
-  pub rising : IsStrictlyIncreasing places
-  pub few : length places ≤ max_jobs
+pub record IsGroupedBatch (plan : PlanView) (indices : List ℕ) (group : ℕ) : Type 0 where
+  pub within : AreJobIndices plan indices
+  pub rising : IsStrictlyIncreasing indices
+  pub few : length indices ≤ max_jobs
   pub group_in_range : (0 < group) × (group ≤ max_group)
 
 -- the jobs at these indices form a batch of the plan, and the shared counter has the number of its chunks
 abbrev pub CanStart : PlanView → List ℕ → ℕ → CounterView → Type 0
-CanStart plan places group draw = IsGroupedBatch plan places group
-    × (draw.pieces ≡ piece_count_of_rows (rows_at plan places) group)
+CanStart plan indices group draw = IsGroupedBatch plan indices group
+    × (draw.pieces ≡ piece_count_of_rows (rows_at plan indices) group)
 
 -- the promise of a started thread is about these rows, this number of rows in a chunk, and this shared counter
 abbrev pub IsPromiseAbout : List Row → ℕ → CounterView → PromisedHandle WorkerResult WorkerPromise → Type 0

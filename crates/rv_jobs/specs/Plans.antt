@@ -56,16 +56,16 @@ result_or_unreadable results path = unwrap_or (result_of_path results path) Unre
 -- the job that `same_as` of a job names, as a list, which is empty if there is no `same_as`; the argument is its index
 abbrev pub same_as_jobs : List Job → Option ℕ → List Job
 same_as_jobs jobs None = []
-same_as_jobs jobs (Some place) = slice_index_or jobs place (single_job [] 0 []) ∷ []
+same_as_jobs jobs (Some index) = slice_index_or jobs index (single_job [] 0 []) ∷ []
 
 -- the jobs whose files are needed for the row of the job at an index: the job itself, and the job that its `same_as` names
 abbrev pub jobs_needed_at : List Job → ℕ → List Job
-jobs_needed_at jobs place =
-    let job = slice_index_or jobs place (single_job [] 0 []) in job ∷ same_as_jobs jobs job.same_as
+jobs_needed_at jobs index =
+    let job = slice_index_or jobs index (single_job [] 0 []) in job ∷ same_as_jobs jobs job.same_as
 
 -- the jobs whose files are needed for the rows of the jobs at these indices, index by index
 abbrev pub jobs_needed_for : List Job → List ℕ → List Job
-jobs_needed_for jobs places = flat_map (jobs_needed_at jobs) places
+jobs_needed_for jobs indices = flat_map (jobs_needed_at jobs) indices
 
 -- each path of the job has a result
 pub record HasResults (results : List PathResult) (job : Job) : Type 0 where

@@ -50,23 +50,23 @@ impl<'a> PathResults<'a> {
         alloc: Global,
         store: &mut S,
         jobs: &'a [Job],
-        place: usize,
+        index: usize,
         recorded: &mut Vec<Option<ResultIndices>>,
     ) -> Result<PathResults<'a>, AllocError>
         requires jobs { AreValidJobs jobs.now }
-        requires place { place < length jobs.now }
+        requires place { index < length jobs.now }
         requires noted { AreRecorded (paths_of self) jobs.now recorded.old.items }
         ensures same { S.contents store.new ≡ S.contents store.old }
         ensures paths { IfOk result (λ a. paths_of a
-            ≡ fold with_job_paths (paths_of self.entry) (jobs_needed_at jobs.now place)) }
+            ≡ fold with_job_paths (paths_of self.entry) (jobs_needed_at jobs.now index)) }
         ensures noted { IfOk result (λ a. AreRecorded (paths_of a) jobs.now recorded.new.items) }
         ensures kept { AgreeWithContents (S.contents store.old) self.entry
             → IfOk result (AgreeWithContents (S.contents store.old)) }
         ensures faults { (n : ℕ) → S.fault_count store.old ≡ after_increments n (unreadable_count self.entry)
             → IfOk result (λ a. S.fault_count store.new ≡ after_increments n (unreadable_count a)) }
     {
-        let own = self.read_paths_at_index(alloc, store, jobs, place, recorded)?;
-        match jobs[place].same_as {
+        let own = self.read_paths_at_index(alloc, store, jobs, index, recorded)?;
+        match jobs[index].same_as {
             Some(other) => own.read_paths_at_index(alloc, store, jobs, other, recorded),
             None => Ok(own),
         }
@@ -78,25 +78,25 @@ impl<'a> PathResults<'a> {
         alloc: Global,
         store: &mut S,
         jobs: &'a [Job],
-        place: usize,
+        index: usize,
         recorded: &mut Vec<Option<ResultIndices>>,
     ) -> Result<PathResults<'a>, AllocError>
-        requires place { place < length jobs.now }
+        requires place { index < length jobs.now }
         requires noted { AreRecorded (paths_of self) jobs.now recorded.old.items }
         ensures same { S.contents store.new ≡ S.contents store.old }
         ensures paths { IfOk result (λ a. paths_of a
-            ≡ with_job_paths (paths_of self.entry) (slice_index_or jobs.now place (single_job [] 0 []))) }
+            ≡ with_job_paths (paths_of self.entry) (slice_index_or jobs.now index (single_job [] 0 []))) }
         ensures noted { IfOk result (λ a. AreRecorded (paths_of a) jobs.now recorded.new.items) }
         ensures kept { AgreeWithContents (S.contents store.old) self.entry
             → IfOk result (AgreeWithContents (S.contents store.old)) }
         ensures faults { (n : ℕ) → S.fault_count store.old ≡ after_increments n (unreadable_count self.entry)
             → IfOk result (λ a. S.fault_count store.new ≡ after_increments n (unreadable_count a)) }
     {
-        if recorded[place].is_some() {
+        if recorded[index].is_some() {
             return Ok(self);
         }
-        let (asked, places) = read_paths_of_job(alloc, store, self, &jobs[place])?;
-        recorded[place] = Some(places);
+        let (asked, places) = read_paths_of_job(alloc, store, self, &jobs[index])?;
+        recorded[index] = Some(places);
         Ok(asked)
     }
 }

@@ -58,34 +58,34 @@ pub fn gather<S: Store>(alloc: Global, jobs: JobList, store: &mut S) -> Result<P
     gather_jobs(alloc, jobs, places, store)
 }
 
-/// Reads only the paths that the rows of the jobs at `places` need, and returns the plan with the results. Each distinct path of these
+/// Reads only the paths that the rows of the jobs at `indices` need, and returns the plan with the results. Each distinct path of these
 /// jobs, and of the jobs that they name by `same_as`, is read once, in order of first use.
 pub fn gather_jobs<S: Store>(
     alloc: Global,
     jobs: JobList,
-    places: Vec<usize>,
+    indices: Vec<usize>,
     store: &mut S,
 ) -> Result<Plan, AllocError>
-    requires { All (λ place. place < length jobs) places.items }
+    requires { All (λ place. place < length jobs) indices.items }
     ensures same { S.contents store.new ≡ S.contents store.old }
     ensures jobs { IfOk result (λ p. p.jobs ≡ jobs) }
     ensures paths { IfOk result (λ p. paths_of p.results
-        ≡ paths_used (jobs_needed_for jobs places.items)) }
+        ≡ paths_used (jobs_needed_for jobs indices.items)) }
     ensures kept { IfOk result (λ p. AgreeWithContents (S.contents store.old) p.results) }
     ensures faults { IfOk result (λ p. S.fault_count store.new
         ≡ after_increments (S.fault_count store.old) (unreadable_count p.results)) }
 {
-    let none = PathResults::new(alloc, places.len())?;
+    let none = PathResults::new(alloc, indices.len())?;
     let mut asked = none;
     let mut noted = empty_result_indices(alloc, jobs.as_slice())?;
-    for place in places.as_slice() {
+    for place in indices.as_slice() {
         asked = asked.read_paths_for_row(alloc, store, jobs.as_slice(), *place, &mut noted)?;
     }
     let found = result_indices(alloc, &asked, jobs.as_slice(), noted.as_slice())?;
     let results = asked.into_results();
     Ok(Plan {
         jobs,
-        chosen: places,
+        chosen: indices,
         results,
         found,
         unread: Kept::Unreadable,

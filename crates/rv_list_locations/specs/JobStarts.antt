@@ -23,5 +23,5 @@ BeginsWithElement list text = IsInJobArray list text × (first text ≢ right_br
 
 -- a header `[[job]]` or an element of an array `job = [..]` begins on this line of the list's text, counted from 1
 abbrev pub IsLineOfJob : List ℕ → ℕ → Type 0
-IsLineOfJob list line = (place : ℕ) × (line ≡ line_at place list)
-    × (BeginsWithJobHeader (drop place list) ⊎ BeginsWithElement list (drop place list))
+IsLineOfJob list line = (index : ℕ) × (line ≡ line_at index list)
+    × (BeginsWithJobHeader (drop index list) ⊎ BeginsWithElement list (drop index list))

@@ -32,15 +32,15 @@ impl<'a> Cursor<'a> {
     }
 
     /// Returns the line and column of the byte at an index, or of the end of the text if it is shorter.
-    pub fn location_at(&mut self, place: usize) -> Location
+    pub fn location_at(&mut self, index: usize) -> Location
         ensures text { self.new.text.now ≡ self.old.text.now }
-        ensures line { result.line ≡ line_at place self.old.text.now }
-        ensures column { result.column ≡ column_at place self.old.text.now }
+        ensures line { result.line ≡ line_at index self.old.text.now }
+        ensures column { result.column ≡ column_at index self.old.text.now }
     {
-        if place < self.offset {
+        if index < self.offset {
             *self = Cursor::new(self.text);
         }
-        *self = self.advanced_to(place.min(self.text.len()));
+        *self = self.advanced_to(index.min(self.text.len()));
         Location {
             line: self.line,
             column: self.column,
@@ -48,15 +48,15 @@ impl<'a> Cursor<'a> {
     }
 
     // Returns the cursor advanced to a later index.
-    fn advanced_to(self, place: usize) -> Cursor<'a>
-        requires later { self.offset ≤ place }
-        requires within { place ≤ length self.text.now }
+    fn advanced_to(self, index: usize) -> Cursor<'a>
+        requires later { self.offset ≤ index }
+        requires within { index ≤ length self.text.now }
         ensures text { result.text.now ≡ self.entry.text.now }
-        ensures offset { result.offset ≡ place }
+        ensures offset { result.offset ≡ index }
     {
         let mut line = self.line;
         let mut column = self.column;
-        for at in self.offset..place {
+        for at in self.offset..index {
             let byte = self.text[at];
             if byte == b'\n' {
                 line += 1;
@@ -67,7 +67,7 @@ impl<'a> Cursor<'a> {
         }
         Cursor {
             text: self.text,
-            offset: place,
+            offset: index,
             line,
             column,
         }

@@ -201,10 +201,10 @@ pub(crate) fn after_brackets(header: &str) -> &str
 
 /// Returns the part of a key at an index, or the last part if the key has fewer parts.
 #[tactic(auto, using(crate::proofs::KeyParts::some_part, crate::proofs::KeyParts::no_part))]
-pub(crate) fn part_or_last(key: &Key, place: usize) -> &str
-    ensures { result.now ≡ unwrap_or (slice_get (key_view key.now).0 place) (key_view key.now).1 }
+pub(crate) fn part_or_last(key: &Key, index: usize) -> &str
+    ensures { result.now ≡ unwrap_or (slice_get (key_view key.now).0 index) (key_view key.now).1 }
 {
-    match key.path.get(place) {
+    match key.path.get(index) {
         Some(part) => part.as_str(),
         None => key.last.as_str(),
     }

@@ -69,10 +69,10 @@ pub record IsPartAdded (run : Run) (sources : List (Option ℕ)) (slots : List (
   pub has :
       map (λ m. slice_index_or slots (m - 1) None) of.report.numbers ≡ map Some of.report.rows
 
--- the text at the index `at` is one of the first `count` texts, and is the report of shard `k` + 1 of the run
-pub record IsSource (run : Run) (texts : List (List ℕ)) (count k at : ℕ) : Type 0 where
-  pub within : at < count
-  pub of : IsReportAt (extent.Shard (shard_in run (k + 1))) (nth_text texts at)
+-- the text at the index `index` is one of the first `count` texts, and is the report of shard `k` + 1 of the run
+pub record IsSource (run : Run) (texts : List (List ℕ)) (count k index : ℕ) : Type 0 where
+  pub within : index < count
+  pub of : IsReportAt (extent.Shard (shard_in run (k + 1))) (nth_text texts index)
 
 -- the first `count` texts have been added to `sources` and `slots`, and all belong to the run of `shard`, the shard of the first text
 pub record Holds (texts : List (List ℕ)) (count : ℕ) (shard : Shard)
@@ -110,18 +110,18 @@ pub record LacksSource (sources : List (Option ℕ)) (n : ℕ) : Type 0 where
   pub high : n ≤ length sources
   pub none : slice_index_or sources (n - 1) None ≡ None
 
--- the row of job `n` has the name of an earlier row, and the text of its shard is at the index `at`
-pub record IsRepeatedNameInSlots (sources : List (Option ℕ)) (slots : List (Option Row)) (n at : ℕ)
+-- the row of job `n` has the name of an earlier row, and the text of its shard is at the index `index`
+pub record IsRepeatedNameInSlots (sources : List (Option ℕ)) (slots : List (Option Row)) (n index : ℕ)
     : Type 0 where
   pub all : HaveSources sources
   pub low : 0 < n
-  pub there : slice_index_or sources ((n - 1) % length sources) None ≡ Some at
+  pub there : slice_index_or sources ((n - 1) % length sources) None ≡ Some index
   pub twice : IsRepeatedName (rows_from_slots slots) (n - 1)
 
 -- the error says why the gathered rows are not a whole list: a shard has no text, a name is repeated, or memory ran out
 abbrev pub ExplainsIncomplete : List (Option ℕ) → List (Option Row) → MergeError → Type 0
 ExplainsIncomplete sources slots error.OutOfMemory = Unit {0}
 ExplainsIncomplete sources slots error.NoTexts = ⊥
-ExplainsIncomplete sources slots (error.Text at (flaw.RepeatedName n)) = IsRepeatedNameInSlots sources slots n at
-ExplainsIncomplete sources slots (error.Text at _) = ⊥
+ExplainsIncomplete sources slots (error.Text index (flaw.RepeatedName n)) = IsRepeatedNameInSlots sources slots n index
+ExplainsIncomplete sources slots (error.Text index _) = ⊥
 ExplainsIncomplete sources slots (error.Missing n) = LacksSource sources n

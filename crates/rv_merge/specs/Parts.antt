@@ -15,9 +15,9 @@ use Rattle.rv_rows.specs.Saved.{IsValidRow, IsValidReport, are_distinct, row_nam
 abbrev pub bytes_of_texts : List (Bor (List ℕ)) → List (List ℕ)
 bytes_of_texts texts = map (λ (text : Bor (List ℕ)). text.now) texts
 
--- the text at the index `at`; empty if there is no such index
+-- the text at the index `index`; empty if there is no such index
 abbrev pub nth_text : List (List ℕ) → ℕ → List ℕ
-nth_text texts at = slice_index_or texts at []
+nth_text texts index = slice_index_or texts index []
 
 -- a run of a list that is divided into shards
 pub record Run : Type 0 where

@@ -23,11 +23,11 @@ abbrev pub IsRowsOrOutOfMemory : List Row → Result (List Row) MergeError → T
 IsRowsOrOutOfMemory rows (Ok found) = found ≡ rows
 IsRowsOrOutOfMemory rows (Err e) = e ≡ error.OutOfMemory
 
--- the bytes are not the text of a report, but agree with one up to the error `place`
-pub record IsUnread (place : ReadError) (bytes : List ℕ) : Type 0 where
+-- the bytes are not the text of a report, but agree with one up to the error `error`
+pub record IsUnread (error : ReadError) (bytes : List ℕ) : Type 0 where
   pub none : (report : SavedReport) → IsValidReport report → saved_text report ≡ bytes → ⊥
-  pub begins : (report : SavedReport) × IsValidReport report × AgreeBeforeError place (saved_text report) bytes
-  pub told : IsSameReadError place (first_read_error (saved_text (lenient_report bytes)) bytes)
+  pub begins : (report : SavedReport) × IsValidReport report × AgreeBeforeError error (saved_text report) bytes
+  pub told : IsSameReadError error (first_read_error (saved_text (lenient_report bytes)) bytes)
 
 -- the two texts are reports of shards for which the function `value` has different values
 pub record Differ {X : Type 0} (value : Shard → X) (bytes other_bytes : List ℕ) : Type 0 where
@@ -44,11 +44,11 @@ pub record AreDifferentReports (bytes other_bytes : List ℕ) : Type 0 where
   pub of : IsReportAt (extent.Shard shard) other_bytes
   pub differ : bytes ≡ other_bytes → ⊥
 
--- the row at the index `place` has the name of an earlier row
-pub record IsRepeatedName (rows : List Row) (place : ℕ) : Type 0 where
+-- the row at the index `index` has the name of an earlier row
+pub record IsRepeatedName (rows : List Row) (index : ℕ) : Type 0 where
   pub row : Row
-  pub at : slice_get rows place ≡ Some row
-  pub twice : is_some (index_in (row_names (take place rows)) row.name) ≡ true
+  pub at : slice_get rows index ≡ Some row
+  pub twice : is_some (index_in (row_names (take index rows)) row.name) ≡ true
 
 -- the texts are the parts of a run of some rows; the row of job `n`, which is in the text `bytes`, has the name of an earlier row
 pub record HasRepeatedName (texts : List (List ℕ)) (bytes : List ℕ) (n : ℕ) : Type 0 where
@@ -61,21 +61,21 @@ pub record HasRepeatedName (texts : List (List ℕ)) (bytes : List ℕ) (n : ℕ
   pub place : ℕ
   pub there : slice_get of.report.numbers place ≡ Some n
 
--- the text at the index `at` has this flaw
+-- the text at the index `index` has this flaw
 abbrev pub HasFlaw : List (List ℕ) → ℕ → Flaw → Type 0
-HasFlaw texts at (flaw.Line line) = IsUnread (read.Line line) (nth_text texts at)
-HasFlaw texts at flaw.Truncated = IsUnread read.Truncated (nth_text texts at)
-HasFlaw texts at flaw.Whole = IsReportAt extent.Whole (nth_text texts at)
-HasFlaw texts at flaw.Selection = (jobs : ℕ) × IsReportAt (extent.Selection jobs) (nth_text texts at)
-HasFlaw texts at flaw.DifferentShardCount =
-    Differ (λ (s : Shard). s.shards) (nth_text texts 0) (nth_text texts at)
-HasFlaw texts at flaw.DifferentJobCount =
-    Differ (λ (s : Shard). s.jobs) (nth_text texts 0) (nth_text texts at)
-HasFlaw texts at flaw.DifferentStamp =
-    Differ (λ (s : Shard). s.stamp) (nth_text texts 0) (nth_text texts at)
-HasFlaw texts at (flaw.DifferentText earlier) =
-    (earlier < at) × AreDifferentReports (nth_text texts earlier) (nth_text texts at)
-HasFlaw texts at (flaw.RepeatedName n) = HasRepeatedName texts (nth_text texts at) n
+HasFlaw texts index (flaw.Line line) = IsUnread (read.Line line) (nth_text texts index)
+HasFlaw texts index flaw.Truncated = IsUnread read.Truncated (nth_text texts index)
+HasFlaw texts index flaw.Whole = IsReportAt extent.Whole (nth_text texts index)
+HasFlaw texts index flaw.Selection = (jobs : ℕ) × IsReportAt (extent.Selection jobs) (nth_text texts index)
+HasFlaw texts index flaw.DifferentShardCount =
+    Differ (λ (s : Shard). s.shards) (nth_text texts 0) (nth_text texts index)
+HasFlaw texts index flaw.DifferentJobCount =
+    Differ (λ (s : Shard). s.jobs) (nth_text texts 0) (nth_text texts index)
+HasFlaw texts index flaw.DifferentStamp =
+    Differ (λ (s : Shard). s.stamp) (nth_text texts 0) (nth_text texts index)
+HasFlaw texts index (flaw.DifferentText earlier) =
+    (earlier < index) × AreDifferentReports (nth_text texts earlier) (nth_text texts index)
+HasFlaw texts index (flaw.RepeatedName n) = HasRepeatedName texts (nth_text texts index) n
 
 -- the bytes are the report of a shard of the run other than shard `n`
 abbrev pub IsOtherPart : Run → ℕ → List ℕ → Type 0
@@ -94,5 +94,5 @@ pub record IsMissingShard (n : ℕ) (texts : List (List ℕ)) : Type 0 where
 abbrev pub HasMergeError : List (List ℕ) → MergeError → Type 0
 HasMergeError texts error.OutOfMemory = Unit {0}
 HasMergeError texts error.NoTexts = texts ≡ []
-HasMergeError texts (error.Text at flaw) = (at < length texts) × HasFlaw texts at flaw
+HasMergeError texts (error.Text index flaw) = (index < length texts) × HasFlaw texts index flaw
 HasMergeError texts (error.Missing n) = IsMissingShard n texts

@@ -14,9 +14,9 @@ use Rattle.rv_rows.specs.declared_saved.SavedReport.{SavedReport}
 use Rattle.rv_rows.specs.Saved.{saved_text}
 use Rattle.rv_merge.specs.Parts.{Run, shard_in}
 
--- whether shard `n` of `shards` shards has the job at the index `place`, counted from 0
+-- whether shard `n` of `shards` shards has the job at the index `index`, counted from 0
 abbrev pub is_in_shard : ℕ → ℕ → ℕ → Bool
-is_in_shard shards n place = place % shards == n - 1
+is_in_shard shards n index = index % shards == n - 1
 
 -- for each of `job_count` jobs, in list order, whether shard `n` of `shards` shards has it
 abbrev pub shard_selection : ℕ → ℕ → ℕ → List Bool

@@ -79,16 +79,16 @@ fn first_missing_shard(sources: &[Option<usize>]) -> Option<usize>
 }
 
 // Returns the error that the row at an index has the name of an earlier row.
-fn repeated_name_error(sources: &[Option<usize>], place: usize) -> MergeError
+fn repeated_name_error(sources: &[Option<usize>], index: usize) -> MergeError
     requires some { 0 < length sources.now }
-    requires place { place < usize.MAX }
-    ensures { MatchOption (slice_index_or sources.now (place % length sources.now) None)
-        (result ≡ MergeError.Missing (place % length sources.now + 1))
-        (λ text. result ≡ MergeError.Text text (Flaw.RepeatedName (place + 1))) }
+    requires place { index < usize.MAX }
+    ensures { MatchOption (slice_index_or sources.now (index % length sources.now) None)
+        (result ≡ MergeError.Missing (index % length sources.now + 1))
+        (λ text. result ≡ MergeError.Text text (Flaw.RepeatedName (index + 1))) }
 {
-    let shard = place % sources.len();
+    let shard = index % sources.len();
     match sources[shard] {
-        Some(text) => MergeError::Text(text, Flaw::RepeatedName(place + 1)),
+        Some(text) => MergeError::Text(text, Flaw::RepeatedName(index + 1)),
         None => MergeError::Missing(shard + 1),
     }
 }

@@ -60,28 +60,28 @@ fn empty_slots<T: Drop>(alloc: Global, count: u32) -> Result<Vec<Option<T>>, All
 pub(crate) fn add_part(
     state: &mut MergeState,
     texts: &[&[u8]],
-    at: usize,
+    index: usize,
     part: Part,
 ) -> Result<(), MergeError>
-    requires at { at < length texts.now }
-    requires text { IsTextOf (report_of_part part) (nth_text (bytes_of_texts texts.now) at) }
-    requires holds { IsMergeStateAfter (bytes_of_texts texts.now) at state.old }
-    ensures added { OnOk result (IsMergeStateAfter (bytes_of_texts texts.now) (at + 1) state.new) }
+    requires at { index < length texts.now }
+    requires text { IsTextOf (report_of_part part) (nth_text (bytes_of_texts texts.now) index) }
+    requires holds { IsMergeStateAfter (bytes_of_texts texts.now) index state.old }
+    ensures added { OnOk result (IsMergeStateAfter (bytes_of_texts texts.now) (index + 1) state.new) }
     ensures err { IfErr result (HasMergeError (bytes_of_texts texts.now)) }
 {
     if let Some(flaw) = other_run_flaw(&state.first, &part.shard) {
-        return Err(MergeError::Text(at, flaw));
+        return Err(MergeError::Text(index, flaw));
     }
     let shard = part.shard.number as usize - 1;
     match state.sources[shard] {
         None => {
-            state.sources[shard] = Some(at);
+            state.sources[shard] = Some(index);
             let rows = part.rows.into_vec();
             fill_slots(&mut state.slots, part.numbers.as_slice(), rows);
             Ok(())
         }
-        Some(earlier) if are_same_texts(texts, earlier, at) => Ok(()),
-        Some(earlier) => Err(MergeError::Text(at, Flaw::DifferentText(earlier))),
+        Some(earlier) if are_same_texts(texts, earlier, index) => Ok(()),
+        Some(earlier) => Err(MergeError::Text(index, Flaw::DifferentText(earlier))),
     }
 }
 
@@ -103,13 +103,13 @@ fn other_run_flaw(first: &Shard, shard: &Shard) -> Option<Flaw>
 }
 
 // Whether the texts at two indices are equal.
-fn are_same_texts(texts: &[&[u8]], place: usize, other: usize) -> bool
-    requires place { place < length texts.now }
+fn are_same_texts(texts: &[&[u8]], index: usize, other: usize) -> bool
+    requires place { index < length texts.now }
     requires other { other < length texts.now }
-    ensures { IsTrue result ↔ (nth_text (bytes_of_texts texts.now) place
+    ensures { IsTrue result ↔ (nth_text (bytes_of_texts texts.now) index
         ≡ nth_text (bytes_of_texts texts.now) other) }
 {
-    texts[place] == texts[other]
+    texts[index] == texts[other]
 }
 
 // Writes each row to the slot of its job number.

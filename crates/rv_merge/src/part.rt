@@ -18,20 +18,20 @@ pub(crate) struct Part {
 }
 
 /// Parses the text at an index as a part, or returns the error in it.
-pub(crate) fn part_at(alloc: Global, texts: &[&[u8]], at: usize) -> Result<Part, MergeError>
-    requires { at < length texts.now }
+pub(crate) fn part_at(alloc: Global, texts: &[&[u8]], index: usize) -> Result<Part, MergeError>
+    requires { index < length texts.now }
     ensures found { IfOk result (λ part. IsTextOf (report_of_part part)
-        (nth_text (bytes_of_texts texts.now) at)) }
+        (nth_text (bytes_of_texts texts.now) index)) }
     ensures err { IfErr result (HasMergeError (bytes_of_texts texts.now)) }
 {
-    match read_report(alloc, texts[at]) {
+    match read_report(alloc, texts[index]) {
         Ok(report) => match part_of_report(report) {
             Ok(part) => Ok(part),
-            Err(flaw) => Err(MergeError::Text(at, flaw)),
+            Err(flaw) => Err(MergeError::Text(index, flaw)),
         },
         Err(ReadError::OutOfMemory) => Err(MergeError::OutOfMemory),
-        Err(ReadError::Line(line)) => Err(MergeError::Text(at, Flaw::Line(line))),
-        Err(ReadError::Truncated) => Err(MergeError::Text(at, Flaw::Truncated)),
+        Err(ReadError::Line(line)) => Err(MergeError::Text(index, Flaw::Line(line))),
+        Err(ReadError::Truncated) => Err(MergeError::Text(index, Flaw::Truncated)),
     }
 }
 

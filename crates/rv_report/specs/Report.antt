@@ -76,19 +76,19 @@ verdict_name verdict.Unasked = codes "none"
 verdict_name verdict.Pass = codes "pass"
 verdict_name verdict.Fail = codes "fail"
 
--- the text of the row of the job at the index `place` of the list, counted from 0; the text has the job's number, counted from 1
+-- the text of the row of the job at the index `index` of the list, counted from 0; the text has the job's number, counted from 1
 unfoldable pub row_text : ℕ → Row → List ℕ
-row_text place row = line (codes "job " ++ decimal (place + 1) ++ codes " " ++ row.name)
+row_text index row = line (codes "job " ++ decimal (index + 1) ++ codes " " ++ row.name)
     ++ end_line row.ending
     ++ line (codes "steps " ++ decimal row.steps)
     ++ console_line row.console
     ++ signature_lines row.signature
     ++ line (codes "verdict " ++ verdict_name row.verdict)
 
--- the text of consecutive rows of a list, of which the first is at the index `place`
+-- the text of consecutive rows of a list, of which the first is at the index `index`
 unfoldable pub rows_text : ℕ → List Row → List ℕ
-rows_text place [] = []
-rows_text place (row ∷ rows) = row_text place row ++ rows_text (place + 1) rows
+rows_text index [] = []
+rows_text index (row ∷ rows) = row_text index row ++ rows_text (index + 1) rows
 
 -- the last line of the report of a whole list, with the number of rows
 unfoldable pub done_line : ℕ → List ℕ

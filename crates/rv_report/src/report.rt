@@ -142,12 +142,12 @@ pub(crate) fn push_done_line(text: &mut String, count: usize) -> Result<(), Allo
 
 /// Appends the text of the row of the job at an index, counted from 0.
 #[tactic(auto, unfolding(crate::specs::Report::row_text))]
-pub fn push_row(alloc: Global, text: &mut String, place: usize, row: &Row) -> Result<(), AllocError>
-    requires { place < 2 ^ 64 - 1 }
+pub fn push_row(alloc: Global, text: &mut String, index: usize, row: &Row) -> Result<(), AllocError>
+    requires { index < 2 ^ 64 - 1 }
     ensures { OnOk result (string_bytes text.new
-        ≡ string_bytes text.old ++ row_text place row.now) }
+        ≡ string_bytes text.old ++ row_text index row.now) }
 {
-    let number = place + 1;
+    let number = index + 1;
     let name = row.name.as_str();
     let steps = row.steps;
     let verdict = row.verdict.name();

@@ -13,13 +13,13 @@ widened_job job = record job { isa = Imc }
 
 -- the jobs, of which the one at the index has RV32IMC as its instruction set instead of its own
 abbrev pub widened_jobs : ℕ → List Job → List Job
-widened_jobs place [] = []
+widened_jobs index [] = []
 widened_jobs zero (job ∷ jobs) = widened_job job ∷ jobs
-widened_jobs (suc place) (job ∷ jobs) = job ∷ widened_jobs place jobs
+widened_jobs (suc index) (job ∷ jobs) = job ∷ widened_jobs index jobs
 
 -- the plan in which the job at the index has RV32IMC as its instruction set instead of its own
 abbrev pub widened_plan : ℕ → PlanView → PlanView
-widened_plan place plan = record plan { jobs = widened_jobs place plan.jobs }
+widened_plan index plan = record plan { jobs = widened_jobs index plan.jobs }
 
 -- whether a larger instruction set does not change how a job ended: it was not refused, and did not end with the fault `illegal` or
 -- `fetch-misaligned`

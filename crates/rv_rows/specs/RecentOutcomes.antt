@@ -7,9 +7,9 @@ use Rattle.rv_rows.specs.Rows.{outcome_in}
 
 -- the outcome of the job at an index of a plan, or `None` if there is no such job
 abbrev pub outcome_at : PlanView → ℕ → Option Outcome
-outcome_at plan place = option_map (outcome_in plan.results) (slice_get plan.jobs place)
+outcome_at plan index = option_map (outcome_in plan.results) (slice_get plan.jobs index)
 
 -- each cached outcome is the outcome of the job at its index
 abbrev pub AreOutcomesOfPlan : PlanView → List CachedOutcome → Type 0
 AreOutcomesOfPlan plan recent =
-    All (λ (kept : CachedOutcome). outcome_at plan kept.place ≡ Some kept.outcome) recent
+    All (λ (kept : CachedOutcome). outcome_at plan kept.index ≡ Some kept.outcome) recent

@@ -84,5 +84,5 @@ rows_of plan = map (row_of plan) plan.jobs
 
 -- the rows of the jobs at these indices of a plan
 unfoldable pub rows_at : PlanView → List ℕ → List Row
-rows_at plan places =
-    map (λ i. row_of plan (slice_index_or plan.jobs i (single_job [] 0 []))) places
+rows_at plan indices =
+    map (λ i. row_of plan (slice_index_or plan.jobs i (single_job [] 0 []))) indices

@@ -116,8 +116,8 @@ are_same_outcomes outcome other = are_alike_endings outcome.ending other.ending
 -- `same_as`
 abbrev pub matches_same_as : Option ℕ → Option Outcome → Outcome → Bool
 matches_same_as None other outcome = true
-matches_same_as (Some place) None outcome = false
-matches_same_as (Some place) (Some other) outcome = are_same_outcomes outcome other
+matches_same_as (Some index) None outcome = false
+matches_same_as (Some index) (Some other) outcome = are_same_outcomes outcome other
 
 -- ---- all expectations
 

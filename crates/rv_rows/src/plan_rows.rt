@@ -201,26 +201,26 @@ pub(crate) fn matches_same_as(
 // Whether an outcome equals the outcome of the job at an index, which is run again unless its outcome is cached.
 fn equals_outcome_at(
     plan: &Plan,
-    place: usize,
+    index: usize,
     outcome: &Outcome,
     spare: &mut SpareBus,
     recent: &mut RecentOutcomes,
 ) -> Result<bool, AllocError>
-    requires place { place < length plan.now.jobs }
+    requires place { index < length plan.now.jobs }
     requires recent { AreOutcomesOfPlan plan.now recent.old }
     ensures same { IfOk result (λ same. (d : AJob) → same
         ≡ are_same_outcomes outcome.now
-        (outcome_in plan.now.results (slice_index_or plan.now.jobs place d))) }
+        (outcome_in plan.now.results (slice_index_or plan.now.jobs index d))) }
     ensures recent { OnOk result (AreOutcomesOfPlan plan.now recent.new) }
 {
-    if let Some(other) = recent.find(place) {
+    if let Some(other) = recent.find(index) {
         return Ok(are_same_outcomes(outcome, other));
     }
     let alloc = recent.alloc();
-    let other = run_job_at(alloc, plan, place, spare)?;
+    let other = run_job_at(alloc, plan, index, spare)?;
     let same = is_same_as_attempt(outcome, &other);
     if recent.make_room(other.size()) {
-        recent.keep(place, other.outcome(alloc)?)?;
+        recent.keep(index, other.outcome(alloc)?)?;
     }
     spare.keep(other);
     Ok(same)

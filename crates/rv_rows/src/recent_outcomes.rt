@@ -11,7 +11,7 @@ use std::marker::Model;
 /// The outcome of the job at an index of a plan.
 #[derive(Drop)]
 pub struct CachedOutcome {
-    pub place: usize,
+    pub index: usize,
     pub outcome: Outcome,
 }
 
@@ -52,12 +52,12 @@ impl RecentOutcomes {
     }
 
     /// Returns the outcome of the job at an index if it is cached; otherwise `None`.
-    pub fn find(&self, place: usize) -> Option<&Outcome>
+    pub fn find(&self, index: usize) -> Option<&Outcome>
         ensures { (plan : PlanView) → AreOutcomesOfPlan plan self.now
-            → IfSome result (λ found. outcome_at plan place ≡ Some found.now) }
+            → IfSome result (λ found. outcome_at plan index ≡ Some found.now) }
     {
         for kept in &self.items {
-            if kept.place == place {
+            if kept.index == index {
                 return Some(&kept.outcome);
             }
         }
@@ -79,12 +79,12 @@ impl RecentOutcomes {
     }
 
     /// Adds the outcome of the job at an index to the cache, which has room for it.
-    pub fn keep(&mut self, place: usize, outcome: Outcome) -> Result<(), AllocError>
-        ensures { (plan : PlanView) → AreOutcomesOfPlan plan self.old → outcome_at plan place
+    pub fn keep(&mut self, index: usize, outcome: Outcome) -> Result<(), AllocError>
+        ensures { (plan : PlanView) → AreOutcomesOfPlan plan self.old → outcome_at plan index
             ≡ Some outcome
             → OnOk result (AreOutcomesOfPlan plan self.new) }
     {
-        self.items.push(CachedOutcome { place, outcome })?;
+        self.items.push(CachedOutcome { index, outcome })?;
         Ok(())
     }
 

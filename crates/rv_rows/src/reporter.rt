@@ -15,10 +15,10 @@ pub trait RowReporter {
     fn push_row_text(
         &self,
         alloc: Global,
-        place: usize,
+        index: usize,
         row: &Row,
         text: &mut Vec<u8>,
     ) -> Result<(), AllocError>
         ensures { OnOk result
-            (text.new.items ≡ text.old.items ++ line self.now place row.now) };
+            (text.new.items ≡ text.old.items ++ line self.now index row.now) };
 }

@@ -6,9 +6,9 @@ use Rattle.rv_fleet.specs.declared_row.Row.{Row}
 -- the texts that `row_text` returns for the rows and the indices of their jobs, as a list
 abbrev pub row_text_list : (ℕ → Row → List ℕ) → List ℕ → List Row → List (List ℕ)
 row_text_list row_text [] rows = []
-row_text_list row_text (place ∷ places) [] = []
-row_text_list row_text (place ∷ places) (row ∷ rows) = row_text place row ∷ row_text_list row_text places rows
+row_text_list row_text (index ∷ indices) [] = []
+row_text_list row_text (index ∷ indices) (row ∷ rows) = row_text index row ∷ row_text_list row_text indices rows
 
 -- the texts that `row_text` returns for the rows and the indices of their jobs, one after another
 abbrev pub joined_row_texts : (ℕ → Row → List ℕ) → List ℕ → List Row → List ℕ
-joined_row_texts row_text places rows = concat (row_text_list row_text places rows)
+joined_row_texts row_text indices rows = concat (row_text_list row_text indices rows)

@@ -41,7 +41,7 @@ margin = codes "     "
 -- the name of a symbol and the offset from it; an empty text if there is no symbol
 abbrev pub symbol_or_empty : Option (List ℕ × ℕ) → List ℕ
 symbol_or_empty None = []
-symbol_or_empty (Some place) = symbol_text place
+symbol_or_empty (Some symbol) = symbol_text symbol
 
 -- ---- an instruction
 
@@ -72,7 +72,7 @@ loaded_text number value = if number == 0 then [] else register_text number valu
 -- the name of a symbol and the offset from it, followed by a space; empty if there is no symbol
 abbrev pub symbol_and_space : Option (List ℕ × ℕ) → List ℕ
 symbol_and_space None = []
-symbol_and_space (Some place) = symbol_text place ++ codes " "
+symbol_and_space (Some symbol) = symbol_text symbol ++ codes " "
 
 -- the address of a load or a store, preceded by its symbol if it has one
 abbrev pub address_text : Image → List ℕ → ℕ → List ℕ
@@ -163,7 +163,7 @@ ended_at_line image file pc =
 -- two spaces and the symbol that a value points to; empty if there is no symbol
 abbrev pub symbol_after_value : Option (List ℕ × ℕ) → List ℕ
 symbol_after_value None = []
-symbol_after_value (Some place) = gap ++ symbol_text place
+symbol_after_value (Some symbol) = gap ++ symbol_text symbol
 
 -- the line of the register `number`, which has this value
 unfoldable pub register_line : Image → List ℕ → ℕ → ℕ → List ℕ

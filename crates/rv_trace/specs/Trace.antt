@@ -15,7 +15,7 @@ use Rattle.rv_trace.specs.Steps.{steps_from}
 
 -- the job at an index of a plan, or `default` if there is no such index
 abbrev pub job_at : PlanView → ℕ → Job → Job
-job_at plan place default = slice_index_or plan.jobs place default
+job_at plan index default = slice_index_or plan.jobs index default
 
 -- the bytes of a job's image, or `None` if they were not read
 abbrev pub image_bytes : List PathResult → Job → Option (List ℕ)

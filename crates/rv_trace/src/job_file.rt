@@ -11,12 +11,12 @@ use rv_rows::{Image, ImageError, Kept, Plan, read_image};
 use std::alloc::{AllocError, Global};
 
 /// Returns the bytes of the image of the job at an index, or `None` if they were not read.
-pub fn image_bytes(plan: &Plan, place: usize) -> Option<&[u8]>
-    requires { place < length plan.now.jobs }
+pub fn image_bytes(plan: &Plan, index: usize) -> Option<&[u8]>
+    requires { index < length plan.now.jobs }
     ensures { (d : AJob) → option_map (λ bytes. bytes.now) result
-        ≡ image_bytes plan.now.results (job_at plan.now place d) }
+        ≡ image_bytes plan.now.results (job_at plan.now index d) }
 {
-    match plan.image(place) {
+    match plan.image(index) {
         Kept::Content(bytes) => Some(bytes.as_slice()),
         Kept::Unreadable | Kept::TooLong => None,
     }

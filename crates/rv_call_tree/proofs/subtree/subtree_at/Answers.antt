@@ -10,22 +10,22 @@ abbrev no_spot : CallNode
 no_spot = record { depth = 0; function = 0; calls = 0; steps = 0 }
 
 abbrev none : Subtree
-none = record { function = 0; place = 0; end = 0; own = 0; inclusive = 0; calls = 0 }
+none = record { function = 0; index = 0; end = 0; own = 0; inclusive = 0; calls = 0 }
 
 pub bounds-later-nodes : goal.bounds-later-nodes
 bounds-later-nodes c =
-    child_within c.args.nodes.now c.args.place c.loop-end.end c.args.later.now c.loop-end.invariant.behind c.loop-end-test.true
+    child_within c.args.nodes.now c.args.index c.loop-end.end c.args.later.now c.loop-end.invariant.behind c.loop-end-test.true
     c.requires.behind
 
 pub overflow_add-inclusive : goal.overflow_add-inclusive
 overflow_add-inclusive c =
     let nodes = c.args.nodes.now in
     let end = c.loop-end.end in
-    let is = child_is nodes c.args.place end c.args.later.now none no_spot c.loop-end.invariant.behind c.loop-end-test.true
+    let is = child_is nodes c.args.index end c.args.later.now none no_spot c.loop-end.invariant.behind c.loop-end-test.true
     c.requires.behind in
-    let fits = child_fits nodes c.args.place (get_or nodes c.args.place no_spot) end c.loop-end.inclusive no_spot
+    let fits = child_fits nodes c.args.index (get_or nodes c.args.index no_spot) end c.loop-end.inclusive no_spot
     (get_or c.args.later.now (length nodes - 1 - end) none) c.loop-end.invariant c.loop-end-test.true c.if-node-nodes.true is in
-    let all = one_of_all nodes c.args.place no_spot c.requires.within in
+    let all = one_of_all nodes c.args.index no_spot c.requires.within in
     let few = c.requires.steps in
     omega (arith, fits, all, few)
 
@@ -34,7 +34,7 @@ loop-end-smaller c =
     let nodes = c.args.nodes.now in
     let end = c.loop-end.end in
     let within = c.loop-end-test.true in
-    let is = child_is nodes c.args.place end c.args.later.now none no_spot c.loop-end.invariant.behind within c.requires.behind in
+    let is = child_is nodes c.args.index end c.args.later.now none no_spot c.loop-end.invariant.behind within c.requires.behind in
     let further = child_further end (get_or nodes end no_spot) (drop (end + 1) nodes)
     (get_or c.args.later.now (length nodes - 1 - end) none) is in
     omega (arith, further, within)
@@ -43,6 +43,6 @@ pub loop-end-preserved : goal.loop-end-preserved
 loop-end-preserved c =
     let nodes = c.args.nodes.now in
     let end = c.loop-end.end in
-    one_child nodes c.args.place (get_or nodes c.args.place no_spot) end c.loop-end.inclusive no_spot
+    one_child nodes c.args.index (get_or nodes c.args.index no_spot) end c.loop-end.inclusive no_spot
     (get_or c.args.later.now (length nodes - 1 - end) none) c.loop-end.invariant c.loop-end-test.true c.if-node-nodes.true
-    (child_is nodes c.args.place end c.args.later.now none no_spot c.loop-end.invariant.behind c.loop-end-test.true c.requires.behind)
+    (child_is nodes c.args.index end c.args.later.now none no_spot c.loop-end.invariant.behind c.loop-end-test.true c.requires.behind)

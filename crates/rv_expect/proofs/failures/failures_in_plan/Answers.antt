@@ -12,7 +12,7 @@ pub loop-i-preserved : goal.loop-i-preserved
 loop-i-preserved c =
     let f : ℕ × Row → List FailureKind =
     λ placed. option_to_list (failure_in_plan (judge_view c.args.judge.now) c.args.plan.now placed.0 placed.1) in
-    let places = c.args.places.now in
+    let places = c.args.indices.now in
     let rows = c.args.rows.now in
     let i = c.loop-i.i in
     let row = c.index-rows-i.result in
@@ -27,12 +27,12 @@ pub returns : goal.returns
 returns c =
     let f : ℕ × Row → List FailureKind =
     λ placed. option_to_list (failure_in_plan (judge_view c.args.judge.now) c.args.plan.now placed.0 placed.1) in
-    let places = c.args.places.now in
+    let places = c.args.indices.now in
     let rows = c.args.rows.now in
     all_of f (zip places rows) c.loop-i.i _ (omega (arith, pairs places rows c.requires)) c.loop-i.invariant
 
 pub bounds-rows-i : goal.bounds-rows-i
 bounds-rows-i c = omega arith
 
-pub bounds-places-i : goal.bounds-places-i
-bounds-places-i c = omega arith
+pub bounds-indices-i : goal.bounds-indices-i
+bounds-indices-i c = omega arith

@@ -7,4 +7,4 @@ use Rattle.rv_expect.proofs.failures.failures_in_plan.Given as goal
 
 abbrev pub invariant-loop-i : goal.invariant-loop-i
 invariant-loop-i l = l.failures.items
-    ≡ flat_map (λ placed. option_to_list (failure_in_plan (judge_view l.judge) l.plan placed.0 placed.1)) (take l.i (zip l.places l.rows))
+    ≡ flat_map (λ placed. option_to_list (failure_in_plan (judge_view l.judge) l.plan placed.0 placed.1)) (take l.i (zip l.indices l.rows))

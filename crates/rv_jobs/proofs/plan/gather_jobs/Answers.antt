@@ -33,9 +33,9 @@ loop-place-preserved g c =
           ∙ (ap (λ js. fold with_job_paths (paths_of c.loop-place.asked) (jobs_needed_at js place)) jobs
           ∙ ap (λ ps. fold with_job_paths (paths_of c.loop-place.asked)
           (jobs_needed_at c.args.jobs (get_or ps c.loop-place.place-index 0))) c.as_slice-place-items.ensures.value
-          ∙ ap (λ ps. fold with_job_paths ps (jobs_needed_at c.args.jobs (get_or c.args.places.items c.loop-place.place-index 0)))
+          ∙ ap (λ ps. fold with_job_paths ps (jobs_needed_at c.args.jobs (get_or c.args.indices.items c.loop-place.place-index 0)))
           inv.paths
-          ∙ sym (needed_more c.args.jobs c.args.places.items c.loop-place.place-index 0 (omega arith)));
+          ∙ sym (needed_more c.args.jobs c.args.indices.items c.loop-place.place-index 0 (omega arith)));
       kept = rw inv.same at (c.in_ok-asked.ensures.kept kept);
       faults = c.in_ok-asked.ensures.faults (g.S.Store.fault_count c.args.store.now) inv.faults;
       noted = subst (λ js. AreRecorded (paths_of c.in_ok-asked.asked) js c.read_paths_for_row.new.noted.items) jobs
@@ -45,13 +45,13 @@ loop-place-preserved g c =
 pub invariant_of-result : goal.invariant_of-result
 invariant_of-result g c =
     let used = c.loop-place.invariant.paths
-    ∙ needed_whole c.args.jobs c.args.places.items c.loop-place.place-index (omega arith) in
+    ∙ needed_whole c.args.jobs c.args.indices.items c.loop-place.place-index (omega arith) in
     record {
       jobs = c.as_slice.ensures.jobs;
       even = sym (ap length used) ∙ length-map c.loop-place.asked (λ (a : PathResult). a.path)
           ∙ sym (ap (length {A = Kept}) c.into_results-results.ensures
           ∙ length-map c.loop-place.asked (λ (a : PathResult). a.kept));
-      found = subst (λ js. ArePartialResultIndicesOfJobs (paths_used (jobs_needed_for c.args.jobs c.args.places.items)) js
+      found = subst (λ js. ArePartialResultIndicesOfJobs (paths_used (jobs_needed_for c.args.jobs c.args.indices.items)) js
           c.in_ok-found.found.items)
           c.as_slice-2.ensures.value
           (subst (λ xs. ArePartialResultIndicesOfJobs xs c.as_slice-2.result.now c.in_ok-found.found.items) used c.in_ok-found.ensures);
@@ -62,23 +62,23 @@ invariant_of-result g c =
 pub returns-clause-paths : goal.returns-clause-paths
 returns-clause-paths g c =
     let used = c.loop-place.invariant.paths
-    ∙ needed_whole c.args.jobs c.args.places.items c.loop-place.place-index (omega arith) in
-    ap paths_of (parts_whole c.loop-place.asked (paths_used (jobs_needed_for c.args.jobs c.args.places.items))
+    ∙ needed_whole c.args.jobs c.args.indices.items c.loop-place.place-index (omega arith) in
+    ap paths_of (parts_whole c.loop-place.asked (paths_used (jobs_needed_for c.args.jobs c.args.indices.items))
     c.into_results-results.result.items used c.into_results-results.ensures) ∙ used
 
 pub returns-clause-kept : goal.returns-clause-kept
 returns-clause-kept g c =
     let used = c.loop-place.invariant.paths
-    ∙ needed_whole c.args.jobs c.args.places.items c.loop-place.place-index (omega arith) in
-    let same = parts_whole c.loop-place.asked (paths_used (jobs_needed_for c.args.jobs c.args.places.items))
+    ∙ needed_whole c.args.jobs c.args.indices.items c.loop-place.place-index (omega arith) in
+    let same = parts_whole c.loop-place.asked (paths_used (jobs_needed_for c.args.jobs c.args.indices.items))
     c.into_results-results.result.items used c.into_results-results.ensures in
     subst (AgreeWithContents (g.S.Store.contents c.args.store.now)) (sym same) c.loop-place.invariant.kept
 
 pub returns-clause-faults : goal.returns-clause-faults
 returns-clause-faults g c =
     let used = c.loop-place.invariant.paths
-    ∙ needed_whole c.args.jobs c.args.places.items c.loop-place.place-index (omega arith) in
-    let same = parts_whole c.loop-place.asked (paths_used (jobs_needed_for c.args.jobs c.args.places.items))
+    ∙ needed_whole c.args.jobs c.args.indices.items c.loop-place.place-index (omega arith) in
+    let same = parts_whole c.loop-place.asked (paths_used (jobs_needed_for c.args.jobs c.args.indices.items))
     c.into_results-results.result.items used c.into_results-results.ensures in
     c.loop-place.invariant.faults
     ∙ ap (λ (a : List PathResult). after_increments (g.S.Store.fault_count c.args.store.now) (unreadable_count a)) (sym same)

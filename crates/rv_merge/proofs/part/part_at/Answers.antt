@@ -9,17 +9,17 @@ none = record { ref_ptr = (0, 0); now = [] }
 pub returns-in-Err-clause-err : goal.returns-in-Err-clause-err
 unfolding none
 returns-in-Err-clause-err c =
-    other_at c.args.texts.now c.args.at none c.in-Ok.report c.in-Err.flaw c.requires c.in-Ok.ensures.found
+    other_at c.args.texts.now c.args.index none c.in-Ok.report c.in-Err.flaw c.requires c.in-Ok.ensures.found
     c.in-Err.ensures.other
 
 pub returns-in-Err-Truncated-clause-err : goal.returns-in-Err-Truncated-clause-err
 unfolding none
 returns-in-Err-Truncated-clause-err c =
-    unread_at c.args.texts.now c.args.at none c.in-Err-Truncated.field-0 read.Truncated c.requires c.in-Err-Truncated.field-0-is
+    unread_at c.args.texts.now c.args.index none c.in-Err-Truncated.field-0 read.Truncated c.requires c.in-Err-Truncated.field-0-is
     (λ e. cc) c.in-Err-Truncated.ensures.only c.in-Err-Truncated.ensures.err c.in-Err-Truncated.ensures.place
 
 pub returns-in-Err-Line-clause-err : goal.returns-in-Err-Line-clause-err
 unfolding none
 returns-in-Err-Line-clause-err c =
-    unread_at c.args.texts.now c.args.at none c.in-Err-Line.field-0 (read.Line c.in-Err-Line.line) c.requires
+    unread_at c.args.texts.now c.args.index none c.in-Err-Line.field-0 (read.Line c.in-Err-Line.line) c.requires
     c.in-Err-Line.field-0-is (λ e. cc) c.in-Err-Line.ensures.only c.in-Err-Line.ensures.err c.in-Err-Line.ensures.place

@@ -8,7 +8,7 @@ use Rattle.rv_call_tree.proofs.index.CallTreeIndex.steps_of.Goals as goal
 
 -- what is read where there is none
 abbrev none : Subtree
-none = record { function = 0; place = 0; end = 0; own = 0; inclusive = 0; calls = 0 }
+none = record { function = 0; index = 0; end = 0; own = 0; inclusive = 0; calls = 0 }
 
 pub loop-subtree-init : goal.loop-subtree-init
 loop-subtree-init c =

@@ -1,5 +1,5 @@
 use Rattle.std.proofs.Common.{rules}
 use Rattle.rv_rows.proofs.recent_outcomes.RecentOutcomes.find.Goals as goal
 
-pub returns-then-kept-place : goal.returns-then-kept-place
-returns-then-kept-place c = search rules
+pub returns-then-kept-index : goal.returns-then-kept-index
+returns-then-kept-index c = search rules
