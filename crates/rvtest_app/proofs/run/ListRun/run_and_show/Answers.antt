@@ -30,13 +30,13 @@ pub returns-clause-rows : goal.returns-clause-rows
 returns-clause-rows g c =
     ran_on c.write_totals_line-ran.result c.rows_if_written-ran.result _ c.write_totals_line-ran.ensures.rows
     (ran_on c.rows_if_written-ran.result c.stream_rows-stream.result.2 _ c.rows_if_written-ran.ensures.rows
-    (rw (c.new-batch.ensures.plan, c.new-batch.ensures.indices) at c.stream_rows-stream.ensures.rows))
+    (rw (c.new-batch.ensures.plan, c.new-batch.ensures.places) at c.stream_rows-stream.ensures.rows))
 
 pub returns-clause-few : goal.returns-clause-few
 returns-clause-few g c =
     ran_on c.write_totals_line-ran.result c.rows_if_written-ran.result _ c.write_totals_line-ran.ensures.rows
     (ran_on c.rows_if_written-ran.result c.stream_rows-stream.result.2 _ c.rows_if_written-ran.ensures.rows
-    (rw c.new-batch.ensures.indices at c.stream_rows-stream.ensures.few))
+    (rw c.new-batch.ensures.places at c.stream_rows-stream.ensures.few))
 
 pub returns-clause-shown : goal.returns-clause-shown
 returns-clause-shown g c =
@@ -46,9 +46,9 @@ returns-clause-shown g c =
     let judging = judge_view planned.reporter.now.judge in
     let taken = g.W.Sink.accepted in
     let all = run_rows c.args.self.now.args.now.stop_after judging plan indices in
-    let texts = rw (c.new-batch.ensures.plan, c.new-batch.ensures.indices, c.new-out.ensures.sink, c.new-counting.ensures)
+    let texts = rw (c.new-batch.ensures.plan, c.new-batch.ensures.places, c.new-out.ensures.sink, c.new-counting.ensures)
     at c.stream_rows-stream.ensures.all in
-    let line = rw (c.new-batch.ensures.plan, c.new-batch.ensures.indices) at c.write_totals_line-ran.ensures.line in
+    let line = rw (c.new-batch.ensures.plan, c.new-batch.ensures.places) at c.write_totals_line-ran.ensures.line in
     rw c.into_inner-stream.ensures
     (shown_whole c.write_totals_line-ran.result (taken c.args.shown.stream) (taken c.stream_rows-stream.result.0.sink)
     (taken c.write_totals_line-ran.new.out.sink) (joined_row_texts (row_lines_at (reporter_of planned.reporter.now)) indices all)
@@ -75,7 +75,7 @@ returns-clause-report g c =
     let line = report_row_text c.args.rows.now.is_streaming in
     let text = joined_row_texts line indices all in
     let sender = c.stream_rows-stream.result.1.first in
-    let seen = rw (c.new-batch.ensures.plan, c.new-batch.ensures.indices) at c.stream_rows-stream.ensures.seen in
+    let seen = rw (c.new-batch.ensures.plan, c.new-batch.ensures.places) at c.stream_rows-stream.ensures.seen in
     done_on c.write_totals_line-ran.result c.rows_if_written-ran.result _ c.write_totals_line-ran.ensures.rows
     (sent_on c.rows_if_written-ran.result c.stream_rows-stream.result.2 c.finish-sink.result.1 _ _
     c.rows_if_written-ran.ensures.rows c.rows_if_written-ran.ensures.sent seen
@@ -104,7 +104,7 @@ returns-clause-texts g c =
     let all = run_rows c.args.self.now.args.now.stop_after judging planned.reporter.now.plan.now indices in
     let kept = c.stream_rows-stream.result.1.second in
     let lines = failure_lines (reporter_of planned.reporter.now) in
-    let seen = rw (c.new-batch.ensures.plan, c.new-batch.ensures.indices, c.new-counting.ensures) at c.stream_rows-stream.ensures.seen in
+    let seen = rw (c.new-batch.ensures.plan, c.new-batch.ensures.places, c.new-counting.ensures) at c.stream_rows-stream.ensures.seen in
     rw c.into_texts-texts.ensures.items
     (known_on c.write_totals_line-ran.result c.rows_if_written-ran.result _ (λ rows. AreLinesOf lines indices rows kept.texts.items) all
     c.write_totals_line-ran.ensures.rows (returns-clause-rows g c)

@@ -32,7 +32,7 @@ returns-clause-run g c =
           c.as_slice.ensures.value,
           c.with_budget-jobs.ensures.jobs,
         ) at found.paths;
-        kept = rw (c.new-store.ensures.inputs, c.new-store.ensures.root) at found.kept;
+        kept = rw (c.new-store.ensures.inputs, c.new-store.ensures.folder) at found.kept;
         noted = ap length c.unreadable_paths-unread.ensures ∙ rw c.new-store.ensures.nothing at found.faults;
       };
       rows = _;
@@ -85,7 +85,7 @@ returns-clause-undone g c =
           c.as_slice.ensures.value,
           c.with_budget-jobs.ensures.jobs,
         ) at found.paths;
-        kept = rw (c.new-store.ensures.inputs, c.new-store.ensures.root) at found.kept;
+        kept = rw (c.new-store.ensures.inputs, c.new-store.ensures.folder) at found.kept;
         noted = ap length c.unreadable_paths-unread.ensures ∙ rw c.new-store.ensures.nothing at found.faults;
       };
       rows = rows;

@@ -1,6 +1,6 @@
 use Rattle.std.proofs.Common.{[], None, false}
 use Rattle.rv_stream.specs.Judgement.{judge_view}
-use Rattle.rv_fleet_tests.proofs.tests.streams.told.Given as goal
+use Rattle.rv_fleet_tests.proofs.tests.streams.result_text.Given as goal
 
 abbrev pub ghosts-stream_rows : goal.ghosts-stream_rows
 ghosts-stream_rows g a = record {

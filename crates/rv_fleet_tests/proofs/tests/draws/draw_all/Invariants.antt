@@ -1,5 +1,5 @@
 use Rattle.std.proofs.Common.{◌≡◌}
-use Rattle.rv_fleet_tests.proofs.tests.draws.take_all.Given as goal
+use Rattle.rv_fleet_tests.proofs.tests.draws.draw_all.Given as goal
 
 abbrev pub invariant-loop : goal.invariant-loop
 invariant-loop l = l.pass.draw ≡ l.claims
