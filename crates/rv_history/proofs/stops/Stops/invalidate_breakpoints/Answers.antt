@@ -7,6 +7,6 @@ loop-address-preserved c = record {
   state = c.invalidate.ensures.state ∙ c.loop-address.invariant.state;
   invalidated = λ pc outcome is.
       asleep_more c.as_slice-address-items.result.now c.loop-address.address-index 0 pc c.loop-address.machine.kept
-      c.invalidate.new.self.kept c.loop-address-test.true c.invalidate.ensures.none_becomes_valid c.invalidate.ensures.invalidated
+      c.invalidate.new.self.kept c.loop-address-test.true c.invalidate.ensures.none_becomes_valid c.invalidate.ensures.invalid
       (c.loop-address.invariant.invalidated pc) outcome is;
 }
