@@ -31,7 +31,7 @@ AreTablesAdded contents (path ∷ paths) before after =
 -- how many instructions were executed at these addresses
 abbrev pub executed_at_addresses : List AddressCounts → ℕ
 executed_at_addresses [] = 0
-executed_at_addresses (c ∷ cs) = c.begun + executed_at_addresses cs
+executed_at_addresses (c ∷ cs) = c.executed + executed_at_addresses cs
 
 -- how many instructions were executed in these images
 abbrev pub executed_in_images : List ImageCounts → ℕ
