@@ -67,8 +67,8 @@ fn function_name(named: NamedCallNode) -> FunctionName
     }
 }
 
-// Returns the node of a line. Returns `None` if the line is not the line of a node that may follow a node with the path `previous_path`, or if its
-// name differs from the one in `names`.
+// Returns the node of a line. Returns `None` if the line is not the line of a node that may follow a node with the path `previous_path`, or
+// if its name differs from the one in `names`.
 fn next_node(
     alloc: Global,
     line: &[u8],

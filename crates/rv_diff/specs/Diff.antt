@@ -100,8 +100,8 @@ unfoldable pub count_line : ℕ → DifferenceCounts → ℕ → Option StepSums
 count_line job_count counts not_compared sums = line (differing_text (differing_count counts) job_count ++ change_counts_text counts
     ++ not_compared_text not_compared ++ sums_text sums)
 
--- the output of `diff` for the rows of two reports: a line for each difference, and the line of counts; `not_compared` is how many jobs were
--- not compared, since one report is a part without them
+-- the output of `diff` for the rows of two reports: a line for each difference, and the line of counts; `not_compared` is how many jobs
+-- were not compared, since one report is a part without them
 unfoldable pub diff_text : CompareMode → List Row → List Row → ℕ → List ℕ
 diff_text mode old new not_compared = let counts = difference_counts mode old new in
     difference_lines mode old new

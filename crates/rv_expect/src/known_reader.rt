@@ -45,8 +45,8 @@ fn read_lines(
     Ok(Ok(Sequence::new(known)))
 }
 
-// Returns the error in a line, or `None` if it is valid. `number` is its number, counted from 1, and `known_jobs` are the known failures in the
-// lines before it.
+// Returns the error in a line, or `None` if it is valid. `number` is its number, counted from 1, and `known_jobs` are the known failures in
+// the lines before it.
 fn fault_of_line(
     alloc: Global,
     jobs: &[&str],

@@ -255,7 +255,8 @@ abbrev pub job_of_name_text : Option ℕ → List ℕ
 job_of_name_text None = []
 job_of_name_text (Some number) = codes ", but job " ++ (decimal number ++ codes " has this name")
 
--- `told` is a key for a name with its value, then `expected`, which is expected, and then the number of the first job with this name, if any
+-- `told` is a key for a name with its value, then `expected`, which is expected, and then the number of the first job with this name, if
+-- any
 abbrev pub ExplainsName : List (Option (List ℕ)) → List ℕ → List ℕ → Members → List ℕ → Type 0
 ExplainsName names key expected ms told = (met : List ℕ) × IsKeyAndValue key (get_member key ms) met
     × (told ≡ met ++ (codes ": " ++ (expected ++ job_of_name_text (number_of_name names (text_at_key key ms)))))

@@ -52,8 +52,8 @@ fn reference_or_console_explanation(table: &Table) -> Explanation
     )
 }
 
-// Returns the explanation of a bad `expect_signature`, or `otherwise` if it is missing or good. `path` is its text, and `has_signature` is whether
-// the job has a signature.
+// Returns the explanation of a bad `expect_signature`, or `otherwise` if it is missing or good. `path` is its text, and `has_signature` is
+// whether the job has a signature.
 fn reference_explanation(
     has_signature: bool,
     path: Option<&str>,

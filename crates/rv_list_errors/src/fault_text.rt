@@ -63,8 +63,8 @@ pub(crate) fn list_fault_message(
     Ok(message)
 }
 
-// Appends the text between the path and the explanation of an error of the job with this number, as `push_location_in_list` does, or nothing
-// if the list is not TOML.
+// Appends the text between the path and the explanation of an error of the job with this number, as `push_location_in_list` does, or
+// nothing if the list is not TOML.
 fn push_fault_location(
     message: &mut Vec<u8>,
     view: &FaultView<'_>,

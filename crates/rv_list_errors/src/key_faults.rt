@@ -194,8 +194,8 @@ impl<'a> FaultyJob<'a> {
         }
     }
 
-    // Returns `explanation`, the explanation that two keys cannot both be set, if the key `other` is in `met`, the keys before this one, and has a
-    // text; otherwise `None`.
+    // Returns `explanation`, the explanation that two keys cannot both be set, if the key `other` is in `met`, the keys before this one,
+    // and has a text; otherwise `None`.
     fn both_set_explanation(
         &self,
         other: &str,

@@ -18,8 +18,8 @@ use crate::values::{push_key_and_value, text_at_key};
 use rv_lists::limits::MAX_NAME_LEN;
 use toml::Table;
 
-/// Appends a key for a name and its value, then `expected`, which says what is expected, and then the number of the first job with this name,
-/// if there is one.
+/// Appends a key for a name and its value, then `expected`, which says what is expected, and then the number of the first job with this
+/// name, if there is one.
 pub(crate) fn push_name_fault(
     message: &mut Message,
     list: &List<'_>,

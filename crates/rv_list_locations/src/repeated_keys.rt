@@ -24,8 +24,8 @@ struct Entries<'a> {
     inside: KeyContext,
 }
 
-/// Returns the key that a text sets for the second time, which begins where `remaining` bytes of the text remain, or `None` if no key is found
-/// there.
+/// Returns the key that a text sets for the second time, which begins where `remaining` bytes of the text remain, or `None` if no key is
+/// found there.
 pub fn repeated_key<'a>(
     alloc: Global,
     text: &'a str,
@@ -38,8 +38,8 @@ pub fn repeated_key<'a>(
     }
 }
 
-// Scans the text, which has no byte order mark, up to the header, entry or element where `remaining` bytes remain, and returns the key that is
-// repeated there, or `None` if there is none.
+// Scans the text, which has no byte order mark, up to the header, entry or element where `remaining` bytes remain, and returns the key that
+// is repeated there, or `None` if there is none.
 fn find_repeated_key<'a>(
     alloc: Global,
     text: &'a str,
@@ -62,8 +62,8 @@ fn find_repeated_key<'a>(
     Ok(None)
 }
 
-// Returns the key that a header, an entry or an element repeats: its own key if it begins where `remaining` bytes remain, or else a key of an
-// inline table in it.
+// Returns the key that a header, an entry or an element repeats: its own key if it begins where `remaining` bytes remain, or else a key of
+// an inline table in it.
 fn repeated_key_in_step<'a>(
     alloc: Global,
     table: &'a str,

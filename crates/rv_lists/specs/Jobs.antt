@@ -20,8 +20,8 @@ console_path (Some (File path)) = Some path
 abbrev pub default_regions : List Region
 default_regions = record { base = 0x8000_0000; size = 0x10_0000; writable = true } ∷ []
 
--- the job may be at the index `index` of a list: its script fits the console, the names of its signature's symbols are not empty, and the job
--- of `same_as` is at an earlier index
+-- the job may be at the index `index` of a list: its script fits the console, the names of its signature's symbols are not empty, and the
+-- job of `same_as` is at an earlier index
 pub record IsValidJobAt (index : ℕ) (job : Job) : Type 0 where
   pub script : length job.script ≤ max_script_len
   pub named : IfSome job.signature (λ s. (0 < length s.begin) × (0 < length s.end))

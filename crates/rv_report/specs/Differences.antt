@@ -42,8 +42,8 @@ can_begin_report_line word.Ended expected remaining = true
 
 -- ---- the first difference
 
--- the error at the first difference, if `remaining` differs from a text whose next byte is `expected`: this line; or `Truncated` if `remaining` ends in
--- this line, which can still be the beginning of a report's line
+-- the error at the first difference, if `remaining` differs from a text whose next byte is `expected`: this line; or `Truncated` if
+-- `remaining` ends in this line, which can still be the beginning of a report's line
 abbrev pub read_error_at : ℕ → FirstWordState → ℕ → List ℕ → ReadError
 read_error_at line word expected remaining =
     if can_begin_report_line word expected remaining && (line_feed_count remaining == 0) then Truncated else Line line

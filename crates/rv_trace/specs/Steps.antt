@@ -76,8 +76,8 @@ traced_step s t = record {
 
 -- ---- several instructions
 
--- the traced instruction at the state `s` and the instructions after it, which `later_steps` returns for the new state; empty if the instruction
--- does not complete
+-- the traced instruction at the state `s` and the instructions after it, which `later_steps` returns for the new state; empty if the
+-- instruction does not complete
 abbrev pub step_then : Result State Ending → State → (State → List TracedStep) → List TracedStep
 step_then (Ok t) s later_steps = traced_step s t ∷ later_steps t
 step_then (Err e) s later_steps = []

@@ -38,8 +38,8 @@ trace_up_to steps s = record {
   registers = registers_of s;
 }
 
--- the trace of a run that begins in the state `s` and completes this many steps: the last `max_steps` instructions, or all if there are fewer,
--- and the state after them
+-- the trace of a run that begins in the state `s` and completes this many steps: the last `max_steps` instructions, or all if there are
+-- fewer, and the state after them
 unfoldable pub trace_of : ℕ → ℕ → State → Trace
 trace_of steps max_steps s =
     let shown = min steps max_steps in

@@ -26,8 +26,8 @@ pub struct Trace {
     pub registers: [u32; 32],
 }
 
-/// Returns the trace of a run that completes `steps` steps: the last `max_steps` instructions, or all if there are fewer, and the state at the
-/// end. Takes the time of that run, and memory for each instruction shown.
+/// Returns the trace of a run that completes `steps` steps: the last `max_steps` instructions, or all if there are fewer, and the state at
+/// the end. Takes the time of that run, and memory for each instruction shown.
 #[tactic(auto, unfolding(crate::specs::Trace::trace_of))]
 pub fn trace_run(
     alloc: Global,
