@@ -94,16 +94,16 @@ pub fn history_of(alloc: Global, code: &str, budget: u32) -> Result<History, Fai
 }
 
 /// Returns as text the reason why a move ended.
-pub fn found_text(alloc: Global, found: Found) -> Result<String, AllocError> {
+pub fn found_text(alloc: Global, found: MoveResult) -> Result<String, AllocError> {
     match found {
-        Found::Done => String::from_str(alloc, "done"),
-        Found::Break => String::from_str(alloc, "break"),
-        Found::Change => String::from_str(alloc, "change"),
-        Found::Begin => String::from_str(alloc, "begin"),
-        Found::Interrupted => String::from_str(alloc, "interrupted"),
-        Found::End(Ending::Exit(code)) => format!(in alloc; "exit {code}"),
-        Found::End(Ending::Budget) => String::from_str(alloc, "budget"),
-        Found::End(Ending::Fault(..)) => String::from_str(alloc, "fault"),
+        MoveResult::Done => String::from_str(alloc, "done"),
+        MoveResult::Breakpoint => String::from_str(alloc, "break"),
+        MoveResult::WatchTriggered => String::from_str(alloc, "change"),
+        MoveResult::RunStart => String::from_str(alloc, "begin"),
+        MoveResult::Interrupted => String::from_str(alloc, "interrupted"),
+        MoveResult::End(Ending::Exit(code)) => format!(in alloc; "exit {code}"),
+        MoveResult::End(Ending::Budget) => String::from_str(alloc, "budget"),
+        MoveResult::End(Ending::Fault(..)) => String::from_str(alloc, "fault"),
     }
 }
 
