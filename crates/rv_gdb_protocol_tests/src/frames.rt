@@ -36,8 +36,8 @@ a register | f8000080 | $f8000080#c6
 fn push_item(text: &mut String, heard: &Incoming) -> Result<(), Fail> {
     match heard {
         Incoming::Interrupt => text.push_str("^C")?,
-        Incoming::Arrived => text.push_str("+")?,
-        Incoming::Again => text.push_str("-")?,
+        Incoming::Acknowledged => text.push_str("+")?,
+        Incoming::ResendRequested => text.push_str("-")?,
         Incoming::TooLong => text.push_str("too long")?,
         Incoming::Packet(body, sum) => {
             if *sum == Checksum::Wrong {
