@@ -104,7 +104,7 @@ fn index_of_functions(
 }
 
 // Returns the words of a function: the digits of its address, and its name.
-#[tactic(auto, unfolding(rv_text::specs::Words::word_digits))]
+#[tactic(auto, unfolding(rv_text::specs::Numbers::word_digits))]
 fn fields_of_function(alloc: Global, name: &FunctionName) -> Result<FunctionFields, AllocError>
     ensures { IfOk result (λ words. words ≡ fields_of_function name.now.function name.now.name) }
 {
@@ -150,7 +150,7 @@ pub(crate) fn push_image_line(
 }
 
 /// Appends the line of an address.
-#[tactic(auto, unfolding(crate::specs::Text::address_line, rv_text::specs::Words::word_digits))]
+#[tactic(auto, unfolding(crate::specs::Text::address_line, rv_text::specs::Numbers::word_digits))]
 pub(crate) fn push_address_line(
     alloc: Global,
     text: &mut String,
@@ -166,7 +166,7 @@ pub(crate) fn push_address_line(
 }
 
 /// Appends the line of a node, which ends with this name of its function.
-#[tactic(auto, unfolding(crate::specs::ParsedNodes::line_with_digits, crate::specs::ParsedNodes::fields_with_digits, crate::specs::Text::node_line, crate::specs::Text::fields_of_node, rv_text::specs::Words::word_digits))]
+#[tactic(auto, unfolding(crate::specs::ParsedNodes::line_with_digits, crate::specs::ParsedNodes::fields_with_digits, crate::specs::Text::node_line, crate::specs::Text::fields_of_node, rv_text::specs::Numbers::word_digits))]
 pub(crate) fn push_node_line(
     alloc: Global,
     text: &mut String,

@@ -27,7 +27,7 @@ const ET_EXEC: u16 = 2;
 const EM_RISCV: u16 = 243;
 
 /// Checks the ELF header and the location of the program header table, and returns the first error that applies.
-#[tactic(auto, unfolding(crate::specs::ImageParts::header_check))]
+#[tactic(auto, unfolding(crate::specs::ImageChecks::header_check))]
 pub(crate) fn check_header(file: &[u8]) -> Result<(), ImageError>
     ensures value { result ≡ header_check file.now }
     ensures table { OnOk result (HasProgramHeaders file.now) }

@@ -83,7 +83,7 @@ fn read_image_after_header(alloc: Global, file: &[u8], isa: Isa) -> Result<Image
 }
 
 // Checks that there is a loaded segment and that an instruction may begin at the entry, and returns the first error that applies.
-#[tactic(auto, unfolding(crate::specs::ImageParts::segments_and_entry_check))]
+#[tactic(auto, unfolding(crate::specs::ImageChecks::segments_and_entry_check))]
 fn check_segments_and_entry(file: &[u8], kept: &[Segment], isa: Isa) -> Result<(), ImageError>
     requires header { 52 ≤ length file.now }
     requires read { kept.now ≡ segments file.now }

@@ -45,7 +45,7 @@ pub(crate) fn program_header_table(
 
 /// Checks the program headers, and returns the first error that applies. Each condition is checked for all headers before the next
 /// condition.
-#[tactic(auto, unfolding(crate::specs::ImageParts::program_header_check))]
+#[tactic(auto, unfolding(crate::specs::ImageChecks::program_header_check))]
 pub(crate) fn check_program_headers(found: &[ProgramHeader], file: &[u8]) -> Result<(), ImageError>
     requires { found.now ≡ program_header_table file.now }
     ensures { result ≡ program_header_check file.now }

@@ -54,7 +54,7 @@ fn push_xml_piece(alloc: Global, text: &mut String, piece: XmlPiece<'_>) -> Resu
 }
 
 // Appends a number and a noun, in the singular for 1 and in the plural otherwise.
-#[tactic(auto, unfolding(rv_text::specs::Words::count_text))]
+#[tactic(auto, unfolding(rv_text::specs::Numbers::count_text))]
 fn push_file_reply_prefix(text: &mut String, number: u64, noun: &str) -> Result<(), AllocError>
     ensures { OnOk result (string_bytes text.new ≡ string_bytes text.old ++ count_text number noun.now) }
 {

@@ -12,7 +12,7 @@ use std::alloc::{AllocError, Global};
 pub const WORD_LINE_LEN: usize = 9;
 
 /// Appends a word as eight lower-case hexadecimal digits, most significant first.
-#[tactic(auto, unfolding(rv_text::specs::Words::word_digits))]
+#[tactic(auto, unfolding(rv_text::specs::Numbers::word_digits))]
 pub(crate) fn push_word_digits(
     alloc: Global,
     text: &mut String,
@@ -55,7 +55,7 @@ pub fn are_word_lines(bytes: &[u8], words: &[u32]) -> bool
 }
 
 /// Returns the line of a word: its eight digits and a line feed.
-#[tactic(auto, unfolding(rv_text::specs::Words::word_digits))]
+#[tactic(auto, unfolding(rv_text::specs::Numbers::word_digits))]
 pub fn word_line(word: u32) -> [u8; WORD_LINE_LEN]
     ensures { result ≡ word_line word }
 {

@@ -22,7 +22,7 @@ pub fn push_number(bytes: &mut Vec<u8>, number: u64) -> Result<(), AllocError>
 }
 
 /// Appends a number and a noun, which is given in the singular: `1 step`, but `2 steps`.
-#[tactic(auto, unfolding(crate::specs::Words::count_text))]
+#[tactic(auto, unfolding(crate::specs::Numbers::count_text))]
 pub fn push_file_reply_prefix(
     bytes: &mut Vec<u8>,
     number: u64,
@@ -45,7 +45,7 @@ fn plural_ending(number: u64) -> &'static str
 
 /// Appends an exit code in decimal; if its top bit is set, as a negative number followed by the unsigned one that lists use: `-1
 /// (4294967295)`.
-#[tactic(auto, unfolding(crate::specs::Words::exit_code_text))]
+#[tactic(auto, unfolding(crate::specs::Numbers::exit_code_text))]
 pub fn push_exit_code(bytes: &mut Vec<u8>, code: u32) -> Result<(), AllocError>
     ensures { OnOk result (bytes.new.items ≡ bytes.old.items ++ exit_code_text code) }
 {
@@ -60,7 +60,7 @@ pub fn push_exit_code(bytes: &mut Vec<u8>, code: u32) -> Result<(), AllocError>
 }
 
 /// Appends a word as eight lower-case hexadecimal digits.
-#[tactic(auto, unfolding(crate::specs::Words::word_digits))]
+#[tactic(auto, unfolding(crate::specs::Numbers::word_digits))]
 pub fn push_word_digits(bytes: &mut Vec<u8>, word: u32) -> Result<(), AllocError>
     ensures { OnOk result (bytes.new.items ≡ bytes.old.items ++ word_digits word) }
 {
