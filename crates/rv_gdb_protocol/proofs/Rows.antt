@@ -24,17 +24,17 @@ watch_fits : (kind : WatchKind) (address count : ℕ) → 1 ≤ count → count 
 watch_fits kind address count some few within =
     rw (le-leb 1 count some, le-leb count 65536 few, le-leb (address + count) 4294967296 within) refl
 
-trap_read : (text : List ℕ) (stoppoint : Stoppoint) → IsStoppointText text index → parse_stoppoint text ≡ Some (Some index)
+trap_read : (text : List ℕ) (stoppoint : Stoppoint) → IsStoppointText text stoppoint → parse_stoppoint text ≡ Some (Some stoppoint)
 unfolding text_after parse_watch_range
-trap_read text index (software fields address kind tells) = rw (two_numbers fields address kind tells) refl
-trap_read text index (hardware fields address kind tells) = rw (two_numbers fields address kind tells) refl
-trap_read text index (writes fields address count tells some few within) =
+trap_read text stoppoint (software fields address kind tells) = rw (two_numbers fields address kind tells) refl
+trap_read text stoppoint (hardware fields address kind tells) = rw (two_numbers fields address kind tells) refl
+trap_read text stoppoint (writes fields address count tells some few within) =
     rw (two_numbers fields address count tells)
     (ap (λ (found : Option Stoppoint). Some found) (watch_fits watch.Writes address count some few within))
-trap_read text index (reads fields address count tells some few within) =
+trap_read text stoppoint (reads fields address count tells some few within) =
     rw (two_numbers fields address count tells)
     (ap (λ (found : Option Stoppoint). Some found) (watch_fits watch.Reads address count some few within))
-trap_read text index (accesses fields address count tells some few within) =
+trap_read text stoppoint (accesses fields address count tells some few within) =
     rw (two_numbers fields address count tells)
     (ap (λ (found : Option Stoppoint). Some found) (watch_fits watch.Accesses address count some few within))
 
