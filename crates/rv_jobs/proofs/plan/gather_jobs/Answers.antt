@@ -38,7 +38,7 @@ loop-place-preserved g c =
           ∙ sym (needed_more c.args.jobs c.args.indices.items c.loop-place.place-index 0 (omega arith)));
       kept = rw inv.same at (c.in_ok-asked.ensures.kept kept);
       faults = c.in_ok-asked.ensures.faults (g.S.Store.fault_count c.args.store.now) inv.faults;
-      noted = subst (λ js. AreRecorded (paths_of c.in_ok-asked.asked) js c.read_paths_for_row.new.noted.items) jobs
+      noted = subst (λ js. AreRecorded (paths_of c.in_ok-asked.asked) js c.read_paths_for_row.new.recorded.items) jobs
           c.in_ok-asked.ensures.noted;
     }
 
