@@ -7,12 +7,12 @@ use Rattle.rv_jobs.proofs.path_results.PathResults.read_paths_at_index.Goals as 
 
 pub returns-then-is_some-clause-paths : goal.returns-then-is_some-clause-paths
 returns-then-is_some-clause-paths g c =
-    noted_old (paths_of c.args.self) c.args.jobs.now c.args.noted.now.items c.args.place (single_job [] 0 [])
+    noted_old (paths_of c.args.self) c.args.jobs.now c.args.recorded.now.items c.args.index (single_job [] 0 [])
     c.index.result.now c.requires.noted c.requires.place c.index.ensures (sym c.is_some.ensures ∙ c.if-is_some.true)
 
 pub returns-clause-noted : goal.returns-clause-noted
 returns-clause-noted g c =
-    noted_more (paths_of c.args.self) (paths_of c.in_ok-asked.asked) c.args.jobs.now c.args.noted.now.items
-    c.args.place
-    c.index-jobs-place.result c.in_ok-asked.places c.requires.noted c.requires.place c.index-jobs-place.is
+    noted_more (paths_of c.args.self) (paths_of c.in_ok-asked.asked) c.args.jobs.now c.args.recorded.now.items
+    c.args.index
+    c.index-jobs-index.result c.in_ok-asked.places c.requires.noted c.requires.place c.index-jobs-index.is
     c.in_ok-asked.ensures.paths c.in_ok-asked.ensures.places
