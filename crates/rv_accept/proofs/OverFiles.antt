@@ -14,7 +14,7 @@ use Rattle.rv_rows.specs.declared_row.Row.{Row}
 use Rattle.rv_accept.proofs.ImagesThatRan.{RanOver, outcome_over, ran_over, runs_alike}
 use Rattle.rv_accept.proofs.Passing.{accepted_passes, met_if_kept, unasked_passes}
 use Rattle.rv_accept.specs.Accepted.{accepted_job, actual_console}
-use Rattle.rv_accept.specs.Passing.{HasExpectedEnd, AreFilesUpdated, is_pass_or_none, outcome_of_row}
+use Rattle.rv_accept.specs.Passing.{HasExpectedEnd, AreGoldenFilesUpToDate, is_pass_or_none, outcome_of_row}
 use Rattle.rv_accept.specs.Runs.{has_replaceable_expectation, chosen_skip_reason}
 use Rattle.rv_accept.specs.declared.ends.Acceptance.{Acceptance}
 use Rattle.rv_accept.specs.declared.current_verdict.CurrentVerdict.{CurrentVerdict}
@@ -44,7 +44,7 @@ text_read answers (Some path) text is = rw is refl
 -- the job comes to what it came to
 outcome_again : (earlier later : List PathResult) (job : Job) (row : Row)
     → outcome_of_row row ≡ outcome_in earlier (without_expectations job) → did_run row.ending ≡ true
-    → AreFilesUpdated earlier later job row
+    → AreGoldenFilesUpToDate earlier later job row
     → outcome_in later (accepted_job job row.ending row.console) ≡ outcome_of_row row
 outcome_again earlier later job row came ran finds =
     let over : RanOver (without_expectations job) (result_or_unreadable earlier job.image) =
@@ -61,7 +61,7 @@ outcome_again earlier later job row came ran finds =
 passes_again : (acceptance : Acceptance) (stands : CurrentVerdict) (job : Job) (earlier : List PathResult) (later : PlanView)
     (row : Row) → outcome_of_row row ≡ outcome_in earlier (without_expectations job)
     → chosen_skip_reason acceptance stands job row ≡ None → (stands ≡ current.Passes → HasExpectedEnd job row)
-    → job.same_as ≡ None → AreFilesUpdated earlier later.results job row
+    → job.same_as ≡ None → AreGoldenFilesUpToDate earlier later.results job row
     → is_pass_or_none (row_of later (accepted_job job row.ending row.console)).verdict ≡ true
 unfolding row_of
 passes_again acceptance stands job earlier later row came kept well alone finds = go (has_replaceable_expectation job) refl
@@ -89,7 +89,7 @@ outcome_of_its_row plan job = refl
 pub passes_over_files : (acceptance : Acceptance) (stands : CurrentVerdict) (job : Job) (earlier later : PlanView) (row : Row)
     → row ≡ row_of earlier (without_expectations job) → chosen_skip_reason acceptance stands job row ≡ None
     → (stands ≡ current.Passes → HasExpectedEnd job row) → job.same_as ≡ None
-    → AreFilesUpdated earlier.results later.results job row
+    → AreGoldenFilesUpToDate earlier.results later.results job row
     → is_pass_or_none (row_of later (accepted_job job row.ending row.console)).verdict ≡ true
 passes_over_files acceptance stands job earlier later row is kept well alone finds =
     passes_again acceptance stands job earlier.results later row

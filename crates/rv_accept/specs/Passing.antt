@@ -26,7 +26,7 @@ outcome_of_row row = record {
 }
 
 -- a later run of the job reads the same image, if the job ran, and finds the results of its row in its golden files
-pub record AreFilesUpdated (earlier later : List PathResult) (job : Job) (row : Row) : Type 0 where
+pub record AreGoldenFilesUpToDate (earlier later : List PathResult) (job : Job) (row : Row) : Type 0 where
   pub image : IsTrue (did_run row.ending) → result_or_unreadable later job.image ≡ result_or_unreadable earlier job.image
   pub signature : IfSome job.expect_signature (λ path. result_or_unreadable later path ≡ kept.Content (lines_of_signature row.signature))
   pub console : IfSome (console_path job.expect_console) (λ path. result_or_unreadable later path ≡ kept.Content row.console)

@@ -17,7 +17,7 @@ ghost use Rattle.rv_accept.specs.declared.golden_outcomes.GoldenFileOutcome.TheV
 ghost use Rattle.rv_accept.specs.Accepted.{accepted_job};
 ghost use Rattle.rv_accept.specs.Ends.{is_accepted_end};
 ghost use Rattle.rv_accept.specs.GoldenOutcomes.{outcome_of_golden_file, is_for_file};
-ghost use Rattle.rv_accept.specs.Passing.{HasExpectedEnd, AreFilesUpdated, is_pass_or_none};
+ghost use Rattle.rv_accept.specs.Passing.{HasExpectedEnd, AreGoldenFilesUpToDate, is_pass_or_none};
 ghost use Rattle.rv_accept.specs.Runs.{chosen_skip_reason};
 
 /// Proves that an accepted job without `same_as` meets all its expectations once they are the results of its run: its golden files contain
@@ -45,6 +45,6 @@ pub fn accepted_jobs_pass_with_their_files()
         → chosen_skip_reason acceptance stands job row ≡ None
         → (stands ≡ current.Passes → HasExpectedEnd job row)
         → job.same_as ≡ None
-        → AreFilesUpdated earlier.results later.results job row
+        → AreGoldenFilesUpToDate earlier.results later.results job row
         → IsTrue (is_pass_or_none (row_of later (accepted_job job row.ending row.console)).verdict) }
 {}

@@ -57,19 +57,19 @@ pub record ExcludesAll (contents : Option FileContents) (args : RunArgs) (rule :
   pub emptied : is_emptied requested (remaining_selection (regex_pattern pattern) jobs requested) ≡ true
 
 -- the message that the pattern of `--exclude` leaves no jobs of the list
-abbrev pub emptied_choice_message : List ℕ → List ℕ → List ℕ
-emptied_choice_message list text = codes "rvtest: " ++ printable_text list ++ codes ": no jobs left after --exclude \"" ++ printable_value text
+abbrev pub nothing_left_message : List ℕ → List ℕ → List ℕ
+nothing_left_message list text = codes "rvtest: " ++ printable_text list ++ codes ": no jobs left after --exclude \"" ++ printable_value text
     ++ codes "\"\n"
 
 -- the pattern excludes all selected jobs, and the stop reports this
 abbrev pub IsEmptiedStop : List ℕ → List Job → List Bool → Regex → Stop → Type 0
 IsEmptiedStop list jobs selection pattern stop = (is_emptied selection (remaining_selection (regex_pattern pattern) jobs selection) ≡ true)
-    × IsStop 2 (emptied_choice_message list (regex_source pattern)) stop
+    × IsStop 2 (nothing_left_message list (regex_source pattern)) stop
 
 -- why a command stopped: the text of `--exclude` is not a regular expression, or it excludes all requested jobs
 abbrev pub IsExclusionStop : Option FileContents → RunArgs → Rule → List Job → List ℕ → Stop → Type 0
 IsExclusionStop contents args rule jobs text stop = IsInvalidPatternStop (codes "--exclude <REGEX>") text stop
-    ⊎ (ExcludesAll contents args rule jobs text × IsStop 2 (emptied_choice_message args.list.now text) stop)
+    ⊎ (ExcludesAll contents args rule jobs text × IsStop 2 (nothing_left_message args.list.now text) stop)
 
 -- why choosing the jobs of a list stopped: memory ran out, a name or pattern chooses or leaves no job, or a report could not be read
 pub data IsChoiceStop (contents : Option FileContents) (args : RunArgs) (rule : Rule) (jobs : List Job) (stop : Stop)

@@ -6,7 +6,7 @@ ghost use Rattle.regex.specs.Strings.{regex_pattern, regex_source};
 ghost use Rattle.rv_choice.specs.BadValues.{IsBadPatternText, IsBadPatternStop};
 ghost use Rattle.rv_choice.specs.Choice.{HasDefaultOptions, is_emptied, borrowed_names, selection_by_criteria, failed_job_names, is_any_selected};
 ghost use Rattle.rv_choice.specs.Choice.{is_found_in_names, count_jobs_without_row, remaining_selection, optional_names, pattern_of, requested_names};
-ghost use Rattle.rv_choice.specs.ChoiceStops.{IsChoiceStop, IsEmptiedStop, IsPatternStop, IsInvalidPatternStop, emptied_choice_message};
+ghost use Rattle.rv_choice.specs.ChoiceStops.{IsChoiceStop, IsEmptiedStop, IsPatternStop, IsInvalidPatternStop, nothing_left_message};
 ghost use Rattle.rv_choice.specs.ChoiceStops.{unmatched_pattern};
 ghost use Rattle.rv_choice.specs.ChosenJobs.{AreChosenBy, AreChosenFrom, IsRemainingSelection, AreRequested, IsChoice};
 ghost use Rattle.rv_choice.specs.FailedJobNotes.{failed_job_notes};
@@ -377,18 +377,18 @@ fn unmatched_pattern_message<'a>(
 
 // Returns the error that the pattern of `--exclude` leaves no jobs of the list.
 fn emptied_choice_stop(alloc: Global, list: &str, pattern: &str) -> Stop
-    ensures { IsStop 2 (emptied_choice_message list.now pattern.now) result }
+    ensures { IsStop 2 (nothing_left_message list.now pattern.now) result }
 {
-    Stop::rejection(emptied_choice_message(alloc, list, pattern))
+    Stop::rejection(nothing_left_message(alloc, list, pattern))
 }
 
 // Returns the message that the pattern of `--exclude` leaves no jobs of the list.
-fn emptied_choice_message<'a>(
+fn nothing_left_message<'a>(
     alloc: Global,
     list: &'a str,
     pattern: &'a str,
 ) -> Result<Vec<u8>, AllocError>
-    ensures { IfOk result (λ text. text.items ≡ emptied_choice_message list.now pattern.now) }
+    ensures { IfOk result (λ text. text.items ≡ nothing_left_message list.now pattern.now) }
 {
     text_of_spans(
         alloc,

@@ -14,7 +14,7 @@ use Rattle.rv_count_tables.specs.declared.sum_of_images.NextImage.{NextImage}
 use Rattle.rv_count_tables.specs.Lines.{lacks}
 use Rattle.rv_count_tables.specs.Table.{executed_at, taken_at, name_at, executed_in, taken_in, next_path, truncated_name, calls_in_image, steps_in, min_text, min_text_of}
 use Rattle.rv_count_tables.specs.Table.{is_before, is_greater_than_last, digests_increase_from, AreNamesOf, AreValidNodes, IsValidImage, IsValidNode, IsValidTable}
-use Rattle.rv_count_tables.specs.Sum.{sum_error_of, NamesAgree, HasName, HasNameIn, IsSumOfTables, IsSumOfCounts, IsSumOfNames, CountsHaveNoSum, NamesHaveNoSum}
+use Rattle.rv_count_tables.specs.Sum.{sum_error_of, NamesAgree, HasName, HasNameIn, IsSumOfTables, IsSumOfCounts, IsSumOfNames, CountsHaveNoSum, IsErrorOfNames}
 use Rattle.rv_count_tables.specs.SumSteps.{ImagesAddUp, IsNextImage, ImagesHaveNoSum, ImageHasNoSum}
 use Rattle.rv_call_tree.specs.declared.sum.CallTreeSumError.{CallTreeSumError}
 use Rattle.rv_call_tree.specs.declared.sum.CallTreeSumError.TheVariants as nodes
@@ -388,7 +388,7 @@ no_sum_of_counts (Node f) a b h = absurd h
 no_sum_of_counts (Names f) a b h = absurd h
 no_sum_of_counts Runs a b h = h
 
-no_sum_of_names : (error : SumError) (a b : ImageCounts) → NamesHaveNoSum error a.functions b.functions → ImageHasNoSum error a b
+no_sum_of_names : (error : SumError) (a b : ImageCounts) → IsErrorOfNames error a.functions b.functions → ImageHasNoSum error a b
 no_sum_of_names OutOfMemory a b h = tt
 no_sum_of_names (Count n) a b h = absurd h
 no_sum_of_names (Node f) a b h = absurd h
@@ -396,10 +396,10 @@ no_sum_of_names (Names f) a b h = h
 no_sum_of_names Runs a b h = h
 
 pub no_sum_of_named : (error : SumError) (a b : ImageCounts) (ns ms : List FunctionName) → ns ≡ a.functions
-    → ms ≡ b.functions → NamesHaveNoSum error ns ms → ImageHasNoSum error a b
+    → ms ≡ b.functions → IsErrorOfNames error ns ms → ImageHasNoSum error a b
 no_sum_of_named error a b ns ms p q h = no_sum_of_names error a b
-    (subst (λ (xs : List FunctionName). NamesHaveNoSum error a.functions xs) q
-    (subst (λ (xs : List FunctionName). NamesHaveNoSum error xs ms) p h))
+    (subst (λ (xs : List FunctionName). IsErrorOfNames error a.functions xs) q
+    (subst (λ (xs : List FunctionName). IsErrorOfNames error xs ms) p h))
 
 pub no_sum_of_spots : (why : CallTreeSumError) (a b : ImageCounts) → IsOverflowOfTrees why a.nodes b.nodes
     → ImageHasNoSum (sum_error_of why) a b

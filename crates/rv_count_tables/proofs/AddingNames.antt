@@ -6,9 +6,9 @@ use Rattle.std.proofs.lemmas.List.{drop_all}
 use Rattle.std.specs.Prelude.{nat_le}
 use Rattle.std.specs.List.{AllByRecursion}
 use Rattle.rv_count_tables.specs.declared.table.FunctionName.{FunctionName}
-use Rattle.rv_count_tables.specs.declared.sum_of_names.NextName.{NextName}
+use Rattle.rv_count_tables.specs.declared.union_of_names.NextName.{NextName}
 use Rattle.rv_count_tables.specs.Table.{name_at, functions_increase_from, min_text_of, AreValidNames, IsValidName}
-use Rattle.rv_count_tables.specs.Sum.{NamesAgree, HasName, IsSumOfNames, NamesHaveNoSum}
+use Rattle.rv_count_tables.specs.Sum.{NamesAgree, HasName, IsSumOfNames, IsErrorOfNames}
 use Rattle.rv_count_tables.specs.declared.sum.SumError.{SumError}
 use Rattle.rv_count_tables.specs.declared.sum.SumError.TheVariants.{OutOfMemory, Count, Node, Names, Runs}
 use Rattle.rv_count_tables.specs.SumSteps.{NamesAddUp, IsNextName}
@@ -220,7 +220,7 @@ name_of_both (x ∷ xs) (y ∷ ys) z w each some other is at function name next 
 
 -- two names of one function, at the front of both
 pub other_names_first : (a b : List FunctionName) (x y : FunctionName) → 0 < length a → 0 < length b → x ≡ get_or a 0 x
-    → y ≡ get_or b 0 y → x.function ≡ y.function → (x.name ≡ y.name → ⊥) → NamesHaveNoSum (Names x.function) a b
+    → y ≡ get_or b 0 y → x.function ≡ y.function → (x.name ≡ y.name → ⊥) → IsErrorOfNames (Names x.function) a b
 other_names_first [] b x y some other is at function differ = absurd (omega arith)
 other_names_first (x ∷ xs) [] z w some other is at function differ = absurd (omega arith)
 other_names_first (x ∷ xs) (y ∷ ys) z w some other is at function differ = (
@@ -236,8 +236,8 @@ name_in_rest zero f name ns h = h
 name_in_rest (suc n) f name [] h = h
 name_in_rest (suc n) f name (m ∷ ms) h = inr (name_in_rest n f name ms h)
 
-pub no_sum_of_rest : (n m : ℕ) (a b : List FunctionName) (error : SumError) → NamesHaveNoSum error (drop n a) (drop m b)
-    → NamesHaveNoSum error a b
+pub no_sum_of_rest : (n m : ℕ) (a b : List FunctionName) (error : SumError) → IsErrorOfNames error (drop n a) (drop m b)
+    → IsErrorOfNames error a b
 no_sum_of_rest n m a b OutOfMemory h = tt
 no_sum_of_rest n m a b (Count address) h = h
 no_sum_of_rest n m a b (Node function) h = h

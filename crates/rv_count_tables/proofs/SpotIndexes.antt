@@ -8,7 +8,7 @@ use Rattle.std.specs.List.{flat_map}
 use Rattle.std.specs.Ordering.{is_eq, nat_cmp}
 use Rattle.rv_count_tables.specs.declared.table.FunctionName.{FunctionName}
 use Rattle.rv_count_tables.specs.declared.text.FunctionFields.{FunctionFields}
-use Rattle.rv_count_tables.specs.ParsedNodes.{line_by_index, line_by_fields, line_with_digits, fields_of_function, fields_with_digits, IsIndexOf}
+use Rattle.rv_count_tables.specs.ParsedNodes.{line_by_index, line_by_fields, node_line_with_digits, fields_of_function, fields_with_digits, IsIndexOf}
 use Rattle.rv_count_tables.specs.Table.{name_of}
 use Rattle.rv_count_tables.specs.Text.{line_of_node, name_or_empty, node_line, fields_of_node}
 use Rattle.rv_call_tree.specs.declared.call_node.CallNode.{CallNode}
@@ -105,7 +105,7 @@ index_more index more ns n x is none put words f =
 -- by the words of a function it is that of its name
 line_by_name : (o : Option (List ℕ)) (s : CallNode)
     → line_by_fields (option_map (fields_of_function s.function) o) s ≡ node_line (record { node = s; name = name_or_empty o })
-unfolding line_with_digits fields_with_digits node_line fields_of_node
+unfolding node_line_with_digits fields_with_digits node_line fields_of_node
 line_by_name None s = refl
 line_by_name (Some name) s = refl
 

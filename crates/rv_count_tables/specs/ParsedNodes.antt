@@ -25,13 +25,13 @@ fields_with_digits digits s = codes "spot " ++ decimal s.depth ++ codes " " ++ d
     ++ decimal s.calls ++ codes " " ++ decimal s.steps
 
 -- the line of a node with this name, where the address of the function is written with these digits
-unfoldable pub line_with_digits : List ℕ → CallNode → List ℕ → List ℕ
-line_with_digits digits s name = line (fields_with_digits digits s ++ codes " " ++ name)
+unfoldable pub node_line_with_digits : List ℕ → CallNode → List ℕ → List ℕ
+node_line_with_digits digits s name = line (fields_with_digits digits s ++ codes " " ++ name)
 
 -- the line of a node with these words of its function, or with an empty name if there are no words
 abbrev pub line_by_fields : Option FunctionFields → CallNode → List ℕ
 line_by_fields None s = node_line (record { node = s; name = [] })
-line_by_fields (Some words) s = line_with_digits words.digits s words.name
+line_by_fields (Some words) s = node_line_with_digits words.digits s words.name
 
 -- the line of a node with the words of its function in the index, or with an empty name if it has none
 unfoldable pub line_by_index : BTreeMap ℕ FunctionFields → CallNode → List ℕ

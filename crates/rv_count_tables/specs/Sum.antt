@@ -89,13 +89,13 @@ CountsHaveNoSum (Names function) a b = ⊥
 CountsHaveNoSum Runs a b = ⊥
 
 -- the error is true of the function names of one image in the two tables; errors about numbers are false
-abbrev pub NamesHaveNoSum : SumError → List FunctionName → List FunctionName → Type 0
-NamesHaveNoSum OutOfMemory a b = Unit {0}
-NamesHaveNoSum (Count address) a b = ⊥
-NamesHaveNoSum (Node function) a b = ⊥
-NamesHaveNoSum (Names function) a b = (name : List ℕ) × (other : List ℕ)
+abbrev pub IsErrorOfNames : SumError → List FunctionName → List FunctionName → Type 0
+IsErrorOfNames OutOfMemory a b = Unit {0}
+IsErrorOfNames (Count address) a b = ⊥
+IsErrorOfNames (Node function) a b = ⊥
+IsErrorOfNames (Names function) a b = (name : List ℕ) × (other : List ℕ)
     × HasName function name a × HasName function other b × (name ≡ other → ⊥)
-NamesHaveNoSum Runs a b = ⊥
+IsErrorOfNames Runs a b = ⊥
 
 -- the empty table: no images and no runs
 abbrev pub no_counts : CountTable

@@ -8,8 +8,8 @@ use Rattle.rv_count_tables.specs.declared.sum.SumError.{SumError}
 use Rattle.rv_count_tables.specs.declared.sum.SumError.TheVariants.{OutOfMemory, Count, Node, Names, Runs}
 use Rattle.rv_count_tables.specs.declared.sum_of_counts.NextCount.{NextCount}
 use Rattle.rv_count_tables.specs.declared.sum_of_images.NextImage.{NextImage}
-use Rattle.rv_count_tables.specs.declared.sum_of_names.NextName.{NextName}
-use Rattle.rv_count_tables.specs.Sum.{NamesAgree, CountsHaveNoSum, HasNameIn, NamesHaveNoSum}
+use Rattle.rv_count_tables.specs.declared.union_of_names.NextName.{NextName}
+use Rattle.rv_count_tables.specs.Sum.{NamesAgree, CountsHaveNoSum, HasNameIn, IsErrorOfNames}
 use Rattle.rv_count_tables.specs.Table.{executed_at, taken_at, name_at, executed_in, taken_in, next_path, truncated_name, calls_in_image, steps_in, min_text_of}
 use Rattle.rv_count_tables.specs.Table.{increase_from, functions_increase_from, digests_increase_from, IsValidCount, IsValidImage, IsValidName}
 use Rattle.rv_call_tree.specs.Trees.{calls_at, ends_with, steps_at}
@@ -96,5 +96,5 @@ ImageHasNoSum (Count address) a b = CountsHaveNoSum (Count address) a.addresses 
 ImageHasNoSum (Node function) a b = (path : List ℕ) × (ends_with function path ≡ true)
     × ((2 ^ 64 ≤ calls_at path a.nodes + calls_at path b.nodes)
     ⊎ (2 ^ 64 ≤ steps_at path a.nodes + steps_at path b.nodes))
-ImageHasNoSum (Names function) a b = NamesHaveNoSum (Names function) a.functions b.functions
+ImageHasNoSum (Names function) a b = IsErrorOfNames (Names function) a.functions b.functions
 ImageHasNoSum Runs a b = ⊥

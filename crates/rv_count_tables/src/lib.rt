@@ -20,11 +20,11 @@ mod read_stacks;
 mod sum;
 mod sum_of_counts;
 mod sum_of_images;
-mod sum_of_names;
 mod table;
 #[cfg(test)]
 mod tests;
 mod text;
+mod union_of_names;
 
 pub use law::{
     empty_table_adds_nothing, lists_with_equal_counts_are_equal, sums_of_counts_associate,

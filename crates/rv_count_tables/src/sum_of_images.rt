@@ -12,8 +12,8 @@ use crate::order::{is_before, min_text};
 use crate::push_item::push_item;
 use crate::sum::SumError;
 use crate::sum_of_counts::sum_of_counts;
-use crate::sum_of_names::{copy_of_names, sum_of_names};
 use crate::table::{Addresses, Digest, ImageCounts, Images};
+use crate::union_of_names::{copy_of_names, union_of_names};
 use rv_call_tree::{CallNodes, Text, sum_of_call_trees};
 use std::alloc::{AllocError, Global};
 
@@ -143,7 +143,7 @@ fn sum_of_image(alloc: Global, a: &ImageCounts, b: &ImageCounts) -> Result<Image
     let addresses = sum_of_counts(alloc, a.addresses.as_slice(), b.addresses.as_slice())?;
     let digest = Digest::new(copy_of(alloc, a.digest.as_slice())?);
     let path = Text::copy(alloc, min_text(a.path.as_str(), b.path.as_str()))?;
-    let functions = sum_of_names(alloc, a.functions.as_slice(), b.functions.as_slice())?;
+    let functions = union_of_names(alloc, a.functions.as_slice(), b.functions.as_slice())?;
     let nodes = sum_of_call_trees(alloc, a.nodes.as_slice(), b.nodes.as_slice())?;
     Ok(ImageCounts {
         digest,

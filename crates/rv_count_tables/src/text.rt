@@ -3,7 +3,7 @@
 ghost use Rattle.std.specs.Prelude.{◌≡◌, ◌++◌, IfOk, OnOk, codes, string_bytes, length};
 ghost use Rattle.std.specs.Fmt.{decimal};
 ghost use Rattle.std.specs.List.{flat_map};
-ghost use Rattle.rv_count_tables.specs.ParsedNodes.{fields_of_function, fields_with_digits, line_with_digits, line_by_index, IsIndexOf};
+ghost use Rattle.rv_count_tables.specs.ParsedNodes.{fields_of_function, fields_with_digits, node_line_with_digits, line_by_index, IsIndexOf};
 ghost use Rattle.rv_count_tables.specs.Text.{address_line, image_line, image_text, last_line, line_of_node, node_line, table_text};
 
 use crate::table::{AddressCounts, CountTable, FunctionName, ImageCounts};
@@ -166,7 +166,7 @@ pub(crate) fn push_address_line(
 }
 
 /// Appends the line of a node, which ends with this name of its function.
-#[tactic(auto, unfolding(crate::specs::ParsedNodes::line_with_digits, crate::specs::ParsedNodes::fields_with_digits, crate::specs::Text::node_line, crate::specs::Text::fields_of_node, rv_text::specs::Numbers::word_digits))]
+#[tactic(auto, unfolding(crate::specs::ParsedNodes::node_line_with_digits, crate::specs::ParsedNodes::fields_with_digits, crate::specs::Text::node_line, crate::specs::Text::fields_of_node, rv_text::specs::Numbers::word_digits))]
 pub(crate) fn push_node_line(
     alloc: Global,
     text: &mut String,
@@ -180,14 +180,14 @@ pub(crate) fn push_node_line(
 }
 
 // Appends the line of a node, with these digits for the address of its function.
-#[tactic(auto, unfolding(crate::specs::ParsedNodes::line_with_digits))]
+#[tactic(auto, unfolding(crate::specs::ParsedNodes::node_line_with_digits))]
 fn push_line_with_digits(
     text: &mut String,
     node: CallNode,
     digits: &str,
     name: &str,
 ) -> Result<(), AllocError>
-    ensures { OnOk result (string_bytes text.new ≡ string_bytes text.old ++ line_with_digits digits.now node name.now) }
+    ensures { OnOk result (string_bytes text.new ≡ string_bytes text.old ++ node_line_with_digits digits.now node name.now) }
 {
     push_fields_with_digits(text, node, digits)?;
     push_field(text, name)?;

@@ -3,7 +3,7 @@ use Rattle.std.proofs.Common.{◌≡◌, ◌∙◌, ◌<◌, ◌≤◌, ◌∷�
 use Rattle.std.proofs.lemmas.List.{take_all}
 use Rattle.rv_count_tables.specs.declared.table.CountTable.{CountTable}
 use Rattle.rv_cover_view.proofs.FirstFound.{found_first}
-use Rattle.rv_cover_view.specs.ImageCounts.{is_other_image, other_image}
+use Rattle.rv_cover_view.specs.ImageCounts.{has_other_image_at_path, other_image}
 use Rattle.rv_cover_view.specs.JobImages.{ImageFileView, image_of_file, images_of_files}
 use Rattle.rv_cover_view.specs.declared.image_file.ImageFile.{ImageFile}
 
@@ -16,12 +16,12 @@ find_map test h (x ∷ xs) = elim (test (h x))
     ]
 
 abbrev pub is_other : CountTable → ImageFile → Bool
-is_other table file = is_other_image table (image_of_file file)
+is_other table file = has_other_image_at_path table (image_of_file file)
 
 of_found : (table : CountTable) (files : List ImageFile) (found : Option ImageFile) → find (is_other table) files ≡ found
     → other_image table (images_of_files files) ≡ option_map (λ file. file.path.now) found
 of_found table files found is =
-    ap (λ (o : Option ImageFileView). option_map (λ image. image.path) o) (find_map (is_other_image table) image_of_file files)
+    ap (λ (o : Option ImageFileView). option_map (λ image. image.path) o) (find_map (has_other_image_at_path table) image_of_file files)
     ∙ ap (λ (o : Option ImageFile). option_map (λ image. image.path) (option_map image_of_file o)) is
     ∙ same found
   where

@@ -23,11 +23,11 @@ abbrev pub counts_of : CountTable → List ℕ → List AddressCounts
 counts_of table bytes = option_map_or (λ entry. entry.addresses) (entry_of_image table bytes) []
 
 -- whether a table does not have this image, although it has another image with its path
-abbrev pub is_other_image : CountTable → ImageFileView → Bool
-is_other_image table image = not (list_any (is_of_digest (sha256 image.bytes)) table.images)
+abbrev pub has_other_image_at_path : CountTable → ImageFileView → Bool
+has_other_image_at_path table image = not (list_any (is_of_digest (sha256 image.bytes)) table.images)
     && list_any (λ entry. bytes_eq entry.path (printable_text image.path)) table.images
 
 -- the path of the first of these images that the table does not have, although it has another image with the path; `None` if there is no
 -- such image
 abbrev pub other_image : CountTable → List ImageFileView → Option (List ℕ)
-other_image table images = option_map (λ image. image.path) (find (is_other_image table) images)
+other_image table images = option_map (λ image. image.path) (find (has_other_image_at_path table) images)

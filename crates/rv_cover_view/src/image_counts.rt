@@ -5,7 +5,7 @@ ghost use Rattle.std.specs.List.{list_any};
 ghost use Rattle.std.specs.Str.{bytes_eq};
 ghost use Rattle.sha2.specs.Sha256.{sha256};
 ghost use Rattle.rv_count_tables.specs.Table.{IsValidTable, increase_from};
-ghost use Rattle.rv_cover_view.specs.ImageCounts.{entry_of_image, counts_of, is_of_digest, is_other_image, other_image};
+ghost use Rattle.rv_cover_view.specs.ImageCounts.{entry_of_image, counts_of, is_of_digest, has_other_image_at_path, other_image};
 ghost use Rattle.rv_cover_view.specs.JobImages.{image_of_file, images_of_files};
 
 use crate::image_file::ImageFile;
@@ -23,7 +23,7 @@ pub fn other_image<'a>(
     ensures { IfOk result (λ other. option_map (λ path. path.now) other ≡ other_image table.now (images_of_files images.now)) }
 {
     for image in images {
-        if is_other_image(alloc, table, image)? {
+        if has_other_image_at_path(alloc, table, image)? {
             return Ok(Some(image.path));
         }
     }
@@ -31,12 +31,12 @@ pub fn other_image<'a>(
 }
 
 // Whether a table does not have this image, although it has another image with its path.
-fn is_other_image(
+fn has_other_image_at_path(
     alloc: Global,
     table: &CountTable,
     image: &ImageFile<'_>,
 ) -> Result<bool, AllocError>
-    ensures { IfOk result (λ is_other. is_other ≡ is_other_image table.now (image_of_file image.now)) }
+    ensures { IfOk result (λ is_other. is_other ≡ has_other_image_at_path table.now (image_of_file image.now)) }
 {
     if has_digest_of(table, image.bytes) {
         return Ok(false);

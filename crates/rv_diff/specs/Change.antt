@@ -6,7 +6,7 @@ use Rattle.rv_rows.specs.declared_row.RowEnd.{RowEnd}
 use Rattle.rv_rows.specs.declared_row.RowEnd.TheVariants as ending
 use Rattle.rv_rows.specs.declared_row.Verdict.{Verdict}
 use Rattle.rv_rows.specs.Report.{refusal_name, verdict_name}
-use Rattle.rv_rows.specs.Verdict.{are_alike_endings, are_same_signatures}
+use Rattle.rv_rows.specs.Verdict.{endings_match, are_same_signatures}
 use Rattle.rv_diff.specs.declared.change.Change.{Change}
 use Rattle.rv_diff.specs.declared.change.CompareMode.{CompareMode}
 use Rattle.rv_diff.specs.declared.change.CompareMode.TheVariants.{Outcomes, Slower, Steps}
@@ -18,7 +18,7 @@ use Rattle.rv_diff.specs.declared.change.Change.TheVariants.{Gone, Added, Change
 abbrev pub are_same_end_kinds : RowEnd → RowEnd → Bool
 are_same_end_kinds (ending.Refused refusal) (ending.Refused other) =
     bytes_eq (refusal_name refusal) (refusal_name other)
-are_same_end_kinds old new = are_alike_endings old new
+are_same_end_kinds old new = endings_match old new
 
 -- whether two faults have equal addresses and equal values; true if one of the endings is not a fault
 abbrev pub agree_in_fault_pc_and_value : RowEnd → RowEnd → Bool

@@ -4,7 +4,7 @@ ghost use Rattle.std.specs.Prelude.{◌≡◌, option_map};
 ghost use Rattle.rv_diff.specs.Change.{change_of, rows_agree, have_same_console, are_same_endings, are_same_end_kinds, agree_in_fault_pc_and_value};
 ghost use Rattle.rv_diff.specs.Change.{agree_in_steps, are_same_verdicts, is_slower};
 
-use rv_rows::{Row, RowEnd, Verdict, are_alike_endings, are_same_signatures};
+use rv_rows::{Row, RowEnd, Verdict, are_same_signatures, endings_match};
 
 /// How a job changed from one report to another.
 #[derive(Clone, Copy)]
@@ -72,7 +72,7 @@ fn are_same_end_kinds(old: RowEnd, new: RowEnd) -> bool
 {
     match (old, new) {
         (RowEnd::Refused(why), RowEnd::Refused(because)) => why.name() == because.name(),
-        _ => are_alike_endings(old, new),
+        _ => endings_match(old, new),
     }
 }
 

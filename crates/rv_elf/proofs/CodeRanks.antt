@@ -19,7 +19,7 @@ use Rattle.rv_elf.specs.CodeSymbols.{code_symbol, is_named_code, name_and_offset
 use Rattle.rv_elf.specs.Rows.{accepted}
 use Rattle.rv_elf.specs.Sections.{text_before_zero}
 use Rattle.rv_elf.specs.Symbols.{symbol_and_string_bytes, symbol_tables_check}
-use Rattle.rv_elf.specs.SymbolSearch.{are_in_one_segment, candidates, has_section, has_usable_name, is_candidate, is_function, is_nearer, is_object, is_source_name, may_be_code, name_and_offset, nearest_candidate, precedence, segment_contains_address, symbol_at, symbol_name}
+use Rattle.rv_elf.specs.SymbolSearch.{are_in_one_segment, candidates, has_section, has_usable_name, is_candidate, is_function, is_preferred_to, is_object, is_source_name, may_be_code, name_and_offset, nearest_candidate, precedence, segment_contains_address, symbol_at, symbol_name}
 use Rattle.rv_elf.proofs.Ranking.{below_three, is_ranked, nearest_below, nearest_more, rank_by_steps}
 use Rattle.rv_elf.proofs.CurrentVerdict.{by_nearest, no_tables}
 
@@ -83,9 +83,9 @@ module _ (p : Symbol → Bool) (f : ℕ → Symbol) where
     ]
   ] refl
 
-  next_best : (n : ℕ) (s : Symbol) → IsBest n (Some s) → IsBest (n + 1) (cond (is_nearer (f n) s && p (f n)) (Some (f n)) (Some s))
-  next_best n s h = elim (is_nearer (f n) s && p (f n)) as (λ b. (is_nearer (f n) s && p (f n)) ≡ b → IsBest (n + 1) (cond b (Some (f n)) (Some s))) [
-    | true ↦ λ e. let parts = and_parts (is_nearer (f n) s) (p (f n)) e in
+  next_best : (n : ℕ) (s : Symbol) → IsBest n (Some s) → IsBest (n + 1) (cond (is_preferred_to (f n) s && p (f n)) (Some (f n)) (Some s))
+  next_best n s h = elim (is_preferred_to (f n) s && p (f n)) as (λ b. (is_preferred_to (f n) s && p (f n)) ≡ b → IsBest (n + 1) (cond b (Some (f n)) (Some s))) [
+    | true ↦ λ e. let parts = and_parts (is_preferred_to (f n) s) (p (f n)) e in
         let above = ranks_above (rank_by_steps s) (rank_by_steps (f n)) h.0 n
         (ltb-true (rank_by_steps s) (rank_by_steps (f n)) (sym (is_ranked (f n) s) ∙ parts.0)) in (
           n,
@@ -109,7 +109,7 @@ module _ (p : Symbol → Bool) (f : ℕ → Symbol) where
             elim (cases_lt (rank_by_steps s) (rank_by_steps (f n))) [
               | inl less ↦
                   let nearer = is_ranked (f n) s ∙ lt-ltb (rank_by_steps s) (rank_by_steps (f n)) less in
-                  let both = and_from (is_nearer (f n) s) (p (f n)) nearer (sym (ap (λ m. p (f m)) same) ∙ passes) in
+                  let both = and_from (is_preferred_to (f n) s) (p (f n)) nearer (sym (ap (λ m. p (f m)) same) ∙ passes) in
                   absurd (cc)
               | inr more ↦ subst (λ m. rank m (f m) ≤ rank h.0 s) (sym same)
                   (ranks_first (rank_by_steps (f n)) (rank_by_steps s) h.0 n more (let l = h.1 in omega (arith, l)))
@@ -119,7 +119,7 @@ module _ (p : Symbol → Bool) (f : ℕ → Symbol) where
   ] refl
 
   one_more_best : (n : ℕ) (o : Option Symbol) → IsBest n o
-      → IsBest (n + 1) (cond (option_map_or (is_nearer (f n)) o true && p (f n)) (Some (f n)) o)
+      → IsBest (n + 1) (cond (option_map_or (is_preferred_to (f n)) o true && p (f n)) (Some (f n)) o)
   one_more_best n None h = first_best n h
   one_more_best n (Some s) h = next_best n s h
 

@@ -10,7 +10,7 @@ use Rattle.std.proofs.lemmas.Bool.Decides.{nat_tests}
 use Rattle.std.proofs.lemmas.List.{append-nil}
 use Rattle.std.proofs.lemmas.List.FromFn.{filter_of_map_range_with_len_more}
 use Rattle.rv_elf.specs.declared.symbols.Symbol.{Symbol}
-use Rattle.rv_elf.specs.SymbolSearch.{is_function, is_object, precedence, is_nearer, nearest_candidate}
+use Rattle.rv_elf.specs.SymbolSearch.{is_function, is_object, precedence, is_preferred_to, nearest_candidate}
 
 absorbed_right : (p q x : Bool) → (p ≡ true → q ≡ true) → p || (q || x) ≡ q || x
 absorbed_right true q x h = sym (or_left q x (h refl))
@@ -114,7 +114,7 @@ below_three false false = lit< tt
 ranked_alike : (a b f g : ℕ) → f < 3 → g < 3 → ltb b a || ((a == b) && ltb g f) ≡ ltb (3 * b + g) (3 * a + f)
 ranked_alike a b f g below under = grind (arith, nat_tests)
 
-pub is_ranked : (s t : Symbol) → is_nearer s t ≡ ltb (rank_by_steps t) (rank_by_steps s)
+pub is_ranked : (s t : Symbol) → is_preferred_to s t ≡ ltb (rank_by_steps t) (rank_by_steps s)
 is_ranked s t = ranked_alike s.value t.value (precedence s) (precedence t)
     (below_three (is_function s) (is_object s)) (below_three (is_function t) (is_object t))
 
@@ -123,9 +123,9 @@ unfolding nearest_candidate
 nearest_ranked ss = λ i. find (λ s. not (list_any (λ t. is_ranked t s i) ss)) ss
 
 nearest-append : (ss : List Symbol) (c : Symbol) → nearest_candidate (ss ++ c ∷ [])
-    ≡ cond (option_map_or (is_nearer c) (nearest_candidate ss) true) (Some c) (nearest_candidate ss)
+    ≡ cond (option_map_or (is_preferred_to c) (nearest_candidate ss) true) (Some c) (nearest_candidate ss)
 nearest-append ss c =
-    let back : cond (option_map_or (is_nearer c) (nearest_candidate ss) true) (Some c) (nearest_candidate ss)
+    let back : cond (option_map_or (is_preferred_to c) (nearest_candidate ss) true) (Some c) (nearest_candidate ss)
     ≡ cond (option_map_or (λ b. ltb (rank_by_steps b) (rank_by_steps c)) (first_best rank_by_steps ss) true) (Some c)
     (first_best rank_by_steps ss) =
     λ i. cond (option_map_or (λ b. is_ranked c b i) (nearest_ranked ss i) true) (Some c) (nearest_ranked ss i) in
@@ -141,11 +141,11 @@ and_false false = refl
 
 -- one more symbol, which may be a candidate
 more : (ss : List Symbol) (c : Symbol) (passes : Bool) → nearest_candidate (ss ++ cond passes (c ∷ []) [])
-    ≡ cond (option_map_or (is_nearer c) (nearest_candidate ss) true && passes) (Some c) (nearest_candidate ss)
+    ≡ cond (option_map_or (is_preferred_to c) (nearest_candidate ss) true && passes) (Some c) (nearest_candidate ss)
 more ss c true = nearest-append ss c
-    ∙ ap (λ b. cond b (Some c) (nearest_candidate ss)) (and_true (option_map_or (is_nearer c) (nearest_candidate ss) true))
+    ∙ ap (λ b. cond b (Some c) (nearest_candidate ss)) (and_true (option_map_or (is_preferred_to c) (nearest_candidate ss) true))
 more ss c false = ap nearest_candidate (append-nil ss)
-    ∙ ap (λ b. cond b (Some c) (nearest_candidate ss)) (and_false (option_map_or (is_nearer c) (nearest_candidate ss) true))
+    ∙ ap (λ b. cond b (Some c) (nearest_candidate ss)) (and_false (option_map_or (is_preferred_to c) (nearest_candidate ss) true))
 
 module _ (p : Symbol → Bool) (f : ℕ → Symbol) where
   -- the nearest of those that pass, among the first k
@@ -153,15 +153,15 @@ module _ (p : Symbol → Bool) (f : ℕ → Symbol) where
   nearest_below k = nearest_candidate (filter p (map f (range_with_len 0 k)))
 
   pub nearest_more : (k : ℕ) → nearest_below (k + 1)
-      ≡ cond (option_map_or (is_nearer (f k)) (nearest_below k) true && p (f k)) (Some (f k)) (nearest_below k)
+      ≡ cond (option_map_or (is_preferred_to (f k)) (nearest_below k) true && p (f k)) (Some (f k)) (nearest_below k)
   nearest_more k = ap nearest_candidate (filter_of_map_range_with_len_more p f 0 k k (omega arith))
       ∙ more (filter p (map f (range_with_len 0 k))) (f k) (p (f k))
 
   -- so it changes to the next one where that is nearer and passes
   pub one_more : (k : ℕ) (s : Symbol) (best : Option Symbol) (changes : Bool) → s ≡ f k
-      → best ≡ nearest_below k → option_map_or (is_nearer s) best true && p s ≡ changes
+      → best ≡ nearest_below k → option_map_or (is_preferred_to s) best true && p s ≡ changes
       → cond changes (Some s) best ≡ nearest_below (k + 1)
   one_more k s best changes is so_far e =
       ap (λ b. cond b (Some s) best) (sym e)
-      ∙ (λ i. cond (option_map_or (is_nearer (is i)) (so_far i) true && p (is i)) (Some (is i)) (so_far i))
+      ∙ (λ i. cond (option_map_or (is_preferred_to (is i)) (so_far i) true && p (is i)) (Some (is i)) (so_far i))
       ∙ sym (nearest_more k)

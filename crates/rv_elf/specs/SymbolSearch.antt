@@ -83,13 +83,13 @@ abbrev pub precedence : Symbol → ℕ
 precedence s = if is_function s then 2 else if is_object s then 1 else 0
 
 -- whether the symbol `s` is preferred to `t`: it has a greater value, or an equal value and a greater precedence
-abbrev pub is_nearer : Symbol → Symbol → Bool
-is_nearer s t = nat_lt t.value s.value
+abbrev pub is_preferred_to : Symbol → Symbol → Bool
+is_preferred_to s t = nat_lt t.value s.value
     || ((s.value == t.value) && nat_lt (precedence t) (precedence s))
 
 -- the first symbol in a list to which no other symbol of the list is preferred, or `None` if the list is empty
 unfoldable pub nearest_candidate : List Symbol → Option Symbol
-nearest_candidate ss = find (λ s. not (list_any (λ t. is_nearer t s) ss)) ss
+nearest_candidate ss = find (λ s. not (list_any (λ t. is_preferred_to t s) ss)) ss
 
 -- the name of the symbol, and the offset of the address `addr` from its value; `None` if it has no name
 abbrev pub name_and_offset : List ℕ → ℕ → Symbol → Option (List ℕ × ℕ)

@@ -5,7 +5,7 @@ ghost use Rattle.std.specs.Option.{option_map_or};
 ghost use Rattle.rv_elf.specs.Image.{IsImageOf};
 ghost use Rattle.rv_elf.specs.Sections.{text_before_zero};
 ghost use Rattle.rv_elf.specs.SymbolSearch.{symbol_at, symbol_of_value, nearest_symbol, nearest_candidate, candidates};
-ghost use Rattle.rv_elf.specs.SymbolSearch.{is_candidate, are_in_one_segment, segment_contains_address, is_nearer, precedence, covers_address};
+ghost use Rattle.rv_elf.specs.SymbolSearch.{is_candidate, are_in_one_segment, segment_contains_address, is_preferred_to, precedence, covers_address};
 ghost use Rattle.rv_elf.specs.SymbolSearch.{is_function, is_object, may_be_code, has_section, has_usable_name, IsNamesEnd};
 
 use crate::image::{Image, Segment};
@@ -131,17 +131,17 @@ pub(crate) fn names_end(strings: &[u8]) -> usize
 impl Symbol {
     // Whether the symbol is preferred to the best one so far; true if there is none.
     fn is_nearer_than_best(&self, best: Option<Symbol>) -> bool
-        ensures { result ≡ option_map_or (is_nearer self.now) best true }
+        ensures { result ≡ option_map_or (is_preferred_to self.now) best true }
     {
         match best {
-            Some(best) => self.is_nearer(&best),
+            Some(best) => self.is_preferred_to(&best),
             None => true,
         }
     }
 
     // Whether the symbol is preferred to another: it has a greater value, or an equal value and a greater precedence.
-    fn is_nearer(&self, other: &Symbol) -> bool
-        ensures { result ≡ is_nearer self.now other.now }
+    fn is_preferred_to(&self, other: &Symbol) -> bool
+        ensures { result ≡ is_preferred_to self.now other.now }
     {
         other.value < self.value
             || self.value == other.value && other.precedence() < self.precedence()

@@ -17,7 +17,7 @@ use Rattle.rv_rows.specs.declared_row.RowEnd.{RowEnd}
 use Rattle.rv_rows.specs.declared_row.Verdict.{Verdict}
 use Rattle.rv_rows.specs.declared_row.Verdict.TheVariants as verdict
 use Rattle.rv_rows.specs.Report.{word_line}
-use Rattle.rv_rows.specs.Verdict.{are_alike_endings, are_same_outcomes, exits_with, meets_all_expectations, has_expected_console, has_expected_end, has_expected_exit}
+use Rattle.rv_rows.specs.Verdict.{endings_match, outcomes_match, exits_with, meets_all_expectations, has_expected_console, has_expected_end, has_expected_exit}
 use Rattle.rv_rows.specs.Verdict.{has_expected_signature, matches_same_as, has_expectations, did_run, lines_of_signature, are_same_signatures}
 use Rattle.rv_rows.specs.Verdict.{verdict_of}
 use Rattle.rv_expect.specs.declared.difference.SameAsDifference.TheVariants as same
@@ -136,8 +136,8 @@ texts_told row other =
     ∙ not_both (bytes_eq row.console other.console) (are_same_signatures row.signature other.signature)
 
 runs_told : (row other : Row)
-    → is_some (difference_of_runs row other) ≡ not (are_same_outcomes (outcome_in_row row) (outcome_in_row other))
-runs_told row other = go (are_alike_endings row.ending other.ending) (texts_told row other)
+    → is_some (difference_of_runs row other) ≡ not (outcomes_match (outcome_in_row row) (outcome_in_row other))
+runs_told row other = go (endings_match row.ending other.ending) (texts_told row other)
   where
     go : (alike : Bool) → is_some (difference_of_outputs row other)
         ≡ not (bytes_eq row.console other.console && are_same_signatures row.signature other.signature)

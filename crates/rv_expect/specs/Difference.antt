@@ -6,7 +6,7 @@ use Rattle.std.specs.Option.{option_or}
 use Rattle.rv_rows.specs.declared_job.ExpectedConsole.{ExpectedConsole}
 use Rattle.rv_rows.specs.declared_job.ExpectedConsole.TheVariants.{Text, File}
 use Rattle.rv_rows.specs.declared_row.Row.{Row}
-use Rattle.rv_rows.specs.Verdict.{are_alike_endings}
+use Rattle.rv_rows.specs.Verdict.{endings_match}
 use Rattle.rv_expect.specs.declared.difference.Difference.{Difference}
 use Rattle.rv_expect.specs.declared.difference.Difference.TheVariants.{At, Lengths, Missing}
 use Rattle.rv_expect.specs.declared.difference.SameAsDifference.{SameAsDifference}
@@ -74,7 +74,7 @@ difference_of_outputs row other =
 -- the first difference between two rows: in how they ended, in their consoles, or in their signatures, or `None` if they agree
 abbrev pub difference_of_runs : Row → Row → Option SameAsDifference
 difference_of_runs row other =
-    if are_alike_endings row.ending other.ending then difference_of_outputs row other
+    if endings_match row.ending other.ending then difference_of_outputs row other
     else Some same.Ending
 
 -- the first difference between a row and the row `other` of the job that `same_as` names, or `None` if they agree or there is no `same_as`

@@ -4,7 +4,7 @@ ghost use Rattle.std.specs.Prelude.{◌≡◌, option_map};
 ghost use Rattle.rv_expect.specs.Difference.{console_difference, difference_of_runs, first_difference};
 ghost use Rattle.rv_expect.specs.Difference.{same_as_difference, signatures_difference};
 
-use rv_rows::{ExpectedConsole, Row, Words, are_alike_endings};
+use rv_rows::{ExpectedConsole, Row, Words, endings_match};
 
 /// The first difference between two sequences.
 #[derive(Clone, Copy)]
@@ -120,7 +120,7 @@ pub(crate) fn same_as_difference(
 fn difference_of_runs(row: &Row, other: &Row) -> Option<SameAsDifference>
     ensures { result ≡ difference_of_runs row.now other.now }
 {
-    if !are_alike_endings(row.ending, other.ending) {
+    if !endings_match(row.ending, other.ending) {
         return Some(SameAsDifference::Ending);
     }
     if let Some(difference) = first_byte_difference(

@@ -43,7 +43,7 @@ impl<'k> Judge<'k> {
     {
         let passed = has_passed(self.rule, row);
         match self.known {
-            None => judgement_of_unknown(passed),
+            None => judgement_if_unlisted(passed),
             Some(known) => judgement_in_file(known, passed, row),
         }
     }
@@ -107,7 +107,7 @@ impl<'k> Judgement<'k> {
 }
 
 // Returns the judgement of a row whose job is not listed as a known failure, given whether the row passed.
-fn judgement_of_unknown<'k>(passed: bool) -> Judgement<'k>
+fn judgement_if_unlisted<'k>(passed: bool) -> Judgement<'k>
     ensures { judgement_view result ≡ judged_unknown passed }
 {
     if passed {
@@ -122,7 +122,7 @@ fn judgement_in_file<'k>(known_jobs: &'k KnownJobs, passed: bool, row: &Row) -> 
     ensures { judgement_view result ≡ judged_in_file known_jobs.now.path passed (reason_of known_jobs.now.jobs row.now.name) }
 {
     match (passed, known_jobs.reason_of(row.name.as_str().as_bytes())) {
-        (_, None) => judgement_of_unknown(passed),
+        (_, None) => judgement_if_unlisted(passed),
         (true, Some(_)) => Judgement::NowPasses(known_jobs.path.as_str()),
         (false, Some(reason)) => Judgement::KnownFailure(reason),
     }

@@ -8,7 +8,7 @@ use Rattle.hex.proofs.HexLemmas.{IsDigits-lower_digits}
 use Rattle.rv_gdb_protocol.proofs.Hearing.{incoming_in-append, incoming_in-empty}
 use Rattle.rv_gdb_protocol.specs.Escapes.{packet_start, inverted, data_of, body_end, escape, escaped, escaped_byte, is_special, is_escape}
 use Rattle.rv_gdb_protocol.specs.ReaderStates.{ReaderState, between_packets, state_after_byte, incoming_in, max_body}
-use Rattle.rv_gdb_protocol.specs.Readback.{CanBeSent, IsReceivedAlone, IsReadBack, incoming_in_pieces, is_plain, joined, packet_with_digits, verdict_of}
+use Rattle.rv_gdb_protocol.specs.Readback.{CanBeSent, IsReceivedAsOnePacket, IsReadBack, incoming_in_pieces, is_plain, joined, packet_with_digits, verdict_of}
 use Rattle.rv_gdb_protocol.specs.Checksums.{packet_of, checksum_verdict, checksum_digits, checksum_of, parse_checksum}
 use Rattle.rv_gdb_protocol.specs.declared.frame.Incoming.TheVariants.{Packet}
 use Rattle.rv_gdb_protocol.specs.declared.frame.PacketPosition.TheVariants as position
@@ -65,7 +65,7 @@ pieces_heard frame (piece ∷ rest) =
     ∙ sym (incoming_in-append frame piece (joined rest))
 
 pub sent_alone : (text : List ℕ) (high low : ℕ) → CanBeSent text
-    → IsReceivedAlone (packet_with_digits text high low) text (verdict_of text high low)
+    → IsReceivedAsOnePacket (packet_with_digits text high low) text (verdict_of text high low)
 sent_alone text high low can = record {
   received = λ pieces are. pieces_heard between_packets pieces ∙ ap (incoming_in between_packets) are ∙ sent_heard text high low can;
   state_after = sent_behind text high low can;
@@ -150,7 +150,7 @@ sum_right text =
     ∙ ap (λ (told : Option ℕ). checksum_verdict s (parse_checksum (Some high) told)) (IsDigits-lower_digits low (omega arith))
     ∙ cond-true (high * 16 + low == s) verdict.Right verdict.Wrong (eq-eqb (high * 16 + low) s (omega arith))
 
-framed_alone : (body : List ℕ) → length (escaped body) ≤ max_body → IsReceivedAlone (packet_of body) (escaped body) verdict.Right
+framed_alone : (body : List ℕ) → length (escaped body) ≤ max_body → IsReceivedAsOnePacket (packet_of body) (escaped body) verdict.Right
 unfolding packet_of checksum_digits encode_with
 framed_alone body fits =
     let text : List ℕ = escaped body in

@@ -47,7 +47,7 @@ write_of_count range bytes same = rw (eq-eqb (length bytes) range.count same) re
 -- ---- actions
 
 action_read : (text : List ℕ) (step : Move) → IsAction text step → packet.action_of text ≡ Some step
-unfolding packet.action_of packet.bare_action text_after
+unfolding packet.action_of packet.move_of_plain_action text_after
 action_read text step (moves same other continues) = refl
 action_read text step (moves same other steps) = refl
 action_read text step (continues_with_signal signal number told) = rw told refl

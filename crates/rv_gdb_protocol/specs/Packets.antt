@@ -76,8 +76,8 @@ unfoldable pub stoppoint_request : List ℕ → Option Request
 stoppoint_request body = request_if_named (codes "Z") (stoppoint_change ask.Set) body <|> request_if_named (codes "z") (stoppoint_change ask.Clear) body
 
 -- the move that the action `c` or `s` of `vCont;` requests, or `None` for any other action
-unfoldable pub bare_action : List ℕ → Option Move
-bare_action text =
+unfoldable pub move_of_plain_action : List ℕ → Option Move
+move_of_plain_action text =
     if bytes_eq text (codes "c") then Some move.Continue
     else if bytes_eq text (codes "s") then Some move.Step else None
 
@@ -91,7 +91,7 @@ range_action text = text_after (codes "r") text >>= move_within_range
 
 -- the move that an action of `vCont;` without its thread requests, or `None` for an unknown action
 unfoldable pub action_of : List ℕ → Option Move
-action_of text = bare_action text <|> signal_action (codes "C") move.Continue text <|> signal_action (codes "S") move.Step text
+action_of text = move_of_plain_action text <|> signal_action (codes "C") move.Continue text <|> signal_action (codes "S") move.Step text
     <|> range_action text
 
 -- the request of `vCont;` with these arguments, or a refusal if they are malformed; only the first action counts, since there is one thread

@@ -38,7 +38,7 @@ abbrev pub joined : List (List ℕ) → List ℕ
 joined pieces = flat_map (λ piece. piece) pieces
 
 -- however the bytes are split, the parser receives exactly one packet, with this text and checksum, and is then between packets
-pub record IsReceivedAlone (bytes text : List ℕ) (sum : Checksum) : Type 0 where
+pub record IsReceivedAsOnePacket (bytes text : List ℕ) (sum : Checksum) : Type 0 where
   -- in whatever pieces the bytes arrive, this packet is the only item received
   pub received : (pieces : List (List ℕ)) → joined pieces ≡ bytes → incoming_in_pieces between_packets pieces ≡ Packet text sum ∷ []
   -- afterwards the parser is between packets
@@ -46,7 +46,7 @@ pub record IsReceivedAlone (bytes text : List ℕ) (sum : Checksum) : Type 0 whe
 
 -- a framed body is received as one packet with a correct checksum, and its data is the body
 pub record IsReadBack (body : List ℕ) : Type 0 where
-  pub alone : IsReceivedAlone (packet_of body) (escaped body) verdict.Right
+  pub alone : IsReceivedAsOnePacket (packet_of body) (escaped body) verdict.Right
   pub data_is : data_of false (escaped body) ≡ body
   pub whole : is_whole (escaped body) ≡ true
 

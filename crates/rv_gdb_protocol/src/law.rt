@@ -3,7 +3,7 @@
 ghost use Rattle.std.specs.Prelude.{◌≡◌, ◌≤◌, ◌++◌, ◌∷◌, [], ℕ, List, fold, length};
 ghost use Rattle.rv_gdb_protocol.specs.Escapes.{escaped};
 ghost use Rattle.rv_gdb_protocol.specs.ReaderStates.{ReaderState, between_packets, state_after_byte, incoming_at, incoming_in, max_body};
-ghost use Rattle.rv_gdb_protocol.specs.Readback.{CanBeSent, EndsWithPacket, IsReceivedAlone, IsReadBack, packet_with_digits, verdict_of};
+ghost use Rattle.rv_gdb_protocol.specs.Readback.{CanBeSent, EndsWithPacket, IsReceivedAsOnePacket, IsReadBack, packet_with_digits, verdict_of};
 ghost use Rattle.rv_gdb_protocol.specs.Grammar.{IsRequest};
 ghost use Rattle.rv_gdb_protocol.specs.Packets.{request_of};
 ghost use Rattle.rv_gdb_protocol.specs.Replies.{part_text};
@@ -28,7 +28,7 @@ pub fn framed_bodies_are_read_back()
 /// Proves that a text without `$` and `#`, followed by any two digits as its checksum, is received as one packet.
 pub fn packets_are_received()
     ensures { (text : List ℕ) (high low : ℕ) → CanBeSent text
-        → IsReceivedAlone (packet_with_digits text high low) text (verdict_of text high low) }
+        → IsReceivedAsOnePacket (packet_with_digits text high low) text (verdict_of text high low) }
 {}
 
 /// Proves that if the parser receives a packet, the bytes so far end with this packet.

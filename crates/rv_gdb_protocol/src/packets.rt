@@ -4,7 +4,7 @@ ghost use Rattle.std.specs.Prelude.{◌≡◌};
 ghost use Rattle.std.specs.Str.{bytes_eq};
 ghost use Rattle.rv_gdb_protocol.specs.Requests.{stoppoint_change};
 ghost use Rattle.rv_gdb_protocol.specs.declared.request.Request.TheVariants as ask;
-ghost use Rattle.rv_gdb_protocol.specs.Packets.{action_of, bare_action, bare_command, bare_query, description_request, detach, detach_request, file_reading, first_action, accepted_request, image_path_request, is_file_call, request_without_bytes, move_request, other_descriptor_request, query_request, range_action, register_or_memory_request, signal_action, stoppoint_request};
+ghost use Rattle.rv_gdb_protocol.specs.Packets.{action_of, move_of_plain_action, bare_command, bare_query, description_request, detach, detach_request, file_reading, first_action, accepted_request, image_path_request, is_file_call, request_without_bytes, move_request, other_descriptor_request, query_request, range_action, register_or_memory_request, signal_action, stoppoint_request};
 
 use crate::arguments::{
     description, image_path, move_with_signal, move_within_range, parse_stoppoint, plain_move,
@@ -207,16 +207,16 @@ fn first_action(args: &[u8]) -> Request
 fn action_of(text: &[u8]) -> Option<Move>
     ensures { result ≡ action_of text.now }
 {
-    bare_action(text)
+    move_of_plain_action(text)
         .or(signal_action(b"C", Move::Continue, text))
         .or(signal_action(b"S", Move::Step, text))
         .or(range_action(text))
 }
 
 // Returns the move that the action `c` or `s` of `vCont;` requests, or `None` for any other action.
-#[tactic(auto, unfolding(crate::specs::Packets::bare_action))]
-fn bare_action(text: &[u8]) -> Option<Move>
-    ensures { result ≡ bare_action text.now }
+#[tactic(auto, unfolding(crate::specs::Packets::move_of_plain_action))]
+fn move_of_plain_action(text: &[u8]) -> Option<Move>
+    ensures { result ≡ move_of_plain_action text.now }
 {
     if is_exactly(text, b"c") {
         Some(Move::Continue)

@@ -12,7 +12,7 @@ use Rattle.rv_history.specs.declared.stepping.StepResult.{StepResult}
 use Rattle.rv_history.specs.declared.stepping.StepResult.TheVariants as stepped
 use Rattle.rv_history.specs.declared.stops.Stops.{Stops}
 use Rattle.rv_history.specs.LastStop.{HaveNoStops, IsLastStopIn, HasNoStopAt, last_at, last_stop_after}
-use Rattle.rv_history.specs.Moves.{HasNoBackwardStop, IsChangeBefore, IsStepBefore, IsStopBefore, IsUninterrupted, IsBackwardStop}
+use Rattle.rv_history.specs.Moves.{HasNoBackwardStop, IsChangeBefore, IsStepBack, IsStopBefore, IsUninterrupted, IsBackwardStop}
 use Rattle.rv_history.specs.Places.{IsBreakAt, IsChangeAt, IsReached, last_step}
 use Rattle.rv_history.specs.Stepping.{IsStepped}
 use Rattle.rv_history.specs.Stops.{TriggersWatch, TriggersNoWatch, is_break}
@@ -198,13 +198,13 @@ stepped_place stops budget from start s t (stepped.Ended ending) reached goes di
 -- ---- one step back
 
 pub steps_back : (stops : Stops) (budget before from : ℕ) (start s t : State) → from ≡ before + 1 → IsReached start before s
-    → step_of s ≡ Ok t → TriggersNoWatch stops s t → IsStepBefore stops budget start from before outcome.Done
+    → step_of s ≡ Ok t → TriggersNoWatch stops s t → IsStepBack stops budget start from before outcome.Done
 steps_back stops budget before from start s t is reached e same =
     (is, no_change_at stops budget before start s t reached e same)
 
 pub stays_behind_change : (stops : Stops) (budget before from : ℕ) (start s t : State) → from ≡ before + 1 → before < budget
     → IsReached start before s → step_of s ≡ Ok t → TriggersWatch stops s t
-    → IsStepBefore stops budget start from from outcome.WatchTriggered
+    → IsStepBack stops budget start from from outcome.WatchTriggered
 stays_behind_change stops budget before from start s t is within reached e differ =
     (refl, record { before = before; place_is = is; change = change_at stops budget before start s t reached within e differ })
 
@@ -215,7 +215,7 @@ completes_before before from start s is there reached =
     ap step_of reached.same ∙ each_completes from before start (omega arith)
 
 pub back_within : (stops : Stops) (budget from step : ℕ) (start : State) (outcome : MoveResult)
-    → IsStepBefore stops budget start from step outcome → step ≤ from
+    → IsStepBack stops budget start from step outcome → step ≤ from
 back_within stops budget from step start outcome.Done stop = let is = stop.0 in omega arith
 back_within stops budget from step start outcome.WatchTriggered stop = let is = stop.0 in omega arith
 back_within stops budget from step start outcome.RunStart stop = let is = stop.0 in omega arith

@@ -7,7 +7,7 @@ use Rattle.rv_history.specs.declared.outcome.MoveResult.{MoveResult}
 use Rattle.rv_history.specs.declared.outcome.MoveResult.TheVariants as outcome
 use Rattle.rv_history.specs.declared.stops.Stops.{Stops}
 use Rattle.rv_history.specs.Counts.{IsFirstStepWith}
-use Rattle.rv_history.specs.Moves.{HasNoForwardStop, HasNoBackwardStop, IsChangeBefore, IsNextStep, IsNextStop, IsStepBefore, IsStopBefore, IsUninterrupted, IsForwardStop, IsBackwardStop}
+use Rattle.rv_history.specs.Moves.{HasNoForwardStop, HasNoBackwardStop, IsChangeBefore, IsNextStep, IsNextStop, IsStepBack, IsStopBefore, IsUninterrupted, IsForwardStop, IsBackwardStop}
 use Rattle.rv_history.specs.Places.{IsChangeAt}
 
 -- neither of two places is before the other
@@ -156,7 +156,7 @@ changes_or_not stops budget from step start is none change =
     none (subst (λ (k : ℕ). IsChangeAt stops budget start k) there change.change)
 
 pub one_step_before : (stops : Stops) (budget from p q : ℕ) (start : State) (one other : MoveResult)
-    → IsStepBefore stops budget start from p one → IsStepBefore stops budget start from q other → (p ≡ q) × (one ≡ other)
+    → IsStepBack stops budget start from p one → IsStepBack stops budget start from q other → (p ≡ q) × (one ≡ other)
 one_step_before stops budget from p q start outcome.Done outcome.Done first second =
     (let low = first.0 in let high = second.0 in omega arith, refl)
 one_step_before stops budget from p q start outcome.Done outcome.WatchTriggered first second =

@@ -25,8 +25,8 @@ use Rattle.rv_history.specs.declared.stops.WatchHit.TheVariants as hit
 use Rattle.rv_history.specs.Accesses.{access_at}
 use Rattle.rv_history.specs.StoredStates.{IsAt}
 use Rattle.rv_history.specs.LastStop.{HasNoStopAt}
-use Rattle.rv_history.specs.ForwardMoves.{IsArrival, IsMoveInProgress}
-use Rattle.rv_history.specs.Moves.{HasNoForwardStop, IsEndAt, IsNextStop, IsStepBefore, IsStopBefore}
+use Rattle.rv_history.specs.ForwardMoves.{IsForwardMoveEnd, IsMoveInProgress}
+use Rattle.rv_history.specs.Moves.{HasNoForwardStop, IsEndAt, IsNextStop, IsStepBack, IsStopBefore}
 use Rattle.rv_history.specs.Places.{IsChangeAt, IsHaltAt, last_step}
 use Rattle.rv_history.specs.Stops.{AreEmpty, AreUnwatched, TriggersWatch, TriggersNoWatch, first_hit, first_read, is_break, halts_at, hit_or, access_hit, hit_by_access, watch_bytes, watched_bytes}
 use Rattle.rv_history.proofs.Backward.{begins_over}
@@ -78,7 +78,7 @@ pub begins_unstopped : (stops : Stops) (budget from : ℕ) (start : State) → A
 begins_unstopped stops budget from start none = begins_over stops budget from start (λ j low high. quiet_at stops budget j start none)
 
 pub step_unwatched : (stops : Stops) (budget before from : ℕ) (start : State) → AreUnwatched stops → from ≡ before + 1
-    → IsStepBefore stops budget start from before outcome.Done
+    → IsStepBack stops budget start from before outcome.Done
 step_unwatched stops budget before from start none is = (is, no_change stops budget before start none)
 
 no_halt : (stops : Stops) (step : ℕ) (start : State) → AreEmpty stops → IsHaltAt stops bounds.All start step → ⊥
@@ -154,11 +154,11 @@ under_way stops start forward_move none all there order within = record {
 pub ends_before : (stops : Stops) (start : State) (forward_move : ForwardMove) (at : MachineAt) (arrived : MoveEnd) (end : ℕ) (ending : Ending)
     → AreEmpty stops → forward_move.bounds ≡ bounds.All → forward_move.from ≤ at.step → arrived ≡ record { at = at; outcome = outcome.End ending }
     → run_of end start ≡ record { ending = ending; steps = at.step; state = state_of at.machine } → at.step < end
-    → end ≤ forward_move.budget → IsArrival stops start forward_move arrived
+    → end ≤ forward_move.budget → IsForwardMoveEnd stops start forward_move arrived
 ends_before stops start forward_move at arrived end ending none all order is ran short within =
     let there = ran_to start (state_of at.machine) end at.step ending ran in
     let far = comes_within forward_move.budget at.step start there.completed (omega (arith, short, within)) in
-    subst (λ (a : MoveEnd). IsArrival stops start forward_move a) (sym is) (
+    subst (λ (a : MoveEnd). IsForwardMoveEnd stops start forward_move a) (sym is) (
       there,
       ends_anywhere stops forward_move.bounds forward_move.budget forward_move.from at.step start ending none all (omega (arith, order, far))
           (ends_within forward_move.budget end at.step start (state_of at.machine) ending ran short within),
@@ -167,16 +167,16 @@ ends_before stops start forward_move at arrived end ending none all order is ran
 -- or it comes to its budget
 pub ends_at : (stops : Stops) (start : State) (forward_move : ForwardMove) (at : MachineAt) (arrived : MoveEnd) → AreEmpty stops
     → forward_move.bounds ≡ bounds.All → forward_move.from ≤ at.step → arrived ≡ record { at = at; outcome = outcome.End Budget } → IsAt start at
-    → at.step ≡ forward_move.budget → IsArrival stops start forward_move arrived
+    → at.step ≡ forward_move.budget → IsForwardMoveEnd stops start forward_move arrived
 ends_at stops start forward_move at arrived none all order is there end =
     let full : (run_of forward_move.budget start).steps ≡ forward_move.budget = subst (λ (k : ℕ). (run_of k start).steps ≡ k) end there.completed in
     let here : IsEndAt forward_move.budget start at.step Budget =
     subst (λ (k : ℕ). IsEndAt forward_move.budget start k Budget) (sym end) (ends_by_budget forward_move.budget start full) in
     let far = comes_within forward_move.budget at.step start there.completed (omega (arith, end)) in
-    subst (λ (a : MoveEnd). IsArrival stops start forward_move a) (sym is)
+    subst (λ (a : MoveEnd). IsForwardMoveEnd stops start forward_move a) (sym is)
     (there, ends_anywhere stops forward_move.bounds forward_move.budget forward_move.from at.step start Budget none all (omega (arith, order, far)) here)
 
 pub ends_told : {E : Type 0} (stops : Stops) (start : State) (forward_move : ForwardMove) (result : Result MoveEnd E) → AreEmpty stops
-    → IfOk result (λ arrived. (none : Stops) → AreEmpty none → IsArrival none start forward_move arrived) → IfOk result (IsArrival stops start forward_move)
+    → IfOk result (λ arrived. (none : Stops) → AreEmpty none → IsForwardMoveEnd none start forward_move arrived) → IfOk result (IsForwardMoveEnd stops start forward_move)
 ends_told stops start forward_move (Ok arrived) none arrives = arrives stops none
 ends_told stops start forward_move (Err error) none arrives = tt

@@ -6,7 +6,7 @@ use Rattle.rv_trace.specs.State.{State}
 use Rattle.rv_trace.specs.declared_ending.Ending.{Ending}
 use Rattle.rv_trace.specs.Trace.{state_after}
 use Rattle.rv_history.specs.StoredStates.{IsAt}
-use Rattle.rv_history.specs.ForwardMoves.{IsArrival, IsMoveInProgress}
+use Rattle.rv_history.specs.ForwardMoves.{IsForwardMoveEnd, IsMoveInProgress}
 use Rattle.rv_history.specs.Moves.{IsNextStop, result_at_budget}
 use Rattle.rv_history.specs.Stops.{TriggersWatch, halts_at}
 use Rattle.rv_history.specs.declared.bounds.Bounds.TheVariants as bounds
@@ -38,23 +38,23 @@ same_at start one other there step state = record {
 -- a move that ends ends where it stands
 pub arrives : (stops : Stops) (start : State) (forward_move now : ForwardMove) (at : MachineAt) (told : MoveResult) (arrived : MoveEnd)
     → now ≡ record forward_move { at = now.at } → arrived ≡ record { at = at; outcome = told } → IsAt start at → at.step ≡ now.at.step
-    → IsNextStop stops now.bounds now.budget start now.from now.at.step told → IsArrival stops start forward_move arrived
+    → IsNextStop stops now.bounds now.budget start now.from now.at.step told → IsForwardMoveEnd stops start forward_move arrived
 arrives stops start forward_move now at told arrived same is there step stop =
-    let here : IsArrival stops start now (record { at = at; outcome = told }) =
+    let here : IsForwardMoveEnd stops start now (record { at = at; outcome = told }) =
     (there, subst (λ (k : ℕ). IsNextStop stops now.bounds now.budget start now.from k told) (sym step) stop) in
-    subst (λ (a : MoveEnd). IsArrival stops start forward_move a) (sym is)
-    (subst (λ (l : ForwardMove). IsArrival stops start l (record { at = at; outcome = told })) same here)
+    subst (λ (a : MoveEnd). IsForwardMoveEnd stops start forward_move a) (sym is)
+    (subst (λ (l : ForwardMove). IsForwardMoveEnd stops start l (record { at = at; outcome = told })) same here)
 
 module _ (stops : Stops) (start : State) (forward_move now : ForwardMove) (arrived : MoveEnd) (way : IsMoveInProgress stops start now)
     (same : now ≡ record forward_move { at = now.at }) where
   pub arrives_halted : arrived ≡ record { at = now.at; outcome = outcome.Breakpoint }
-      → (ltb now.from now.at.step && halts_at stops now.bounds (state_of now.at.machine).pc) ≡ true → IsArrival stops start forward_move arrived
+      → (ltb now.from now.at.step && halts_at stops now.bounds (state_of now.at.machine).pc) ≡ true → IsForwardMoveEnd stops start forward_move arrived
   arrives_halted is halts = arrives stops start forward_move now now.at outcome.Breakpoint arrived same is way.there refl
       (stops_by_break stops now.bounds now.budget now.from now.at.step start (state_of now.at.machine) way.there way.order
       way.within halts way.quiet)
 
   pub arrives_broken : arrived ≡ record { at = now.at; outcome = outcome.Interrupted }
-      → (ltb now.from now.at.step && halts_at stops now.bounds (state_of now.at.machine).pc) ≡ false → IsArrival stops start forward_move arrived
+      → (ltb now.from now.at.step && halts_at stops now.bounds (state_of now.at.machine).pc) ≡ false → IsForwardMoveEnd stops start forward_move arrived
   arrives_broken is halts = arrives stops start forward_move now now.at outcome.Interrupted arrived same is way.there refl
       (stops_by_interrupt stops now.bounds now.budget now.from now.at.step start (state_of now.at.machine) way.there way.order
       way.within halts way.quiet)
@@ -62,7 +62,7 @@ module _ (stops : Stops) (start : State) (forward_move now : ForwardMove) (arriv
   pub arrives_ended : (at : MachineAt) (ending : Ending) → arrived ≡ record { at = at; outcome = outcome.End ending }
       → at.step ≡ now.at.step → state_of at.machine ≡ state_of now.at.machine → now.at.step < now.budget
       → step_of (state_of now.at.machine) ≡ Err ending
-      → (ltb now.from now.at.step && halts_at stops now.bounds (state_of now.at.machine).pc) ≡ false → IsArrival stops start forward_move arrived
+      → (ltb now.from now.at.step && halts_at stops now.bounds (state_of now.at.machine).pc) ≡ false → IsForwardMoveEnd stops start forward_move arrived
   arrives_ended at ending is step state goes e halts = arrives stops start forward_move now at (outcome.End ending) arrived same is
       (same_at start now.at at way.there step state) step
       (stops_by_end stops now.bounds now.budget now.from now.at.step start (state_of now.at.machine) ending way.there way.order
@@ -71,14 +71,14 @@ module _ (stops : Stops) (start : State) (forward_move now : ForwardMove) (arriv
   pub arrives_changed : (at : MachineAt) (t : State) → arrived ≡ record { at = at; outcome = outcome.WatchTriggered } → IsAt start at
       → at.step ≡ now.at.step → now.at.step < now.budget → step_of (state_of now.at.machine) ≡ Ok t
       → TriggersWatch stops (state_of now.at.machine) t
-      → (ltb now.from now.at.step && halts_at stops now.bounds (state_of now.at.machine).pc) ≡ false → IsArrival stops start forward_move arrived
+      → (ltb now.from now.at.step && halts_at stops now.bounds (state_of now.at.machine).pc) ≡ false → IsForwardMoveEnd stops start forward_move arrived
   arrives_changed at t is there step goes e differ halts = arrives stops start forward_move now at outcome.WatchTriggered arrived same is there step
       (stops_by_change stops now.bounds now.budget now.from now.at.step start (state_of now.at.machine) t way.there way.order
       goes e differ halts way.quiet)
 
   pub arrives_at_budget : (told : MoveResult) → arrived ≡ record { at = now.at; outcome = told } → now.budget ≤ now.at.step
       → told ≡ result_at_budget (ltb now.from now.at.step && halts_at stops now.bounds (state_of now.at.machine).pc)
-      → IsArrival stops start forward_move arrived
+      → IsForwardMoveEnd stops start forward_move arrived
   arrives_at_budget told is end told_is =
       let within = way.within in
       let order = way.order in

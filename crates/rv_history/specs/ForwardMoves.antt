@@ -15,6 +15,6 @@ pub record IsMoveInProgress (stops : Stops) (start : State) (forward_move : Forw
   pub quiet : (j : ℕ) → forward_move.from ≤ j → j < forward_move.at.step → HasNoForwardStop stops forward_move.bounds forward_move.budget start forward_move.from j
 
 -- a forward move ended at its next stop, and its machine is in the state of the run at this step
-abbrev pub IsArrival : Stops → State → ForwardMove → MoveEnd → Type 0
-IsArrival stops start forward_move arrived =
+abbrev pub IsForwardMoveEnd : Stops → State → ForwardMove → MoveEnd → Type 0
+IsForwardMoveEnd stops start forward_move arrived =
     IsAt start arrived.at × IsNextStop stops forward_move.bounds forward_move.budget start forward_move.from arrived.at.step arrived.outcome

@@ -98,11 +98,11 @@ pub record IsStopBefore (stops : Stops) (budget : ℕ) (start : State) (from ste
 
 -- a single step back from the step `from` ends at the step `step` with this result; it does not move at step 0, or after a step that
 -- triggers a watchpoint
-abbrev pub IsStepBefore : Stops → ℕ → State → ℕ → ℕ → MoveResult → Type 0
-IsStepBefore stops budget start from step outcome.Done =
+abbrev pub IsStepBack : Stops → ℕ → State → ℕ → ℕ → MoveResult → Type 0
+IsStepBack stops budget start from step outcome.Done =
     (from ≡ step + 1) × (IsChangeAt stops budget start step → ⊥)
-IsStepBefore stops budget start from step outcome.WatchTriggered = (step ≡ from) × IsChangeBefore stops budget start from
-IsStepBefore stops budget start from step outcome.RunStart = (step ≡ 0) × (from ≡ 0)
-IsStepBefore stops budget start from step outcome.Breakpoint = ⊥
-IsStepBefore stops budget start from step (outcome.End ending) = ⊥
-IsStepBefore stops budget start from step outcome.Interrupted = ⊥
+IsStepBack stops budget start from step outcome.WatchTriggered = (step ≡ from) × IsChangeBefore stops budget start from
+IsStepBack stops budget start from step outcome.RunStart = (step ≡ 0) × (from ≡ 0)
+IsStepBack stops budget start from step outcome.Breakpoint = ⊥
+IsStepBack stops budget start from step (outcome.End ending) = ⊥
+IsStepBack stops budget start from step outcome.Interrupted = ⊥

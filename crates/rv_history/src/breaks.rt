@@ -5,7 +5,7 @@ ghost use Rattle.rv_trace.specs.Machine.{state_of};
 ghost use Rattle.rv_trace.specs.Run.{run_of};
 ghost use Rattle.rv_trace.specs.declared_ending.Ending.TheVariants.{Budget};
 ghost use Rattle.rv_history.specs.LastStop.{IsSearchedPart};
-ghost use Rattle.rv_history.specs.ForwardMoves.{IsArrival, IsMoveInProgress};
+ghost use Rattle.rv_history.specs.ForwardMoves.{IsForwardMoveEnd, IsMoveInProgress};
 ghost use Rattle.rv_history.specs.Stops.{AreUnwatched, is_break};
 ghost use Rattle.rv_history.specs.declared.bounds.Bounds.TheVariants.{All as AllAddresses};
 ghost use Rattle.rv_history.specs.declared.outcome.MoveResult.TheVariants.{Interrupted};
@@ -33,7 +33,7 @@ pub(crate) fn next_breakpoint<I: Interrupt>(
     requires way { IsMoveInProgress stops.now checkpoints.old forward_move }
     requires unbounded { forward_move.bounds ≡ AllAddresses }
     requires unwatched { AreUnwatched stops.now }
-    ensures stop { IfOk result (IsArrival stops.now checkpoints.old forward_move) }
+    ensures stop { IfOk result (IsForwardMoveEnd stops.now checkpoints.old forward_move) }
     ensures interrupted { IfOk result (λ arrived. arrived.outcome ≡ Interrupted → I.was_raised interrupt.new ≡ true) }
     ensures same { checkpoints.new ≡ checkpoints.old }
 {

@@ -48,7 +48,7 @@ impl Model for History {
 
 impl History {
     ghost use Rattle.rv_history.specs.Counts.{IsFirstStepWith, IsFirstStepIfAny};
-    ghost use Rattle.rv_history.specs.Moves.{IsNextStep, IsNextStop, IsStepBefore, IsStopBefore};
+    ghost use Rattle.rv_history.specs.Moves.{IsNextStep, IsNextStop, IsStepBack, IsStopBefore};
     ghost use Rattle.rv_history.specs.Places.{IsReached, last_step};
     ghost use Rattle.rv_history.specs.Starts.{start_of};
     ghost use Rattle.rv_history.specs.Stops.{first_triggered};
@@ -173,7 +173,7 @@ impl History {
     /// Moves one step back, and returns why the move ended. Does not move at the start of the run, or after a step that triggers a
     /// watchpoint.
     pub fn step_back(&mut self, alloc: Global, stops: &Stops) -> Result<MoveResult, AllocError>
-        ensures step { IfOk result (IsStepBefore stops.now self.old.budget self.old.start self.old.step self.new.step) }
+        ensures step { IfOk result (IsStepBack stops.now self.old.budget self.old.start self.old.step self.new.step) }
         ensures run { self.new ≡ record self.old { step = self.new.step } }
         ensures same { OnErr result (self.new ≡ self.old) }
     {

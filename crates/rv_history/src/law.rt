@@ -2,7 +2,7 @@
 
 ghost use Rattle.std.specs.Prelude.{◌≡◌, ◌≤◌, ℕ};
 ghost use Rattle.rv_history.specs.Counts.{IsFirstStepWith};
-ghost use Rattle.rv_history.specs.Moves.{IsNextStep, IsNextStop, IsStepBefore, IsStopBefore, IsUninterrupted};
+ghost use Rattle.rv_history.specs.Moves.{IsNextStep, IsNextStop, IsStepBack, IsStopBefore, IsUninterrupted};
 ghost use Rattle.rv_history.specs.Printing.{BeginsWith};
 ghost use Rattle.rv_history.specs.declared.bounds.Bounds.{Bounds};
 ghost use Rattle.rv_history.specs.declared.counts.Count.{Count};
@@ -23,7 +23,7 @@ pub fn moves_are_determined()
         → IsStopBefore stops budget start from p one → IsStopBefore stops budget start from q other
         → IsUninterrupted one → IsUninterrupted other → (p ≡ q) × (one ≡ other) }
     ensures step_back { (stops : Stops) (budget from p q : ℕ) (start : State) (one other : MoveResult)
-        → IsStepBefore stops budget start from p one → IsStepBefore stops budget start from q other → (p ≡ q) × (one ≡ other) }
+        → IsStepBack stops budget start from p one → IsStepBack stops budget start from q other → (p ≡ q) × (one ≡ other) }
     ensures count { (count : Count) (value budget p q : ℕ) (start : State) → IsFirstStepWith count value budget start p
         → IsFirstStepWith count value budget start q → p ≡ q }
 {}

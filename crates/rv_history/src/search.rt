@@ -2,7 +2,7 @@
 
 ghost use Rattle.std.specs.Prelude.{◌≡◌, ◌≤◌, IfOk, true};
 ghost use Rattle.rv_history.specs.StoredStates.{IsAt};
-ghost use Rattle.rv_history.specs.ForwardMoves.{IsArrival, IsMoveInProgress};
+ghost use Rattle.rv_history.specs.ForwardMoves.{IsForwardMoveEnd, IsMoveInProgress};
 ghost use Rattle.rv_history.specs.Stops.{AreEmpty};
 ghost use Rattle.rv_history.specs.declared.bounds.Bounds.TheVariants.{All as AllAddresses};
 ghost use Rattle.rv_history.specs.declared.outcome.MoveResult.TheVariants.{Interrupted};
@@ -28,7 +28,7 @@ pub(crate) fn next_stop<I: Interrupt>(
     interrupt: &mut I,
 ) -> Result<MoveEnd, AllocError>
     requires { IsMoveInProgress stops.now checkpoints.old forward_move }
-    ensures stop { IfOk result (IsArrival stops.now checkpoints.old forward_move) }
+    ensures stop { IfOk result (IsForwardMoveEnd stops.now checkpoints.old forward_move) }
     ensures interrupted { IfOk result (λ arrived. arrived.outcome ≡ Interrupted → I.was_raised interrupt.new ≡ true) }
     ensures same { checkpoints.new ≡ checkpoints.old }
 {
@@ -54,7 +54,7 @@ fn next_stop_by_steps<I: Interrupt>(
     interrupt: &mut I,
 ) -> Result<MoveEnd, AllocError>
     requires { IsMoveInProgress stops.now checkpoints.old forward_move }
-    ensures stop { IfOk result (IsArrival stops.now checkpoints.old forward_move) }
+    ensures stop { IfOk result (IsForwardMoveEnd stops.now checkpoints.old forward_move) }
     ensures interrupted { IfOk result (λ arrived. arrived.outcome ≡ Interrupted → I.was_raised interrupt.new ≡ true) }
     ensures same { checkpoints.new ≡ checkpoints.old }
 {
@@ -94,7 +94,7 @@ fn run_to_end<I: Interrupt>(
     requires order { forward_move.from ≤ forward_move.at.step }
     requires within { forward_move.at.step ≤ forward_move.budget }
     requires unbounded { forward_move.bounds ≡ AllAddresses }
-    ensures stop { IfOk result (λ arrived. (stops : Stops) → AreEmpty stops → IsArrival stops checkpoints.old forward_move arrived) }
+    ensures stop { IfOk result (λ arrived. (stops : Stops) → AreEmpty stops → IsForwardMoveEnd stops checkpoints.old forward_move arrived) }
     ensures interrupted { IfOk result (λ arrived. arrived.outcome ≡ Interrupted → I.was_raised interrupt.new ≡ true) }
     ensures same { checkpoints.new ≡ checkpoints.old }
 {

@@ -3,7 +3,7 @@
 ghost use Rattle.std.specs.Prelude.{◌≡◌, ◌≤◌, ◌<◌, ℕ, IfNone, IfOk, IfSome, true};
 ghost use Rattle.rv_trace.specs.Run.{run_of};
 ghost use Rattle.rv_history.specs.LastStop.{IsSearchedPart, last_stop_after};
-ghost use Rattle.rv_history.specs.Moves.{IsStepBefore, IsStopBefore};
+ghost use Rattle.rv_history.specs.Moves.{IsStepBack, IsStopBefore};
 ghost use Rattle.rv_history.specs.declared.outcome.MoveResult.TheVariants.{Interrupted};
 
 use crate::breaks::search_breakpoints;
@@ -131,7 +131,7 @@ pub(crate) fn step_before(
 ) -> Result<SearchEnd, AllocError>
     requires { (run_of from checkpoints.now).steps ≡ from }
     ensures { IfOk result (λ arrival. (budget : ℕ) → from ≤ budget
-        → IsStepBefore stops.now budget checkpoints.now from arrival.step arrival.outcome) }
+        → IsStepBack stops.now budget checkpoints.now from arrival.step arrival.outcome) }
 {
     if from == 0 {
         return Ok(SearchEnd {

@@ -117,8 +117,8 @@ abbrev pub larger : ℕ → ℕ → ℕ
 larger n m = if nat_lt n m then m else n
 
 -- the line that says at which line the console differs from the expected text `source`, and how many lines there are
-abbrev pub lines_heading : List ℕ → ℕ → ℕ → List ℕ
-lines_heading source number count = codes "     console differs from " ++ source ++ codes " at line "
+abbrev pub difference_heading : List ℕ → ℕ → ℕ → List ℕ
+difference_heading source number count = codes "     console differs from " ++ source ++ codes " at line "
     ++ decimal number ++ codes " of " ++ decimal count ++ codes ":\n"
 
 -- the last lines of the `equal` leading lines of a text, which are equal in both texts
@@ -138,7 +138,7 @@ lines_around equal actual expected = equal_lines equal actual ++ differing_lines
 -- the difference between the console `actual` and the expected text `expected`, line by line; `source` names the expected text
 unfoldable pub console_lines : List ℕ → List ℕ → List ℕ → List ℕ
 console_lines source actual expected = let equal = equal_line_count actual expected in
-    lines_heading source (equal + 1) (larger (length (complete_lines actual)) (length (complete_lines expected)))
+    difference_heading source (equal + 1) (larger (length (complete_lines actual)) (length (complete_lines expected)))
     ++ lines_around equal (complete_lines actual) (complete_lines expected)
 
 -- whether a difference is shown line by line: no text is missing, and both are UTF-8

@@ -3,7 +3,7 @@
 ghost use Rattle.std.specs.Prelude.{◌≡◌, ◌≤◌, ◌++◌, OnOk, drop, length, nat_lt, if◌then◌else◌};
 ghost use Rattle.rv_text.specs.Spans.{span_text};
 ghost use Rattle.rv_job_text.specs.ConsoleLines.{console_lines, differing_line_count, differing_lines, equal_line_count, equal_lines};
-ghost use Rattle.rv_job_text.specs.ConsoleLines.{larger, lines_around, lines_heading, diff_lines, complete_lines};
+ghost use Rattle.rv_job_text.specs.ConsoleLines.{larger, lines_around, difference_heading, diff_lines, complete_lines};
 
 use crate::complete_lines::{split_whole_line, whole_line_count};
 use crate::shown_line::push_diff_line;
@@ -58,7 +58,7 @@ fn push_lines_heading(
     count: usize,
 ) -> Result<(), AllocError>
     ensures { OnOk result (bytes.new.items
-        ≡ bytes.old.items ++ lines_heading (span_text source.entry) number count) }
+        ≡ bytes.old.items ++ difference_heading (span_text source.entry) number count) }
 {
     push_spans(
         bytes,

@@ -6,7 +6,7 @@ use Rattle.std.proofs.KnownBytes.{Appends-nil}
 use Rattle.rv_stream.specs.declared_row.Row.{Row}
 use Rattle.rv_stream.specs.Sinks.{AppendsPrefix}
 use Rattle.rv_job_text.specs.Judgement.{JudgeView, judgement}
-use Rattle.rv_stream.specs.Streams.{row_text_list, joined_row_texts}
+use Rattle.rv_stream.specs.Streams.{row_texts, joined_row_texts}
 use Rattle.rv_job_text.specs.declared_xml.XmlContext.TheVariants.{Element}
 use Rattle.rv_job_text.specs.TextWords.{count_text}
 use Rattle.rv_job_text.specs.Xml.{xml_text}
@@ -71,7 +71,7 @@ module _ (class : List ℕ) (judging : JudgeView) (line : ℕ → Row → List �
   told_cases indices rows = joined_row_texts (case_text class judging line) indices rows
 
   cases_told : (indices : List ℕ) (rows : List Row) →
-      test_cases_text class judging (row_text_list line indices rows) rows ≡ told_cases indices rows
+      test_cases_text class judging (row_texts line indices rows) rows ≡ told_cases indices rows
   unfolding test_cases_text
   cases_told [] rows = refl
   cases_told (index ∷ indices) [] = refl
@@ -80,7 +80,7 @@ module _ (class : List ℕ) (judging : JudgeView) (line : ℕ → Row → List �
 
   -- the document, once what stands before the cases is gathered
   pub junit_begun : (indices : List ℕ) (rows : List Row) (text : List ℕ) → text ≡ suite_begin_text class judging rows →
-      junit_text class judging (row_text_list line indices rows) rows ≡ text ++ told_cases indices rows ++ suite_end_text
+      junit_text class judging (row_texts line indices rows) rows ≡ text ++ told_cases indices rows ++ suite_end_text
   unfolding junit_text
   junit_begun indices rows text is =
       ap (λ xs. suite_begin_text class judging rows ++ xs ++ suite_end_text) (cases_told indices rows)

@@ -4,7 +4,7 @@ ghost use Rattle.std.specs.Prelude.{◌≡◌, IfErr, OnErr, OnOk};
 ghost use Rattle.std.specs.Io.KnownBytes.{Appends};
 ghost use Rattle.rv_stream.specs.Sinks.{AppendsPrefix};
 ghost use Rattle.rv_stream.specs.Counts.{HasIncreased};
-ghost use Rattle.rv_stream.specs.Streams.{row_text_list};
+ghost use Rattle.rv_stream.specs.Streams.{row_texts};
 ghost use Rattle.rv_job_text.specs.Judgement.{judge_view};
 ghost use Rattle.rv_junit.specs.Junit.{junit_text};
 ghost use Rattle.rv_junit.specs.KnownLines.{AreLinesOf};
@@ -29,11 +29,11 @@ pub fn write_junit<T: RowReporter, W: Sink>(
     requires known { AreLinesOf (T.line cases.now.reporter.now) cases.now.indices.now cases.now.rows.now cases.now.texts.now }
     ensures appended { OnOk result (Appends (W.accepted out.old) (W.accepted out.new)
         (junit_text suite.now.name.now (judge_view suite.now.judge)
-        (row_text_list (T.line cases.now.reporter.now) cases.now.indices.now cases.now.rows.now) cases.now.rows.now)) }
+        (row_texts (T.line cases.now.reporter.now) cases.now.indices.now cases.now.rows.now) cases.now.rows.now)) }
     ensures counted { OnOk result (W.failure_count out.new ≡ W.failure_count out.old) }
     ensures part { OnErr result (AppendsPrefix (W.accepted out.old) (W.accepted out.new)
         (junit_text suite.now.name.now (judge_view suite.now.judge)
-        (row_text_list (T.line cases.now.reporter.now) cases.now.indices.now cases.now.rows.now) cases.now.rows.now)) }
+        (row_texts (T.line cases.now.reporter.now) cases.now.indices.now cases.now.rows.now) cases.now.rows.now)) }
     ensures failed { IfErr result (λ error. error ≡ WriteError.Failed
         → HasIncreased (W.failure_count out.old) (W.failure_count out.new)) }
 {

@@ -7,7 +7,7 @@ use Rattle.toml.specs.Data.{Items, Members}
 use Rattle.toml.specs.Parse.{parse_document}
 use Rattle.rv_lists.specs.JobList.{document_of}
 use Rattle.rv_lists.specs.declared.error.JobError.{JobError}
-use Rattle.rv_list_errors.specs.FaultHeads.{elements_of_job, fault_head, fault_location, job_names, location_in_document}
+use Rattle.rv_list_errors.specs.FaultHeads.{job_array_elements, fault_head, fault_location, job_names, location_in_document}
 use Rattle.rv_list_errors.specs.FaultMessages.{ExplainsFaultIn, IsFaultLineOfText}
 use Rattle.rv_list_errors.specs.JobFaults.{HasHeadAndTail, ExplainsJobFault, element_at}
 use Rattle.rv_list_errors.specs.Lines.{BeginsWith}
@@ -48,14 +48,14 @@ begins_of_ends IsSo head other message same (told, is, e) = (told, e ∙ ap (λ 
 -- in a document
 pub told_in_list : (file text : List ℕ) (ms : Members) (lines : List ℕ) (names : List (Option (List ℕ))) (jobs : Items)
     (fault : JobError) (message : List ℕ) → IsUtf8 text → parse_document text ≡ Some ms → lines ≡ job_lines text
-    → names ≡ job_names ms → jobs ≡ elements_of_job ms
+    → names ≡ job_names ms → jobs ≡ job_array_elements ms
     → HasHeadAndTail (λ told. 0 < fault.job → ExplainsJobFault names (element_at jobs (fault.job - 1)) fault.what told)
     (file ++ fault_location lines names fault.job) message → IsFaultLineOfText file text fault message
 told_in_list file text ms lines names jobs fault message valid parsed these those them (told, is, e) =
     subst (λ (document : Option Members). HasHeadAndTail (ExplainsFaultIn document fault) (file ++ location_in_document text document fault.job) message)
     (sym (read_document text ms valid parsed)) (
       told,
-      λ some. subst (λ (ns : List (Option (List ℕ))). ExplainsJobFault ns (element_at (elements_of_job ms) (fault.job - 1)) fault.what told)
+      λ some. subst (λ (ns : List (Option (List ℕ))). ExplainsJobFault ns (element_at (job_array_elements ms) (fault.job - 1)) fault.what told)
           those (subst (λ (js : Items). ExplainsJobFault names (element_at js (fault.job - 1)) fault.what told) them (is some)),
       e ∙ (λ i. (file ++ fault_location (these i) (those i) fault.job) ++ told),
     )

@@ -26,12 +26,12 @@ element_names no_items = []
 element_names (item d ds) = element_name d ∷ element_names ds
 
 -- the elements of `job` in a document, or none if it is not an array
-abbrev pub elements_of_job : Members → Items
-elements_of_job ms = unwrap_or (array_at_key (codes "job") ms) no_items
+abbrev pub job_array_elements : Members → Items
+job_array_elements ms = unwrap_or (array_at_key (codes "job") ms) no_items
 
 -- for each job of a document, its name, or `None` if it has none
 abbrev pub job_names : Members → List (Option (List ℕ))
-job_names ms = element_names (elements_of_job ms)
+job_names ms = element_names (job_array_elements ms)
 
 -- ---- where a job begins
 

@@ -3,13 +3,13 @@ use Rattle.std.specs.Prelude.{◌-◌, ◌<◌, ℕ, List, Option, Some, None, �
 use Rattle.toml.specs.Data.{Members}
 use Rattle.rv_lists.specs.JobList.{document_of}
 use Rattle.rv_lists.specs.declared.error.JobError.{JobError}
-use Rattle.rv_list_errors.specs.FaultHeads.{elements_of_job, fault_head, job_names}
+use Rattle.rv_list_errors.specs.FaultHeads.{job_array_elements, fault_head, job_names}
 use Rattle.rv_list_errors.specs.JobFaults.{HasHeadAndTail, ExplainsJobFault, element_at}
 
 -- `told` explains this error of a document from the values of the bad job; an error of the whole list may have any explanation
 abbrev pub ExplainsFaultOfDocument : Members → JobError → List ℕ → Type 0
 ExplainsFaultOfDocument ms fault told = 0 < fault.job → ExplainsJobFault
-    (job_names ms) (element_at (elements_of_job ms) (fault.job - 1)) fault.what told
+    (job_names ms) (element_at (job_array_elements ms) (fault.job - 1)) fault.what told
 
 -- `told` explains this error of a document from the values of the bad job; without a document, any text will do
 abbrev pub ExplainsFaultIn : Option Members → JobError → List ℕ → Type 0

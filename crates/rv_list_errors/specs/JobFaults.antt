@@ -119,16 +119,16 @@ abbrev pub are_digit_pairs : List ℕ → Bool
 are_digit_pairs digits = list_all is_ascii_hexdigit digits && length digits % 2 == 0
 
 -- the text of the maximum length of a script
-abbrev pub max_script_text : List ℕ
-max_script_text = codes "expected at most " ++ (decimal max_script_len ++ codes " bytes")
+abbrev pub expected_script_text : List ℕ
+expected_script_text = codes "expected at most " ++ (decimal max_script_len ++ codes " bytes")
 
 -- the explanation of a bad script, given the texts of `input` and `input_hex`: the key whose value is shown, or `None`, and the words
 abbrev pub script_explanation : Option (List ℕ) → Option (List ℕ) → Option (List ℕ) × List ℕ
 script_explanation (Some text) (Some digits) = (None, codes "\"input\" and \"input_hex\" cannot both be set")
-script_explanation (Some text) None = (Some (codes "input"), max_script_text)
+script_explanation (Some text) None = (Some (codes "input"), expected_script_text)
 script_explanation None (Some digits) = (
   Some (codes "input_hex"),
-  if are_digit_pairs digits then max_script_text else codes "expected pairs of hexadecimal digits",
+  if are_digit_pairs digits then expected_script_text else codes "expected pairs of hexadecimal digits",
 )
 script_explanation None None = (None, codes "input")
 

@@ -5,7 +5,7 @@ ghost use Rattle.std.specs.List.{position};
 ghost use Rattle.std.specs.Str.{IsUtf8};
 ghost use Rattle.toml.specs.View.{items_view, table_view, view};
 ghost use Rattle.rv_list_errors.specs.FaultHeads.{borrowed_name, borrowed_names, element_name, element_names};
-ghost use Rattle.rv_list_errors.specs.FaultHeads.{elements_of_job, job_names};
+ghost use Rattle.rv_list_errors.specs.FaultHeads.{job_array_elements, job_names};
 ghost use Rattle.rv_list_errors.specs.JobFaults.{is_name_of, number_of_name};
 ghost use Rattle.rv_list_locations.specs.JobLocations.{job_lines};
 
@@ -38,7 +38,7 @@ impl<'a> List<'a> {
         requires { IsUtf8 text.now }
         ensures lines { IfOk result (λ list. list.lines.items ≡ job_lines text.now) }
         ensures names { IfOk result (λ list. borrowed_names list.names.items ≡ job_names (table_view table.now)) }
-        ensures jobs { IfOk result (λ list. items_view list.jobs.now ≡ elements_of_job (table_view table.now)) }
+        ensures jobs { IfOk result (λ list. items_view list.jobs.now ≡ job_array_elements (table_view table.now)) }
     {
         let jobs = elements_at_key(table, "job");
         Ok(List {

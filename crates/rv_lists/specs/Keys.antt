@@ -149,10 +149,10 @@ region_has_unknown_key (table ms) = any_unknown_key is_region_key ms
 region_has_unknown_key _ = false
 
 -- whether at least one region of a job has a key that regions may not have
-abbrev pub regions_have_unknown_key : Members → Bool
-regions_have_unknown_key ms =
+abbrev pub job_has_unknown_region_key : Members → Bool
+job_has_unknown_region_key ms =
     option_map_or (any_item region_has_unknown_key) (array_at_key (codes "region") ms) false
 
 -- whether a job has a key that jobs may not have, or one of its regions has a key that regions may not have
 unfoldable pub has_unknown_job_or_region_key : Members → Bool
-has_unknown_job_or_region_key ms = any_unknown_key is_job_key ms || regions_have_unknown_key ms
+has_unknown_job_or_region_key ms = any_unknown_key is_job_key ms || job_has_unknown_region_key ms

@@ -6,7 +6,7 @@ ghost use Rattle.toml.specs.View.{view, table_view};
 ghost use Rattle.rv_lists.specs.Keys.{is_absent_or, has_key_types, region_keys, job_keys, is_text};
 ghost use Rattle.rv_lists.specs.Keys.{is_number};
 ghost use Rattle.rv_lists.specs.Keys.{is_boolean, is_text_array, is_region, is_region_array, region_has_unknown_key};
-ghost use Rattle.rv_lists.specs.Keys.{regions_have_unknown_key, has_wrong_type, has_unknown_job_or_region_key};
+ghost use Rattle.rv_lists.specs.Keys.{job_has_unknown_region_key, has_wrong_type, has_unknown_job_or_region_key};
 ghost use Rattle.rv_lists.specs.KeysInside.{is_value_of_type};
 
 use crate::keys::{
@@ -19,7 +19,7 @@ use toml::{Table, Value};
 pub(crate) fn has_unknown_job_or_region_key(table: &Table) -> bool
     ensures { result ≡ has_unknown_job_or_region_key (table_view table.now) }
 {
-    has_unknown_job_key(table) || regions_have_unknown_key(table)
+    has_unknown_job_key(table) || job_has_unknown_region_key(table)
 }
 
 /// Whether a value of a job does not have the type that its key requires; this includes the values in regions and in a signature.
@@ -31,8 +31,8 @@ pub(crate) fn has_wrong_type(table: &Table) -> bool
 }
 
 // Whether at least one region of a job has a key that regions may not have.
-fn regions_have_unknown_key(table: &Table) -> bool
-    ensures { result ≡ regions_have_unknown_key (table_view table.now) }
+fn job_has_unknown_region_key(table: &Table) -> bool
+    ensures { result ≡ job_has_unknown_region_key (table_view table.now) }
 {
     match array_at_key(table, "region") {
         Some(regions) => any_region_has_unknown_key(regions.as_slice()),

@@ -5,13 +5,13 @@ use Rattle.rv_cover_view.specs.JobImages.{ImageFileView}
 use Rattle.rv_profile.specs.Csv.{csv_header, csv_rows}
 use Rattle.rv_profile.specs.ImageStacks.{names_of, nodes_of, sums_of}
 use Rattle.rv_profile.specs.Profile.{IsProfileOf, FunctionCounts}
-use Rattle.rv_profile.specs.Text.{first_functions, image_lines}
+use Rattle.rv_profile.specs.Text.{first_or_all, image_lines}
 use Rattle.rv_profile.specs.declared.format.ProfileFormat.{ProfileFormat}
 use Rattle.rv_profile.specs.declared.sums.Sums.{Sums}
 
 -- the profile of the image with this path: CSV rows, or lines for people, as the format says
 abbrev pub image_text : ProfileFormat → List ℕ → Sums → List FunctionCounts → List ℕ
-image_text format path sums ps = if format.csv then csv_rows path (first_functions format.top ps) else image_lines format.top path sums ps
+image_text format path sums ps = if format.csv then csv_rows path (first_or_all format.top ps) else image_lines format.top path sums ps
 
 -- the header of the report: the column names if the format is CSV, and otherwise empty
 abbrev pub header_text : ProfileFormat → List ℕ

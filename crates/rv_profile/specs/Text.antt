@@ -70,26 +70,26 @@ abbrev pub function_lines : Columns → ℕ → List FunctionCounts → List ℕ
 function_lines c steps ps = flat_map (function_line c steps) ps
 
 -- " more function" if the count is 1, and otherwise " more functions", followed by a line feed
-abbrev pub functions_word : ℕ → List ℕ
-functions_word count = if count == 1 then codes " more function\n" else codes " more functions\n"
+abbrev pub more_functions_text : ℕ → List ℕ
+more_functions_text count = if count == 1 then codes " more function\n" else codes " more functions\n"
 
 -- the line that says how many functions are not shown; empty if there are none
 abbrev pub more_line : ℕ → List ℕ
-more_line hidden = if hidden == 0 then [] else decimal hidden ++ functions_word hidden
+more_line hidden = if hidden == 0 then [] else decimal hidden ++ more_functions_text hidden
 
 -- ---- an image
 
 -- the first elements of a list, as many as the number says; the whole list if no number is given
-abbrev pub first_functions : {X : Type 0} → Option ℕ → List X → List X
-first_functions None xs = xs
-first_functions (Some count) xs = take count xs
+abbrev pub first_or_all : {X : Type 0} → Option ℕ → List X → List X
+first_or_all None xs = xs
+first_or_all (Some count) xs = take count xs
 
 -- the lines after the image's own line: a header, a line for each function (only the first `top` if a number is given), and how many
 -- functions are not shown; empty if there are no functions
 abbrev pub functions_text : Option ℕ → Sums → List FunctionCounts → List ℕ
 functions_text top sums [] = []
-functions_text top sums (p ∷ ps) = column_header (columns_of sums) ++ function_lines (columns_of sums) sums.steps (first_functions top (p ∷ ps))
-    ++ more_line (length (p ∷ ps) - length (first_functions top (p ∷ ps)))
+functions_text top sums (p ∷ ps) = column_header (columns_of sums) ++ function_lines (columns_of sums) sums.steps (first_or_all top (p ∷ ps))
+    ++ more_line (length (p ∷ ps) - length (first_or_all top (p ∷ ps)))
 
 -- the lines of the image with this path: its number of steps, and then its functions, only the first `top` of them if a number is given
 abbrev pub image_lines : Option ℕ → List ℕ → Sums → List FunctionCounts → List ℕ

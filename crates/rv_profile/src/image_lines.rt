@@ -8,7 +8,7 @@ use crate::columns::{Columns, columns_of};
 use crate::function::FunctionProfile;
 use crate::image_profile::ImageProfile;
 use crate::text::{push_column_header, push_function_line, push_more_line, push_steps_line};
-use crate::top::first_functions;
+use crate::top::first_or_all;
 use std::alloc::{AllocError, Global};
 
 /// Appends the lines of the image with this path: its number of steps, and then its functions, only the first `top` of them if a number is
@@ -43,7 +43,7 @@ fn push_functions(
         return Ok(());
     }
     let columns = columns_of(alloc, profile.sums)?;
-    let shown = first_functions(top, functions);
+    let shown = first_or_all(top, functions);
     push_column_header(bytes, columns)?;
     push_function_lines(alloc, bytes, columns, profile.sums.steps, shown)?;
     push_more_line(bytes, functions.len() - shown.len())

@@ -12,7 +12,7 @@ use crate::format::ProfileFormat;
 use crate::image_lines::push_image_lines;
 use crate::image_profile::{ImageProfile, profile_of_image};
 use crate::image_stacks::stacks_of;
-use crate::top::first_functions;
+use crate::top::first_or_all;
 use rv_count_tables::CountTable;
 use rv_cover_view::ImageFile;
 use std::alloc::{AllocError, Global};
@@ -77,7 +77,7 @@ fn push_image_profile(
         ++ image_text format path.now profile.now.sums (profiles_of profile.now.functions.items)) }
 {
     if format.csv {
-        let functions = first_functions(format.top, profile.functions.as_slice());
+        let functions = first_or_all(format.top, profile.functions.as_slice());
         return push_csv_rows(text, path, functions);
     }
     push_image_lines(alloc, text, format.top, path, profile)

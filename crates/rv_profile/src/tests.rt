@@ -7,7 +7,7 @@ use crate::image_lines::push_image_lines;
 use crate::image_profile::{ImageProfile, profile_of_image};
 use crate::image_stacks::{has_stacks, stacks_of};
 use crate::sums::sums_of;
-use crate::top::first_functions;
+use crate::top::first_or_all;
 use rv_count_tables::{CountTable, read_table};
 use std::alloc::Global;
 use std::rt::HostRuntime;

@@ -2,7 +2,7 @@
 
 ghost use Rattle.std.specs.Prelude.{◌≡◌, ◌≤◌, ◌++◌, OnOk};
 ghost use Rattle.rv_profile.specs.Profile.{IsWithin, function_counts_of};
-ghost use Rattle.rv_profile.specs.Text.{column_header, function_line, functions_word, hundredths, more_line, percent, right_aligned_word, share, share_header, steps_line, steps_word};
+ghost use Rattle.rv_profile.specs.Text.{column_header, function_line, more_functions_text, hundredths, more_line, percent, right_aligned_word, share, share_header, steps_line, steps_word};
 
 use crate::columns::Columns;
 use crate::function::FunctionProfile;
@@ -145,12 +145,12 @@ pub(crate) fn push_more_line(bytes: &mut Vec<u8>, hidden: usize) -> Result<(), A
         return Ok(());
     }
     push_number(bytes, hidden as u64)?;
-    push_text(bytes, functions_word(hidden))
+    push_text(bytes, more_functions_text(hidden))
 }
 
 // Returns " more function" if the count is 1, and otherwise " more functions", followed by a line feed.
-fn functions_word(count: usize) -> &'static str
-    ensures { result.now ≡ functions_word count }
+fn more_functions_text(count: usize) -> &'static str
+    ensures { result.now ≡ more_functions_text count }
 {
     if count == 1 {
         " more function\n"

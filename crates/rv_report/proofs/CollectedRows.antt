@@ -9,7 +9,7 @@ use Rattle.rv_base.specs.Limits.{max_jobs}
 use Rattle.rv_report.specs.declared.row.Row.{Row}
 use Rattle.rv_report.specs.declared.saved.Extent.{Extent}
 use Rattle.rv_report.specs.Report.{line, row_text}
-use Rattle.rv_report.specs.LenientReport.{lines, ReaderStateView, state_between_rows, with_unfinished_row}
+use Rattle.rv_report.specs.LenientReport.{lines, ReaderStateView, state_between_rows, with_last_row_finished}
 use Rattle.rv_report.specs.Saved.{IsValidRow, are_increasing, row_names}
 use Rattle.rv_report.proofs.Spelled.{says, row_says}
 use Rattle.rv_report.proofs.Reports.{rising_parts}
@@ -127,14 +127,14 @@ whole_row_says n row ls w earlier done e is some small few =
     ∙ row_says (n - 1) n row (joined ls ++ w) earlier done e is same small few
 
 pub between_grown : (w earlier : List ℕ) (done : List Row) (e : Extent)
-    → Extends earlier done (with_unfinished_row (says w (state_between_rows earlier done e)))
+    → Extends earlier done (with_last_row_finished (says w (state_between_rows earlier done e)))
 unfolding state_between_rows
 between_grown w earlier done e = grown (lines w) (state_between_rows earlier done e)
 
 row_begun : (k n : ℕ) (row : Row) (w earlier : List ℕ) (done : List Row) (e : Extent) → IsValidRow row → n < 2 ^ 32
     → length done < max_jobs → 0 < k → k < length (row_lines n row)
     → HasRow earlier done n (Agrees n row k)
-    (with_unfinished_row (says (joined (take k (row_lines n row)) ++ w) (state_between_rows earlier done e)))
+    (with_last_row_finished (says (joined (take k (row_lines n row)) ++ w) (state_between_rows earlier done e)))
 unfolding state_between_rows
 row_begun k n row w earlier done e is small few some within =
     partial_row k n row w (state_between_rows earlier done e) is small few (omega arith) some within
@@ -143,12 +143,12 @@ pub rows_covered : (k : ℕ) (ns : List ℕ) (rows : List Row) (w earlier : List
     → AllByRecursion IsValidRow rows → length ns ≡ length rows → are_increasing before max_jobs ns ≡ true
     → length done + length rows ≤ max_jobs → k ≤ length (numbered_lines ns rows)
     → Covers earlier done ns rows k
-    (with_unfinished_row (says (joined (take k (numbered_lines ns rows)) ++ w) (state_between_rows earlier done e)))
+    (with_last_row_finished (says (joined (take k (numbered_lines ns rows)) ++ w) (state_between_rows earlier done e)))
 rows_covered zero ns rows w earlier done e before each counted rising few within =
-    none_covered earlier done ns rows (with_unfinished_row (says w (state_between_rows earlier done e)))
+    none_covered earlier done ns rows (with_last_row_finished (says w (state_between_rows earlier done e)))
     (between_grown w earlier done e)
 rows_covered (suc k) [] [] w earlier done e before each counted rising few within =
-    empty_covered earlier done (suc k) (with_unfinished_row (says w (state_between_rows earlier done e)))
+    empty_covered earlier done (suc k) (with_last_row_finished (says w (state_between_rows earlier done e)))
     (between_grown w earlier done e)
 rows_covered (suc k) [] (row ∷ rows) w earlier done e before each counted rising few within = absurd (omega arith)
 rows_covered (suc k) (n ∷ ns) [] w earlier done e before each counted rising few within = absurd (omega arith)
@@ -161,11 +161,11 @@ rows_covered (suc k) (n ∷ ns) (row ∷ rows) w earlier done e before each coun
     let all = length-append here later in
     let g = state_between_rows earlier done e in
     let C : List (List ℕ) → Type 0 = λ ls. Covers earlier done (n ∷ ns) (row ∷ rows) (suc k)
-    (with_unfinished_row (says (joined ls ++ w) g)) in
+    (with_last_row_finished (says (joined ls ++ w) g)) in
     elim (cases_lt (suc k) (length here)) [
       | inl inside ↦
           subst C (sym (take-append-le (suc k) here later (omega arith)))
-          (one_covered earlier done n ns row rows (suc k) (with_unfinished_row (says (joined (take (suc k) here) ++ w) g))
+          (one_covered earlier done n ns row rows (suc k) (with_last_row_finished (says (joined (take (suc k) here) ++ w) g))
           (omega arith) (row_begun (suc k) n row w earlier done e each.0 (omega arith) (omega arith) (omega arith) inside))
       | inr past ↦
           let i = suc k - length here in
@@ -176,7 +176,7 @@ rows_covered (suc k) (n ∷ ns) (row ∷ rows) w earlier done e before each coun
           (omega arith) (omega arith) in
           subst C (sym (take_past here later (suc k) i is))
           (more_covered earlier done n ns row rows (suc k) i
-          (with_unfinished_row (says (joined (here ++ take i later) ++ w) g)) is
-          (subst (λ (f : ReaderStateView). Covers (earlier ++ n ∷ []) (done ++ row ∷ []) ns rows i (with_unfinished_row f))
+          (with_last_row_finished (says (joined (here ++ take i later) ++ w) g)) is
+          (subst (λ (f : ReaderStateView). Covers (earlier ++ n ∷ []) (done ++ row ∷ []) ns rows i (with_last_row_finished f))
           (sym (whole_row_says n row (take i later) w earlier done e each.0 (omega arith) (omega arith) (omega arith))) rest))
     ]

@@ -15,7 +15,7 @@ use Rattle.rv_report.specs.declared.saved.SavedReport.{SavedReport}
 use Rattle.rv_report.specs.declared.read.FirstWordState.TheVariants as word
 use Rattle.rv_report.specs.declared.read.ReadError.TheVariants.{Truncated}
 use Rattle.rv_report.specs.Report.{line}
-use Rattle.rv_report.specs.LenientReport.{ReaderStateView, state_between_rows, with_stage_done, with_unfinished_row, state_after_text, lenient_report, part_extent_of_line}
+use Rattle.rv_report.specs.LenientReport.{ReaderStateView, state_between_rows, with_stage_done, with_last_row_finished, state_after_text, lenient_report, part_extent_of_line}
 use Rattle.rv_report.specs.LenientReport.{shard_of_text, extent_or_selection, after_job_or_last_line, with_line, decimal_number, text_before_byte, text_after_byte}
 use Rattle.rv_report.specs.Saved.{IsValidReport, matches_job_numbers, shard_text, row_names, saved_text}
 use Rattle.rv_report.specs.Differences.{read_error_from}
@@ -83,7 +83,7 @@ rows_cut r h k b p q plain within begins =
     let few = few_numbers r.numbers h.listed.rising in
     let ls = take k (numbered_lines r.numbers r.rows) in
     let text = joined ls ++ b ∷ p in
-    let f = with_unfinished_row (says text (state_between_rows [] [] Whole)) in
+    let f = with_last_row_finished (says text (state_between_rows [] [] Whole)) in
     let next = rows_next k r.numbers r.rows b p q [] [] Whole 0 h.rows counted h.listed.rising (omega arith) plain within
     begins in
     let c = next.covers in
@@ -121,14 +121,14 @@ chosen_line e ns h = chosen IsPartLine (matches_job_numbers e ns) e (Selection m
 -- what is gathered of all rows and a beginning of the last line
 gathered_last : (r : SavedReport) → IsValidReport r → (b : ℕ) (p : List ℕ) → lacks 10 (b ∷ p) ≡ true
     → state_after_text (joined (numbered_lines r.numbers r.rows) ++ b ∷ p)
-    ≡ with_unfinished_row (with_line (b ∷ p) (state_between_rows r.numbers r.rows Whole))
+    ≡ with_last_row_finished (with_line (b ∷ p) (state_between_rows r.numbers r.rows Whole))
 unfolding state_after_text
 gathered_last r h b p plain =
     let counted = h.listed.counted in
     let few = few_numbers r.numbers h.listed.rising in
     let start = state_between_rows [] [] Whole in
-    ap (λ (t : List ℕ). with_unfinished_row (says (t ++ b ∷ p) start)) (joined_numbered 0 r.numbers r.rows h.listed.rising)
-    ∙ ap with_unfinished_row (rows_say r.numbers r.rows (b ∷ p) [] [] Whole 0 h.rows counted h.listed.rising (omega arith)
+    ap (λ (t : List ℕ). with_last_row_finished (says (t ++ b ∷ p) start)) (joined_numbered 0 r.numbers r.rows h.listed.rising)
+    ∙ ap with_last_row_finished (rows_say r.numbers r.rows (b ∷ p) [] [] Whole 0 h.rows counted h.listed.rising (omega arith)
     ∙ says_alone b p (state_between_rows r.numbers r.rows Whole) plain)
 
 done_read : (p ns : List ℕ) (rows : List Row) → with_line (100 ∷ p) (state_between_rows ns rows Whole)
@@ -150,7 +150,7 @@ done_says_all r h p plain whole =
     let few = few_numbers r.numbers h.listed.rising in
     let known = prove_row_has_numbers r.extent r.numbers h.listed.fits in
     ap said_by (gathered_last r h 100 p plain
-    ∙ ap with_unfinished_row (done_read p r.numbers r.rows)
+    ∙ ap with_last_row_finished (done_read p r.numbers r.rows)
     ∙ finished_all r.numbers r.rows Whole
     ∙ ap (λ (e : Extent). with_stage_done (state_between_rows r.numbers r.rows e)) (sym whole)
     ∙ sym (gathered_all r h known (omega arith)))
@@ -216,7 +216,7 @@ part_cut r h p q plain part begins =
     let text = joined ls ++ 112 ∷ p in
     let e = part_extent_of_line (112 ∷ p) in
     let said = all_said r h e in
-    let gathered = gathered_last r h 112 p plain ∙ ap with_unfinished_row (part_read p r.numbers r.rows)
+    let gathered = gathered_last r h 112 p plain ∙ ap with_last_row_finished (part_read p r.numbers r.rows)
     ∙ finished_all r.numbers r.rows e in
     let last = last_words (extent_or_selection e said.0) said.1 in
     let here = part (length r.rows) in

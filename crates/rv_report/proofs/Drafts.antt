@@ -29,7 +29,7 @@ use Rattle.rv_report.specs.LenientReport.{lines, name_or_dash, job_number_of_lin
 use Rattle.rv_report.specs.LenientReport.{hex_number, with_zero_digits, hex_word, is_hex_word, hex_bytes, bytes_if_decoded, refusal_or_default, fault_ending_of_text}
 use Rattle.rv_report.specs.LenientReport.{row_ending_of_line, verdict_of_line, part_extent_of_line, ReaderStateView, state_between_rows, with_finished_row, with_stage_done, unfinished_row, padded_words}
 use Rattle.rv_report.specs.LenientReport.{after_job_or_last_line, after_end_line, after_steps_line, after_console_line, after_signature_line, after_word_or_verdict_line, with_line_at_stage}
-use Rattle.rv_report.specs.LenientReport.{with_line, with_lines, with_unfinished_row, state_after_text, hex_digit_value}
+use Rattle.rv_report.specs.LenientReport.{with_line, with_lines, with_last_row_finished, state_after_text, hex_digit_value}
 use Rattle.rv_report.specs.Saved.{max_words, IsWord, IsValidEnd, IsValidSignature, IsValidRow}
 
 -- ---- names
@@ -279,8 +279,8 @@ draft_padded g h =
     let words = all-append IsWord g.words (replicate missing 0) h.7 (zeros_good missing) in
     (h.0, h.1, h.2, h.3, h.4, h.5, omega arith, words)
 
-draft_finished : (g : ReaderStateView) → IsDraft g → IsDraft (with_unfinished_row g)
-unfolding with_unfinished_row
+draft_finished : (g : ReaderStateView) → IsDraft g → IsDraft (with_last_row_finished g)
+unfolding with_last_row_finished
 draft_finished g h =
     let filled : ReaderStateView = record g { words = padded_words g.count g.words } in
     pick IsDraft g.is_in_row (with_finished_row Unasked filled) g (draft_closed Unasked filled (draft_padded g h)) h

@@ -11,7 +11,7 @@ use Rattle.rv_report.specs.declared.lenient_rows.Stage.TheVariants as stage
 use Rattle.rv_report.specs.LenientReport.{job_number_of_line, job_name_of_line, decimal_number, is_hex_word, hex_word, hex_bytes}
 use Rattle.rv_report.specs.LenientReport.{row_ending_of_line, verdict_of_line, part_extent_of_line, ReaderStateView, state_between_rows, with_finished_row, with_stage_done, unfinished_row, padded_words}
 use Rattle.rv_report.specs.LenientReport.{after_job_or_last_line, after_end_line, after_steps_line, after_console_line, after_signature_line, after_word_or_verdict_line, with_line_at_stage}
-use Rattle.rv_report.specs.LenientReport.{with_line, with_lines, with_unfinished_row}
+use Rattle.rv_report.specs.LenientReport.{with_line, with_lines, with_last_row_finished}
 use Rattle.rv_report.specs.Saved.{max_words}
 
 -- a choice of two, each of which is so
@@ -25,7 +25,7 @@ chosen_if P false x y h k = k
 
 -- what is gathered of lines, and the row that isn't whole
 abbrev pub at_end : List (List ℕ) → ReaderStateView → ReaderStateView
-at_end ls g = with_unfinished_row (with_lines ls g)
+at_end ls g = with_last_row_finished (with_lines ls g)
 
 -- there are these numbers and rows, and perhaps more behind them
 pub record Extends (numbers : List ℕ) (rows : List Row) (f : ReaderStateView) : Type 0 where
@@ -102,8 +102,8 @@ grown_at stage.Words l g =
     (chosen P ended row (with_stage_done g) (one_more (verdict_of_line l) g) (unchanged (with_stage_done g)))
 grown_at stage.Done l g = unchanged g
 
-finished_grown : (g : ReaderStateView) → Extends g.numbers g.rows (with_unfinished_row g)
-unfolding with_unfinished_row
+finished_grown : (g : ReaderStateView) → Extends g.numbers g.rows (with_last_row_finished g)
+unfolding with_last_row_finished
 finished_grown g =
     let filled : ReaderStateView = record g { words = padded_words g.count g.words } in
     chosen (λ f. Extends g.numbers g.rows f) g.is_in_row (with_finished_row Unasked filled) g (one_more Unasked filled)

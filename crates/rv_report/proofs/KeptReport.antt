@@ -11,7 +11,7 @@ use Rattle.rv_report.specs.declared.saved.Extent.{Extent}
 use Rattle.rv_report.specs.declared.saved.Extent.TheVariants.{Whole}
 use Rattle.rv_report.specs.declared.saved.SavedReport.{SavedReport}
 use Rattle.rv_report.specs.Report.{line}
-use Rattle.rv_report.specs.LenientReport.{lines, ReaderStateView, state_between_rows, with_unfinished_row, state_after_text}
+use Rattle.rv_report.specs.LenientReport.{lines, ReaderStateView, state_between_rows, with_last_row_finished, state_after_text}
 use Rattle.rv_report.specs.LenientReport.{lenient_report, increasing_count, count_before_repeated_name, extent_or_selection}
 use Rattle.rv_report.specs.Saved.{IsValidReport, are_increasing, are_distinct, row_names, numbered_rows_text, extent_line, saved_text}
 use Rattle.rv_report.proofs.Spelled.{says, says_line}
@@ -157,11 +157,11 @@ gathered_past r h w =
     let count = length r.rows in
     let last = last_words r.extent count in
     let start = state_between_rows [] [] Whole in
-    ap (λ (t : List ℕ). with_unfinished_row (says t start))
+    ap (λ (t : List ℕ). with_last_row_finished (says t start))
     (append_assoc (numbered_rows_text r.numbers r.rows) (extent_line r.extent count) w)
-    ∙ ap (λ (t : List ℕ). with_unfinished_row (says (numbered_rows_text r.numbers r.rows ++ (t ++ w)) start))
+    ∙ ap (λ (t : List ℕ). with_last_row_finished (says (numbered_rows_text r.numbers r.rows ++ (t ++ w)) start))
     (last_is_line r.extent count)
-    ∙ ap with_unfinished_row (rows_say r.numbers r.rows (line last ++ w) [] [] Whole 0 h.rows counted h.listed.rising
+    ∙ ap with_last_row_finished (rows_say r.numbers r.rows (line last ++ w) [] [] Whole 0 h.rows counted h.listed.rising
     (omega arith)
     ∙ says_line last w (state_between_rows r.numbers r.rows Whole) (lacks-last r.extent count known (omega arith))
     ∙ ap (says w) (last_says r.extent count r.numbers r.rows known (omega arith))
@@ -187,7 +187,7 @@ rows_kept r h k w within =
     let counted = h.listed.counted in
     let few = few_numbers r.numbers h.listed.rising in
     let start = state_between_rows [] [] Whole in
-    let f = with_unfinished_row (says (joined (take k (numbered_lines r.numbers r.rows)) ++ w) start) in
+    let f = with_last_row_finished (says (joined (take k (numbered_lines r.numbers r.rows)) ++ w) start) in
     let c = rows_covered k r.numbers r.rows w [] [] Whole 0 h.rows counted h.listed.rising (omega arith) within in
     let s = kept_cut r h k f c in (
       (c.more ++ numbered_lines (take s.taken c.more_numbers) s.rows)

@@ -19,7 +19,7 @@ use Rattle.rv_report.specs.declared.row.Verdict.{Verdict}
 use Rattle.rv_report.specs.declared.lenient_rows.Stage.TheVariants as stage
 use Rattle.rv_report.specs.Report.{refusal_name, verdict_name, dash_if_empty}
 use Rattle.rv_report.specs.LenientReport.{lines, is_hex_word, hex_word, are_hex_digits, verdict_of_line, ReaderStateView, state_between_rows, with_finished_row, with_stage_done}
-use Rattle.rv_report.specs.LenientReport.{unfinished_row, after_word_or_verdict_line, with_line, with_lines, with_unfinished_row}
+use Rattle.rv_report.specs.LenientReport.{unfinished_row, after_word_or_verdict_line, with_line, with_lines, with_last_row_finished}
 use Rattle.rv_report.specs.Saved.{IsWord, IsValidSignature, IsValidRow, max_words}
 use Rattle.rv_report.proofs.Pieces.{lacks}
 use Rattle.rv_report.proofs.Words.{all_digits}
@@ -184,8 +184,8 @@ signature_read n row w g is small few =
 closed_row_is : (n : ℕ) (row : Row) (p q : List ℕ) (v : Verdict) (g : ReaderStateView) → verdict_change_text row.verdict ≡ p ++ q
     → HasRow g.numbers g.rows n (NextAgrees n row (job_words n row.name ∷ end_words row.ending ∷ steps_change_text row.steps
     ∷ console_change_text row.console ∷ lines_of_signature row.signature) p)
-    (with_unfinished_row (with_finished_row v (all_words n row g)))
-unfolding with_unfinished_row with_finished_row state_between_rows unfinished_row
+    (with_last_row_finished (with_finished_row v (all_words n row g)))
+unfolding with_last_row_finished with_finished_row state_between_rows unfinished_row
 closed_row_is n row p q v g is = record {
   row = unfinished_row v (all_words n row g);
   more_numbers = [];
@@ -207,7 +207,7 @@ pub next_verdict : (n : ℕ) (row : Row) (b : ℕ) (p q : List ℕ) (g : ReaderS
     → length g.rows < max_jobs → lacks 10 (b ∷ p) ≡ true → verdict_change_text row.verdict ≡ (b ∷ p) ++ q
     → HasRow g.numbers g.rows n (NextAgrees n row (job_words n row.name ∷ end_words row.ending ∷ steps_change_text row.steps
     ∷ console_change_text row.console ∷ lines_of_signature row.signature) (b ∷ p))
-    (with_unfinished_row (says (joined (job_words n row.name ∷ end_words row.ending ∷ steps_change_text row.steps
+    (with_last_row_finished (says (joined (job_words n row.name ∷ end_words row.ending ∷ steps_change_text row.steps
     ∷ console_change_text row.console ∷ lines_of_signature row.signature) ++ b ∷ p) (record g { stage = stage.BetweenRows })))
 next_verdict n row b p q g is small few plain begins =
     let first : 118 ≡ b = ap (λ (t : List ℕ). get_or t 0 0) begins in
@@ -217,7 +217,7 @@ next_verdict n row b p q g is small few plain begins =
     says_alone b p all plain ∙ ap (λ (c : ℕ). with_line (c ∷ p) all) (sym first)
     ∙ verdict_read p all (same_length (length (words_or_nil row.signature))) in
     subst (λ (f : ReaderStateView). HasRow g.numbers g.rows n (NextAgrees n row (job_words n row.name ∷ end_words row.ending
-    ∷ steps_change_text row.steps ∷ console_change_text row.console ∷ lines_of_signature row.signature) (b ∷ p)) (with_unfinished_row f))
+    ∷ steps_change_text row.steps ∷ console_change_text row.console ∷ lines_of_signature row.signature) (b ∷ p)) (with_last_row_finished f))
     (sym (signature_read n row (b ∷ p) g is small few ∙ read)) (closed_row_is n row (b ∷ p) q v g begins)
 
 -- ---- a word
@@ -282,7 +282,7 @@ pub next_word : (n : ℕ) (row : Row) (ws : List ℕ) (i : ℕ) (b : ℕ) (p q :
     → get_or ws i 0 < 2 ^ 32 → word_digits (get_or ws i 0) ≡ (b ∷ p) ++ q
     → HasRow g.numbers g.rows n (NextAgrees n row (job_words n row.name ∷ end_words row.ending ∷ steps_change_text row.steps
     ∷ console_change_text row.console ∷ count_words (length ws) ∷ map word_digits (take i ws)) (b ∷ p))
-    (with_unfinished_row (says (joined (job_words n row.name ∷ end_words row.ending ∷ steps_change_text row.steps
+    (with_last_row_finished (says (joined (job_words n row.name ∷ end_words row.ending ∷ steps_change_text row.steps
     ∷ console_change_text row.console ∷ count_words (length ws) ∷ map word_digits (take i ws)) ++ b ∷ p)
     (record g { stage = stage.BetweenRows })))
 unfolding with_lines
@@ -304,8 +304,8 @@ next_word n row ws i b p q g is small few plain has_signature within fits begins
     ∙ word_read (b ∷ p) now (word_is_hex (get_or ws i 0) b p q begins) fewer in
     let K = NextAgrees n row (job_words n row.name ∷ end_words row.ending ∷ steps_change_text row.steps
     ∷ console_change_text row.console ∷ ls) (b ∷ p) in
-    subst (λ (f : ReaderStateView). HasRow g.numbers g.rows n K (with_unfinished_row f)) (sym read)
-    (with_less g.numbers g.rows n (KnowsWords next) K (with_unfinished_row (record next { is_in_row = true; stage = stage.Words }))
+    subst (λ (f : ReaderStateView). HasRow g.numbers g.rows n K (with_last_row_finished f)) (sym read)
+    (with_less g.numbers g.rows n (KnowsWords next) K (with_last_row_finished (record next { is_in_row = true; stage = stage.Words }))
     (words_keep [] next (omega arith))
     (λ r k. word_lines n count some h row (b ∷ p) g (begun_word (get_or ws i 0) b p q fits begins) r
     (signed_lines count (some ++ h ∷ []) before r k)))

@@ -11,7 +11,7 @@ use Rattle.rv_base.specs.Limits.{max_jobs}
 use Rattle.rv_report.specs.declared.row.Row.{Row}
 use Rattle.rv_report.specs.declared.saved.Extent.{Extent}
 use Rattle.rv_report.specs.declared.lenient_rows.Stage.TheVariants as stage
-use Rattle.rv_report.specs.LenientReport.{ReaderStateView, state_between_rows, with_unfinished_row}
+use Rattle.rv_report.specs.LenientReport.{ReaderStateView, state_between_rows, with_last_row_finished}
 use Rattle.rv_report.specs.Saved.{IsValidRow, IsWord, IsValidSignature, are_increasing}
 use Rattle.rv_report.proofs.Pieces.{lacks}
 use Rattle.rv_report.proofs.Spelled.{says, end_words}
@@ -51,7 +51,7 @@ word_at (w ∷ ws) (suc i) h within = word_at ws i h.1 (omega arith)
 -- the row is said with the known lines, and goes on alike
 abbrev ContinuesIn : ℕ → Row → List (List ℕ) → List ℕ → ReaderStateView → Type 0
 ContinuesIn n row ls p g = HasRow g.numbers g.rows n (NextAgrees n row ls p)
-    (with_unfinished_row (says (joined ls ++ p) (record g { stage = stage.BetweenRows })))
+    (with_last_row_finished (says (joined ls ++ p) (record g { stage = stage.BetweenRows })))
 
 abbrev with_head : ℕ → Row → List (List ℕ) → List (List ℕ)
 with_head n row ls = job_words n row.name ∷ end_words row.ending ∷ steps_change_text row.steps ∷ console_change_text row.console ∷ ls
@@ -99,25 +99,25 @@ row_goes_on (suc zero) n row b p q g is small few room plain some within begins 
     let k : ℕ = suc zero in
     let ls = take k (row_lines n row) in
     with_less g.numbers g.rows n (Agrees n row k) (NextAgrees n row ls (b ∷ p))
-    (with_unfinished_row (says (joined ls ++ b ∷ p) (record g { stage = stage.BetweenRows })))
+    (with_last_row_finished (says (joined ls ++ b ∷ p) (record g { stage = stage.BetweenRows })))
     (partial_row (suc zero) n row (b ∷ p) g is small few room some within) (next_one n row (b ∷ p) q begins)
 row_goes_on (suc (suc zero)) n row b p q g is small few room plain some within begins =
     let k : ℕ = suc (suc zero) in
     let ls = take k (row_lines n row) in
     with_less g.numbers g.rows n (Agrees n row k) (NextAgrees n row ls (b ∷ p))
-    (with_unfinished_row (says (joined ls ++ b ∷ p) (record g { stage = stage.BetweenRows })))
+    (with_last_row_finished (says (joined ls ++ b ∷ p) (record g { stage = stage.BetweenRows })))
     (partial_row (suc (suc zero)) n row (b ∷ p) g is small few room some within) (next_two n row (b ∷ p) q begins)
 row_goes_on (suc (suc (suc zero))) n row b p q g is small few room plain some within begins =
     let k : ℕ = suc (suc (suc zero)) in
     let ls = take k (row_lines n row) in
     with_less g.numbers g.rows n (Agrees n row k) (NextAgrees n row ls (b ∷ p))
-    (with_unfinished_row (says (joined ls ++ b ∷ p) (record g { stage = stage.BetweenRows })))
+    (with_last_row_finished (says (joined ls ++ b ∷ p) (record g { stage = stage.BetweenRows })))
     (partial_row (suc (suc (suc zero))) n row (b ∷ p) g is small few room some within) (next_three n row (b ∷ p) q begins)
 row_goes_on (suc (suc (suc (suc zero)))) n row b p q g is small few room plain some within begins =
     let k : ℕ = suc (suc (suc (suc zero))) in
     let ls = take k (row_lines n row) in
     with_less g.numbers g.rows n (Agrees n row k) (NextAgrees n row ls (b ∷ p))
-    (with_unfinished_row (says (joined ls ++ b ∷ p) (record g { stage = stage.BetweenRows })))
+    (with_last_row_finished (says (joined ls ++ b ∷ p) (record g { stage = stage.BetweenRows })))
     (partial_row (suc (suc (suc (suc zero)))) n row (b ∷ p) g is small few room some within)
     (next_four n row (b ∷ p) q begins)
 row_goes_on (suc (suc (suc (suc (suc i))))) n row b p q g is small few room plain some within begins =
@@ -167,11 +167,11 @@ more_next earlier done n ns row rows k i p f is h = record {
 first_next : (earlier : List ℕ) (done : List Row) (n : ℕ) (ns : List ℕ) (row : Row) (rows : List Row) (b : ℕ) (p q : List ℕ)
     (e : Extent) → job_words n row.name ≡ (b ∷ p) ++ q
     → NextCovers earlier done (n ∷ ns) (row ∷ rows) zero (b ∷ p)
-    (with_unfinished_row (says (b ∷ p) (state_between_rows earlier done e)))
+    (with_last_row_finished (says (b ∷ p) (state_between_rows earlier done e)))
 unfolding none_covered
 first_next earlier done n ns row rows b p q e is = record {
   covers = none_covered earlier done (n ∷ ns) (row ∷ rows)
-      (with_unfinished_row (says (b ∷ p) (state_between_rows earlier done e)))
+      (with_last_row_finished (says (b ∷ p) (state_between_rows earlier done e)))
       (between_grown (b ∷ p) earlier done e);
   onward = inr (n, row.name, q, is, refl);
 }
@@ -180,7 +180,7 @@ row_next : (k n : ℕ) (row : Row) (b : ℕ) (p q earlier : List ℕ) (done : Li
     → length done < max_jobs → lacks 10 (b ∷ p) ≡ true → 0 < k → k < length (row_lines n row)
     → get_or (row_lines n row) k [] ≡ (b ∷ p) ++ q
     → HasRow earlier done n (NextAgrees n row (take k (row_lines n row)) (b ∷ p))
-    (with_unfinished_row (says (joined (take k (row_lines n row)) ++ b ∷ p) (state_between_rows earlier done e)))
+    (with_last_row_finished (says (joined (take k (row_lines n row)) ++ b ∷ p) (state_between_rows earlier done e)))
 unfolding state_between_rows
 row_next k n row b p q earlier done e is small few plain some within begins =
     row_goes_on k n row b p q (state_between_rows earlier done e) is small few (omega arith) plain some within begins
@@ -190,7 +190,7 @@ pub rows_next : (k : ℕ) (ns : List ℕ) (rows : List Row) (b : ℕ) (p q earli
     → length done + length rows ≤ max_jobs → lacks 10 (b ∷ p) ≡ true → k < length (numbered_lines ns rows)
     → get_or (numbered_lines ns rows) k [] ≡ (b ∷ p) ++ q
     → NextCovers earlier done ns rows k (b ∷ p)
-    (with_unfinished_row (says (joined (take k (numbered_lines ns rows)) ++ b ∷ p) (state_between_rows earlier done e)))
+    (with_last_row_finished (says (joined (take k (numbered_lines ns rows)) ++ b ∷ p) (state_between_rows earlier done e)))
 rows_next k [] [] b p q earlier done e before each counted rising few plain within begins = absurd (omega arith)
 rows_next k [] (row ∷ rows) b p q earlier done e before each counted rising few plain within begins = absurd (omega arith)
 rows_next k (n ∷ ns) [] b p q earlier done e before each counted rising few plain within begins = absurd (omega arith)
@@ -205,12 +205,12 @@ rows_next (suc k) (n ∷ ns) (row ∷ rows) b p q earlier done e before each cou
     let all = length-append here later in
     let g = state_between_rows earlier done e in
     let C : List (List ℕ) → Type 0 = λ ls. NextCovers earlier done (n ∷ ns) (row ∷ rows) (suc k) (b ∷ p)
-    (with_unfinished_row (says (joined ls ++ b ∷ p) g)) in
+    (with_last_row_finished (says (joined ls ++ b ∷ p) g)) in
     elim (cases_lt (suc k) (length here)) [
       | inl inside ↦
           subst C (sym (take-append-le (suc k) here later (omega arith)))
           (one_next earlier done n ns row rows (suc k) (b ∷ p)
-          (with_unfinished_row (says (joined (take (suc k) here) ++ b ∷ p) g)) (omega arith)
+          (with_last_row_finished (says (joined (take (suc k) here) ++ b ∷ p) g)) (omega arith)
           (row_next (suc k) n row b p q earlier done e each.0 (omega arith) (omega arith) plain (omega arith) inside
           (sym (get_in here later (suc k) [] inside) ∙ begins)))
       | inr past ↦
@@ -221,7 +221,7 @@ rows_next (suc k) (n ∷ ns) (row ∷ rows) b p q earlier done e before each cou
           (omega arith) plain (omega arith) (sym (get_past here later (suc k) i [] is) ∙ begins) in
           subst C (sym (take_past here later (suc k) i is))
           (more_next earlier done n ns row rows (suc k) i (b ∷ p)
-          (with_unfinished_row (says (joined (here ++ take i later) ++ b ∷ p) g)) is
-          (subst (λ (f : ReaderStateView). NextCovers (earlier ++ n ∷ []) (done ++ row ∷ []) ns rows i (b ∷ p) (with_unfinished_row f))
+          (with_last_row_finished (says (joined (here ++ take i later) ++ b ∷ p) g)) is
+          (subst (λ (f : ReaderStateView). NextCovers (earlier ++ n ∷ []) (done ++ row ∷ []) ns rows i (b ∷ p) (with_last_row_finished f))
           (sym (whole_row_says n row (take i later) (b ∷ p) earlier done e each.0 (omega arith) (omega arith) (omega arith))) rest))
     ]

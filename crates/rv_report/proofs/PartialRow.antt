@@ -5,7 +5,7 @@ use Rattle.rv_base.specs.Limits.{max_jobs}
 use Rattle.rv_report.specs.declared.row.Row.{Row}
 use Rattle.rv_report.specs.declared.row.RowEnd.{RowEnd}
 use Rattle.rv_report.specs.declared.lenient_rows.Stage.TheVariants as stage
-use Rattle.rv_report.specs.LenientReport.{lines, ReaderStateView, with_unfinished_row}
+use Rattle.rv_report.specs.LenientReport.{lines, ReaderStateView, with_last_row_finished}
 use Rattle.rv_report.specs.Saved.{IsValidRow}
 use Rattle.rv_report.proofs.Words.{lacks-decimal}
 use Rattle.rv_report.proofs.Spelled.{says, end_words, job_says, end_says, steps_says, console_says}
@@ -161,37 +161,37 @@ agrees_more n row i g r k =
 pub partial_row : (k n : ℕ) (row : Row) (w : List ℕ) (g : ReaderStateView) → IsValidRow row → n < 2 ^ 32 → length g.rows < max_jobs
     → length g.words ≤ g.count → 0 < k → k < length (row_lines n row)
     → HasRow g.numbers g.rows n (Agrees n row k)
-    (with_unfinished_row (says (joined (take k (row_lines n row)) ++ w) (record g { stage = stage.BetweenRows })))
+    (with_last_row_finished (says (joined (take k (row_lines n row)) ++ w) (record g { stage = stage.BetweenRows })))
 partial_row zero n row w g is small few room some within = absurd (omega arith)
 partial_row (suc zero) n row w g is small few room some within =
     let now = after_job n row g in
-    subst (λ (f : ReaderStateView). HasRow g.numbers g.rows n (Agrees n row (suc zero)) (with_unfinished_row f))
+    subst (λ (f : ReaderStateView). HasRow g.numbers g.rows n (Agrees n row (suc zero)) (with_last_row_finished f))
     (sym (one_line n row [] w g is small few))
-    (with_less g.numbers g.rows n (KnowsName now) (Agrees n row (suc zero)) (with_unfinished_row (says w now))
+    (with_less g.numbers g.rows n (KnowsName now) (Agrees n row (suc zero)) (with_last_row_finished (says w now))
     (ending_keep (lines w) now room) (agrees_one n row g))
 partial_row (suc (suc zero)) n row w g is small few room some within =
     let now = after_ending n row g in
-    subst (λ (f : ReaderStateView). HasRow g.numbers g.rows n (Agrees n row (suc (suc zero))) (with_unfinished_row f))
+    subst (λ (f : ReaderStateView). HasRow g.numbers g.rows n (Agrees n row (suc (suc zero))) (with_last_row_finished f))
     (sym (two_lines n row [] w g is small few))
-    (with_less g.numbers g.rows n (KnowsEnding now) (Agrees n row (suc (suc zero))) (with_unfinished_row (says w now))
+    (with_less g.numbers g.rows n (KnowsEnding now) (Agrees n row (suc (suc zero))) (with_last_row_finished (says w now))
     (steps_keep (lines w) now room) (agrees_two n row g))
 partial_row (suc (suc (suc zero))) n row w g is small few room some within =
     let now = after_steps n row g in
-    subst (λ (f : ReaderStateView). HasRow g.numbers g.rows n (Agrees n row (suc (suc (suc zero)))) (with_unfinished_row f))
+    subst (λ (f : ReaderStateView). HasRow g.numbers g.rows n (Agrees n row (suc (suc (suc zero)))) (with_last_row_finished f))
     (sym (three_lines n row [] w g is small few))
-    (with_less g.numbers g.rows n (KnowsSteps now) (Agrees n row (suc (suc (suc zero)))) (with_unfinished_row (says w now))
+    (with_less g.numbers g.rows n (KnowsSteps now) (Agrees n row (suc (suc (suc zero)))) (with_last_row_finished (says w now))
     (console_keep (lines w) now room) (agrees_three n row g))
 partial_row (suc (suc (suc (suc zero)))) n row w g is small few room some within =
     let now = after_console n row g in
-    subst (λ (f : ReaderStateView). HasRow g.numbers g.rows n (Agrees n row (suc (suc (suc (suc zero))))) (with_unfinished_row f))
+    subst (λ (f : ReaderStateView). HasRow g.numbers g.rows n (Agrees n row (suc (suc (suc (suc zero))))) (with_last_row_finished f))
     (sym (four_lines n row [] w g is small few))
-    (with_less g.numbers g.rows n (KnowsConsole now) (Agrees n row (suc (suc (suc (suc zero))))) (with_unfinished_row (says w now))
+    (with_less g.numbers g.rows n (KnowsConsole now) (Agrees n row (suc (suc (suc (suc zero))))) (with_last_row_finished (says w now))
     (signature_keep (lines w) now room) (agrees_four n row g))
 partial_row (suc (suc (suc (suc (suc i))))) n row w g is small few room some within =
     let now = after_console n row g in
     let part = take (suc i) (last_lines row) in
-    subst (λ (f : ReaderStateView). HasRow g.numbers g.rows n (Agrees n row (suc (suc (suc (suc (suc i)))))) (with_unfinished_row f))
+    subst (λ (f : ReaderStateView). HasRow g.numbers g.rows n (Agrees n row (suc (suc (suc (suc (suc i)))))) (with_last_row_finished f))
     (sym (four_lines n row part w g is small few))
     (with_less g.numbers g.rows n (KnowsLines part now) (Agrees n row (suc (suc (suc (suc (suc i))))))
-    (with_unfinished_row (says (joined part ++ w) now))
+    (with_last_row_finished (says (joined part ++ w) now))
     (signature_part row.signature i (verdict_change_text row.verdict) w now is.signature (omega arith)) (agrees_more n row i g))

@@ -11,7 +11,7 @@ use Rattle.rv_text.specs.Numbers.{word_digits}
 use Rattle.rv_report.specs.declared.row.Row.{Row}
 use Rattle.rv_report.specs.declared.lenient_rows.Stage.TheVariants as stage
 use Rattle.rv_report.specs.Report.{line}
-use Rattle.rv_report.specs.LenientReport.{lines, decimal_number, decimal_number_from, ReaderStateView, with_line, with_unfinished_row}
+use Rattle.rv_report.specs.LenientReport.{lines, decimal_number, decimal_number_from, ReaderStateView, with_line, with_last_row_finished}
 use Rattle.rv_report.specs.Saved.{IsWord, IsValidSignature, max_words}
 use Rattle.rv_report.proofs.Pieces.{first_is_other}
 use Rattle.rv_report.proofs.Words.{lacks-decimal, number_of-decimal}
@@ -99,14 +99,14 @@ signed_says n ws w g few within each =
 pub signature_part : (s : Option (List ℕ)) (i : ℕ) (v w : List ℕ) (g : ReaderStateView) → IsValidSignature s
     → suc i < length (lines_of_signature s ++ v ∷ [])
     → Kept (KnowsLines (take (suc i) (lines_of_signature s ++ v ∷ []))) g
-    (with_unfinished_row (says (joined (take (suc i) (lines_of_signature s ++ v ∷ [])) ++ w)
+    (with_last_row_finished (says (joined (take (suc i) (lines_of_signature s ++ v ∷ [])) ++ w)
     (record g { is_in_row = true; stage = stage.Signature })))
 signature_part None zero v w g h within =
     let known : ReaderStateView = record g { has_signature = false; count = 0; words = [] } in
     let K = KnowsLines (codes "signature -" ∷ []) in
-    subst (λ (f : ReaderStateView). Kept K g (with_unfinished_row f)) (sym (unsigned_says w (record g { is_in_row = true })))
+    subst (λ (f : ReaderStateView). Kept K g (with_last_row_finished f)) (sym (unsigned_says w (record g { is_in_row = true })))
     (with_less g.numbers g.rows g.number (KnowsWords known) (K g)
-    (with_unfinished_row (says w (record known { is_in_row = true; stage = stage.Words }))) (words_keep (lines w) known (omega arith))
+    (with_last_row_finished (says w (record known { is_in_row = true; stage = stage.Words }))) (words_keep (lines w) known (omega arith))
     (unsigned_lines g))
 signature_part None (suc i) v w g h within = absurd (omega arith)
 signature_part (Some ws) i v w g h within =
@@ -120,9 +120,9 @@ signature_part (Some ws) i v w g h within =
     let few : length ws ≤ max_words = h.0 in
     let K : List (List ℕ) → ReaderStateView → Row → Type 0 = λ ls. KnowsLines (count_words n ∷ ls) in
     subst (λ (ls : List (List ℕ)). Kept (K ls) g
-    (with_unfinished_row (says (joined (count_words n ∷ ls) ++ w) (record g { is_in_row = true; stage = stage.Signature })))) taken
-    (subst (λ (f : ReaderStateView). Kept (K (map word_digits some)) g (with_unfinished_row f))
+    (with_last_row_finished (says (joined (count_words n ∷ ls) ++ w) (record g { is_in_row = true; stage = stage.Signature })))) taken
+    (subst (λ (f : ReaderStateView). Kept (K (map word_digits some)) g (with_last_row_finished f))
     (sym (signed_says n some w (record g { is_in_row = true }) few (taken_within i ws) (all-taken IsWord i ws h.1)))
     (with_less g.numbers g.rows g.number (KnowsWords known) (K (map word_digits some) g)
-    (with_unfinished_row (says w (record known { is_in_row = true; stage = stage.Words })))
+    (with_last_row_finished (says w (record known { is_in_row = true; stage = stage.Words })))
     (words_keep (lines w) known (taken_within i ws)) (signed_lines n some g)))

@@ -13,7 +13,7 @@ use Rattle.rv_report.specs.declared.lenient_rows.Stage.{Stage}
 use Rattle.rv_report.specs.declared.lenient_rows.Stage.TheVariants as stage
 use Rattle.rv_report.specs.LenientReport.{decimal_number, is_hex_word, hex_word, hex_bytes, row_ending_of_line, verdict_of_line}
 use Rattle.rv_report.specs.LenientReport.{ReaderStateView, state_between_rows, with_finished_row, with_stage_done, unfinished_row, padded_words}
-use Rattle.rv_report.specs.LenientReport.{after_end_line, after_steps_line, after_console_line, after_signature_line, after_word_or_verdict_line, with_line, with_lines, with_unfinished_row}
+use Rattle.rv_report.specs.LenientReport.{after_end_line, after_steps_line, after_console_line, after_signature_line, after_word_or_verdict_line, with_line, with_lines, with_last_row_finished}
 use Rattle.rv_report.specs.Saved.{max_words}
 use Rattle.rv_report.proofs.Grown.{chosen, chosen_if, at_end, Extends, grown}
 
@@ -71,8 +71,8 @@ Kept Knows g f = HasRow g.numbers g.rows g.number (Knows g) f
 -- ---- the row that isn't whole
 
 closed_row : (s : Stage) (g : ReaderStateView) → length g.words ≤ g.count
-    → Kept KnowsWords g (with_unfinished_row (record g { is_in_row = true; stage = s }))
-unfolding with_unfinished_row with_finished_row state_between_rows unfinished_row padded_words
+    → Kept KnowsWords g (with_last_row_finished (record g { is_in_row = true; stage = s }))
+unfolding with_last_row_finished with_finished_row state_between_rows unfinished_row padded_words
 closed_row s g within =
     let missing = g.count - length g.words in
     let zeros : List ℕ = replicate missing 0 in
@@ -103,7 +103,7 @@ over_lines (l ∷ ls) g = over_lines ls g
 over_row : (ls : List (List ℕ)) (g : ReaderStateView) → length g.words ≤ g.count
     → Kept KnowsWords g (at_end ls (record g { is_in_row = true; stage = stage.Done }))
 over_row ls g within =
-    subst (λ (f : ReaderStateView). Kept KnowsWords g f) (sym (ap with_unfinished_row (over_lines ls (record g { is_in_row = true }))))
+    subst (λ (f : ReaderStateView). Kept KnowsWords g f) (sym (ap with_last_row_finished (over_lines ls (record g { is_in_row = true }))))
     (closed_row stage.Done g within)
 
 -- ---- stage by stage, from the last on
@@ -178,7 +178,7 @@ pub signature_keep : (ls : List (List ℕ)) (g : ReaderStateView) → length g.w
 unfolding with_lines with_line after_signature_line
 signature_keep [] g within =
     let here : ReaderStateView = record g { is_in_row = true; stage = stage.Signature } in
-    with_less g.numbers g.rows g.number (KnowsWords g) (KnowsConsole g) (with_unfinished_row here)
+    with_less g.numbers g.rows g.number (KnowsWords g) (KnowsConsole g) (with_last_row_finished here)
     (closed_row stage.Signature g within) (words_to_console g)
 signature_keep (l ∷ ls) g within =
     let here : ReaderStateView = record g { is_in_row = true; stage = stage.Signature } in
@@ -197,7 +197,7 @@ pub console_keep : (ls : List (List ℕ)) (g : ReaderStateView) → length g.wor
 unfolding with_lines with_line after_console_line
 console_keep [] g within =
     let here : ReaderStateView = record g { is_in_row = true; stage = stage.Console } in
-    with_less g.numbers g.rows g.number (KnowsWords g) (KnowsSteps g) (with_unfinished_row here)
+    with_less g.numbers g.rows g.number (KnowsWords g) (KnowsSteps g) (with_last_row_finished here)
     (closed_row stage.Console g within) (λ r k. (k.name, k.ending, k.steps))
 console_keep (l ∷ ls) g within =
     let here : ReaderStateView = record g { is_in_row = true; stage = stage.Console } in
@@ -214,7 +214,7 @@ pub steps_keep : (ls : List (List ℕ)) (g : ReaderStateView) → length g.words
 unfolding with_lines with_line after_steps_line
 steps_keep [] g within =
     let here : ReaderStateView = record g { is_in_row = true; stage = stage.Steps } in
-    with_less g.numbers g.rows g.number (KnowsWords g) (KnowsEnding g) (with_unfinished_row here)
+    with_less g.numbers g.rows g.number (KnowsWords g) (KnowsEnding g) (with_last_row_finished here)
     (closed_row stage.Steps g within) (λ r k. (k.name, k.ending))
 steps_keep (l ∷ ls) g within =
     let here : ReaderStateView = record g { is_in_row = true; stage = stage.Steps } in
@@ -232,7 +232,7 @@ pub ending_keep : (ls : List (List ℕ)) (g : ReaderStateView) → length g.word
 unfolding with_lines with_line after_end_line
 ending_keep [] g within =
     let here : ReaderStateView = record g { is_in_row = true; stage = stage.Ending } in
-    with_less g.numbers g.rows g.number (KnowsWords g) (KnowsName g) (with_unfinished_row here)
+    with_less g.numbers g.rows g.number (KnowsWords g) (KnowsName g) (with_last_row_finished here)
     (closed_row stage.Ending g within) (λ r k. k.name)
 ending_keep (l ∷ ls) g within =
     let here : ReaderStateView = record g { is_in_row = true; stage = stage.Ending } in

@@ -13,7 +13,7 @@ use Rattle.rv_report.specs.Report.{line, row_text}
 use Rattle.rv_report.specs.declared.saved.Extent.{Extent}
 use Rattle.rv_report.specs.declared.saved.Extent.TheVariants.{Whole, Selection}
 use Rattle.rv_report.specs.declared.saved.SavedReport.{SavedReport}
-use Rattle.rv_report.specs.LenientReport.{lines, ReaderStateView, state_between_rows, with_stage_done, with_line, with_lines, with_unfinished_row, state_after_text}
+use Rattle.rv_report.specs.LenientReport.{lines, ReaderStateView, state_between_rows, with_stage_done, with_line, with_lines, with_last_row_finished, state_after_text}
 use Rattle.rv_report.specs.LenientReport.{lenient_report, increasing_count, count_before_repeated_name, extent_or_selection}
 use Rattle.rv_report.specs.Saved.{IsValidRow, HasDistinctJobs, IsValidReport, are_increasing, are_distinct, matches_job_numbers, row_names, numbered_rows_text}
 use Rattle.rv_report.specs.Saved.{saved_text}
@@ -61,8 +61,8 @@ last_line_says xs g h =
     ap (λ (t : List ℕ). says t g) (sym (append-nil (line xs))) ∙ says_line xs [] g h
 
 pub finished_all : (numbers : List ℕ) (rows : List Row) (e : Extent)
-    → with_unfinished_row (with_stage_done (state_between_rows numbers rows e)) ≡ with_stage_done (state_between_rows numbers rows e)
-unfolding with_unfinished_row state_between_rows
+    → with_last_row_finished (with_stage_done (state_between_rows numbers rows e)) ≡ with_stage_done (state_between_rows numbers rows e)
+unfolding with_last_row_finished state_between_rows
 finished_all numbers rows e = refl
 
 pub gathered_all : (r : SavedReport) → IsValidReport r → HasNumbers r.extent → length r.rows ≤ max_jobs
@@ -70,9 +70,9 @@ pub gathered_all : (r : SavedReport) → IsValidReport r → HasNumbers r.extent
 unfolding state_after_text saved_text
 gathered_all r h known few =
     let count = length r.rows in
-    ap (λ (t : List ℕ). with_unfinished_row (says (numbered_rows_text r.numbers r.rows ++ t) (state_between_rows [] [] Whole)))
+    ap (λ (t : List ℕ). with_last_row_finished (says (numbered_rows_text r.numbers r.rows ++ t) (state_between_rows [] [] Whole)))
     (last_is_line r.extent count)
-    ∙ ap with_unfinished_row (rows_say r.numbers r.rows (line (last_words r.extent count)) [] [] Whole 0 h.rows h.listed.counted
+    ∙ ap with_last_row_finished (rows_say r.numbers r.rows (line (last_words r.extent count)) [] [] Whole 0 h.rows h.listed.counted
     h.listed.rising (omega arith)
     ∙ last_line_says (last_words r.extent count) (state_between_rows r.numbers r.rows Whole)
     (lacks-last r.extent count known (omega arith))

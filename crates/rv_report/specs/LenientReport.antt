@@ -310,13 +310,13 @@ with_lines [] state = state
 with_lines (line ∷ lines) state = with_lines lines (with_line line state)
 
 -- the state after the unfinished row, if there is one, is finished with the verdict `none` and added to the rows
-unfoldable pub with_unfinished_row : ReaderStateView → ReaderStateView
-with_unfinished_row state =
+unfoldable pub with_last_row_finished : ReaderStateView → ReaderStateView
+with_last_row_finished state =
     if state.is_in_row then with_finished_row verdict.Unasked (record state { words = padded_words state.count state.words }) else state
 
 -- the state after all lines of a text, with an unfinished row finished
 unfoldable pub state_after_text : List ℕ → ReaderStateView
-state_after_text text = with_unfinished_row (with_lines (lines text) (state_between_rows [] [] extent.Whole))
+state_after_text text = with_last_row_finished (with_lines (lines text) (state_between_rows [] [] extent.Whole))
 
 -- ---- the rows before the first row that no report has at its index
 

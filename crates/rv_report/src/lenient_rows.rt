@@ -3,7 +3,7 @@
 ghost use Rattle.std.specs.Prelude.{◌≡◌, ◌++◌, ◌∷◌, [], OnOk, IfOk, string_bytes};
 ghost use Rattle.rv_report.specs.LenientReport.{lines, state_between_rows, with_finished_row, with_stage_done, after_job_or_last_line, after_end_line, after_steps_line, after_console_line};
 ghost use Rattle.rv_report.specs.LenientReport.{after_signature_line};
-ghost use Rattle.rv_report.specs.LenientReport.{after_word_or_verdict_line, with_line, with_lines, unfinished_row, padded_words, with_unfinished_row, state_after_text};
+ghost use Rattle.rv_report.specs.LenientReport.{after_word_or_verdict_line, with_line, with_lines, unfinished_row, padded_words, with_last_row_finished, state_after_text};
 ghost use Rattle.rv_report.specs.View.{reader_state_view};
 
 use crate::fields::{
@@ -103,7 +103,7 @@ fn add_line(alloc: Global, state: &mut ReaderState, line: &[u8]) -> Result<(), A
 {
     match state.stage {
         Stage::BetweenRows => add_job_or_last_line(alloc, state, line),
-        Stage::Ending => Ok(add_end_line(state, line)),
+        Stage::Ending => Ok(read_end_line(state, line)),
         Stage::Steps => Ok(add_steps_line(state, line)),
         Stage::Console => add_console_line(alloc, state, line),
         Stage::Signature => Ok(add_signature_line(state, line)),
@@ -139,7 +139,7 @@ fn add_job_or_last_line(
 
 // Reads the line that should have the ending of a row.
 #[tactic(auto, unfolding(crate::specs::LenientReport::after_end_line))]
-fn add_end_line(state: &mut ReaderState, line: &[u8])
+fn read_end_line(state: &mut ReaderState, line: &[u8])
     ensures { reader_state_view state.new ≡ after_end_line line.now (reader_state_view state.old) }
 {
     if byte_at(line, 0) == b'e' {
@@ -214,9 +214,9 @@ fn add_word_or_verdict_line(
 }
 
 // If there is an unfinished row, finishes it with the verdict `none` and adds it to the rows.
-#[tactic(auto, unfolding(crate::specs::LenientReport::with_unfinished_row))]
+#[tactic(auto, unfolding(crate::specs::LenientReport::with_last_row_finished))]
 fn finish_unfinished_row(alloc: Global, state: &mut ReaderState) -> Result<(), AllocError>
-    ensures { OnOk result (reader_state_view state.new ≡ with_unfinished_row (reader_state_view state.old)) }
+    ensures { OnOk result (reader_state_view state.new ≡ with_last_row_finished (reader_state_view state.old)) }
 {
     if !state.is_in_row {
         return Ok(());

@@ -94,11 +94,11 @@ has_expected_signature (Some path) (Some bytes) outcome = did_run outcome.ending
 -- ---- another job
 
 -- whether two jobs ended alike: with equal exit codes, with faults of the same kind, or both by using up their budgets
-abbrev pub are_alike_endings : RowEnd → RowEnd → Bool
-are_alike_endings (ending.Exit m) (ending.Exit n) = m == n
-are_alike_endings (ending.Fault kind pc value) (ending.Fault other at actual) = is_same_kind kind other
-are_alike_endings ending.Budget ending.Budget = true
-are_alike_endings _ _ = false
+abbrev pub endings_match : RowEnd → RowEnd → Bool
+endings_match (ending.Exit m) (ending.Exit n) = m == n
+endings_match (ending.Fault kind pc value) (ending.Fault other at actual) = is_same_kind kind other
+endings_match ending.Budget ending.Budget = true
+endings_match _ _ = false
 
 -- whether two signatures have the same words, or both are missing
 abbrev pub are_same_signatures : Option (List ℕ) → Option (List ℕ) → Bool
@@ -108,16 +108,16 @@ are_same_signatures _ _ = false
 
 -- whether two outcomes are equal, except for steps and for addresses and values of faults; always false for a refusal, even compared with
 -- itself
-abbrev pub are_same_outcomes : Outcome → Outcome → Bool
-are_same_outcomes outcome other = are_alike_endings outcome.ending other.ending
+abbrev pub outcomes_match : Outcome → Outcome → Bool
+outcomes_match outcome other = endings_match outcome.ending other.ending
     && (bytes_eq outcome.console other.console && are_same_signatures outcome.signature other.signature)
 
--- whether an outcome equals the outcome `other` of the job that `same_as` names, as `are_same_outcomes` compares them; true if there is no
+-- whether an outcome equals the outcome `other` of the job that `same_as` names, as `outcomes_match` compares them; true if there is no
 -- `same_as`
 abbrev pub matches_same_as : Option ℕ → Option Outcome → Outcome → Bool
 matches_same_as None other outcome = true
 matches_same_as (Some index) None outcome = false
-matches_same_as (Some index) (Some other) outcome = are_same_outcomes outcome other
+matches_same_as (Some index) (Some other) outcome = outcomes_match outcome other
 
 -- ---- all expectations
 

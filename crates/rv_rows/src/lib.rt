@@ -30,8 +30,8 @@ pub use recent_outcomes::RecentOutcomes;
 pub use reporter::RowReporter;
 pub use spare_bus::SpareBus;
 pub use verdict::{
-    are_alike_endings, are_same_outcomes, are_same_signatures, did_run, has_expectations,
-    has_expected_end, has_expected_exit,
+    are_same_signatures, did_run, endings_match, has_expectations, has_expected_end,
+    has_expected_exit, outcomes_match,
 };
 
 // From the crates below: what this interface names, and what its callers need with it.

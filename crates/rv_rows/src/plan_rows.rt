@@ -10,13 +10,13 @@ ghost use Rattle.rv_rows.specs.Outcome.{refusal_in};
 ghost use Rattle.rv_rows.specs.RecentOutcomes.{AreOutcomesOfPlan, outcome_at};
 ghost use Rattle.rv_rows.specs.Rows.{content_if_read, expected_console_bytes, same_as_outcome, outcome_in, signature_reference_bytes, row_of, row_of_outcome};
 ghost use Rattle.rv_rows.specs.Rows.{image_in, rows_of, start_state_in};
-ghost use Rattle.rv_rows.specs.Verdict.{are_same_outcomes, matches_same_as};
+ghost use Rattle.rv_rows.specs.Verdict.{outcomes_match, matches_same_as};
 
 use crate::job_run::{image_file_or_refusal, machine_of_image, refusal_of_job, run_image};
 use crate::outcome::{Attempt, Outcome};
 use crate::recent_outcomes::{MAX_OUTCOMES, RecentOutcomes};
 use crate::spare_bus::SpareBus;
-use crate::verdict::{are_same_outcomes, is_same_as_attempt, verdict_of};
+use crate::verdict::{is_same_as_attempt, outcomes_match, verdict_of};
 use rv_elf::Image;
 use rv_jobs::{Job, Kept, Plan};
 use rv_machine::Machine;
@@ -209,12 +209,12 @@ fn equals_outcome_at(
     requires place { index < length plan.now.jobs }
     requires recent { AreOutcomesOfPlan plan.now recent.old }
     ensures same { IfOk result (λ same. (d : AJob) → same
-        ≡ are_same_outcomes outcome.now
+        ≡ outcomes_match outcome.now
         (outcome_in plan.now.results (slice_index_or plan.now.jobs index d))) }
     ensures recent { OnOk result (AreOutcomesOfPlan plan.now recent.new) }
 {
     if let Some(other) = recent.find(index) {
-        return Ok(are_same_outcomes(outcome, other));
+        return Ok(outcomes_match(outcome, other));
     }
     let alloc = recent.alloc();
     let other = run_job_at(alloc, plan, index, spare)?;

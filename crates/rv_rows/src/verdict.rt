@@ -3,7 +3,7 @@
 ghost use Rattle.std.specs.Prelude.{◌≡◌, Option, bytes_eq, option_map};
 ghost use Rattle.rv_rows.specs.declared.outcome.Outcome.{Outcome as AnOutcome};
 ghost use Rattle.rv_rows.specs.Attempt.{HasValidRange, HasReadableSignature, outcome_in_bus, outcome_of_attempt};
-ghost use Rattle.rv_rows.specs.Verdict.{are_alike_endings, are_same_outcomes, meets_expected_end, exits_with, has_expected_console};
+ghost use Rattle.rv_rows.specs.Verdict.{endings_match, outcomes_match, meets_expected_end, exits_with, has_expected_console};
 ghost use Rattle.rv_rows.specs.Verdict.{has_expected_end, has_expected_exit, has_expected_signature};
 ghost use Rattle.rv_rows.specs.Verdict.{matches_same_as, has_expectations, did_run, lines_of_signature, ran_with_console, are_same_signatures, verdict_of};
 
@@ -164,10 +164,10 @@ fn are_signature_lines(bytes: &[u8], signature: &Option<Words>) -> bool
 }
 
 /// Whether two outcomes are equal, except for steps and for addresses and values of faults. Always false for a refusal.
-pub fn are_same_outcomes(outcome: &Outcome, other: &Outcome) -> bool
-    ensures { result ≡ are_same_outcomes outcome.now other.now }
+pub fn outcomes_match(outcome: &Outcome, other: &Outcome) -> bool
+    ensures { result ≡ outcomes_match outcome.now other.now }
 {
-    if !are_alike_endings(outcome.ending, other.ending) {
+    if !endings_match(outcome.ending, other.ending) {
         return false;
     }
     if outcome.console.as_slice() != other.console.as_slice() {
@@ -176,23 +176,23 @@ pub fn are_same_outcomes(outcome: &Outcome, other: &Outcome) -> bool
     are_same_signatures(&outcome.signature, &other.signature)
 }
 
-/// Whether an outcome equals the outcome of a job's result, as [`are_same_outcomes`] compares them, without copying the latter.
+/// Whether an outcome equals the outcome of a job's result, as [`outcomes_match`] compares them, without copying the latter.
 pub(crate) fn is_same_as_attempt(outcome: &Outcome, other: &Attempt) -> bool
     requires { HasReadableSignature other.now }
-    ensures { result ≡ are_same_outcomes outcome.now (outcome_of_attempt other.now) }
+    ensures { result ≡ outcomes_match outcome.now (outcome_of_attempt other.now) }
 {
     match other {
-        Attempt::Refused(why) => are_alike_endings(outcome.ending, RowEnd::Refused(*why)),
+        Attempt::Refused(why) => endings_match(outcome.ending, RowEnd::Refused(*why)),
         Attempt::RunResult(run) => has_same_outcome_as_run(outcome, run),
     }
 }
 
-// Whether an outcome equals the outcome of an ended run, as [`are_same_outcomes`] compares them.
+// Whether an outcome equals the outcome of an ended run, as [`outcomes_match`] compares them.
 fn has_same_outcome_as_run(outcome: &Outcome, run: &EndedRun) -> bool
     requires { HasValidRange run.now }
-    ensures { result ≡ are_same_outcomes outcome.now (outcome_in_bus run.now) }
+    ensures { result ≡ outcomes_match outcome.now (outcome_in_bus run.now) }
 {
-    if !are_alike_endings(outcome.ending, run.ending) {
+    if !endings_match(outcome.ending, run.ending) {
         return false;
     }
     if outcome.console.as_slice() != run.bus.console() {
@@ -216,8 +216,8 @@ fn has_run_signature(run: &EndedRun, signature: &Option<Words>) -> bool
 }
 
 /// Whether two jobs ended alike: with equal exit codes, with faults of the same kind, or both by using up their budgets.
-pub fn are_alike_endings(ending: RowEnd, other: RowEnd) -> bool
-    ensures { result ≡ are_alike_endings ending other }
+pub fn endings_match(ending: RowEnd, other: RowEnd) -> bool
+    ensures { result ≡ endings_match ending other }
 {
     match (ending, other) {
         (RowEnd::Exit(code), RowEnd::Exit(exit)) => code == exit,

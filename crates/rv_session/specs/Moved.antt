@@ -1,6 +1,6 @@
 -- Moves in the run, and the stops that are reported for them.
 use Rattle.std.specs.Prelude.{ℕ, List, [], ◌≡◌, ◌+◌, ◌-◌, ◌<◌, Bool, true, false, Option, Some, None, drop, if◌then◌else◌, length, max}
-use Rattle.rv_history.specs.Moves.{IsInterrupted, IsNextStep, IsNextStop, IsStepBefore, IsStopBefore}
+use Rattle.rv_history.specs.Moves.{IsInterrupted, IsNextStep, IsNextStop, IsStepBack, IsStopBefore}
 use Rattle.rv_history.specs.Places.{last_step}
 use Rattle.rv_history.specs.Stops.{first_triggered}
 use Rattle.rv_history.specs.declared.bounds.Bounds.TheVariants as bounds
@@ -38,7 +38,7 @@ IsMoveResult move.Step stops budget start from step outcome = IsNextStep stops b
 IsMoveResult (move.StepWithin low high) stops budget start from step outcome =
     IsNextStop stops (bounds.Within low high) budget start from step outcome
 IsMoveResult move.ContinueBack stops budget start from step outcome = IsStopBefore stops budget start from step outcome
-IsMoveResult move.StepBack stops budget start from step outcome = IsStepBefore stops budget start from step outcome
+IsMoveResult move.StepBack stops budget start from step outcome = IsStepBack stops budget start from step outcome
 
 -- the stop that reports this end of the run
 abbrev pub end_stop : Ending → Stop

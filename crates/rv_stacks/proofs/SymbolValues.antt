@@ -1,6 +1,6 @@
 -- The function of an address, by the value of its symbol.
 use Rattle.std.proofs.Common.{◌≡◌, ◌-◌, ℕ, List, Option, Some, None, option_map, refl}
-use Rattle.rv_stacks.specs.Stacks.{last_address, no_function, start_of}
+use Rattle.rv_stacks.specs.Stacks.{last_address, no_symbol_number, start_of}
 
 module _ (address : ℕ) where
   abbrev pub value_of : Option (List ℕ × ℕ) → Option ℕ
@@ -15,10 +15,10 @@ module _ (address : ℕ) where
   starts_nowhere none None e = refl
   starts_nowhere none (Some s) e = cc
 
-  pub some_function : (symbol : Option (List ℕ × ℕ)) (value : ℕ) → Some value ≡ value_of symbol → last_address ≡ no_function symbol
+  pub some_function : (symbol : Option (List ℕ × ℕ)) (value : ℕ) → Some value ≡ value_of symbol → last_address ≡ no_symbol_number symbol
   some_function None value e = cc
   some_function (Some s) value e = refl
 
-  pub none_there : (symbol : Option (List ℕ × ℕ)) → None ≡ value_of symbol → 0 ≡ no_function symbol
+  pub none_there : (symbol : Option (List ℕ × ℕ)) → None ≡ value_of symbol → 0 ≡ no_symbol_number symbol
   none_there None e = refl
   none_there (Some s) e = cc

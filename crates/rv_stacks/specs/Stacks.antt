@@ -23,18 +23,18 @@ last_address = 0xffff_ffff
 
 -- the number that stands for code without a symbol, given the symbol at address 0: 0 if there is no symbol there, and otherwise the last
 -- address
-abbrev pub no_function : Option (List ℕ × ℕ) → ℕ
-no_function None = 0
-no_function (Some symbol) = last_address
+abbrev pub no_symbol_number : Option (List ℕ × ℕ) → ℕ
+no_symbol_number None = 0
+no_symbol_number (Some symbol) = last_address
 
 -- the start of the symbol that an address belongs to, or the number `none` if there is no symbol
 abbrev pub start_of : ℕ → ℕ → Option (List ℕ × ℕ) → ℕ
 start_of none address None = none
 start_of none address (Some symbol) = address - symbol.1
 
--- the function that a code address belongs to: the start of its symbol, or without a symbol the number that `no_function` returns
+-- the function that a code address belongs to: the start of its symbol, or without a symbol the number that `no_symbol_number` returns
 unfoldable pub function_at : Image → List ℕ → ℕ → ℕ
-function_at image file address = start_of (no_function (symbol_at image file 0)) address (symbol_at image file address)
+function_at image file address = start_of (no_symbol_number (symbol_at image file 0)) address (symbol_at image file address)
 
 -- the call path of a pc: the functions whose calls have not returned, outermost first, and the function of the pc
 abbrev pub path_at : (ℕ → ℕ) → List Frame → ℕ → List ℕ

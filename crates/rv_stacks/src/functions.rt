@@ -4,7 +4,7 @@ ghost use Rattle.std.specs.Prelude.{◌≡◌, ◌+◌, ◌<◌, ◌≤◌, ℕ,
 ghost use Rattle.rv_counting.specs.Blocks.{address_at};
 ghost use Rattle.rv_stacks.specs.StackSteps.{IsFunctionCache};
 ghost use Rattle.rv_counting.specs.SymbolSearch.{symbol_at};
-ghost use Rattle.rv_stacks.specs.Stacks.{function_at, no_function, start_of};
+ghost use Rattle.rv_stacks.specs.Stacks.{function_at, no_symbol_number, start_of};
 
 use rv_count_tables::AddressCounts;
 use rv_counting::{Block, CodeSymbols};
@@ -94,13 +94,13 @@ pub fn function_of(symbols: &CodeSymbols<'_>, address: u32) -> u32
 {
     match symbols.symbol_value_at(address) {
         Some(value) => value,
-        None => no_function(symbols),
+        None => no_symbol_number(symbols),
     }
 }
 
 // Returns the number that stands for code without a symbol: 0, or the last address if there is a symbol at 0.
-fn no_function(symbols: &CodeSymbols<'_>) -> u32
-    ensures { result ≡ no_function (symbol_at symbols.now.image.now symbols.now.bytes.now 0) }
+fn no_symbol_number(symbols: &CodeSymbols<'_>) -> u32
+    ensures { result ≡ no_symbol_number (symbol_at symbols.now.image.now symbols.now.bytes.now 0) }
 {
     match symbols.symbol_value_at(0) {
         Some(_) => LAST_ADDRESS,

@@ -19,7 +19,7 @@ use Rattle.rv_fleet.specs.Rows.{row_of, rows_at}
 use Rattle.rv_base.specs.Sinks.{AppendsPrefix}
 use Rattle.rv_stream.specs.declared.reported_row.ReportedRow.{ReportedRow}
 use Rattle.rv_stream.specs.Limits.{rows_up_to}
-use Rattle.rv_stream.specs.Streams.{joined_row_texts, row_text_list}
+use Rattle.rv_stream.specs.Streams.{joined_row_texts, row_texts}
 use Rattle.rv_stream.specs.SeenRows.{text_by_index, HasSeenRows, HasSeenSomeRows, IsReportAt}
 use Rattle.rv_stream.specs.ReportedRows.{rows_of_reported, texts_of_reported, AreRowsUpToFailure, IsReportedRow}
 use Rattle.rv_stream.proofs.Limits.{ended_there, first_of}
@@ -38,7 +38,7 @@ rows_first f (p ∷ ps) (t ∷ ts) few each =
 
 texts_first : (line : ℕ → Row → List ℕ) (ps : List ℕ) (told : List ReportedRow) → length told ≤ length ps
     → ((k : ℕ) (d : ReportedRow) → k < length told → IsReportAt line (get_or ps k 0) (get_or told k d))
-    → texts_of_reported told ≡ row_text_list line ps (rows_of_reported told)
+    → texts_of_reported told ≡ row_texts line ps (rows_of_reported told)
 texts_first line [] [] few each = refl
 texts_first line (p ∷ ps) [] few each = refl
 texts_first line [] (t ∷ ts) few each = absurd (omega (arith, few))
@@ -50,7 +50,7 @@ texts_first line (p ∷ ps) (t ∷ ts) few each =
 
 by_index_first : (line : ℕ → Row → List ℕ) (ps : List ℕ) (told : List ReportedRow) → length told ≤ length ps
     → ((k : ℕ) (d : ReportedRow) → k < length told → (get_or told k d).index ≡ get_or ps k 0)
-    → map (λ (r : ReportedRow). line r.index r.row) told ≡ row_text_list line ps (rows_of_reported told)
+    → map (λ (r : ReportedRow). line r.index r.row) told ≡ row_texts line ps (rows_of_reported told)
 by_index_first line [] [] few each = refl
 by_index_first line (p ∷ ps) [] few each = refl
 by_index_first line [] (t ∷ ts) few each = absurd (omega (arith, few))

@@ -4,7 +4,7 @@ use Rattle.std.proofs.Common.{get_or, refl, sym, ap, arith, append-nil, append_a
 use Rattle.std.specs.List.{concat}
 use Rattle.std.proofs.lemmas.List.Folds.{concat-append}
 use Rattle.rv_fleet.specs.declared_row.Row.{Row}
-use Rattle.rv_stream.specs.Streams.{row_text_list, joined_row_texts}
+use Rattle.rv_stream.specs.Streams.{row_texts, joined_row_texts}
 
 -- the first texts, and those from there on, are all
 parts_of_all : (texts : List (List ℕ)) (n : ℕ) → concat texts ≡ concat (take n texts) ++ concat (drop n texts)
@@ -12,13 +12,13 @@ parts_of_all texts n = ap concat (sym (take-append-drop n texts)) ∙ concat-app
 
 module _ (line : ℕ → Row → List ℕ) where
   -- no texts of no rows
-  pub texts_none : (places : List ℕ) → row_text_list line places [] ≡ []
+  pub texts_none : (places : List ℕ) → row_texts line places [] ≡ []
   texts_none [] = refl
   texts_none (p ∷ places) = refl
 
   -- the texts of the first rows
   pub texts-take : (n : ℕ) (places : List ℕ) (rows : List Row)
-      → row_text_list line places (take n rows) ≡ take n (row_text_list line places rows)
+      → row_texts line places (take n rows) ≡ take n (row_texts line places rows)
   texts-take zero places rows = texts_none places
   texts-take (suc n) [] rows = refl
   texts-take (suc n) (p ∷ places) [] = refl
@@ -60,10 +60,10 @@ module _ (line : ℕ → Row → List ℕ) where
   -- what is told of the first rows behind a text, and the rest
   pub told_rest : (text places : List ℕ) (rows : List Row) (n : ℕ)
       → text ++ joined_row_texts line places rows
-      ≡ text ++ joined_row_texts line places (take n rows) ++ concat (drop n (row_text_list line places rows))
+      ≡ text ++ joined_row_texts line places (take n rows) ++ concat (drop n (row_texts line places rows))
   told_rest text places rows n =
-      let rest : List ℕ = concat (drop n (row_text_list line places rows)) in
-      ap (λ l. text ++ l) (parts_of_all (row_text_list line places rows) n
+      let rest : List ℕ = concat (drop n (row_texts line places rows)) in
+      ap (λ l. text ++ l) (parts_of_all (row_texts line places rows) n
       ∙ ap (λ l. concat l ++ rest) (sym (texts-take n places rows)))
       ∙ sym (append_assoc text (joined_row_texts line places (take n rows)) rest)
 

@@ -5,7 +5,7 @@ use Rattle.rv_command.specs.Texts.{optional_text}
 use Rattle.rv_files.specs.CommittedFiles.{CommittedFile}
 use Rattle.rv_rows.specs.declared_job.Job.{Job}
 use Rattle.rvtest_cli.specs.declared.accept.AcceptArgs.{AcceptArgs}
-use Rattle.rvtest_app.specs.Overwrites.{AreAcceptFilesNoInputs, IsNoInput, golden_paths_of_selected, inputs_of_accept, is_golden_input, is_read, input_paths}
+use Rattle.rvtest_app.specs.Overwrites.{AreAcceptFilesNoInputs, IsNotAnInput, golden_paths_of_selected, inputs_of_accept, is_golden_input, is_read, input_paths}
 use Rattle.rvtest_app.specs.declared.input_file.InputPath.{InputPath}
 
 -- files are read if their paths are
@@ -19,7 +19,7 @@ pub accept_apart : (committed : Option (List CommittedFile)) (args : AcceptArgs)
     → input_paths files ≡ golden_paths_of_selected (optional_text args.run.root) jobs selection
     → IfSome committed (λ _. list ≡ args.run.list.now ∷ [])
     → IfSome committed (λ _. inputs ≡ inputs_of_accept args jobs)
-    → IfSome committed (λ _. IsNoInput (inputs_of_accept args jobs) args.run.list.now)
+    → IfSome committed (λ _. IsNotAnInput (inputs_of_accept args jobs) args.run.list.now)
     → IfSome committed (λ _. list_any (is_golden_input list) files ≡ false)
     → IfSome committed (λ _. list_any (is_golden_input inputs) files ≡ false)
     → IfSome committed (λ _. AreAcceptFilesNoInputs args jobs selection)

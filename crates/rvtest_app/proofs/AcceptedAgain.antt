@@ -13,7 +13,7 @@ use Rattle.rv_accept.specs.Accepted.{accepted_job}
 use Rattle.rv_accept.specs.GoldenTexts.{golden_texts_of_runs}
 use Rattle.rv_accept.specs.GoldenOutcomes.{outcome_of_golden_file, is_for_file}
 use Rattle.rv_accept.specs.IntendedJobs.{intended_job, intended_jobs}
-use Rattle.rv_accept.specs.Passing.{AreFilesUpdated, is_pass_or_none, outcome_of_row}
+use Rattle.rv_accept.specs.Passing.{AreGoldenFilesUpToDate, is_pass_or_none, outcome_of_row}
 use Rattle.rv_accept.specs.Runs.{accepted_row, is_accepted_run}
 use Rattle.rv_accept.specs.Sharing.{is_same_path, jobs_to_run, names_golden_file}
 use Rattle.rv_accept.specs.Targets.{is_accepted_entry, has_target, with_target}
@@ -305,7 +305,7 @@ module _ (args : AcceptArgs) (before after : FileContents) (bytes : List ℕ) (j
 
     finds : (earlier : PlanView) (later : List PathResult) → AgreeWithContents (contents_below root (Some before)) earlier.results
         → AgreeWithContents (contents_below root (Some after)) later → AreFilesRead later job
-        → run.row ≡ row_of earlier (without_expectations job) → AreFilesUpdated earlier.results later job run.row
+        → run.row ≡ row_of earlier (without_expectations job) → AreGoldenFilesUpToDate earlier.results later job run.row
     finds earlier later earlier_kept later_kept read_now row_is = record {
       image = λ ended. image_again earlier.results later earlier_kept later_kept read_now.image
           (subst (λ (o : Outcome). did_run o.ending ≡ true)

@@ -11,7 +11,7 @@ use Rattle.rv_rows.specs.declared_row.Row.{Row}
 use Rattle.rv_rows.specs.declared_saved.Extent.{Extent}
 use Rattle.rv_rows.specs.declared_saved.Extent.TheVariants as extent
 use Rattle.rv_rows.specs.declared_saved.Shard.{Shard}
-use Rattle.rv_stream.specs.Streams.{joined_row_texts, row_text_list}
+use Rattle.rv_stream.specs.Streams.{joined_row_texts, row_texts}
 use Rattle.rvtest_app.specs.IntoReports.{streamed_rows, run_report_rest, run_report_text}
 use Rattle.rvtest_app.specs.RunOutput.{chosen_last_line, chosen_report_text, job_numbers, part_text}
 use Rattle.rvtest_app.proofs.Numbers.{behind, fit_behind, next}
@@ -88,7 +88,7 @@ run_report_split (Some old) jobs indices shard rows up within even = refl
 
 -- rows are told at their own places, whatever places come behind these
 texts_of_shown : (line : ℕ → Row → List ℕ) (indices : List ℕ) (rows : List Row)
-    → row_text_list line (take (length rows) indices) rows ≡ row_text_list line indices rows
+    → row_texts line (take (length rows) indices) rows ≡ row_texts line indices rows
 texts_of_shown line [] [] = refl
 texts_of_shown line [] (row ∷ rows) = refl
 texts_of_shown line (index ∷ indices) [] = refl

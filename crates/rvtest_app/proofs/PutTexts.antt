@@ -10,7 +10,7 @@ use Rattle.rvtest_app.specs.Outlets.{file_path_at, outlet_path, stdout_at, text_
 use Rattle.rv_rows.specs.declared_row.Row.{Row}
 use Rattle.rv_expect.specs.Judgement.{JudgeView}
 use Rattle.rv_junit.specs.Junit.{junit_text}
-use Rattle.rv_stream.specs.Streams.{row_text_list}
+use Rattle.rv_stream.specs.Streams.{row_texts}
 use Rattle.rvtest_app.specs.declared.outlets.Outlet.{Outlet}
 use Rattle.rvtest_app.specs.declared.outlets.Outlet.TheVariants as outlet
 
@@ -159,7 +159,7 @@ part_same before after path text other are e = rw e at are
 -- JUnit's documents of one suite, with lines that are equal
 pub same_junit : (name other : List ℕ) (judging : JudgeView) (line told : ℕ → Row → List ℕ) (indices : List ℕ) (rows : List Row)
     → name ≡ other → line ≡ told
-    → junit_text name judging (row_text_list line indices rows) rows ≡ junit_text other judging (row_text_list told indices rows) rows
+    → junit_text name judging (row_texts line indices rows) rows ≡ junit_text other judging (row_texts told indices rows) rows
 same_junit name other judging line told indices rows e f = rw (e, f) refl
 
 pub begins_nothing : (contents : Option (List ℕ)) → AppendsPrefix contents contents []
@@ -167,7 +167,7 @@ begins_nothing contents = record { part = []; rest = []; whole = refl; appended 
 
 -- what is told of rows, whatever their places are
 pub texts_of_rows : (line : Row → List ℕ) (indices : List ℕ) (rows : List Row) → length indices ≡ length rows
-    → row_text_list (λ index row. line row) indices rows ≡ map line rows
+    → row_texts (λ index row. line row) indices rows ≡ map line rows
 texts_of_rows line [] [] even = refl
 texts_of_rows line [] (row ∷ rows) even = absurd (omega (arith, even))
 texts_of_rows line (index ∷ indices) [] even = refl

@@ -11,7 +11,7 @@ use Rattle.rv_files.specs.CommittedFiles.{CommittedFile}
 use Rattle.rv_rows.specs.declared_report.WriteError.{WriteError}
 use Rattle.rv_rows.specs.declared_report.WriteError.TheVariants as write
 use Rattle.rvtest_app.specs.Outlets.{HasReceived, file_path_at, outlet_path}
-use Rattle.rvtest_app.specs.WriteStops.{IsFileStop, IsOutputStop, IsOutputWriteStop, IsTextNotWrittenStop, IsUnopenedJobStop, IsUncommittedStop, IsUnwrittenStop, IsWriteErrorStop, stop_of_write_error}
+use Rattle.rvtest_app.specs.WriteStops.{IsFileStop, IsOutputStop, IsOutputWriteStop, IsTextNotWrittenStop, IsUnopenedJobStop, IsUncommittedStop, IsWriteFailedStop, IsWriteErrorStop, stop_of_write_error}
 use Rattle.rvtest_app.specs.IntoReports.{run_report_path}
 use Rattle.rvtest_app.specs.RunStops.{IsRunWriteStop, IsShowErrorStop}
 use Rattle.rvtest_app.specs.declared.run_output.ShowError.{ShowError}
@@ -98,6 +98,6 @@ run_of_show args path show.StreamFailed stop is stopped = inl (inr (inr (inl sto
 run_of_show args path show.ReportFailed stop is stopped =
     inl (inr (inr (inr (inl (of (file_path_at (run_report_path args)) (rw is at stopped))))))
   where
-    of : (path : Option (List ℕ)) → IsSomeAnd path (λ path. IsUnwrittenStop path stop) → IsFileStop path stop
+    of : (path : Option (List ℕ)) → IsSomeAnd path (λ path. IsWriteFailedStop path stop) → IsFileStop path stop
     of (Some path) is = inr is
     of None is = elim is [ ]

@@ -15,13 +15,13 @@ use Rattle.rv_files.specs.UnreadablePaths.{resolved_path}
 use Rattle.rv_rows.specs.JobList.{job_list_of}
 use Rattle.rv_rows.specs.declared_job.Job.{Job}
 use Rattle.rvtest_app.specs.Overwrites.{IsAcceptOverwriteStop}
-use Rattle.rvtest_app.specs.WriteStops.{IsUnopenedJobStop, IsUnwrittenStop}
+use Rattle.rvtest_app.specs.WriteStops.{IsUnopenedJobStop, IsWriteFailedStop}
 
 -- ---- one file
 
 -- the stop reports that the file for the path could not be opened, written, or moved to its path
 abbrev pub IsFileNotCreatedStop : List ℕ → Stop → Type 0
-IsFileNotCreatedStop path stop = IsUnopenedJobStop path stop ⊎ IsUnwrittenStop path stop
+IsFileNotCreatedStop path stop = IsUnopenedJobStop path stop ⊎ IsWriteFailedStop path stop
 
 -- the stop reports that the file at the path does not contain the bytes that were written, or that memory ran out
 abbrev pub IsOtherBytesStop : List ℕ → Stop → Type 0

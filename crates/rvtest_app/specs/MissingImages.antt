@@ -30,15 +30,15 @@ are_images_missing jobs unread = list_all (is_image_missing unread) jobs
 
 -- the text that no image was found, with the directory against which relative paths are resolved: the `--root` directory, or else the
 -- current one
-abbrev pub paths_text : Option (List ℕ) → List ℕ
-paths_text None = codes "no image was found: relative paths are resolved against the current directory; use --root DIR to resolve them against DIR"
-paths_text (Some root) = codes "no image was found: relative paths are resolved against " ++ printable_text root ++ codes " (--root)"
+abbrev pub no_image_found_text : Option (List ℕ) → List ℕ
+no_image_found_text None = codes "no image was found: relative paths are resolved against the current directory; use --root DIR to resolve them against DIR"
+no_image_found_text (Some root) = codes "no image was found: relative paths are resolved against " ++ printable_text root ++ codes " (--root)"
 
 -- the note of `run` that no image was found, if all jobs run (`count` of them) and every image is missing; otherwise empty
 abbrev pub missing_images_note : List Job → List UnreadablePath → ℕ → Option (List ℕ) → List ℕ
 missing_images_note jobs unread count root =
-    if count == length jobs && are_images_missing jobs unread then codes "rvtest: note: " ++ line (paths_text root) else []
+    if count == length jobs && are_images_missing jobs unread then codes "rvtest: note: " ++ line (no_image_found_text root) else []
 
 -- the line of `check` that no image was found, if every image is missing; otherwise empty
 abbrev pub missing_images_line : List Job → List UnreadablePath → Option (List ℕ) → List ℕ
-missing_images_line jobs unread root = if are_images_missing jobs unread then line (paths_text root) else []
+missing_images_line jobs unread root = if are_images_missing jobs unread then line (no_image_found_text root) else []

@@ -4,7 +4,7 @@ use Rattle.std.specs.Io.KnownBytes.{Appends}
 use Rattle.rv_expect.specs.Judgement.{judge_view}
 use Rattle.rv_junit.specs.Junit.{junit_text}
 use Rattle.rv_rows.specs.declared_row.Row.{Row}
-use Rattle.rv_stream.specs.Streams.{row_text_list}
+use Rattle.rv_stream.specs.Streams.{row_texts}
 use Rattle.rvtest_app.specs.declared.file_texts.FileTexts.{FileTexts}
 use Rattle.rvtest_app.specs.Outlets.{AreFilesCommitted, file_at, is_stdout_at, stdout_at}
 use Rattle.rvtest_app.specs.ReportTexts.{report_rows}
@@ -18,7 +18,7 @@ IsWrittenToErrorsIf false text before after = IsOnlyStandardOutput text before a
 -- the JUnit document of the rows of a report; the function `line` returns the lines about a row
 abbrev pub junit_of_report : {T : Type 0} → (T → ℕ → Row → List ℕ) → FileTexts T → List ℕ
 junit_of_report line texts = junit_text texts.suite.name.now (judge_view texts.suite.judge)
-    (row_text_list (line texts.reporter.now) texts.indices.now (report_rows texts.report)) (report_rows texts.report)
+    (row_texts (line texts.reporter.now) texts.indices.now (report_rows texts.report)) (report_rows texts.report)
 
 -- the text `shown` was written, to standard error if `to_stderr` is true and otherwise to standard output; then the report and the JUnit
 -- XML were written to their paths

@@ -43,12 +43,12 @@ abbrev pub is_among : List (List ℕ) → List ℕ → Bool
 is_among files identity = list_any (λ (file : List ℕ). bytes_eq file identity) files
 
 -- the path is not one of the paths in `read`, the inputs
-abbrev pub IsNoInput : List (List ℕ) → List ℕ → Type 0
-IsNoInput read path = list_any (is_among (path ∷ [])) read ≡ false
+abbrev pub IsNotAnInput : List (List ℕ) → List ℕ → Type 0
+IsNotAnInput read path = list_any (is_among (path ∷ [])) read ≡ false
 
 -- the path of an option is not one of the inputs `read`; always holds if the option is not given, or names standard output
 abbrev pub IsNoInputIfFile : List (List ℕ) → Option (List ℕ) → Type 0
-IsNoInputIfFile read path = IfSome (file_path_at path) (IsNoInput read)
+IsNoInputIfFile read path = IfSome (file_path_at path) (IsNotAnInput read)
 
 -- how a message refers to an input that a job names: by the key and the job
 abbrev pub job_input_text : List ℕ → List ℕ → List ℕ
@@ -175,7 +175,7 @@ is_golden_input read golden = is_read read (path_buf_bytes golden.path)
 
 -- `accept` overwrites no input: the list is not another input, and no golden file of a selected job is the list or an input
 pub record AreAcceptFilesNoInputs (args : AcceptArgs) (jobs : List Job) (selection : List Bool) : Type 0 where
-  pub list : IsNoInput (inputs_of_accept args jobs) args.run.list.now
+  pub list : IsNotAnInput (inputs_of_accept args jobs) args.run.list.now
   pub no_list : list_any (is_read (args.run.list.now ∷ [])) (golden_paths_of_selected (optional_text args.run.root) jobs selection) ≡ false
   pub no_input : list_any (is_read (inputs_of_accept args jobs)) (golden_paths_of_selected (optional_text args.run.root) jobs selection) ≡ false
 

@@ -18,7 +18,7 @@ use Rattle.rvtest_app.specs.IntoStops.{IsIntoStop}
 use Rattle.rvtest_app.specs.KnownStops.{IsKnownStop}
 use Rattle.rvtest_app.specs.Outlets.{file_path_at}
 use Rattle.rvtest_app.specs.Overwrites.{IsRunOverwriteStop}
-use Rattle.rvtest_app.specs.WriteStops.{IsFileStop, IsOutputStop, IsUnwrittenStop}
+use Rattle.rvtest_app.specs.WriteStops.{IsFileStop, IsOutputStop, IsWriteFailedStop}
 use Rattle.rvtest_app.specs.Runs.{AreJobsToRun, AreRequestedJobs}
 use Rattle.rvtest_app.specs.StackStops.{IsStackSumStop}
 use Rattle.rvtest_app.specs.declared.run_output.ShowError.{ShowError}
@@ -55,7 +55,7 @@ abbrev pub IsShowErrorStop : Option (List ℕ) → ShowError → Stop → Type 0
 IsShowErrorStop path show.OutOfMemory stop = stop ≡ stops.OutOfMemory
 IsShowErrorStop path show.NoWorker stop = stop ≡ stops.NoWorker
 IsShowErrorStop path show.StreamFailed stop = stop ≡ stops.WriteFailed
-IsShowErrorStop path show.ReportFailed stop = IsSomeAnd path (λ path. IsUnwrittenStop path stop)
+IsShowErrorStop path show.ReportFailed stop = IsSomeAnd path (λ path. IsWriteFailedStop path stop)
 
 -- why a command stopped: no thread could be started, or the results, the report or the JUnit XML could not be written
 abbrev pub IsRowsWriteStop : RunArgs → Stop → Type 0

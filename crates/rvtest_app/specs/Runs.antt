@@ -20,7 +20,7 @@ use Rattle.rv_merge.specs.Shards.{shard_selection}
 use Rattle.rv_rows.specs.declared_saved.Shard.{Shard}
 use Rattle.rv_rows.specs.declared_row.Row.{Row}
 use Rattle.rv_rows.specs.Rows.{rows_at}
-use Rattle.rv_stream.specs.Streams.{row_text_list}
+use Rattle.rv_stream.specs.Streams.{row_texts}
 use Rattle.rv_count_tables.specs.Text.{table_text}
 use Rattle.rv_count_tables.specs.declared.table.CountTable.{CountTable}
 use Rattle.rv_stacks.specs.JobTables.{IsTableOfJobsAt}
@@ -87,7 +87,7 @@ pub record IsPlanFor (contents : Option FileContents) (jobs : List Job) (indices
 -- the JUnit document of the rows of the jobs at these indices, in which each failed row has its lines
 abbrev pub run_junit : RunArgs → RowReporter → List ℕ → List Row → List ℕ
 run_junit args reporter indices rows = junit_text (suite_name (optional_text args.suite) args.list.now) reporter.judging
-    (row_text_list (row_lines_at (record reporter { verbosity = Failures })) indices rows) rows
+    (row_texts (row_lines_at (record reporter { verbosity = Failures })) indices rows) rows
 
 -- how the rows of a run are judged: by the rule in the arguments, and with the known failures
 abbrev pub run_judging : RunArgs → Option KnownJobs → JudgeView

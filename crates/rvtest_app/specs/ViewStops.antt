@@ -131,7 +131,7 @@ IsViewFailedStop contents args shown jobs indices stop = (stop ≡ stops.OutOfMe
     ⊎ ((stop ≡ stops.WriteFailed) ⊎ IsNoViewOfJobsStop contents args shown jobs indices stop)
 
 -- why a command stopped: the requested jobs were found, but their view could not be written
-pub record IsViewFailedAtStop (contents : Option FileContents) (args : RunArgs) (shown : View) (stop : Stop) : Type 0 where
+pub record IsRequestedViewFailedStop (contents : Option FileContents) (args : RunArgs) (shown : View) (stop : Stop) : Type 0 where
   pub jobs : List Job
   pub selection : List Bool
   pub shard : Option Shard
@@ -142,4 +142,4 @@ pub record IsViewFailedAtStop (contents : Option FileContents) (args : RunArgs) 
 
 -- why a command stopped: the requested jobs could not be found, or their view could not be written
 abbrev pub IsViewStop : Option FileContents → RunArgs → View → Stop → Type 0
-IsViewStop contents args shown stop = IsJobRequestStop contents args stop ⊎ IsViewFailedAtStop contents args shown stop
+IsViewStop contents args shown stop = IsJobRequestStop contents args stop ⊎ IsRequestedViewFailedStop contents args shown stop

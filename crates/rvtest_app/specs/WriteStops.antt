@@ -23,18 +23,18 @@ abbrev pub IsWriteStop : List ℕ → ErrorKind → Stop → Type 0
 IsWriteStop path reason stop = IsStop 3 (path_message path (write_error_text reason)) stop
 
 -- the stop reports that writing the file for the path failed, or that memory ran out
-abbrev pub IsUnwrittenStop : List ℕ → Stop → Type 0
-IsUnwrittenStop path stop = (reason : ErrorKind) × IsWriteStop path reason stop
+abbrev pub IsWriteFailedStop : List ℕ → Stop → Type 0
+IsWriteFailedStop path stop = (reason : ErrorKind) × IsWriteStop path reason stop
 
 -- the stop reports this error in writing the file for the path: memory ran out, or a write failed
 abbrev pub IsWriteErrorStop : List ℕ → WriteError → Stop → Type 0
 IsWriteErrorStop path write.OutOfMemory stop = stop ≡ stops.OutOfMemory
-IsWriteErrorStop path write.Failed stop = IsUnwrittenStop path stop
+IsWriteErrorStop path write.Failed stop = IsWriteFailedStop path stop
 
 -- why a command stopped: the text could not be written to the file for the path, or to standard output if there is no path
 abbrev pub IsTextNotWrittenStop : Option (List ℕ) → Stop → Type 0
 IsTextNotWrittenStop None stop = (stop ≡ stops.OutOfMemory) ⊎ (stop ≡ stops.WriteFailed)
-IsTextNotWrittenStop (Some path) stop = IsUnwrittenStop path stop
+IsTextNotWrittenStop (Some path) stop = IsWriteFailedStop path stop
 
 -- ---- files
 
@@ -48,7 +48,7 @@ IsUncommittedStop path stop = IsSomeAnd path (λ path. (reason : ErrorKind) × I
 
 -- why a command stopped: a path is given, and its file could not be opened, written, or moved to the path
 abbrev pub IsFileStop : Option (List ℕ) → Stop → Type 0
-IsFileStop path stop = IsSomeAnd path (λ path. IsUnopenedJobStop path stop ⊎ IsUnwrittenStop path stop)
+IsFileStop path stop = IsSomeAnd path (λ path. IsUnopenedJobStop path stop ⊎ IsWriteFailedStop path stop)
 
 -- why a command stopped: one of the two files could not be opened, written, or moved to its path
 abbrev pub IsEitherFileStop : Option (List ℕ) → Option (List ℕ) → Stop → Type 0

@@ -25,7 +25,7 @@ ghost use Rattle.rvtest_app.specs.CommandOutputs.{outputs_of};
 
 use crate::accept_inputs::reject_accept_overwrites;
 use crate::accepted_files::{
-    check_unchanged_files, check_written_files, read_golden_files, write_accepted_files,
+    check_files_are_unchanged, check_written_files, read_golden_files, write_accepted_files,
 };
 use crate::crew::requested_crew;
 use crate::current_verdicts::CurrentFiles;
@@ -363,7 +363,7 @@ fn write_accepted<'x, R, D: Inputs, F: Outputs + Drop, O: Sink + Drop, E: Sink +
         write_count_line(host.alloc, &summary, Writing::CheckOnly, &mut to.out)?;
         return Ok(accept_status(summary.skipped_count(), summary.changed_count()));
     }
-    check_unchanged_files(host.inputs, host.alloc, &summary)?;
+    check_files_are_unchanged(host.inputs, host.alloc, &summary)?;
     write_accepted_files(&mut to.files, host.alloc, &summary)?;
     check_written_files(host.inputs, host.alloc, &summary)?;
     write_count_line(host.alloc, &summary, Writing::Written, &mut to.out)?;

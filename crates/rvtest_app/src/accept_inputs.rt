@@ -5,7 +5,7 @@ ghost use Rattle.std.specs.List.{flat_map, list_any};
 ghost use Rattle.std.specs.Path.{path_buf_bytes};
 ghost use Rattle.rv_command.specs.Texts.{optional_text};
 ghost use Rattle.rvtest_app.specs.Overwrites.{AreAcceptFilesNoInputs, AreFilesOf, IsAcceptOverwriteStop, IsOverwriteStop, IsOverwriteReported};
-ghost use Rattle.rvtest_app.specs.Overwrites.{IsNoInput, golden_paths_of_job, golden_paths_of_selected, inputs_of_accept, job_output_text};
+ghost use Rattle.rvtest_app.specs.Overwrites.{IsNotAnInput, golden_paths_of_job, golden_paths_of_selected, inputs_of_accept, job_output_text};
 ghost use Rattle.rvtest_app.specs.Overwrites.{is_golden_input, outside_prefix, outside_message, outside_path, outside_text, quoted_text, input_paths, output_role_text};
 
 use crate::input_file::{InputFiles, InputPath, InputRole};
@@ -136,7 +136,7 @@ fn reject_list_overwrite<F: Outputs>(
     reads: &AcceptReads<'_>,
 ) -> Result<(), Stop>
     ensures apart { (paths : List (List ℕ)) → AreFilesOf (F.committed files.now) paths reads.now.inputs
-        → OnOk result (IfSome (F.committed files.now) (λ _. IsNoInput paths list.now)) }
+        → OnOk result (IfSome (F.committed files.now) (λ _. IsNotAnInput paths list.now)) }
     ensures stopped { IfErr result (IsOverwriteStop (codes "the updated list") list.now) }
 {
     reject_file_overwrite(files, alloc, "the updated list", list, &reads.inputs)?;

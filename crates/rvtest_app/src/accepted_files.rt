@@ -89,7 +89,7 @@ fn read_golden_file<D: Inputs>(inputs: &D, alloc: Global, path: &str) -> Result<
 }
 
 /// Returns an error if the list or a golden file that will be written has changed since it was read.
-pub(crate) fn check_unchanged_files<D: Inputs>(
+pub(crate) fn check_files_are_unchanged<D: Inputs>(
     inputs: &D,
     alloc: Global,
     summary: &AcceptSummary<'_>,

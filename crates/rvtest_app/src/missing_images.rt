@@ -5,7 +5,7 @@ ghost use Rattle.rv_command.specs.Texts.{optional_text};
 ghost use Rattle.rv_job_text.specs.UnreadFiles.{unread_note};
 ghost use Rattle.rv_rows.specs.Report.{line};
 ghost use Rattle.rvtest_app.specs.MissingImages.{are_images_missing, is_image_missing, is_not_found};
-ghost use Rattle.rvtest_app.specs.MissingImages.{is_reported_missing, missing_images_line, missing_images_note, paths_text};
+ghost use Rattle.rvtest_app.specs.MissingImages.{is_reported_missing, missing_images_line, missing_images_note, no_image_found_text};
 
 use rv_files::UnreadablePath;
 use rv_job_text::{Span, push_spans, push_text};
@@ -51,7 +51,7 @@ pub(crate) fn push_missing_images_line(
 
 // Appends a line that no image was found, with the directory against which relative paths are resolved.
 fn push_paths_line(told: &mut Vec<u8>, root: Option<&str>) -> Result<(), AllocError>
-    ensures { OnOk result (told.new.items ≡ told.old.items ++ line (paths_text (optional_text root.entry))) }
+    ensures { OnOk result (told.new.items ≡ told.old.items ++ line (no_image_found_text (optional_text root.entry))) }
 {
     match root {
         Some(root) => push_spans(

@@ -7,11 +7,11 @@ ghost use Rattle.rv_command.specs.Texts.{optional_text};
 ghost use Rattle.rv_expect.specs.Judgement.{judge_view};
 ghost use Rattle.rvtest_app.specs.Outlets.{HasReceived, IsWrittenToOutlet, file_path_at, has_no_failure, is_stdout_outlet, is_stdout, is_stdout_at};
 ghost use Rattle.rvtest_app.specs.Outlets.{outlet_path, text_if_stdout, uses_stdout};
-ghost use Rattle.rvtest_app.specs.WriteStops.{IsEitherFileStop, IsTextNotWrittenStop, IsUnopenedJobStop, IsUnwrittenStop, IsWriteErrorStop, IsWriteStop};
+ghost use Rattle.rvtest_app.specs.WriteStops.{IsEitherFileStop, IsTextNotWrittenStop, IsUnopenedJobStop, IsWriteFailedStop, IsWriteErrorStop, IsWriteStop};
 ghost use Rattle.rvtest_app.specs.WriteStops.{stop_of_write_error};
 ghost use Rattle.rv_junit.specs.Junit.{junit_text};
 ghost use Rattle.rv_junit.specs.KnownLines.{AreLinesOf};
-ghost use Rattle.rv_stream.specs.Streams.{row_text_list};
+ghost use Rattle.rv_stream.specs.Streams.{row_texts};
 ghost use Rattle.rvtest_app.specs.RowSinks.{AreOutletParts, is_file};
 ghost use Rattle.rvtest_app.specs.ReportTexts.{report_rest_of, report_text_of};
 
@@ -252,10 +252,10 @@ impl<'a, P: Drop, W: Sink + LastError + Drop> Outlet<'a, P, W> {
         requires known { AreLinesOf (T.line cases.now.reporter.now) cases.now.indices.now cases.now.rows.now cases.now.texts.now }
         ensures put { OnOk result (IsWrittenToOutlet W.accepted W.failure_count self.old self.new
             (junit_text suite.now.name.now (judge_view suite.now.judge)
-            (row_text_list (T.line cases.now.reporter.now) cases.now.indices.now cases.now.rows.now) cases.now.rows.now)) }
+            (row_texts (T.line cases.now.reporter.now) cases.now.indices.now cases.now.rows.now) cases.now.rows.now)) }
         ensures out { OnOk result (Appends (O.accepted out.old) (O.accepted out.new) (text_if_stdout self.old
             (junit_text suite.now.name.now (judge_view suite.now.judge)
-            (row_text_list (T.line cases.now.reporter.now) cases.now.indices.now cases.now.rows.now) cases.now.rows.now))) }
+            (row_texts (T.line cases.now.reporter.now) cases.now.indices.now cases.now.rows.now) cases.now.rows.now))) }
         ensures counted { OnOk result (O.failure_count out.new ≡ O.failure_count out.old) }
         ensures path { outlet_path self.new ≡ outlet_path self.old }
         ensures stopped { IfErr result (IsTextNotWrittenStop (outlet_path self.old)) }
@@ -303,7 +303,7 @@ fn file_result(
 
 /// Returns the error that the file for the path could not be written completely, for this reason.
 pub(crate) fn unwritten_stop(alloc: Global, path: &str, reason: ErrorKind) -> Stop
-    ensures { IsUnwrittenStop path.now result }
+    ensures { IsWriteFailedStop path.now result }
 {
     write_stop(alloc, path, reason)
 }

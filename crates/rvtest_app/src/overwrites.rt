@@ -5,7 +5,7 @@ ghost use Rattle.std.specs.List.{list_any};
 ghost use Rattle.std.specs.Path.{path_buf_bytes};
 ghost use Rattle.rv_command.specs.Texts.{optional_text};
 ghost use Rattle.rv_files.specs.UnreadablePaths.{resolved_path};
-ghost use Rattle.rvtest_app.specs.Overwrites.{AreFilesOf, IsNoInputIfFile, IsOptionOverwriteStop, IsOverwriteStop, IsOverwriteReported, IsNoInput, is_among, job_input_text, overwrite_prefix, overwrite_message, input_path_text, input_paths, input_role_text};
+ghost use Rattle.rvtest_app.specs.Overwrites.{AreFilesOf, IsNoInputIfFile, IsOptionOverwriteStop, IsOverwriteStop, IsOverwriteReported, IsNotAnInput, is_among, job_input_text, overwrite_prefix, overwrite_message, input_path_text, input_paths, input_role_text};
 ghost use Rattle.rvtest_app.specs.Outlets.{is_stdout};
 
 use crate::input_file::{InputFiles, InputPath, InputRole};
@@ -70,7 +70,7 @@ pub(crate) fn reject_file_overwrite<F: Outputs>(
     read: &InputFiles<'_>,
 ) -> Result<(), Stop>
     ensures apart { (paths : List (List ℕ)) → AreFilesOf (F.committed files.now) paths read.now
-        → OnOk result (IfSome (F.committed files.now) (λ _. IsNoInput paths path.now)) }
+        → OnOk result (IfSome (F.committed files.now) (λ _. IsNotAnInput paths path.now)) }
     ensures stopped { IfErr result (IsOverwriteStop option.now path.now) }
 {
     let replaced = match files.replaced_files(alloc, path) {

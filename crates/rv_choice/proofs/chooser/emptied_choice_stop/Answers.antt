@@ -2,4 +2,4 @@ use Rattle.rv_command.proofs.Public.{told_stop}
 use Rattle.rv_choice.proofs.chooser.emptied_choice_stop.Goals as goal
 
 pub returns : goal.returns
-returns c = told_stop _ _ _ _ c.rejection.ensures c.emptied_choice_message.ensures
+returns c = told_stop _ _ _ _ c.rejection.ensures c.nothing_left_message.ensures

@@ -8,14 +8,14 @@ pub loop-image-preserved : goal.loop-image-preserved
 loop-image-preserved c =
     none_more (is_other c.args.table.now) c.args.images.now c.loop-image.image-index c.image-item.result c.loop-image-test.true
     c.loop-image.invariant
-    (ap (is_other c.args.table.now) (sym c.image-item.is) ∙ (sym c.in_ok-is_other_image.ensures ∙ c.if-branch.false))
+    (ap (is_other c.args.table.now) (sym c.image-item.is) ∙ (sym c.in_ok-has_other_image_at_path.ensures ∙ c.if-branch.false))
 
 pub returns-then-branch : goal.returns-then-branch
 returns-then-branch c =
     ap (λ (file : ImageFile). Some file.path.now) c.image-item.is
     ∙ other_here c.args.table.now c.args.images.now c.loop-image.image-index c.image-item.result c.loop-image-test.true
     c.loop-image.invariant
-    (ap (is_other c.args.table.now) (sym c.image-item.is) ∙ (sym c.in_ok-is_other_image.ensures ∙ c.if-branch.true))
+    (ap (is_other c.args.table.now) (sym c.image-item.is) ∙ (sym c.in_ok-has_other_image_at_path.ensures ∙ c.if-branch.true))
 
 pub returns : goal.returns
 returns c = no_other c.args.table.now c.args.images.now c.loop-image.image-index (omega arith) c.loop-image.invariant

@@ -9,7 +9,7 @@ use Rattle.rv_junit.specs.Junit.{case_text}
 use Rattle.rv_stream.specs.Sinks.{IsPartlyWritten}
 use Rattle.rv_stream.specs.declared_row.Row.{Row}
 use Rattle.rv_stream.proofs.Public.{told_behind, told_none, told_rest}
-use Rattle.rv_stream.specs.Streams.{row_text_list, joined_row_texts}
+use Rattle.rv_stream.specs.Streams.{row_texts, joined_row_texts}
 use Rattle.rv_junit.proofs.case_writes.write_cases.Goals as goal
 
 some_row : (rows : List Row) (i : ℕ) → i < length rows → Row
@@ -37,7 +37,7 @@ returns-in_err-push_case-clause-part g c =
     let rows = c.args.cases.now.rows.now in
     let i = c.loop-i.i in
     rw error.1 (stopped_under_way (g.W.Sink.accepted c.args.out.now) (g.W.Sink.accepted c.loop-i.out) c.loop-i.text.items
-    (text ++ joined_row_texts line indices (take i rows)) (concat (drop i (row_text_list line indices rows)))
+    (text ++ joined_row_texts line indices (take i rows)) (concat (drop i (row_texts line indices rows)))
     (text ++ joined_row_texts line indices rows) c.loop-i.invariant.partly_written (told_rest line text indices rows i))
 
 pub returns-in_err-write_if_large-clause-part : goal.returns-in_err-write_if_large-clause-part
@@ -55,7 +55,7 @@ returns-in_err-write_if_large-clause-part g c =
     let after = g.W.Sink.accepted c.write_if_large.new.out in
     let told_so_far = text ++ joined_row_texts line indices (take i rows) in
     let longer = text ++ joined_row_texts line indices (take (i + 1) rows) in
-    rw error.1 (beginning_of_longer before after longer (concat (drop (i + 1) (row_text_list line indices rows)))
+    rw error.1 (beginning_of_longer before after longer (concat (drop (i + 1) (row_texts line indices rows)))
     (text ++ joined_row_texts line indices rows)
     (failed_under_way before (g.W.Sink.accepted c.loop-i.out) after c.loop-i.text.items (line (get_or indices i 0) row)
     c.push_case.new.text.items told_so_far longer c.loop-i.invariant.partly_written

@@ -1,6 +1,6 @@
 use Rattle.std.proofs.Common.{◌≡◌, ◌∙◌, ◌+◌, ◌<◌, ℕ, List, ap, arith, drop, length, length-drop, sym}
 use Rattle.std.proofs.lemmas.Bool.Decides.{nat_tests}
-use Rattle.rv_report.specs.LenientReport.{state_after_text, with_unfinished_row}
+use Rattle.rv_report.specs.LenientReport.{state_after_text, with_last_row_finished}
 use Rattle.rv_report.specs.View.{reader_state_view}
 use Rattle.rv_report.proofs.FieldLoops.{said_step, said_end}
 use Rattle.rv_report.proofs.lenient_rows.read_rows.Goals as goal
@@ -20,7 +20,7 @@ returns c =
     let rest = c.loop-rest.rest.now in
     let none : length rest ≡ 0 = grind (arith, nat_tests) in
     c.in_ok-finish_unfinished_row.ensures
-    ∙ ap with_unfinished_row (sym (said_end rest (reader_state_view c.loop-rest.gathering) none) ∙ c.loop-rest.invariant)
+    ∙ ap with_last_row_finished (sym (said_end rest (reader_state_view c.loop-rest.gathering) none) ∙ c.loop-rest.invariant)
 
 shorter : (rest behind : List ℕ) (n : ℕ) → behind ≡ drop (n + 1) rest → 0 < length rest → length behind < length rest
 shorter rest behind n is some = omega (arith, length-drop (n + 1) rest, ap length is)

@@ -65,15 +65,15 @@ returns-in_err-check_written_files-clause-stopped g c =
           (rw c.as_slice-3.ensures.value at c.in_err-check_written_files.ensures),
     )))
 
-pub returns-in_err-check_unchanged_files-clause-stopped : goal.returns-in_err-check_unchanged_files-clause-stopped
-returns-in_err-check_unchanged_files-clause-stopped g c =
-    let is = err_from_is_err_and c.from_residual-in_err-check_unchanged_files.result
-    c.from_residual-in_err-check_unchanged_files.ensures.1 in
+pub returns-in_err-check_files_are_unchanged-clause-stopped : goal.returns-in_err-check_files_are_unchanged-clause-stopped
+returns-in_err-check_files_are_unchanged-clause-stopped g c =
+    let is = err_from_is_err_and c.from_residual-in_err-check_files_are_unchanged.result
+    c.from_residual-in_err-check_files_are_unchanged.ensures.1 in
     rw (is.1, is.2)
     (inr (inr (
       c.if-args.false,
       files_stop (IsUnverifiedStop (g.D.Inputs.contents c.args.host.now.inputs.now))
           (IsFileNotWrittenStop (g.D.Inputs.contents c.args.host.now.inputs.now)) c.args.list.now.path.now c.args.outcomes.now.files.items _
           (λ path checked. inr checked)
-          (rw c.as_slice-3.ensures.value at c.in_err-check_unchanged_files.ensures),
+          (rw c.as_slice-3.ensures.value at c.in_err-check_files_are_unchanged.ensures),
     )))

@@ -1,5 +1,5 @@
 use Rattle.std.proofs.Common.{◌≤◌, arith}
-use Rattle.rv_history.specs.Moves.{IsStepBefore}
+use Rattle.rv_history.specs.Moves.{IsStepBack}
 use Rattle.rv_history.specs.Places.{last_step}
 use Rattle.rv_history.proofs.Arriving.{arrived}
 use Rattle.rv_history.proofs.Backward.{back_within}
@@ -18,6 +18,6 @@ finish_search-requires c =
 
 pub returns-clause-step : goal.returns-clause-step
 returns-clause-step c =
-    arrived (IsStepBefore c.args.stops.now c.args.self.now.budget c.args.self.now.start c.args.self.now.step) c.finish_search.result
+    arrived (IsStepBack c.args.stops.now c.args.self.now.budget c.args.self.now.start c.args.self.now.step) c.finish_search.result
     c.in_ok-arrival.arrival.step c.in_ok-arrival.arrival.outcome c.args.self.now c.finish_search.new.self c.finish_search.ensures.outcome
     c.finish_search.ensures.moved (rw (← c.self.view_is) (c.in_ok-arrival.ensures c.self.inside.budget c.self.invariant.1))

@@ -1,7 +1,7 @@
 -- The last address, where 0 has a symbol.
 use Rattle.rv_counting.specs.SymbolSearch.{symbol_at}
 use Rattle.rv_stacks.proofs.SymbolValues.{none_there, some_function}
-use Rattle.rv_stacks.proofs.functions.no_function.Goals as goal
+use Rattle.rv_stacks.proofs.functions.no_symbol_number.Goals as goal
 
 pub returns-in-Some : goal.returns-in-Some
 returns-in-Some c =

@@ -4,7 +4,7 @@ use Rattle.std.specs.Option.{option_map_or}
 use Rattle.toml.specs.View.{view}
 use Rattle.rv_lists.specs.Keys.{any_item, region_has_unknown_key}
 use Rattle.rv_lists.proofs.Entries.{any_value}
-use Rattle.rv_lists.proofs.value_types.regions_have_unknown_key.Goals as goal
+use Rattle.rv_lists.proofs.value_types.job_has_unknown_region_key.Goals as goal
 
 pub returns-in-Some : goal.returns-in-Some
 returns-in-Some c =

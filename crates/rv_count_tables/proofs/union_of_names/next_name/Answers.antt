@@ -4,7 +4,7 @@ use Rattle.std.proofs.lemmas.Bool.{both_ways}
 use Rattle.std.proofs.lemmas.Bool.Decides.{nat_tests}
 use Rattle.std.proofs.lemmas.Result.{IfOk-weaker}
 use Rattle.rv_count_tables.proofs.AddingNames.{name_of_first_alone, name_of_second_alone, name_of_first, name_of_second, name_of_both, other_names_first}
-use Rattle.rv_count_tables.proofs.sum_of_names.next_name.Goals as goal
+use Rattle.rv_count_tables.proofs.union_of_names.next_name.Goals as goal
 
 pub returns-then-is_empty-clause-value : goal.returns-then-is_empty-clause-value
 returns-then-is_empty-clause-value c =

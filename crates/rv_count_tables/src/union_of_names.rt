@@ -3,7 +3,7 @@
 ghost use Rattle.std.specs.Prelude.{◌≡◌, ◌+◌, ◌<◌, ◌↔◌, IfOk, IfErr, IsTrue, length};
 ghost use Rattle.std.specs.List.{AllByRecursion};
 ghost use Rattle.rv_count_tables.specs.declared.sum.SumError.TheVariants.{OutOfMemory};
-ghost use Rattle.rv_count_tables.specs.Sum.{IsSumOfNames, NamesHaveNoSum};
+ghost use Rattle.rv_count_tables.specs.Sum.{IsSumOfNames, IsErrorOfNames};
 ghost use Rattle.rv_count_tables.specs.SumSteps.{IsNextName};
 ghost use Rattle.rv_count_tables.specs.Table.{AreValidNames, IsValidName};
 
@@ -15,7 +15,7 @@ use std::alloc::{AllocError, Global};
 
 /// Returns the names of all functions in both lists, sorted by function, or an error if a function has different names in them. Allocates
 /// only the result.
-pub(crate) fn sum_of_names(
+pub(crate) fn union_of_names(
     alloc: Global,
     a: &[FunctionName],
     b: &[FunctionName],
@@ -23,7 +23,7 @@ pub(crate) fn sum_of_names(
     requires a { AreValidNames a.now }
     requires b { AreValidNames b.now }
     ensures value { IfOk result (λ sum. IsSumOfNames a.now b.now sum) }
-    ensures refused { IfErr result (λ error. NamesHaveNoSum error a.now b.now) }
+    ensures refused { IfErr result (λ error. IsErrorOfNames error a.now b.now) }
 {
     let mut sums = Vec::new(alloc);
     let mut from_a = 0;
@@ -52,7 +52,7 @@ fn next_name(alloc: Global, a: &[FunctionName], b: &[FunctionName]) -> Result<Ne
     requires b { AllByRecursion IsValidName b.now }
     requires some { 0 < length a.now + length b.now }
     ensures value { IfOk result (λ next. IsNextName a.now b.now next) }
-    ensures refused { IfErr result (λ error. NamesHaveNoSum error a.now b.now) }
+    ensures refused { IfErr result (λ error. IsErrorOfNames error a.now b.now) }
 {
     if b.is_empty() {
         return name_of_first(alloc, &a[0]);

@@ -2,7 +2,7 @@
 use Rattle.std.proofs.Common.{◌+◌, ◌-◌, ◌≤◌, ◌++◌, List, length, drop}
 use Rattle.rv_count_tables.specs.declared.table.FunctionName.{FunctionName}
 use Rattle.rv_count_tables.specs.SumSteps.{NamesAddUp}
-use Rattle.rv_count_tables.proofs.sum_of_names.sum_of_names.Given as goal
+use Rattle.rv_count_tables.proofs.union_of_names.union_of_names.Given as goal
 
 abbrev pub invariant-loop-from_a : goal.invariant-loop-from_a
 invariant-loop-from_a l = record {

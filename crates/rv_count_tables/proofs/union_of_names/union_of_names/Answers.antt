@@ -5,7 +5,7 @@ use Rattle.rv_count_tables.specs.Sum.{IsSumOfNames}
 use Rattle.std.proofs.lemmas.List.{take_rest}
 use Rattle.std.proofs.lemmas.Result.{err_from_is_err_and}
 use Rattle.rv_count_tables.proofs.AddingNames.{names_summed, no_sum_of_rest}
-use Rattle.rv_count_tables.proofs.sum_of_names.sum_of_names.Goals as goal
+use Rattle.rv_count_tables.proofs.union_of_names.union_of_names.Goals as goal
 
 pub returns-clause-value : goal.returns-clause-value
 returns-clause-value c =
