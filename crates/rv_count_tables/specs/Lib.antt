@@ -11,6 +11,6 @@ pub use Rattle.rv_call_tree.specs.Limits
 pub use Rattle.rv_call_tree.specs.Profiles
 pub use Rattle.rv_call_tree.specs.Sums
 pub use Rattle.rv_call_tree.specs.Trees
-pub use Rattle.rv_call_tree.specs.declared.node as declared_spot
+pub use Rattle.rv_call_tree.specs.declared.call_node as declared_call_node
 pub use Rattle.rv_text.specs.Printable
 pub use Rattle.rv_text.specs.Numbers

@@ -11,7 +11,7 @@ use Rattle.std.proofs.lemmas.List.Sorted.{IsPermutation-map, ties_still_rise}
 use Rattle.rv_count_tables.specs.Table.{functions_increase_from}
 use Rattle.rv_count_tables.specs.declared.table.FunctionName.{FunctionName}
 use Rattle.rv_count_tables.specs.Trees.{all_steps}
-use Rattle.rv_count_tables.specs.declared_spot.CallNode.{CallNode}
+use Rattle.rv_count_tables.specs.declared_call_node.CallNode.{CallNode}
 use Rattle.rv_profile.specs.Profile.{AreWithin, IsProfileOf, FunctionCounts, precedes, function_counts_of, function_counts, profiles_of}
 use Rattle.rv_profile.specs.declared.function.FunctionProfile.{FunctionProfile}
 use Rattle.rv_profile.proofs.Parts.{profile_within}

@@ -8,7 +8,7 @@ use Rattle.rv_count_tables.specs.Table.{AreNamesOf, has_name, name_of, functions
 use Rattle.rv_count_tables.specs.declared.table.FunctionName.{FunctionName}
 use Rattle.rv_count_tables.specs.Profiles.{AreFunctionsOf, own_steps_of_all, times}
 use Rattle.rv_count_tables.specs.Trees.{address_if}
-use Rattle.rv_count_tables.specs.declared_spot.CallNode.{CallNode}
+use Rattle.rv_count_tables.specs.declared_call_node.CallNode.{CallNode}
 use Rattle.rv_profile.specs.Profile.{IsProfileOf, FunctionCounts, total_own_steps, function_counts}
 
 abbrev pub function_of : FunctionName → ℕ

@@ -2,7 +2,7 @@
 use Rattle.std.proofs.Common.{◌==◌, ◌≤◌, Bool, true, false, ℕ, List, [], ◌∷◌, arith}
 use Rattle.rv_count_tables.specs.Profiles.{has_function, inclusive_steps_after}
 use Rattle.rv_count_tables.specs.Trees.{all_steps, own_steps_of, path_after, steps_if}
-use Rattle.rv_count_tables.specs.declared_spot.CallNode.{CallNode}
+use Rattle.rv_count_tables.specs.declared_call_node.CallNode.{CallNode}
 use Rattle.std.specs.List.Sorted.{IsPermutation}
 use Rattle.std.specs.Prelude.{map}
 use Rattle.std.proofs.lemmas.List.Elements.{All-cons, All-nil}

@@ -4,7 +4,7 @@ use Rattle.std.specs.Prelude.{nat_lt}
 use Rattle.std.proofs.lemmas.Bool.{and_cases, and_left, and_right, le-ltb, ltb-false}
 use Rattle.std.proofs.lemmas.List.{take_all, take_more, take-append-drop}
 use Rattle.rv_count_tables.specs.Trees.{calls_of_node, sum_over_nodes, steps_of}
-use Rattle.rv_count_tables.specs.declared_spot.CallNode.{CallNode}
+use Rattle.rv_count_tables.specs.declared_call_node.CallNode.{CallNode}
 use Rattle.rv_profile.specs.ImageStacks.{fit_in_64_bits, if_fitting, sums_of, with_node}
 use Rattle.rv_profile.specs.declared.sums.Sums.{Sums}
 

@@ -7,7 +7,7 @@ use Rattle.rv_count_tables.specs.declared.table.FunctionName.{FunctionName}
 use Rattle.rv_cover_view.specs.ImageCounts.{entry_of_image}
 use Rattle.rv_cover_view.specs.JobImages.{ImageFileView}
 use Rattle.rv_count_tables.specs.Trees.{all_calls, all_steps}
-use Rattle.rv_count_tables.specs.declared_spot.CallNode.{CallNode}
+use Rattle.rv_count_tables.specs.declared_call_node.CallNode.{CallNode}
 use Rattle.rv_profile.specs.declared.sums.Sums.{Sums}
 
 -- the call-tree nodes that the table has for the image with these bytes; empty if the table does not have this image

@@ -5,7 +5,7 @@ use Rattle.std.specs.List.Sorted.{IsPermutation, IsSortedBy}
 use Rattle.rv_count_tables.specs.declared.table.FunctionName.{FunctionName}
 use Rattle.rv_count_tables.specs.Profiles.{calls_of_function, inclusive_steps_after}
 use Rattle.rv_count_tables.specs.Trees.{own_steps_of}
-use Rattle.rv_count_tables.specs.declared_spot.CallNode.{CallNode}
+use Rattle.rv_count_tables.specs.declared_call_node.CallNode.{CallNode}
 use Rattle.rv_profile.specs.declared.function.FunctionProfile.{FunctionProfile}
 
 -- the counts of a function: its own steps, which are the steps of the nodes whose path ends with it; its inclusive steps, which are the

@@ -9,7 +9,7 @@ use Rattle.rv_counting.specs.Coverage.{after_step, executed_in_run, fetch_at, is
 use Rattle.rv_counting.specs.declared_ending.Ending.{Ending}
 use Rattle.rv_counting.specs.Run.{step_of}
 use Rattle.rv_counting.specs.State.{State}
-use Rattle.rv_count_tables.specs.declared_spot.CallNode.{CallNode}
+use Rattle.rv_count_tables.specs.declared_call_node.CallNode.{CallNode}
 use Rattle.rv_count_tables.specs.Trees.{own_steps_of}
 use Rattle.rv_stacks.specs.Stacks.{executed_in_function, counts_of_function, AreStacksOf}
 

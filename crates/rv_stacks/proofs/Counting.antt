@@ -12,7 +12,7 @@ use Rattle.rv_counting.specs.State.{State}
 use Rattle.rv_stacks.specs.declared.walk.Walk.{Walk}
 use Rattle.rv_stacks.specs.Nodes.{all_calls, all_steps}
 use Rattle.rv_stacks.specs.Stacks.{calls_by, calls_in, executed_in_function, path_at, steps_in, AreStacksOf}
-use Rattle.rv_count_tables.specs.declared_spot.CallNode.{CallNode}
+use Rattle.rv_count_tables.specs.declared_call_node.CallNode.{CallNode}
 use Rattle.rv_stacks.specs.declared.node.WalkNode.{WalkNode}
 use Rattle.rv_stacks.specs.Walks.{ArePreorderOf}
 use Rattle.rv_stacks.specs.StackSteps.{AreNodesOf, HasEnteredFirst, AreStacksSoFar, StacksStep}

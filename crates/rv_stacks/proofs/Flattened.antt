@@ -4,7 +4,7 @@ use Rattle.std.proofs.lemmas.Bool.{and_parts, eqb-true}
 use Rattle.std.proofs.lemmas.List.{take_all}
 use Rattle.std.specs.List.{list_all}
 use Rattle.std.specs.Str.{bytes_eq}
-use Rattle.rv_count_tables.specs.declared_spot.CallNode.{CallNode}
+use Rattle.rv_count_tables.specs.declared_call_node.CallNode.{CallNode}
 use Rattle.rv_count_tables.specs.Trees.{calls_of_node, sum_over_path, sum_over_nodes, last_path, path_after, steps_if, steps_of, HasCalls, IsTree, FollowsInPreorder}
 use Rattle.rv_count_tables.specs.Trees as spots
 use Rattle.rv_count_tables.proofs.Public.{last_parts, stand_of_parts}

@@ -8,7 +8,7 @@ use Rattle.std.specs.Str.{bytes_eq}
 use Rattle.rv_count_tables.proofs.Public.{first_is}
 use Rattle.rv_count_tables.specs.declared.table.ImageCounts.{ImageCounts}
 use Rattle.rv_count_tables.specs.Table.{calls_in_image, has_name, min_text_of, name_at, truncated_name, IsValidImage, IsValidNode}
-use Rattle.rv_count_tables.specs.declared_spot.CallNode.{CallNode}
+use Rattle.rv_count_tables.specs.declared_call_node.CallNode.{CallNode}
 use Rattle.rv_count_tables.specs.Profiles.{ends_some_path}
 use Rattle.rv_count_tables.specs.Trees.{calls_at, calls_of_node, sum_over_path, ends_with, path_after}
 use Rattle.rv_stacks.proofs.Steps.{last_of}

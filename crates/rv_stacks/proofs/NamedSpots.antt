@@ -11,7 +11,7 @@ use Rattle.rv_count_tables.specs.Lines.{lacks}
 use Rattle.rv_count_tables.specs.ReadSteps.{with_name, AgreesWithName}
 use Rattle.rv_count_tables.specs.Table.{has_name, name_of, IsValidNode}
 use Rattle.rv_counting.proofs.Public.{no_names}
-use Rattle.rv_count_tables.specs.declared_spot.CallNode.{CallNode}
+use Rattle.rv_count_tables.specs.declared_call_node.CallNode.{CallNode}
 use Rattle.rv_count_tables.specs.Profiles.{ends_some_path}
 use Rattle.rv_count_tables.specs.Sums.{FitsFields}
 use Rattle.rv_count_tables.specs.Trees.{calls_of_node, sum_over_path, ends_with, path_after, HasCalls}

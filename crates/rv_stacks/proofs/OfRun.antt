@@ -18,7 +18,7 @@ use Rattle.rv_counting.specs.declared_job.Job.{Job}
 use Rattle.rv_counting.specs.State.{State}
 use Rattle.rv_counting.specs.declared_row.Refusal.{Refusal}
 use Rattle.rv_calls.specs.Rows.{image_in, start_state_in}
-use Rattle.rv_count_tables.specs.declared_spot.CallNode.{CallNode}
+use Rattle.rv_count_tables.specs.declared_call_node.CallNode.{CallNode}
 use Rattle.rv_count_tables.specs.Trees.{calls_at, steps_at, HasCalls, IsTree}
 use Rattle.rv_stacks.specs.Stacks.{function_at, AreCountsAndStacksOfJob, AreStacksOf}
 use Rattle.rv_stacks.specs.StackTables.{calls_by_job, calls_from, function_in, function_of_job, name_in_image, name_of_function, steps_by_job, steps_from, table_of_run, AreNamesBy, IsNamedBy, IsTableOfRun, RunsWithinABudget}

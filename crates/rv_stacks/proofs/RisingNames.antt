@@ -13,7 +13,7 @@ use Rattle.rv_count_tables.specs.declared.table.FunctionName.{FunctionName}
 use Rattle.rv_count_tables.specs.Lines.{lacks}
 use Rattle.rv_count_tables.specs.ReadSteps.{inserted, with_name}
 use Rattle.rv_count_tables.specs.Table.{has_name, name_of}
-use Rattle.rv_count_tables.specs.declared_spot.CallNode.{CallNode}
+use Rattle.rv_count_tables.specs.declared_call_node.CallNode.{CallNode}
 use Rattle.rv_count_tables.specs.Profiles.{ends_some_path}
 use Rattle.rv_count_tables.specs.Sums.{FitsFields}
 use Rattle.rv_stacks.specs.StackTables.{AreNamedUpTo, AreNamesBy}

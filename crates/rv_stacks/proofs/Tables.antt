@@ -13,7 +13,7 @@ use Rattle.rv_count_tables.specs.Table.{truncated_name, min_text_of, increase_fr
 use Rattle.rv_counting.proofs.Public.{one_rises}
 use Rattle.rv_counting.specs.declared_answers.PathResult.{PathResult}
 use Rattle.rv_counting.specs.declared_job.Job.{Job}
-use Rattle.rv_count_tables.specs.declared_spot.CallNode.{CallNode}
+use Rattle.rv_count_tables.specs.declared_call_node.CallNode.{CallNode}
 use Rattle.rv_count_tables.specs.Sums.{FitsFields}
 use Rattle.rv_count_tables.specs.Trees.{HasCalls, IsTree}
 use Rattle.rv_stacks.specs.StackTables.{name_of_job, AreNamesBy, IsNamedBy, IsTableOfRun, RunsWithinABudget}

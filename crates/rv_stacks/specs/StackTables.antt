@@ -22,7 +22,7 @@ use Rattle.rv_counting.specs.declared_job.Job.{Job}
 use Rattle.rv_counting.specs.Plans.{PlanView}
 use Rattle.rv_counting.specs.State.{State}
 use Rattle.rv_calls.specs.Rows.{image_in, start_state_in}
-use Rattle.rv_count_tables.specs.declared_spot.CallNode.{CallNode}
+use Rattle.rv_count_tables.specs.declared_call_node.CallNode.{CallNode}
 use Rattle.rv_count_tables.specs.Profiles.{ends_some_path}
 use Rattle.rv_count_tables.specs.Trees.{ends_with}
 use Rattle.rv_stacks.specs.Stacks as run

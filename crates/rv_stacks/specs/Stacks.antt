@@ -12,7 +12,7 @@ use Rattle.rv_counting.specs.SymbolSearch.{symbol_at}
 use Rattle.rv_counting.specs.Run.{step_of}
 use Rattle.rv_counting.specs.State.{State}
 use Rattle.rv_counting.specs.declared_row.Refusal.{Refusal}
-use Rattle.rv_count_tables.specs.declared_spot.CallNode.{CallNode}
+use Rattle.rv_count_tables.specs.declared_call_node.CallNode.{CallNode}
 use Rattle.rv_count_tables.specs.Trees.{all_steps, calls_at, own_steps_of, steps_at, HasCalls, IsTree}
 
 -- ---- functions

@@ -13,7 +13,7 @@ ghost use Rattle.rv_counting.specs.JobTables.{IsTableOfJobsAt, SumsTo};
 ghost use Rattle.rv_count_tables.specs.Limits.{max_jobs};
 ghost use Rattle.rv_counting.specs.Plans.{PlanView};
 ghost use Rattle.rv_counting.specs.State.{State};
-ghost use Rattle.rv_count_tables.specs.declared_spot.CallNode.{CallNode};
+ghost use Rattle.rv_count_tables.specs.declared_call_node.CallNode.{CallNode};
 ghost use Rattle.rv_count_tables.specs.Trees.{own_steps_of};
 ghost use Rattle.rv_stacks.specs.Stacks.{counts_of_function, AreStacksOf};
 ghost use Rattle.rv_stacks.specs.StackTables.{indices_of_shard, without_stacks, AreTablesWithStacksOfParts, HaveNoTableWithStacks, IsOfNamesOrMemory, IsTableWithStacks};

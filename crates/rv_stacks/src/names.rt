@@ -6,7 +6,7 @@ ghost use Rattle.std.specs.List.Sorted.{IsNonDecreasingBy};
 ghost use Rattle.std.specs.Str.{IsUtf8};
 ghost use Rattle.rv_count_tables.specs.Lines.{lacks};
 ghost use Rattle.rv_counting.specs.SymbolSearch.{symbol_at};
-ghost use Rattle.rv_count_tables.specs.declared_spot.CallNode.{CallNode as ACallNode};
+ghost use Rattle.rv_count_tables.specs.declared_call_node.CallNode.{CallNode as ACallNode};
 ghost use Rattle.rv_count_tables.specs.Sums.{FitsFields};
 ghost use Rattle.rv_stacks.specs.StackTables.{name_in_file, name_of_function, symbol_name, AreNamedUpTo, AreNamesBy};
 

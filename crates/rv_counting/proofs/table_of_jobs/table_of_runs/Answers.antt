@@ -1,7 +1,7 @@
 -- The one image can stand in a table.
 use Rattle.std.proofs.Common.{◌≡◌, ◌∙◌, ◌∷◌, List, [], ap, subst, sym, arith}
 use Rattle.sha2.specs.Sha256.{sha256}
-use Rattle.rv_count_tables.specs.declared_spot.CallNode.{CallNode}
+use Rattle.rv_count_tables.specs.declared_call_node.CallNode.{CallNode}
 use Rattle.rv_count_tables.specs.declared.table.FunctionName.{FunctionName}
 use Rattle.rv_count_tables.specs.Table.{AreValidNames, AreNamesOf, AreValidNodes}
 use Rattle.rv_count_tables.specs.Printable.{printable_text}

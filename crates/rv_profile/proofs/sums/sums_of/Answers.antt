@@ -1,5 +1,5 @@
 use Rattle.std.proofs.Common.{◌∙◌, arith, sym}
-use Rattle.rv_count_tables.specs.declared_spot.CallNode.{CallNode}
+use Rattle.rv_count_tables.specs.declared_call_node.CallNode.{CallNode}
 use Rattle.rv_profile.proofs.SpotSums.{all_fit, none_of_all, one_more}
 use Rattle.rv_profile.proofs.sums.sums_of.Goals as goal
 

@@ -11,7 +11,7 @@ use Rattle.rv_counting.specs.declared_image.Image.{Image}
 use Rattle.rv_counting.specs.declared_job.Job.{Job}
 use Rattle.rv_counting.specs.Jobs.{single_job}
 use Rattle.rv_calls.specs.Rows.{image_if_read, start_state_in}
-use Rattle.rv_count_tables.specs.declared_spot.CallNode.{CallNode}
+use Rattle.rv_count_tables.specs.declared_call_node.CallNode.{CallNode}
 use Rattle.rv_stacks.specs.Stacks.{function_at, AreCountsAndStacksOfJob}
 use Rattle.rv_stacks.specs.StackTables.{name_of_function, IsTableOfRun, IsTableWithStacks}
 use Rattle.rv_stacks.proofs.Apart.{counts_and_stacks}
