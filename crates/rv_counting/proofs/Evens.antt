@@ -10,7 +10,7 @@ use Rattle.rv_machine.specs.Run.{after_fetch, step_of}
 use Rattle.rv_machine.specs.State.{State}
 use Rattle.rv_count_tables.specs.declared.table.AddressCounts.{AddressCounts}
 use Rattle.rv_count_tables.specs.Table.{executed_at, AreCounts, IsCounted}
-use Rattle.rv_counting.specs.Coverage.{fetch_at, is_executed, once_if, behind, executed_in_run, IsTallied, AreCountsOf}
+use Rattle.rv_counting.specs.Coverage.{fetch_at, is_executed, once_if, behind, executed_in_run, IsTallied, AreCountsOf, AreTallied}
 
 -- ---- a step
 
@@ -49,7 +49,7 @@ none_behind : (r : Result State Ending) (rest : State → ℕ) → ok_is IsEven 
 none_behind (Ok t) rest e h = h t e
 none_behind (Err x) rest e h = refl
 
-none_at_odd : (n at : ℕ) (s : State) → IsEven s → at % 2 ≡ 1 → executed_in_run at n s ≡ 0
+pub none_at_odd : (n at : ℕ) (s : State) → IsEven s → at % 2 ≡ 1 → executed_in_run at n s ≡ 0
 unfolding executed_in_run
 none_at_odd zero at s even odd = refl
 none_at_odd (suc n) at s even odd =
@@ -112,12 +112,12 @@ each_even (c ∷ cs) h none = (
   each_even cs h.1 (λ at odd. let all = none at odd in omega (arith, all)),
 )
 
+pub all_even : (cs : List AddressCounts) → AreTallied cs → ((at : ℕ) → at % 2 ≡ 1 → executed_at at cs ≡ 0) → AreCounts cs
+all_even cs h none = record { each = each_even cs h.each none; rising = h.rising }
+
 -- the counts of a run that begins at an even address
 pub counts_even : (n : ℕ) (s : State) (cs : List AddressCounts) → AreCountsOf n s cs → IsEven s → AreCounts cs
-counts_even n s cs h even = record {
-  each = each_even cs h.tallied.each (λ at odd. h.begun at ∙ none_at_odd n at s even odd);
-  rising = h.tallied.rising;
-}
+counts_even n s cs h even = all_even cs h.tallied (λ at odd. h.begun at ∙ none_at_odd n at s even odd)
 
 -- the run counts an address at most once a step
 pub counts_few : (n : ℕ) (s : State) (cs : List AddressCounts) (at : ℕ) → AreCountsOf n s cs → executed_at at cs ≤ n

@@ -10,11 +10,15 @@ pub mod Finding
 pub mod Evens
 pub mod Counting
 pub mod Counters
+pub mod FetchedAgain
+pub mod ImagePieces
+pub mod RunCounts
 pub mod Lookups
 pub mod Sorted
 pub mod Starts
 pub mod Lines
 pub mod OfJobs
+pub mod OfImages
 pub mod Orders
 pub mod Kept
 pub mod Adding

@@ -1,31 +1,28 @@
 -- Tables of jobs: of one, of some more, and of the same in another order.
-use Rattle.std.proofs.Common.{Fits, w8, ◌≡◌, ◌∙◌, ◌==◌, ◌+◌, ◌^◌, ◌<◌, ◌≤◌, inl, inr, ℕ, suc, Bool, true, false, cond, List, [], ◌∷◌, ◌++◌, Option, Some, None, Result, Ok, Err, option_map, get_or, refl, sym, ap, subst, arith}
+use Rattle.std.proofs.Common.{Fits, w8, ◌≡◌, ◌∙◌, ◌==◌, ◌+◌, ◌^◌, ◌<◌, inl, inr, ℕ, suc, Bool, true, false, cond, List, [], ◌∷◌, ◌++◌, Option, Some, None, Result, Ok, Err, option_map, get_or, refl, sym, ap, subst, arith}
 use Rattle.std.proofs.lemmas.Bool.{false≢true}
 use Rattle.std.proofs.lemmas.List.Sums.{sum_by-append}
 use Rattle.std.specs.Prelude.{is_ok}
-use Rattle.std.specs.Prelude.{IfOk}
 use Rattle.std.specs.List.{AllByRecursion}
-use Rattle.std.specs.declared.alloc.AllocError.{AllocError}
 use Rattle.std.specs.Result.{result_ok}
 use Rattle.std.specs.Cmp.Lexicographic.{bytes_decides}
 use Rattle.std.specs.Str.{bytes_eq}
 use Rattle.sha2.specs.Sha256.{sha256}
-use Rattle.rv_count_tables.proofs.Public.{any_first, none_behind}
+use Rattle.rv_count_tables.proofs.Public.{any_first}
 use Rattle.rv_count_tables.specs.declared.table.AddressCounts.{AddressCounts}
 use Rattle.rv_count_tables.specs.declared.table.CountTable.{CountTable}
 use Rattle.rv_count_tables.specs.declared.table.FunctionName.{FunctionName}
 use Rattle.rv_count_tables.specs.declared.table.ImageCounts.{ImageCounts}
 use Rattle.rv_count_tables.specs.declared.sum.SumError.TheVariants.{Names}
 use Rattle.rv_count_tables.specs.Sum.{HasName, HasNameIn, HaveNoSum, IsSum, no_counts}
-use Rattle.rv_count_tables.specs.Table.{executed_at, taken_at, name_at, name_in, least_path, least_path_of, digests_rise, names_rise, AreNames, AreNamesOf, AreSpots, IsImage, IsTable}
+use Rattle.rv_count_tables.specs.Table.{name_at, name_in, least_path, least_path_of, digests_rise, names_rise, AreNames, AreNamesOf, AreSpots, IsImage, IsTable}
 use Rattle.rv_jobs.specs.declared.answers.Answer.{Answer}
 use Rattle.rv_jobs.specs.declared_job.Job.{Job}
 use Rattle.rv_machine.specs.State.{State}
 use Rattle.rv_report.specs.declared.row.Refusal.{Refusal}
 use Rattle.rv_rows.specs.Rows.{start_in}
-use Rattle.rv_text.specs.Printable.{printable_text}
-use Rattle.rv_counting.specs.Coverage.{once_if, executed_in_run, taken_in_run, AreCountsOf, AreCountsOfJob}
-use Rattle.rv_counting.specs.JobTables.{has_digest, start_over, begun_from, taken_from, begun_by, taken_by, path_by, runs_by, first_path, table_of_run, HasNoStacks, IsTableOfFew, IsTableOfJobs, IsTableOfOne}
+use Rattle.rv_counting.specs.Coverage.{executed_in_run, taken_in_run}
+use Rattle.rv_counting.specs.JobTables.{has_digest, start_over, begun_from, taken_from, begun_by, taken_by, path_by, runs_by, first_path, table_of_runs, HasNoStacks, IsTableOfFew, IsTableOfJobs}
 use Rattle.rv_trace.specs.Trace.{image_bytes}
 
 none_rise : digests_rise None [] ≡ true
@@ -49,20 +46,21 @@ one_rises i = refl
 pub no_counts_is_table : IsTable no_counts
 no_counts_is_table = record { images = tt; rising = none_rise; few = omega arith; runs = omega arith }
 
--- the table of one image, in one run
-pub one_image_is_table : (i : ImageCounts) (t : CountTable) → t ≡ record { images = i ∷ []; runs = 1 } → IsImage i → IsTable t
-one_image_is_table i t is h = subst IsTable (sym is) (
+-- the table of one image, in some runs
+pub one_image_is_table : (i : ImageCounts) (runs : ℕ) (t : CountTable) → t ≡ record { images = i ∷ []; runs = runs } → runs < 2 ^ 64
+    → IsImage i → IsTable t
+one_image_is_table i runs t is few h = subst IsTable (sym is) (
     record {
       images = (h, tt);
       rising = one_rises i;
       few = omega arith;
-      runs = omega arith;
+      runs = few;
     }
     )
 
 -- ---- tables without stacks
 
-no_counts_have_none : HasNoStacks no_counts
+pub no_counts_have_none : HasNoStacks no_counts
 no_counts_have_none = record { names = λ digest f. refl; arrivals = λ digest path. refl; steps = λ digest path. refl }
 
 no_name_either : (b : Bool) → least_path_of (cond b None None) None ≡ None
@@ -73,8 +71,8 @@ pub none_either : (b : Bool) → cond b 0 0 + 0 ≡ 0
 none_either true = omega arith
 none_either false = omega arith
 
-run_has_none : (path file : List ℕ) (cs : List AddressCounts) → HasNoStacks (table_of_run path file cs)
-run_has_none path file cs = record {
+pub run_has_none : (runs : ℕ) (path file : List ℕ) (cs : List AddressCounts) → HasNoStacks (table_of_runs runs path file cs)
+run_has_none runs path file cs = record {
   names = λ digest f. no_name_either (bytes_eq (sha256 file) digest);
   arrivals = λ digest at. none_either (bytes_eq (sha256 file) digest);
   steps = λ digest at. none_either (bytes_eq (sha256 file) digest);
@@ -154,15 +152,6 @@ pub bytes_fit : (xs : List ℕ) → ((i : ℕ) → Fits w8 (get_or xs i 0)) → 
 bytes_fit [] h = tt
 bytes_fit (x ∷ xs) h = (let k = (h 0).fits in omega (arith, k), bytes_fit xs (λ i. h (suc i)))
 
-pub both_ok : (r : Result CountTable AllocError) (P Q R : CountTable → Type 0) → ((t : CountTable) → P t → Q t → R t)
-    → IfOk r P → IfOk r Q → IfOk r R
-both_ok (Ok t) P Q R f p q = f t p q
-both_ok (Err why) P Q R f p q = tt
-
-pub none_if_uncounted : (n : ℕ) (r : Result State Refusal) (s : State) → AreCountsOfJob n r None → r ≡ Ok s → ⊥
-none_if_uncounted n (Ok t) s h e = h
-none_if_uncounted n (Err why) s h e = cc
-
 -- ---- one job
 
 picked_none : (b : Bool) (o : Option State) → o ≡ None → cond b o None ≡ None
@@ -192,92 +181,15 @@ pub picked_path : (b : Bool) (path : List ℕ) (s : State)
 picked_path true path s = refl
 picked_path false path s = refl
 
-picked_few : (b : Bool) (n m : ℕ) → n < m → cond b n 0 ≤ m
-picked_few true n m h = omega arith
-picked_few false n m h = omega arith
-
-run_is_few : (path file : List ℕ) (cs : List AddressCounts) → ((address : ℕ) → executed_at address cs < 2 ^ 32)
-    → IsTableOfFew 1 (table_of_run path file cs)
-run_is_few path file cs few = record {
-  begun = λ digest address.
-      let h = picked_few (bytes_eq (sha256 file) digest) (executed_at address cs) (2 ^ 32) (few address) in
-      omega (arith, h);
-  runs = omega arith;
-  stacks = run_has_none path file cs;
-}
-
 module _ (answers : List Answer) (job : Job) where
   pub not_over : (digest : List ℕ) → result_ok (start_in answers job) ≡ None → start_over answers digest job ≡ None
   unfolding start_over
   not_over digest none = picked_none (has_digest digest (image_bytes answers job)) (result_ok (start_in answers job)) none
 
-  -- a job that is refused
-  nothing_run : ((s : State) → start_in answers job ≡ Ok s → ⊥) → IsTableOfJobs answers (job ∷ []) no_counts
-  nothing_run no_start =
-      let none = none_if_no_ok (start_in answers job) no_start in record {
-        table = no_counts_is_table;
-        begun = λ digest address.
-            let e = ap (begun_from address job.budget) (not_over digest none) in omega (arith, e);
-        taken = λ digest address.
-            let e = ap (taken_from address job.budget) (not_over digest none) in omega (arith, e);
-        paths = λ digest.
-            sym (none_behind (path_by answers digest job)
-            ∙ ap (λ (o : Option State). option_map (λ (s : State). printable_text job.image) o) (not_over digest none));
-        runs = (let e = ap once_if (not_ok_if_none (start_in answers job) none) in omega (arith, e));
-        stacks = no_counts_have_none;
-      }
-
-  pub refused : (t : CountTable) → t ≡ no_counts → ((s : State) → start_in answers job ≡ Ok s → ⊥)
-      → IsTableOfOne answers job t
-  refused t is no_start = subst (IsTableOfOne answers job) (sym is)
-      (record { table = nothing_run no_start; few = no_counts_are_few 1 })
-
   pub over : (digest file : List ℕ) (s : State) → image_bytes answers job ≡ Some file → start_in answers job ≡ Ok s
       → start_over answers digest job ≡ cond (bytes_eq (sha256 file) digest) (Some s) None
   unfolding start_over
   over digest file s bytes start = λ i. cond (has_digest digest (bytes i)) (result_ok (start i)) None
-
-  -- a job that runs
-  counted : (file : List ℕ) (s : State) (cs : List AddressCounts) → image_bytes answers job ≡ Some file
-      → start_in answers job ≡ Ok s → AreCountsOf job.budget s cs → IsTable (table_of_run job.image file cs)
-      → IsTableOfJobs answers (job ∷ []) (table_of_run job.image file cs)
-  counted file s cs bytes start counts table = record {
-    table = table;
-    begun = λ digest address.
-        let here = bytes_eq (sha256 file) digest in
-        let e = picked_begun here (executed_at address cs) address job.budget s (counts.begun address) in
-        let k = ap (begun_from address job.budget) (over digest file s bytes start) in
-        omega (arith, e, k);
-    taken = λ digest address.
-        let here = bytes_eq (sha256 file) digest in
-        let e = picked_taken here (taken_at address cs) address job.budget s (counts.taken address) in
-        let k = ap (taken_from address job.budget) (over digest file s bytes start) in
-        omega (arith, e, k);
-    paths = λ digest.
-        let path = printable_text job.image in
-        none_behind (cond (bytes_eq (sha256 file) digest) (Some path) None)
-        ∙ picked_path (bytes_eq (sha256 file) digest) path s
-        ∙ sym (ap (λ (o : Option State). option_map (λ (t : State). path) o) (over digest file s bytes start))
-        ∙ sym (none_behind (path_by answers digest job));
-    runs = (let e = ap (λ (r : Result State Refusal). once_if (is_ok r)) start in omega (arith, e));
-    stacks = run_has_none job.image file cs;
-  }
-
-  -- with the counts that `count_job` answers
-  pub ran : (file : List ℕ) (cs : List AddressCounts) (t : CountTable) → image_bytes answers job ≡ Some file
-      → t ≡ table_of_run job.image file cs → IsTable t → AreCountsOfJob job.budget (start_in answers job) (Some cs)
-      → ((address : ℕ) → executed_at address cs < 2 ^ 32) → IsTableOfOne answers job t
-  ran file cs t bytes is table counts few = by (start_in answers job) refl counts
-    where
-      by : (r : Result State Refusal) → start_in answers job ≡ r → AreCountsOfJob job.budget r (Some cs)
-          → IsTableOfOne answers job t
-      by (Ok s) start counts = subst (IsTableOfOne answers job) (sym is) (
-          record {
-            table = counted file s cs bytes start counts (subst IsTable is table);
-            few = run_is_few job.image file cs few;
-          }
-          )
-      by (Err why) start counts = absurd counts
 
 -- ---- jobs of both
 

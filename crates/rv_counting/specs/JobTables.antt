@@ -60,9 +60,9 @@ abbrev pub first_path : List Answer → List ℕ → List Job → Option (List �
 first_path answers digest [] = None
 first_path answers digest (j ∷ js) = least_path_of (path_by answers digest j) (first_path answers digest js)
 
--- the table of one run of the image with this path and these bytes
-abbrev pub table_of_run : List ℕ → List ℕ → List AddressCounts → CountTable
-table_of_run path bytes addresses = record {
+-- the table of some runs of the image with this path and these bytes
+abbrev pub table_of_runs : ℕ → List ℕ → List ℕ → List AddressCounts → CountTable
+table_of_runs runs path bytes addresses = record {
   images = record {
     digest = sha256 bytes;
     path = printable_text path;
@@ -70,7 +70,7 @@ table_of_run path bytes addresses = record {
     functions = [];
     spots = [];
   } ∷ [];
-  runs = 1;
+  runs = runs;
 }
 
 -- the table has no call trees and no function names
@@ -106,10 +106,10 @@ pub record IsTableOfFew (jobs : ℕ) (t : CountTable) : Type 0 where
   pub runs : t.runs ≤ jobs
   pub stacks : HasNoStacks t
 
--- `t` is the table of this job alone
-pub record IsTableOfOne (answers : List Answer) (job : Job) (t : CountTable) : Type 0 where
-  pub table : IsTableOfJobs answers (job ∷ []) t
-  pub few : IsTableOfFew 1 t
+-- `t` is the table of the jobs at some indices, and has at most one run for each of them
+pub record IsTableOfPiece (plan : Planned) (places : List ℕ) (t : CountTable) : Type 0 where
+  pub table : IsTableOfPlaces plan places t
+  pub few : IsTableOfFew (length places) t
 
 -- ---- parts
 

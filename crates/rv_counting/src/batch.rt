@@ -5,6 +5,7 @@ ghost use Rattle.rv_count_tables.specs.declared.sum.SumError.TheVariants.{OutOfM
 ghost use Rattle.rv_counting.specs.JobTables.{IsTableOfPlaces};
 
 use crate::count_work::{CountWork, JobTable};
+use crate::pieces::pieces_of;
 use crate::table_sum::TableSum;
 use rv_count_tables::{CountTable, SumError};
 use rv_engine::{Crew, run_jobs};
@@ -23,9 +24,14 @@ pub fn count_batch<R: Threads + Wait + Sync>(
 ) -> Result<CountTable, AllocError>
     ensures { IfOk result (λ table. IsTableOfPlaces batch.now.plan.now batch.now.places.now table) }
 {
-    let work = CountWork { batch };
+    let pieces = pieces_of(crew.alloc, batch.plan, batch.places, crew.workers)?;
+    let work = CountWork {
+        batch,
+        pieces: pieces.as_slice(),
+    };
+    let crew = Crew::new(crew.rt, crew.alloc, crew.workers, 1);
     let (sum, ran) = run_jobs::<Brand, JobTable, R, CountWork<'_>, TableSum>(
-        crew,
+        &crew,
         &work,
         TableSum::new(crew.alloc),
     );

@@ -1,19 +1,16 @@
 //! The counts of a run.
 
-ghost use Rattle.std.specs.Prelude.{◌^◌, ◌<◌, ℕ, IfOk, IfSome};
-ghost use Rattle.rv_count_tables.specs.Table.{AreCounts, executed_at};
-ghost use Rattle.rv_jobs.specs.declared_job.Job.{Job as AJob};
+ghost use Rattle.std.specs.Prelude.{◌^◌, ◌<◌, ℕ, IfOk, OnOk};
+ghost use Rattle.rv_count_tables.specs.Table.{executed_at};
 ghost use Rattle.rv_machine.specs.Machine.{state_of};
-ghost use Rattle.rv_rows.specs.Rows.{start_in};
-ghost use Rattle.rv_trace.specs.Trace.{job_at};
-ghost use Rattle.rv_counting.specs.Counters.{HasCounted};
-ghost use Rattle.rv_counting.specs.Coverage.{AreCountsOf, AreCountsOfJob};
+ghost use Rattle.rv_counting.specs.Blocks.{AreRight};
+ghost use Rattle.rv_counting.specs.Counters.{counts_of, HasCountedOn};
+ghost use Rattle.rv_counting.specs.Coverage.{AreCountsOf, EachTallied};
+ghost use Rattle.rv_counting.specs.Tallies.{IsIndexed};
 
 use crate::counter::Counter;
 use rv_count_tables::Addresses;
 use rv_machine::Machine;
-use rv_rows::{Spare, machine_at_reusing};
-use rv_trace::JobImage;
 use std::alloc::{AllocError, Global};
 
 /// Runs a machine within a budget of steps, and returns the counts of the run. Takes longer than the run alone, and a lookup among the
@@ -22,43 +19,36 @@ use std::alloc::{AllocError, Global};
 pub fn count_run(alloc: Global, machine: Machine, budget: u32) -> Result<Addresses, AllocError>
     ensures { IfOk result (λ counts. AreCountsOf budget (state_of machine) counts) }
 {
-    let (counts, _) = count_run_of(alloc, machine, budget)?;
-    Ok(counts)
+    let mut counter = Counter::new(alloc)?;
+    let _machine = follow_run(&mut counter, machine, budget)?;
+    Ok(counter.into_addresses())
 }
 
-// Runs a machine within a budget of steps, and returns the counts of the run and the machine.
-fn count_run_of(
-    alloc: Global,
+/// Runs a machine and counts what it executes, in addition to earlier counts. Returns the machine after the run.
+pub(crate) fn follow_run(
+    counter: &mut Counter,
     machine: Machine,
     budget: u32,
-) -> Result<(Addresses, Machine), AllocError>
-    ensures { IfOk result (λ both. AreCountsOf budget (state_of machine) both.0) }
-{
-    let (counter, machine) = counter_of_run(alloc, machine, budget)?;
-    Ok((counter.into_addresses(), machine))
-}
-
-// Runs a machine within a budget of steps, and returns the counter of the run and the machine.
-fn counter_of_run(
-    alloc: Global,
-    machine: Machine,
-    budget: u32,
-) -> Result<(Counter, Machine), AllocError>
-    ensures { IfOk result (λ both. HasCounted budget (state_of machine) both.0) }
+) -> Result<Machine, AllocError>
+    requires tallied { EachTallied (counts_of counter.old) }
+    requires few { (at : ℕ) → executed_at at (counts_of counter.old) < 2 ^ 61 }
+    requires indexed { IsIndexed counter.old.tally }
+    requires right { AreRight counter.old.codes (state_of machine) }
+    requires generations { counter.old.codes.generation < 2 ^ 61 }
+    ensures { OnOk result (HasCountedOn (counts_of counter.old) counter.old.codes.generation budget (state_of machine) counter.new) }
 {
     let mut machine = machine;
-    let mut counter = Counter::new(alloc)?;
     let mut left = budget;
     'steps: while left > 0 {
         let block = counter.find_block(&machine, left);
         if block.steps == 0 {
             if !counter.step_uncached(&mut machine)?.completed {
-                return Ok((counter, machine));
+                return Ok(machine);
             }
             left -= 1;
         } else {
             if counter.run_block(&mut machine, block)?.steps != block.steps {
-                return Ok((counter, machine));
+                return Ok(machine);
             }
             left -= block.steps;
         }

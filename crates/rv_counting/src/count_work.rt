@@ -1,9 +1,11 @@
-//! The tables of the jobs of a batch.
+//! The tables of the pieces of a batch.
 
 ghost use Rattle.std.specs.Prelude.{◌≡◌};
 ghost use Rattle.rv_count_tables.specs.Table.{IsTable};
+ghost use Rattle.rv_counting.specs.BatchPieces.{ArePieces};
 
-use crate::table_of_job::job_table;
+use crate::pieces::Piece;
+use crate::table_of_job::count_places;
 use crate::table_sum::HasTable;
 use rv_count_tables::CountTable;
 use rv_engine::{Work, WorkerState};
@@ -11,7 +13,7 @@ use rv_fleet::Batch;
 use std::alloc::{AllocError, Global};
 use std::marker::Model;
 
-/// The table of one job.
+/// The table of one or more jobs.
 #[derive(Drop)]
 pub struct JobTable {
     table: CountTable,
@@ -47,28 +49,29 @@ impl HasTable for JobTable {
     }
 }
 
-/// Computes the table of each job of a batch.
+/// Computes the table of each piece of a batch.
 #[derive(Drop)]
 pub(crate) struct CountWork<'a> {
     pub(crate) batch: &'a Batch<'a>,
+    pub(crate) pieces: &'a [Piece],
+    pub(crate) ghost are: { ArePieces batch.now.plan.now batch.now.places.now pieces.now },
 }
 
 impl Work<JobTable> for CountWork<'_> {
-    ghost use Rattle.std.specs.Prelude.{ℕ, length, slice_index_or};
-    ghost use Rattle.rv_jobs.specs.declared_job.Job.{Job as AJob};
-    ghost use Rattle.rv_counting.specs.JobTables.{IsTableOfOne};
-    ghost use Rattle.rv_trace.specs.Trace.{job_at};
+    ghost use Rattle.std.specs.Prelude.{length};
+    ghost use Rattle.rv_counting.specs.BatchPieces.{piece_in, places_of};
+    ghost use Rattle.rv_counting.specs.JobTables.{IsTableOfPiece};
 
-    ghost jobs = { λ s. length s.batch.now.places.now };
+    ghost jobs = { λ s. length s.pieces.now };
 
-    ghost is_made = { λ s number table. (d : AJob) → IsTableOfOne s.batch.now.plan.now.answers
-        (job_at s.batch.now.plan.now (slice_index_or s.batch.now.places.now number 0) d) table };
+    ghost is_made = { λ s number table. IsTableOfPiece s.batch.now.plan.now
+        (places_of s.batch.now.places.now (piece_in s.pieces.now number)) table };
 
     ghost is_worker_state = { λ _ _. Unit {0} };
 
     // Returns the number of jobs in the batch.
     fn jobs(&self) -> usize {
-        self.batch.places.len()
+        self.pieces.len()
     }
 
     // Returns a worker's state without spare memory.
@@ -83,8 +86,9 @@ impl Work<JobTable> for CountWork<'_> {
         number: usize,
         worker_state: &mut WorkerState,
     ) -> Result<JobTable, AllocError> {
-        let place = self.batch.places[number];
-        let table = job_table(alloc, self.batch.plan, place, &mut worker_state.spare)?;
+        let piece = self.pieces[number];
+        let places = &self.batch.places[piece.from..piece.to];
+        let table = count_places(alloc, self.batch.plan, places, &mut worker_state.spare)?;
         Ok(JobTable::new(table))
     }
 }

@@ -1,10 +1,10 @@
 //! Counts how often each instruction of a run was executed, and how often it was a taken branch.
 //!
 //! [`count_run`] runs a machine within a budget, cached straight-line code as a unit, and returns its counts: for each address exactly how
-//! often an instruction was executed there, and how often it was a taken conditional branch. [`count_job`] does so for a job of a plan, in
-//! an additional run. [`count_batch`] returns the table of a batch's jobs, which is the sum of their tables: [`jobs_have_one_table`]
+//! often an instruction was executed there, and how often it was a taken conditional branch. [`count_batch`] runs the jobs of a batch once
+//! more, consecutive jobs of one image together, and returns their table, which is the sum of the jobs' tables: [`jobs_have_one_table`]
 //! whatever their order, and [`tables_of_shards_sum_to_that_of_all`]. [`TableSum`] adds the tables that a run of the engine computes, each
-//! as soon as those of all earlier jobs are added.
+//! as soon as all earlier ones are added.
 #![tactic(auto)]
 
 mod batch;
@@ -14,6 +14,8 @@ mod count_work;
 mod counter;
 mod decode_cache;
 mod law;
+mod pieces;
+mod runs_counter;
 mod step;
 mod table_of_job;
 mod table_sum;
@@ -21,7 +23,7 @@ mod tally;
 
 pub use batch::count_batch;
 pub use block::{Block, first_of};
-pub use count::{count_job, count_run};
+pub use count::count_run;
 pub use count_work::JobTable;
 pub use counter::{Counter, Stepped};
 pub use law::{

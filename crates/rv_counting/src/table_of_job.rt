@@ -1,20 +1,27 @@
-//! The table of one job of a plan.
+//! The table of jobs of one image.
 
-ghost use Rattle.std.specs.Prelude.{◌≡◌, ◌<◌, ◌∷◌, [], IfOk, true, length};
+ghost use Rattle.std.specs.Prelude.{◌≡◌, ◌%◌, ◌<◌, ◌≤◌, ◌∷◌, [], ℕ, IfOk, List, OnOk, true, length};
 ghost use Rattle.std.specs.List.{AllByRecursion};
 ghost use Rattle.std.specs.Str.{IsUtf8};
 ghost use Rattle.sha2.specs.Sha256.{sha256};
+ghost use Rattle.rv_count_tables.specs.declared.table.AddressCounts.{AddressCounts};
 ghost use Rattle.rv_count_tables.specs.Lines.{lacks};
 ghost use Rattle.rv_count_tables.specs.Sum.{no_counts};
-ghost use Rattle.rv_count_tables.specs.Table.{AreCounts, IsTable};
+ghost use Rattle.rv_count_tables.specs.Table.{executed_at, IsTable};
+ghost use Rattle.rv_fleet.specs.Choices.{AreJobIndices};
 ghost use Rattle.rv_jobs.specs.declared_job.Job.{Job as AJob};
+ghost use Rattle.rv_jobs.specs.Limits.{most_jobs};
 ghost use Rattle.rv_text.specs.Printable.{printable_text};
 ghost use Rattle.rv_trace.specs.Trace.{job_at};
-ghost use Rattle.rv_counting.specs.JobTables.{IsTableOfOne, table_of_run};
+ghost use Rattle.rv_counting.specs.BatchPieces.{HaveOneImage};
+ghost use Rattle.rv_counting.specs.Counters.{counts_of};
+ghost use Rattle.rv_counting.specs.JobTables.{IsTableOfPiece, table_of_runs};
+ghost use Rattle.rv_counting.specs.RunCounts.{AddsJob, CanCountRuns};
+ghost use Rattle.rv_counting.specs.Tallies.{IsSorted};
 
-use crate::count::count_job;
+use crate::runs_counter::RunsCounter;
 use rv_call_tree::Spots;
-use rv_count_tables::{Addresses, CountTable, FunctionNames, ImageCounts, Images};
+use rv_count_tables::{CountTable, FunctionNames, ImageCounts, Images};
 use rv_jobs::{Bytes, Plan, Text};
 use rv_rows::Spare;
 use rv_text::{printable_text_is_utf8_without_controls, push_printable_text};
@@ -22,33 +29,59 @@ use rv_trace::{JobImage, image_bytes, image_of_bytes};
 use sha2::{Digest, Sha256};
 use std::alloc::{AllocError, Global};
 
-/// Runs the job at an index once more, and returns the table of the run, or the table of no runs if the job is refused. Takes longer than
-/// one run of the job, and memory for each executed address. Reuses the memory of the last run.
-pub(crate) fn job_table(
+/// Runs each job at some indices once more, whose images are the same file, and returns the table of the runs; a refused job counts as no
+/// run. Takes longer than one run of each job, and memory for each executed address. Reuses the memory of the last run.
+pub(crate) fn count_places(
+    alloc: Global,
+    plan: &Plan,
+    places: &[usize],
+    spare: &mut Spare,
+) -> Result<CountTable, AllocError>
+    requires some { 0 < length places.now }
+    requires few { length places.now ≤ most_jobs }
+    requires within { AreJobIndices plan.now places.now }
+    requires same { HaveOneImage plan.now places.now }
+    ensures { IfOk result (IsTableOfPiece plan.now places.now) }
+{
+    let Some(bytes) = image_bytes(plan, places[0]) else {
+        return Ok(empty_table(alloc));
+    };
+    let mut counter = RunsCounter::new(alloc)?;
+    for k in 0..places.len() {
+        job_table(alloc, plan, places[k], &mut counter, spare)?;
+    }
+    if counter.runs == 0 {
+        return Ok(empty_table(alloc));
+    }
+    let path = plan.job(places[0]).image.as_str();
+    table_of_runs(alloc, path, bytes, counter)
+}
+
+// Counts the run of the job at an index, unless the job is refused.
+fn job_table(
     alloc: Global,
     plan: &Plan,
     place: usize,
+    counter: &mut RunsCounter,
     spare: &mut Spare,
-) -> Result<CountTable, AllocError>
-    requires { place < length plan.now.jobs }
-    ensures { IfOk result (λ table. (d : AJob) → IsTableOfOne plan.now.answers (job_at plan.now place d) table) }
+) -> Result<(), AllocError>
+    requires within { place < length plan.now.jobs }
+    requires ready { CanCountRuns counter.old }
+    requires few { counter.old.runs < most_jobs }
+    ensures { OnOk result ((d : AJob) → AddsJob plan.now.answers (job_at plan.now place d) counter.old counter.new) }
 {
-    let job = plan.job(place);
     let Some(bytes) = image_bytes(plan, place) else {
-        return Ok(empty_table(alloc));
+        return Ok(());
     };
-    let Some(image) = image_of_bytes(alloc, job.isa, bytes)? else {
-        return Ok(empty_table(alloc));
+    let Some(image) = image_of_bytes(alloc, plan.job(place).isa, bytes)? else {
+        return Ok(());
     };
     let job_image = JobImage {
         plan,
         place,
         image: &image,
     };
-    match count_job(alloc, &job_image, spare)? {
-        Some(addresses) => table_of_run(alloc, job.image.as_str(), bytes, addresses),
-        None => Ok(empty_table(alloc)),
-    }
+    counter.count_job(alloc, &job_image, spare)
 }
 
 /// Returns the empty table: no images and no runs. Does not allocate.
@@ -61,17 +94,22 @@ pub fn empty_table(alloc: Global) -> CountTable
     }
 }
 
-// Returns the table of one run of the image with this path and these bytes.
-fn table_of_run(
+// Returns the table of some runs of the image with this path and these bytes.
+fn table_of_runs(
     alloc: Global,
     path: &str,
     bytes: &[u8],
-    addresses: Addresses,
+    counter: RunsCounter,
 ) -> Result<CountTable, AllocError>
-    requires { AreCounts addresses }
-    ensures value { IfOk result (λ table. table ≡ table_of_run path.now bytes.now addresses) }
+    requires ready { CanCountRuns counter }
+    requires even { (at : ℕ) → at % 2 ≡ 1 → executed_at at (counts_of counter.counter) ≡ 0 }
+    requires few { counter.runs ≤ most_jobs }
+    ensures value { IfOk result (λ table. (addresses : List AddressCounts) × IsSorted (counts_of counter.counter) addresses
+        × (table ≡ table_of_runs counter.runs path.now bytes.now addresses)) }
     ensures table { IfOk result IsTable }
 {
+    let RunsCounter { counter, runs } = counter;
+    let addresses = counter.tally.into_addresses();
     let digest = digest_of(alloc, bytes)?;
     let path = shown_text(alloc, path.as_bytes())?;
     let images = images_of_one(
@@ -84,7 +122,7 @@ fn table_of_run(
             spots: Spots::new(Vec::new(alloc)),
         },
     )?;
-    Ok(CountTable { images, runs: 1 })
+    Ok(CountTable { images, runs })
 }
 
 /// Returns the list that has only this image.

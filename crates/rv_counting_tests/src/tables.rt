@@ -141,3 +141,30 @@ fn jobs_are_counted(rt: HostRuntime) -> Result<(), Fail> {
     }
     Ok(())
 }
+
+// Returns a list of jobs of one image, every other of which ends within the loop.
+fn list_of_one_image(alloc: Global) -> Result<String, AllocError> {
+    let region = "[{ base = 0x80000000, size = 4096 }]";
+    let mut list = String::new(alloc);
+    for number in 0..JOBS_OF_ONE_IMAGE {
+        let budget = if number % 2 == 0 { 99 } else { 3 };
+        write!(
+            list,
+            "[[job]]\nname = 'n{number}'\nimage = 'loop'\nbudget = {budget}\nregion = {region}\n"
+        )?;
+    }
+    Ok(list)
+}
+
+#[test]
+fn jobs_of_one_image_are_counted_together(rt: HostRuntime) -> Result<(), Fail> {
+    let alloc = rt.alloc();
+    let list = list_of_one_image(alloc)?;
+    let jobs = read_jobs(alloc, list.as_bytes())?;
+    let plan = gather(alloc, jobs, &mut Files { faults: 0 })?;
+    for workers in [1, 3] {
+        let told = told(&rt, alloc, &plan, ALL_OF_ONE_IMAGE, workers)?;
+        agree("one image", told.as_str(), TABLE_OF_ONE_IMAGE)?;
+    }
+    Ok(())
+}

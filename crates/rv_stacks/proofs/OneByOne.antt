@@ -1,7 +1,7 @@
 -- The tables of places that are added one after another.
-use Rattle.std.proofs.Common.{◌≡◌, ◌⊎◌, ℕ, List, [], ◌∷◌, ◌++◌, Result, map, length, get_or, sym, subst, inl, inr, ⊎_elim}
-use Rattle.std.proofs.lemmas.List.{map-append}
-use Rattle.std.proofs.lemmas.Result.{IfErr-weaker}
+use Rattle.std.proofs.Common.{◌≡◌, ◌+◌, ◌<◌, ◌⊎◌, ℕ, List, [], ◌∷◌, ◌++◌, Result, map, length, take, get_or, sym, subst, arith, inl, inr, ⊎_elim}
+use Rattle.std.proofs.lemmas.List.{map-append, take_all, take_more}
+use Rattle.std.proofs.lemmas.Result.{IfErr-weaker, IfOk-weaker}
 use Rattle.std.specs.Prelude.{is_some, true, IfErr, IfOk}
 use Rattle.rv_count_tables.specs.declared.sum.SumError.{SumError}
 use Rattle.rv_count_tables.specs.declared.sum.SumError.TheVariants.{OutOfMemory}
@@ -33,13 +33,24 @@ module _ (plan : Planned) where
   module _ (places : List ℕ) (added : Added) (ran : Result Flow RunError)
       (received : IsRunDelivered (λ n u. IsTableWithStacks plan (get_or places n 0 ∷ []) u) (length places)
       (λ ts. AreAdded added.sum added.failed (map (λ (u : CountTable). u) ts)) (is_some added.failed ≡ true) ran) where
+    abbrev OfFirst : ℕ → CountTable → Type 0
+    OfFirst n t = IsTableWithStacks plan (take n places) t
+
+    abbrev OfOne : ℕ → CountTable → Type 0
+    OfOne n u = IsTableWithStacks plan (get_or places n 0 ∷ []) u
+
+    next_place : (n : ℕ) (t u next : CountTable) → n < length places → OfFirst n t → OfOne n u → IsSum t u next → OfFirst (n + 1) next
+    next_place n t u next lt h one sums =
+        subst (λ ps. IsTableWithStacks plan ps next) (sym (take_more places n 0 lt))
+        (one_more (take n places) (get_or places n 0) t u next h one sums)
+
     pub all_added : IfOk (sum_of_run added ran) (IsTableWithStacks plan places)
     all_added =
-        run_added (IsTableWithStacks plan) (λ p u. IsTableWithStacks plan (p ∷ []) u) of_no_place one_more places added ran received
+        IfOk-weaker (sum_of_run added ran) (OfFirst (length places)) (IsTableWithStacks plan places)
+        (λ t h. subst (λ ps. IsTableWithStacks plan ps t) (take_all (length places) places (omega arith)) h)
+        (run_added OfFirst OfOne (length places) of_no_place next_place added ran received)
 
-    refused_here : (error : SumError)
-        → NextRefused (IsTableWithStacks plan) (λ p u. IsTableWithStacks plan (p ∷ []) u) places error
-        → HasNextNoSum plan places error
+    refused_here : (error : SumError) → NextRefused OfFirst OfOne (length places) error → HasNextNoSum plan places error
     refused_here error h = record {
       count = h.count;
       within = h.within;
@@ -53,7 +64,6 @@ module _ (plan : Planned) where
     pub next_refused : IfErr (sum_of_run added ran) (HaveNoTableWithStacks plan places)
     next_refused =
         IfErr-weaker (sum_of_run added ran)
-        (λ error. (error ≡ OutOfMemory)
-        ⊎ NextRefused (IsTableWithStacks plan) (λ p u. IsTableWithStacks plan (p ∷ []) u) places error)
+        (λ error. (error ≡ OutOfMemory) ⊎ NextRefused OfFirst OfOne (length places) error)
         (HaveNoTableWithStacks plan places) (λ error. ⊎_elim inl (λ h. inr (refused_here error h)))
-        (run_ended (IsTableWithStacks plan) (λ p u. IsTableWithStacks plan (p ∷ []) u) of_no_place one_more places added ran received)
+        (run_ended OfFirst OfOne (length places) of_no_place next_place added ran received)

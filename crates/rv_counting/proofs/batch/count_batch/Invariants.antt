@@ -1,15 +1,13 @@
 use Rattle.std.proofs.Common.{length}
-use Rattle.std.specs.Prelude.{slice_index_or}
-use Rattle.rv_jobs.specs.declared_job.Job.{Job}
-use Rattle.rv_counting.specs.JobTables.{IsTableOfOne}
-use Rattle.rv_trace.specs.Trace.{job_at}
+use Rattle.rv_counting.specs.BatchPieces.{piece_in, places_of}
+use Rattle.rv_counting.specs.JobTables.{IsTableOfPiece}
 use Rattle.rv_counting.proofs.batch.count_batch.Given as goal
 
 abbrev pub ghosts-run_jobs : goal.ghosts-run_jobs
 ghosts-run_jobs g a =
-    let batch = a.work.now.batch.now in record {
-      is_result = λ number table. (d : Job) → IsTableOfOne batch.plan.now.answers
-          (job_at batch.plan.now (slice_index_or batch.places.now number 0) d) table;
-      jobs = length batch.places.now;
-      group = a.crew.now.group;
+    let work = a.work.now in record {
+      is_result = λ number table. IsTableOfPiece work.batch.now.plan.now
+          (places_of work.batch.now.places.now (piece_in work.pieces.now number)) table;
+      jobs = length work.pieces.now;
+      group = 1;
     }

@@ -19,7 +19,7 @@ steps-init c =
     let none : n - n ≡ 0 = omega arith in
     let first = subst (λ (a : ℕ). BeginsAt (function a) walk) c.pc.ensures c.in_ok-stacks.ensures.walk in record {
       within = omega arith;
-      counting = subst (λ (k : ℕ). IsCounting n k s s c.in_ok-counter.counter) (sym none) (c.in_ok-counter.ensures n s);
+      counting = subst (λ (k : ℕ). IsCounting n k s s c.in_ok-counter.counter) (sym none) (c.in_ok-counter.ensures.counting n s);
       known = c.in_ok-stacks.ensures.known;
       so_far = subst (λ (fs : List Frame). SoFar function n (n - n) s s fs walk) (sym c.in_ok-stacks.ensures.frames)
           (subst (λ (k : ℕ). SoFar function n k s s [] walk) (sym none) (none_so_far function n s walk first));
@@ -39,7 +39,7 @@ steps-preserved-then-block-eq0 c =
     let sum : n - left + 1 ≡ n - (left - 1) = omega (arith, w, some) in record {
       within = omega (arith, w);
       counting = subst (λ (k : ℕ). IsCounting n k start t c.step.new.counter) sum
-          (c.in_ok-step.ensures.counted.goes_on c.if-not-branch.false n (n - left) start (omega (arith, w, some)) c.steps.invariant.counting);
+          (c.in_ok-step.ensures.counted.goes_on c.if-not-branch.false [] 1 n (n - left) start (omega (arith, w, some)) c.steps.invariant.counting);
       known = c.in_ok-step.ensures.stacks.known;
       so_far = subst (λ (k : ℕ). SoFar function n k start t c.step.new.self.frames.items c.step.new.self.walk) sum
           (c.in_ok-step.ensures.stacks.goes_on c.if-not-branch.false n (n - left) start (omega (arith, w, some)) here);
@@ -64,11 +64,29 @@ steps-preserved c =
     let sum : n - left + k ≡ n - (left - k) = omega (arith, w, few) in record {
       within = omega (arith, w);
       counting = subst (λ (k : ℕ). IsCounting n k start t c.run_block.new.counter) sum
-          (c.in_ok-run_block.ensures.counted.goes_on c.if-not-branch-2.false n (n - left) start (omega (arith, w, few)) c.steps.invariant.counting);
+          (c.in_ok-run_block.ensures.counted.goes_on c.if-not-branch-2.false [] 1 n (n - left) start (omega (arith, w, few)) c.steps.invariant.counting);
       known = advance.known;
       so_far = subst (λ (k : ℕ). SoFar function n k start t c.run_block.new.self.frames.items c.run_block.new.self.walk) sum
           (advance.goes_on c.if-not-branch-2.false n (n - left) start (omega (arith, w, few)) here);
     }
+
+pub returns-then-not-branch-clause-counts : goal.returns-then-not-branch-clause-counts
+returns-then-not-branch-clause-counts c =
+    let n = c.args.budget in
+    let left = c.steps.left in
+    let w = c.steps.invariant.within in
+    let some = c.steps-test.true in
+    c.in_ok-step.ensures.counted.ended c.if-not-branch.true [] 1 n (n - left) (state_of c.args.machine) (omega (arith, w, some))
+    c.steps.invariant.counting
+
+pub returns-then-not-branch-2-clause-counts : goal.returns-then-not-branch-2-clause-counts
+returns-then-not-branch-2-clause-counts c =
+    let n = c.args.budget in
+    let left = c.steps.left in
+    let w = c.steps.invariant.within in
+    let few = c.straight_block-block.ensures.few in
+    c.in_ok-run_block.ensures.counted.ended c.if-not-branch-2.true [] 1 n (n - left) (state_of c.args.machine) (omega (arith, w, few))
+    c.steps.invariant.counting
 
 pub returns-then-not-branch-2-clause-stacks : goal.returns-then-not-branch-2-clause-stacks
 returns-then-not-branch-2-clause-stacks c =

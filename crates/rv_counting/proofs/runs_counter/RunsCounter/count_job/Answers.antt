@@ -1,0 +1,25 @@
+-- A refused job has no run.
+use Rattle.std.proofs.Common.{Some, subst}
+use Rattle.std.proofs.lemmas.List.{get_or_read}
+use Rattle.rv_jobs.specs.declared_job.Job.{Job}
+use Rattle.rv_machine.specs.Machine.{state_of}
+use Rattle.rv_trace.specs.Trace.{job_at}
+use Rattle.rv_counting.specs.RunCounts.{AddsRun}
+use Rattle.rv_counting.proofs.RunCounts.{ran_job, refused_as}
+use Rattle.rv_counting.proofs.runs_counter.RunsCounter.count_job.Goals as goal
+
+pub returns-in_default : goal.returns-in_default
+returns-in_default c = λ d.
+    let start = rw c.in_default.is at c.in_ok-machine.ensures in
+    let plan = c.args.job.now.plan.now in
+    refused_as plan.answers (job_at plan c.args.job.now.place d) c.in_default.field-0 c.args.self.now c.requires.ready (start d)
+
+pub returns : goal.returns
+returns c = λ d.
+    let start = rw c.in-Ok.is at c.in_ok-machine.ensures in
+    let plan = c.args.job.now.plan.now in
+    let place = c.args.job.now.place in
+    let same = get_or_read plan.jobs place c.job.result.now c.args.job.now.within c.job.ensures.value d in
+    ran_job plan.answers (job_at plan place d) (state_of c.in-Ok.machine) c.args.self.now c.count_run.new.self (start d)
+    (subst (λ (j : Job). AddsRun j.budget (Some (state_of c.in-Ok.machine)) c.args.self.now c.count_run.new.self) same
+    c.in_ok-machine-2.ensures)

@@ -1,0 +1,14 @@
+-- The run is counted in addition to the others.
+use Rattle.std.proofs.Common.{refl, sym}
+use Rattle.rv_machine.specs.Machine.{state_of}
+use Rattle.rv_counting.specs.Counters.{counts_of}
+use Rattle.rv_counting.proofs.RunCounts.{adds_run}
+use Rattle.rv_counting.proofs.runs_counter.RunsCounter.count_run.Goals as goal
+
+pub follow_run-requires-clause-right : goal.follow_run-requires-clause-right
+follow_run-requires-clause-right c = c.fetch_again.ensures.right (state_of c.args.machine) (sym c.bus.ensures)
+
+pub returns : goal.returns
+returns c =
+    adds_run c.args.budget c.fetch_again.new.self.generation (state_of c.args.machine) (counts_of c.args.self.now.counter) c.args.self.now _
+    c.ranges.budget.fits c.requires.ready refl c.fetch_again.ensures.generation c.in_ok-machine.ensures refl

@@ -1,0 +1,66 @@
+//! The counts of several runs of one image.
+
+ghost use Rattle.std.specs.Prelude.{◌<◌, [], IfOk, List, OnOk, Some};
+ghost use Rattle.rv_jobs.specs.declared.answers.Answer.{Answer};
+ghost use Rattle.rv_jobs.specs.declared_job.Job.{Job as AJob};
+ghost use Rattle.rv_jobs.specs.Limits.{most_jobs};
+ghost use Rattle.rv_machine.specs.Machine.{state_of};
+ghost use Rattle.rv_trace.specs.Trace.{job_at};
+ghost use Rattle.rv_counting.specs.RunCounts.{AddsJob, AddsRun, CanCountRuns, HasCountedJobs};
+
+use crate::count::follow_run;
+use crate::counter::Counter;
+use rv_machine::Machine;
+use rv_rows::{Spare, machine_at_reusing};
+use rv_trace::JobImage;
+use std::alloc::{AllocError, Global};
+
+/// The counts of some runs, and what the next run can use again: the decode cache and the indices of counts.
+#[derive(Drop)]
+pub(crate) struct RunsCounter {
+    pub(crate) counter: Counter,
+    /// How many runs were counted.
+    pub(crate) runs: u64,
+}
+
+impl RunsCounter {
+    /// Creates a counter of no runs.
+    pub(crate) fn new(alloc: Global) -> Result<RunsCounter, AllocError>
+        ensures { IfOk result (λ counter. (answers : List Answer) → HasCountedJobs answers [] counter) }
+    {
+        let counter = Counter::new(alloc)?;
+        Ok(RunsCounter { counter, runs: 0 })
+    }
+
+    /// Counts the run of a job within its budget, unless the job is refused. Reuses the memory of the last run, and keeps that of this one.
+    pub(crate) fn count_job(
+        &mut self,
+        alloc: Global,
+        job: &JobImage<'_>,
+        spare: &mut Spare,
+    ) -> Result<(), AllocError>
+        requires ready { CanCountRuns self.old }
+        requires few { self.old.runs < most_jobs }
+        ensures { OnOk result ((d : AJob) → AddsJob job.now.plan.now.answers (job_at job.now.plan.now job.now.place d) self.old self.new) }
+    {
+        let Ok(machine) = machine_at_reusing(alloc, job.plan, job.place, job.image, spare)? else {
+            return Ok(());
+        };
+        let budget = job.plan.job(job.place).budget;
+        let machine = self.count_run(machine, budget)?;
+        spare.keep_bus(machine.into_bus());
+        Ok(())
+    }
+
+    /// Counts a machine's run within a budget of steps, and returns the machine after it.
+    pub(crate) fn count_run(&mut self, machine: Machine, budget: u32) -> Result<Machine, AllocError>
+        requires ready { CanCountRuns self.old }
+        requires few { self.old.runs < most_jobs }
+        ensures { OnOk result (AddsRun budget (Some (state_of machine)) self.old self.new) }
+    {
+        self.counter.codes.fetch_again(machine.bus());
+        let machine = follow_run(&mut self.counter, machine, budget)?;
+        self.runs += 1;
+        Ok(machine)
+    }
+}
