@@ -2,10 +2,10 @@
 use Rattle.std.proofs.Common.{◌≡◌, ◌+◌, ◌∷◌, [], ℕ, zero, suc, Bool, true, false, List, Option, Some, None, ap, arith, cond, drop, is_some, length, map, not, option_map, refl}
 use Rattle.std.specs.Prelude.{slice_get, slice_index_or}
 use Rattle.std.specs.List.{filter, range_with_len}
-use Rattle.rv_jobs.specs.Choices.{selected_indices}
-use Rattle.rv_jobs.specs.Jobs.{single_job}
-use Rattle.rv_jobs.specs.Plans.{Planned}
-use Rattle.rv_jobs.specs.declared_job.Job.{Job}
+use Rattle.rv_rows.specs.Choices.{selected_indices}
+use Rattle.rv_rows.specs.Jobs.{single_job}
+use Rattle.rv_rows.specs.Plans.{Planned}
+use Rattle.rv_rows.specs.declared_job.Job.{Job}
 use Rattle.rv_rows.specs.Rows.{row_of, rows_at}
 use Rattle.rv_rows.specs.declared_row.Row.{Row}
 use Rattle.rv_accept.specs.IntendedJobs.{intended_job, intended_jobs}

@@ -6,8 +6,8 @@ use Rattle.std.specs.Str.{bytes_eq}
 use Rattle.std.proofs.lemmas.Bool.{false≢true}
 use Rattle.std.proofs.lemmas.List.Elements.{All-append, All-cons, All-head, All-nil}
 use Rattle.std.proofs.lemmas.Slice.Eq.{bytes_eq-Decides}
-use Rattle.rv_jobs.specs.Jobs.{console_path}
-use Rattle.rv_jobs.specs.declared_job.Job.{Job}
+use Rattle.rv_rows.specs.Jobs.{console_path}
+use Rattle.rv_rows.specs.declared_job.Job.{Job}
 use Rattle.rv_rows.specs.Verdict.{lines_of_signature}
 use Rattle.rv_accept.proofs.Elements.{all_left, all_right, any_last, any_left, none_passes}
 use Rattle.rv_accept.specs.GoldenTexts.{claims_if_named, golden_texts_of_run, golden_texts_of_runs, text_if}

@@ -5,8 +5,8 @@ use Rattle.std.specs.List.{All, list_any}
 use Rattle.std.specs.Str.{bytes_eq}
 use Rattle.std.proofs.lemmas.List.Elements.{All-append, All-cons, All-head, All-nil, All-tail}
 use Rattle.std.proofs.lemmas.Slice.Eq.{bytes_eq-Decides}
-use Rattle.rv_jobs.specs.Jobs.{console_path}
-use Rattle.rv_jobs.specs.declared_job.Job.{Job}
+use Rattle.rv_rows.specs.Jobs.{console_path}
+use Rattle.rv_rows.specs.declared_job.Job.{Job}
 use Rattle.rv_accept.specs.GoldenTexts.{claims_if_named, golden_texts_of_run, golden_texts_of_runs}
 use Rattle.rv_accept.specs.Sharing.{is_path, names_golden_file}
 use Rattle.rv_accept.specs.Targets.{is_of_accepted, is_target, target_of, with_target}

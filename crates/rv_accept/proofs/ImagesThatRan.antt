@@ -3,15 +3,15 @@ use Rattle.std.proofs.Common.{◌≡◌, ℕ, Bool, true, false, ◌&&◌, ◌==
 use Rattle.std.specs.Prelude.{Result, if◌then◌else◌}
 use Rattle.std.specs.List.{starts_with}
 use Rattle.std.proofs.lemmas.Bool.{eqb-true}
-use Rattle.rv_elf.specs.Image.{has_magic, image_of}
-use Rattle.rv_elf.specs.declared.error.ImageError.{ImageError}
-use Rattle.rv_elf.specs.declared.image.Image.{Image}
-use Rattle.rv_isa.specs.declared.sets.Isa.{Isa}
-use Rattle.rv_jobs.specs.Jobs.{without_expectations}
-use Rattle.rv_jobs.specs.Reading.{◌>>=◌}
-use Rattle.rv_jobs.specs.declared.kept.Kept.{Kept}
-use Rattle.rv_jobs.specs.declared.kept.Kept.TheVariants as kept
-use Rattle.rv_jobs.specs.declared_job.Job.{Job}
+use Rattle.rv_rows.specs.Image.{has_magic, image_of}
+use Rattle.rv_rows.specs.declared_elf_error.ImageError.{ImageError}
+use Rattle.rv_rows.specs.declared_image.Image.{Image}
+use Rattle.rv_rows.specs.declared_sets.Isa.{Isa}
+use Rattle.rv_rows.specs.Jobs.{without_expectations}
+use Rattle.rv_rows.specs.Reading.{◌>>=◌}
+use Rattle.rv_rows.specs.declared_kept.Kept.{Kept}
+use Rattle.rv_rows.specs.declared_kept.Kept.TheVariants as kept
+use Rattle.rv_rows.specs.declared_job.Job.{Job}
 use Rattle.rv_rows.specs.Outcome.{file_outcome_of, image_file_or_refusal, loadable_image, outcome_if_loadable, outcome_of}
 use Rattle.rv_rows.specs.Verdict.{did_run}
 use Rattle.rv_rows.specs.declared.outcome.Loadable.{Loadable}

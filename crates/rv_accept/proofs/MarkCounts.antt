@@ -1,6 +1,6 @@
 -- As many marks as there are jobs.
 use Rattle.std.proofs.Common.{◌≡◌, ◌+◌, ℕ, Bool, List, [], ◌∷◌, length, refl, suc, ap, arith}
-use Rattle.rv_jobs.specs.declared_job.Job.{Job}
+use Rattle.rv_rows.specs.declared_job.Job.{Job}
 use Rattle.rv_accept.specs.Sharing.{jobs_to_run, marks_with_compared, sharing_marks}
 
 sharing_count : (all : List Job) (chosen : List Bool) (jobs : List Job) (marks : List Bool) → length marks ≡ length jobs

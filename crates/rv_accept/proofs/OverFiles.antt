@@ -1,12 +1,12 @@
 -- An accepted job passes over its golden files, or nothing is expected of it.
 use Rattle.std.proofs.Common.{◌≡◌, ◌∙◌, ℕ, Bool, true, false, List, Option, Some, None, IfSome, ap, option_map, refl, subst, sym}
-use Rattle.rv_jobs.specs.Jobs.{console_path, without_expectations}
-use Rattle.rv_jobs.specs.Plans.{Planned, result_for_path}
-use Rattle.rv_jobs.specs.declared.answers.Answer.{Answer}
-use Rattle.rv_jobs.specs.declared.kept.Kept.TheVariants as kept
-use Rattle.rv_jobs.specs.declared_job.ExpectedConsole.{ExpectedConsole}
-use Rattle.rv_jobs.specs.declared_job.ExpectedConsole.TheVariants.{Text, File}
-use Rattle.rv_jobs.specs.declared_job.Job.{Job}
+use Rattle.rv_rows.specs.Jobs.{console_path, without_expectations}
+use Rattle.rv_rows.specs.Plans.{Planned, result_for_path}
+use Rattle.rv_rows.specs.declared_answers.Answer.{Answer}
+use Rattle.rv_rows.specs.declared_kept.Kept.TheVariants as kept
+use Rattle.rv_rows.specs.declared_job.ExpectedConsole.{ExpectedConsole}
+use Rattle.rv_rows.specs.declared_job.ExpectedConsole.TheVariants.{Text, File}
+use Rattle.rv_rows.specs.declared_job.Job.{Job}
 use Rattle.rv_rows.specs.Rows.{content_if_read, named_job_outcome, outcome_in, row_of}
 use Rattle.rv_rows.specs.Verdict.{did_run, lines_of_signature, verdict_of}
 use Rattle.rv_rows.specs.declared.outcome.Outcome.{Outcome}

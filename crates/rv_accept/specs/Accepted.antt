@@ -1,10 +1,10 @@
 -- The job that an accepted job becomes: it expects the actual results of its run.
 use Rattle.std.specs.Prelude.{Some, Option, ℕ, List}
-use Rattle.rv_jobs.specs.declared_job.ExpectedConsole.{ExpectedConsole}
-use Rattle.rv_jobs.specs.declared_job.ExpectedConsole.TheVariants.{Text}
-use Rattle.rv_jobs.specs.declared_job.ExpectedEnd.{ExpectedEnd}
-use Rattle.rv_jobs.specs.declared_job.ExpectedEnd.TheVariants as expected
-use Rattle.rv_jobs.specs.declared_job.Job.{Job}
+use Rattle.rv_rows.specs.declared_job.ExpectedConsole.{ExpectedConsole}
+use Rattle.rv_rows.specs.declared_job.ExpectedConsole.TheVariants.{Text}
+use Rattle.rv_rows.specs.declared_job.ExpectedEnd.{ExpectedEnd}
+use Rattle.rv_rows.specs.declared_job.ExpectedEnd.TheVariants as expected
+use Rattle.rv_rows.specs.declared_job.Job.{Job}
 use Rattle.rv_rows.specs.declared_row.RowEnd.{RowEnd}
 use Rattle.rv_rows.specs.declared_row.RowEnd.TheVariants as ending
 

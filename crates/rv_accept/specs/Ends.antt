@@ -1,8 +1,8 @@
 -- Which ends of a run are accepted.
 use Rattle.std.specs.Prelude.{◌&&◌, ◌||◌, Bool, true, false, Some, None, Option, ℕ, is_some}
-use Rattle.rv_jobs.specs.declared_job.ExpectedEnd.{ExpectedEnd}
-use Rattle.rv_jobs.specs.declared_job.ExpectedEnd.TheVariants as expected
-use Rattle.rv_jobs.specs.declared_job.Job.{Job}
+use Rattle.rv_rows.specs.declared_job.ExpectedEnd.{ExpectedEnd}
+use Rattle.rv_rows.specs.declared_job.ExpectedEnd.TheVariants as expected
+use Rattle.rv_rows.specs.declared_job.Job.{Job}
 use Rattle.rv_rows.specs.declared_row.RowEnd.{RowEnd}
 use Rattle.rv_rows.specs.declared_row.RowEnd.TheVariants as ending
 use Rattle.rv_rows.specs.Verdict.{did_run, exits_with, has_expected_end, has_expected_exit}

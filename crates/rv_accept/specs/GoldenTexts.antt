@@ -1,7 +1,7 @@
 -- The texts that the jobs that were run give their golden files.
 use Rattle.std.specs.Prelude.{Bool, Some, None, Option, ℕ, List, [], ◌∷◌, ◌++◌, ◌+◌, if◌then◌else◌, is_some, not}
-use Rattle.rv_jobs.specs.declared_job.Job.{Job}
-use Rattle.rv_jobs.specs.Jobs.{console_path}
+use Rattle.rv_rows.specs.declared_job.Job.{Job}
+use Rattle.rv_rows.specs.Jobs.{console_path}
 use Rattle.rv_rows.specs.declared_row.Row.{Row}
 use Rattle.rv_rows.specs.Verdict.{lines_of_signature}
 use Rattle.rv_accept.specs.declared.golden_texts.GoldenText.{GoldenText}

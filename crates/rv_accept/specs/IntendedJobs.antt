@@ -1,6 +1,6 @@
 -- The jobs of a list after some of them have been accepted.
 use Rattle.std.specs.Prelude.{List, [], ◌∷◌, Option, Some, None}
-use Rattle.rv_jobs.specs.declared_job.Job.{Job}
+use Rattle.rv_rows.specs.declared_job.Job.{Job}
 use Rattle.rv_rows.specs.declared_row.Row.{Row}
 use Rattle.rv_accept.specs.Accepted.{accepted_job}
 use Rattle.rv_accept.specs.Runs.{accepted_row}

@@ -1,10 +1,10 @@
 -- A run of an accepted job, with its files.
 use Rattle.std.specs.Prelude.{◌≡◌, Bool, true, false, IfSome, IsTrue, List}
-use Rattle.rv_jobs.specs.Jobs.{console_path}
-use Rattle.rv_jobs.specs.Plans.{result_for_path}
-use Rattle.rv_jobs.specs.declared.answers.Answer.{Answer}
-use Rattle.rv_jobs.specs.declared.kept.Kept.TheVariants as kept
-use Rattle.rv_jobs.specs.declared_job.Job.{Job}
+use Rattle.rv_rows.specs.Jobs.{console_path}
+use Rattle.rv_rows.specs.Plans.{result_for_path}
+use Rattle.rv_rows.specs.declared_answers.Answer.{Answer}
+use Rattle.rv_rows.specs.declared_kept.Kept.TheVariants as kept
+use Rattle.rv_rows.specs.declared_job.Job.{Job}
 use Rattle.rv_rows.specs.Verdict.{did_run, has_expected_end, has_expected_exit, lines_of_signature}
 use Rattle.rv_rows.specs.declared.outcome.Outcome.{Outcome}
 use Rattle.rv_rows.specs.declared_row.Row.{Row}

@@ -1,7 +1,7 @@
 -- The jobs of a list that were run, and why some of them are skipped.
 use Rattle.std.specs.Prelude.{◌&&◌, ◌||◌, Bool, not, List, [], ◌∷◌, Option, Some, None, drop, if◌then◌else◌, is_some, option_map, slice_get}
 use Rattle.std.specs.Str.{is_utf8}
-use Rattle.rv_jobs.specs.declared_job.Job.{Job}
+use Rattle.rv_rows.specs.declared_job.Job.{Job}
 use Rattle.rv_rows.specs.declared_row.Row.{Row}
 use Rattle.rv_rows.specs.declared_row.RowEnd.{RowEnd}
 use Rattle.rv_accept.specs.Ends.{is_accepted_end}

@@ -2,8 +2,8 @@
 -- that one of all these is compared with.
 use Rattle.std.specs.Prelude.{Bool, false, ◌==◌, ◌||◌, ◌&&◌, ◌+◌, ℕ, List, [], ◌∷◌, Option, Some, None}
 use Rattle.std.specs.Str.{bytes_eq}
-use Rattle.rv_jobs.specs.declared_job.Job.{Job}
-use Rattle.rv_jobs.specs.Jobs.{console_path}
+use Rattle.rv_rows.specs.declared_job.Job.{Job}
+use Rattle.rv_rows.specs.Jobs.{console_path}
 
 -- whether the second path exists and equals `path`
 abbrev pub is_path : List ℕ → Option (List ℕ) → Bool

@@ -3,7 +3,7 @@
 ghost use Rattle.std.specs.Prelude.{◌≡◌, IfOk, drop};
 ghost use Rattle.rv_accept.specs.Edits.{edited_from, piece};
 
-use rv_jobs::Bytes;
+use rv_rows::Bytes;
 use std::alloc::{AllocError, Global};
 
 /// A replacement for the bytes of a text from the offset `begin` to the offset `end`.

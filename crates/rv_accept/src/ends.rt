@@ -3,8 +3,7 @@
 ghost use Rattle.std.specs.Prelude.{◌≡◌};
 ghost use Rattle.rv_accept.specs.Ends.{ended_as_expected, ended_in_expected_way, is_accepted_end};
 
-use rv_jobs::{ExpectedEnd, Job};
-use rv_rows::{RowEnd, did_run, has_expected_end, has_expected_exit};
+use rv_rows::{ExpectedEnd, Job, RowEnd, did_run, has_expected_end, has_expected_exit};
 
 /// Which ends of a run are accepted.
 #[derive(Clone, Copy, Debug, PartialEq, Eq)]

@@ -5,7 +5,7 @@ ghost use Rattle.std.specs.List.{find};
 ghost use Rattle.rv_accept.specs.GoldenOutcomes.{outcome_of_golden_file, outcome_of_first, outcome_of_given_text, gives_another_text, is_of_skipped_job, is_text, names_file};
 
 use crate::golden_texts::GoldenText;
-use rv_jobs::Bytes;
+use rv_rows::Bytes;
 use std::alloc::{AllocError, Global};
 
 /// What happens to a golden file.

@@ -2,14 +2,13 @@
 
 ghost use Rattle.std.specs.Prelude.{◌≡◌, ◌++◌, ◌+◌, ◌^◌, ◌<◌, IfOk, OnOk, length, option_map};
 ghost use Rattle.std.specs.List.{flat_map};
-ghost use Rattle.rv_jobs.specs.Jobs.{console_path};
+ghost use Rattle.rv_rows.specs.Jobs.{console_path};
 ghost use Rattle.rv_rows.specs.Report.{word_line};
 ghost use Rattle.rv_rows.specs.Verdict.{lines_of_signature};
 ghost use Rattle.rv_accept.specs.GoldenTexts.{claims_if_named, golden_texts_of_job, golden_texts_of_run, golden_texts_of_runs, text_if};
 
 use crate::runs::JobRun;
-use rv_jobs::{Bytes, Job, Text};
-use rv_rows::{Row, Words, word_line};
+use rv_rows::{Bytes, Job, Row, Text, Words, word_line};
 use std::alloc::{AllocError, Global};
 
 /// Which result of a run a golden file contains.

@@ -6,9 +6,7 @@ ghost use Rattle.rv_accept.specs.IntendedJobs.{intended_job, intended_jobs};
 ghost use Rattle.rv_accept.specs.Runs.{accepted_row, row_if_accepted};
 
 use crate::runs::JobRun;
-use rv_jobs::{Bytes, ExpectedConsole, ExpectedEnd, Job, Symbols, Text};
-use rv_memory::Region;
-use rv_rows::{Row, RowEnd};
+use rv_rows::{Bytes, ExpectedConsole, ExpectedEnd, Job, Region, Row, RowEnd, Symbols, Text};
 
 /// Whether `others` are the jobs of the list after accepting the runs: each accepted job expects the values of its row, and the other jobs
 /// are unchanged.

@@ -2,9 +2,9 @@
 
 ghost use Rattle.std.specs.Prelude.{◌≡◌, ℕ, List, None, Option, Some, IsTrue};
 ghost use Rattle.std.specs.List.{All};
-ghost use Rattle.rv_jobs.specs.Jobs.{without_expectations};
-ghost use Rattle.rv_jobs.specs.Plans.{Planned};
-ghost use Rattle.rv_jobs.specs.declared_job.Job.{Job};
+ghost use Rattle.rv_rows.specs.Jobs.{without_expectations};
+ghost use Rattle.rv_rows.specs.Plans.{Planned};
+ghost use Rattle.rv_rows.specs.declared_job.Job.{Job};
 ghost use Rattle.rv_rows.specs.declared.outcome.Outcome.{Outcome};
 ghost use Rattle.rv_rows.specs.declared_row.Row.{Row};
 ghost use Rattle.rv_rows.specs.Rows.{row_of};

@@ -8,9 +8,7 @@ ghost use Rattle.rv_accept.specs.Runs.{chosen_skip_reason, differing_skip_reason
 use crate::current_verdict::{Candidate, CurrentVerdict};
 use crate::ends::{Acceptance, is_accepted_end};
 use crate::values::{ValueKey, is_value_changed};
-use rv_jobs::Job;
-use rv_rows::{Row, RowEnd};
-use rv_text::is_utf8;
+use rv_rows::{Job, Row, RowEnd, is_utf8};
 use std::alloc::{AllocError, Global};
 use std::vec::IntoIter;
 

@@ -5,7 +5,7 @@ ghost use Rattle.rv_accept.specs.Sharing.{is_compared_with, is_file_of_selected,
 ghost use Rattle.rv_accept.specs.Sharing.{marks_with_compared, names_golden_file, shares_with_selected, sharing_marks};
 
 use crate::golden_texts::console_path;
-use rv_jobs::Job;
+use rv_rows::Job;
 use std::alloc::{AllocError, Global};
 
 /// Returns for each job whether it must run: it is chosen, it shares a golden file with a chosen job, or one of these jobs names it by

@@ -6,7 +6,7 @@ ghost use Rattle.rv_accept.specs.Targets.{is_of_accepted, is_target, target_of, 
 use crate::golden_outcomes::{GoldenFileOutcome, outcome_of_golden_file};
 use crate::golden_texts::{GoldenText, Part};
 use crate::runs::JobRun;
-use rv_jobs::Text;
+use rv_rows::Text;
 use std::alloc::{AllocError, Global};
 
 /// A golden file that an accepted job names.

@@ -7,8 +7,8 @@ use Rattle.std.proofs.lemmas.Bool.{eqb-true}
 use Rattle.toml.specs.Parse.{expression, key_equals, line, lines, parse_document, skip_bom}
 use Rattle.toml_parser.specs.Lexical.{skip_from}
 use Rattle.toml_parser.specs.Strings.{key_after, simple_key}
-use Rattle.rv_lists.specs.JobList.{job_list_of, jobs_of_document}
-use Rattle.rv_lists.specs.declared.job.Job.{Job}
+use Rattle.rv_rows.specs.JobList.{job_list_of, jobs_of_document}
+use Rattle.rv_rows.specs.declared_job.Job.{Job}
 use Rattle.rv_accept_text.specs.GoldenFiles.{elf_magic}
 
 not_empty : (n : ℕ) → (suc n == 0) ≡ false

@@ -4,12 +4,12 @@ use Rattle.std.specs.Prelude.{if◌then◌else◌}
 use Rattle.std.proofs.lemmas.Slice.Eq.{bytes_eq-Decides}
 use Rattle.std.proofs.lemmas.Bool.{eqb-true}
 use denote.Enum.Bare.{same_true}
-use Rattle.rv_jobs.specs.declared_job.ExpectedConsole.{ExpectedConsole}
-use Rattle.rv_jobs.specs.declared_job.ExpectedConsole.TheVariants.{Text, File}
-use Rattle.rv_jobs.specs.declared_job.ExpectedEnd.{ExpectedEnd}
-use Rattle.rv_jobs.specs.declared_job.ExpectedEnd.TheVariants as expected
-use Rattle.rv_jobs.specs.declared_job.Job.{Job}
-use Rattle.rv_machine.specs.contracts.ending.FaultKind.{the_type}
+use Rattle.rv_rows.specs.declared_job.ExpectedConsole.{ExpectedConsole}
+use Rattle.rv_rows.specs.declared_job.ExpectedConsole.TheVariants.{Text, File}
+use Rattle.rv_rows.specs.declared_job.ExpectedEnd.{ExpectedEnd}
+use Rattle.rv_rows.specs.declared_job.ExpectedEnd.TheVariants as expected
+use Rattle.rv_rows.specs.declared_job.Job.{Job}
+use Rattle.rv_rows.specs.contracts_ending.FaultKind.{the_type}
 use Rattle.rv_rows.specs.Verdict.{has_expected_end, has_expected_exit}
 use Rattle.rv_rows.specs.declared_row.Row.{Row}
 use Rattle.rv_rows.specs.declared_row.RowEnd.{RowEnd}

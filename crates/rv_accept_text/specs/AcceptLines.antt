@@ -2,8 +2,8 @@
 use Rattle.std.specs.Prelude.{◌+◌, ◌&&◌, ◌++◌, ℕ, Bool, true, false, List, [], ◌∷◌, Option, Some, None, codes, is_some, slice_get}
 use Rattle.std.specs.Fmt.{decimal}
 use Rattle.std.specs.List.{count_by, flat_map}
-use Rattle.rv_jobs.specs.declared_job.Job.{Job}
-use Rattle.rv_text.specs.Words.{count_text}
+use Rattle.rv_rows.specs.declared_job.Job.{Job}
+use Rattle.rv_rows.specs.Words.{count_text}
 use Rattle.rv_accept.specs.declared.runs.JobRun.{JobRun}
 use Rattle.rv_accept_text.specs.FileLines.{file_line, skipped_file_line}
 use Rattle.rv_accept_text.specs.GoldenFiles.{is_left, new_text}

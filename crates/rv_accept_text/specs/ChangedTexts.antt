@@ -4,7 +4,7 @@ use Rattle.std.specs.Fmt.{decimal}
 use Rattle.std.specs.List.{common_prefix_len}
 use Rattle.std.specs.Str.{is_utf8}
 use Rattle.rv_job_text.specs.ConsoleLines.{console_lines}
-use Rattle.rv_text.specs.Printable.{printable_text, printable_value}
+use Rattle.rv_rows.specs.Printable.{printable_text, printable_value}
 
 -- the rest of a line that shows the offset `place`, and the old and the new text from there
 abbrev pub values_from : ℕ → List ℕ → List ℕ → List ℕ

@@ -1,9 +1,9 @@
 -- The lines about golden files.
 use Rattle.std.specs.Prelude.{◌++◌, ℕ, List, [], Option, Some, None, codes, if◌then◌else◌, length, option_map, slice_get, unwrap_or}
 use Rattle.std.specs.List.{find}
-use Rattle.rv_jobs.specs.declared_job.Job.{Job}
-use Rattle.rv_text.specs.Printable.{printable_text}
-use Rattle.rv_text.specs.Words.{count_text}
+use Rattle.rv_rows.specs.declared_job.Job.{Job}
+use Rattle.rv_rows.specs.Printable.{printable_text}
+use Rattle.rv_rows.specs.Words.{count_text}
 use Rattle.rv_accept.specs.GoldenOutcomes.{gives_another_text, names_file}
 use Rattle.rv_accept.specs.declared.golden_texts.GoldenText.{GoldenText}
 use Rattle.rv_accept.specs.declared.golden_texts.Part.{Part}

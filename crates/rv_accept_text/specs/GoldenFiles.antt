@@ -2,7 +2,7 @@
 use Rattle.std.specs.Prelude.{◌||◌, Bool, true, false, ℕ, List, [], ◌∷◌, Option, Some, None, if◌then◌else◌, nat_eq}
 use Rattle.std.specs.List.{list_any, starts_with}
 use Rattle.std.specs.Str.{bytes_eq}
-use Rattle.rv_jobs.specs.declared_job.Job.{Job}
+use Rattle.rv_rows.specs.declared_job.Job.{Job}
 use Rattle.rv_accept.specs.declared.golden_outcomes.GoldenFileOutcome.{GoldenFileOutcome}
 use Rattle.rv_accept.specs.declared.golden_outcomes.GoldenFileOutcome.TheVariants as fate
 use Rattle.rv_accept_text.specs.declared.golden_file.GoldenFile.{GoldenFile}

@@ -1,18 +1,18 @@
 -- The lines about jobs: values that change, and why a job is skipped.
 use Rattle.std.specs.Prelude.{◌++◌, ℕ, List, [], Option, Some, None, codes, if◌then◌else◌, unwrap_or}
 use Rattle.std.specs.Fmt.{decimal}
-use Rattle.rv_jobs.specs.declared_job.ExpectedConsole.{ExpectedConsole}
-use Rattle.rv_jobs.specs.declared_job.ExpectedConsole.TheVariants.{Text}
-use Rattle.rv_jobs.specs.declared_job.ExpectedEnd.{ExpectedEnd}
-use Rattle.rv_jobs.specs.declared_job.ExpectedEnd.TheVariants as expected
-use Rattle.rv_jobs.specs.declared_job.Job.{Job}
-use Rattle.rv_machine.specs.Faults.{fault_name}
+use Rattle.rv_rows.specs.declared_job.ExpectedConsole.{ExpectedConsole}
+use Rattle.rv_rows.specs.declared_job.ExpectedConsole.TheVariants.{Text}
+use Rattle.rv_rows.specs.declared_job.ExpectedEnd.{ExpectedEnd}
+use Rattle.rv_rows.specs.declared_job.ExpectedEnd.TheVariants as expected
+use Rattle.rv_rows.specs.declared_job.Job.{Job}
+use Rattle.rv_rows.specs.Faults.{fault_name}
 use Rattle.rv_rows.specs.Report.{refusal_name}
 use Rattle.rv_rows.specs.Verdict.{has_expected_exit}
 use Rattle.rv_rows.specs.declared_row.Row.{Row}
 use Rattle.rv_rows.specs.declared_row.RowEnd.{RowEnd}
 use Rattle.rv_rows.specs.declared_row.RowEnd.TheVariants as ending
-use Rattle.rv_text.specs.Printable.{printable_text}
+use Rattle.rv_rows.specs.Printable.{printable_text}
 use Rattle.rv_accept.specs.Values.{new_value_text, value_key_name}
 use Rattle.rv_accept.specs.declared.runs.JobRun.{JobRun}
 use Rattle.rv_accept.specs.declared.runs.SkipReason.{SkipReason}
@@ -22,7 +22,7 @@ use Rattle.rv_accept.specs.declared.values.ValueKey.TheVariants as key
 use Rattle.rv_accept_text.specs.ChangedTexts.{text_change}
 use Rattle.rv_accept_text.specs.FileLines.{job_name, skipped_head}
 use Rattle.rv_accept_text.specs.declared.new_list.ChangedValue.{ChangedValue}
-use Rattle.rv_text.specs.Words.{exit_code_text}
+use Rattle.rv_rows.specs.Words.{exit_code_text}
 
 -- ---- changed values
 

@@ -1,6 +1,6 @@
 -- The runs after more of them are skipped, because a value of the list cannot be edited.
 use Rattle.std.specs.Prelude.{List, [], ◌∷◌, Option, Some, None, drop, if◌then◌else◌, option_map, slice_get}
-use Rattle.rv_jobs.specs.declared_job.Job.{Job}
+use Rattle.rv_rows.specs.declared_job.Job.{Job}
 use Rattle.rv_rows.specs.declared_row.Row.{Row}
 use Rattle.rv_accept.specs.Runs.{is_accepted_run}
 use Rattle.rv_accept.specs.Values.{is_value_changed}

@@ -12,8 +12,7 @@ use crate::golden_file::{GoldenFile, ListFile};
 use crate::job_lines::{push_skipped_job_line, push_value_line};
 use crate::new_list::{ChangedValue, NewList};
 use rv_accept::{GoldenText, JobRun};
-use rv_jobs::Job;
-use rv_text::{Span, push_spans};
+use rv_rows::{Job, Span, push_spans};
 use std::alloc::{AllocError, Global};
 
 /// What `accept` accepts and what it skips.

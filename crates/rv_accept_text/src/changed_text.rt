@@ -2,12 +2,11 @@
 
 ghost use Rattle.std.specs.Prelude.{◌≡◌, ◌++◌, OnOk, nat_eq};
 ghost use Rattle.std.specs.List.{common_prefix_len};
-ghost use Rattle.rv_text.specs.Spans.{span_text};
+ghost use Rattle.rv_rows.specs.Spans.{span_text};
 ghost use Rattle.rv_accept_text.specs.ChangedTexts.{byte_change, byte_difference, digits_at, text_change, values_from, values_of_both, word_change, word_change_at};
 
 use rv_job_text::push_console_lines;
-use rv_rows::LINE;
-use rv_text::{Span, is_utf8, push_spans, push_text, tail_from};
+use rv_rows::{LINE, Span, is_utf8, push_spans, push_text, tail_from};
 use std::alloc::AllocError;
 
 /// Appends the differences between the old and the new text: by lines if both are UTF-8, and otherwise by bytes. `source` names the old

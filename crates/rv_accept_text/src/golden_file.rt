@@ -4,7 +4,7 @@ ghost use Rattle.std.specs.Prelude.{◌≡◌, option_map};
 ghost use Rattle.rv_accept_text.specs.GoldenFiles.{agreed_text, another_text, is_image_path, is_kept, is_kept_text, is_left, new_text};
 
 use rv_accept::{GoldenFileOutcome, Target};
-use rv_jobs::{Bytes, Job, Text};
+use rv_rows::{Bytes, Job, Text};
 
 /// The path and the text of a list, and its jobs.
 #[derive(Clone, Copy)]

@@ -14,3 +14,6 @@ mod new_list;
 pub use accepting::{AcceptSummary, Writing};
 pub use golden_file::{GoldenFile, ListFile};
 pub use new_list::{ChangedValue, NewList, accept_values};
+
+// From the crates below: what this interface names, and what its callers need with it.
+pub use rv_list_locations::job_line_numbers;

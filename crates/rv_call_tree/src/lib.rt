@@ -16,3 +16,6 @@ pub use law::{one_tree_has_these_counts, own_steps_sum_to_all};
 pub use profile::{FunctionSteps, functions_of};
 pub use spot::{Spot, Spots};
 pub use sum::{SpotSumError, sum_of_spots};
+
+// From the crates below: what this interface names, and what its callers need with it.
+pub use rv_base::{Bytes, Sequence, Text};

@@ -1,11 +1,11 @@
 -- The calls of a job.
 use Rattle.std.proofs.Common.{◌≡◌, ◌∙◌, ℕ, Some, None, Result, Ok, Err, option_map, sym, ap}
 use Rattle.std.specs.Result.{result_ok}
-use Rattle.rv_jobs.specs.Plans.{Planned}
-use Rattle.rv_jobs.specs.declared_job.Job.{Job}
-use Rattle.rv_machine.specs.State.{State}
-use Rattle.rv_rows.specs.declared_row.Refusal.{Refusal}
-use Rattle.rv_rows.specs.Rows.{start_in}
+use Rattle.rv_trace.specs.Plans.{Planned}
+use Rattle.rv_trace.specs.declared_job.Job.{Job}
+use Rattle.rv_trace.specs.State.{State}
+use Rattle.rv_trace.specs.declared_row.Refusal.{Refusal}
+use Rattle.rv_trace.specs.Rows.{start_in}
 use Rattle.rv_calls.specs.declared.run.Calls.{Calls}
 use Rattle.rv_calls.specs.Calls.{calls_in, calls_of_run}
 

@@ -1,12 +1,12 @@
 -- The calls of a run that have not returned when it ends.
 use Rattle.std.specs.Prelude.{ℕ, zero, suc, ◌+◌, ◌%◌, List, [], ◌∷◌, Option, Some, None, Result, Ok, Err, option_map, option_and_then, fold}
 use Rattle.std.specs.Result.{result_ok}
-use Rattle.rv_jobs.specs.Plans.{Planned}
-use Rattle.rv_jobs.specs.declared_job.Job.{Job}
-use Rattle.rv_machine.specs.declared.ending.Ending.{Ending}
-use Rattle.rv_machine.specs.Run.{step_of}
-use Rattle.rv_machine.specs.State.{State, register}
-use Rattle.rv_rows.specs.Rows.{start_in}
+use Rattle.rv_trace.specs.Plans.{Planned}
+use Rattle.rv_trace.specs.declared_job.Job.{Job}
+use Rattle.rv_trace.specs.declared_ending.Ending.{Ending}
+use Rattle.rv_trace.specs.Run.{step_of}
+use Rattle.rv_trace.specs.State.{State, register}
+use Rattle.rv_trace.specs.Rows.{start_in}
 use Rattle.rv_trace.specs.declared.code.Code.{Code}
 use Rattle.rv_trace.specs.Code.{code_at, instr_of, size_of_code}
 use Rattle.rv_trace.specs.Trace.{state_after}

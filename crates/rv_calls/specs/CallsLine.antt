@@ -2,11 +2,11 @@
 use Rattle.std.specs.Prelude.{ℕ, ◌-◌, ◌==◌, List, [], ◌++◌, codes, length, reverse, take, if◌then◌else◌, Option, Some, None}
 use Rattle.std.specs.Fmt.{decimal}
 use Rattle.std.specs.List.{flat_map}
-use Rattle.rv_elf.specs.declared.image.Image.{Image}
-use Rattle.rv_elf.specs.SymbolSearch.{symbol_at}
-use Rattle.rv_rows.specs.Report.{line}
-use Rattle.rv_text.specs.Symbol.{symbol_text}
-use Rattle.rv_text.specs.Words.{word_digits}
+use Rattle.rv_trace.specs.declared_image.Image.{Image}
+use Rattle.rv_trace.specs.SymbolSearch.{symbol_at}
+use Rattle.rv_trace.specs.Report.{line}
+use Rattle.rv_trace.specs.Symbol.{symbol_text}
+use Rattle.rv_trace.specs.TextWords.{word_digits}
 use Rattle.rv_calls.specs.declared.frames.Frame.{Frame}
 use Rattle.rv_calls.specs.declared.run.Calls.{Calls}
 

@@ -4,8 +4,7 @@ ghost use Rattle.std.specs.Prelude.{◌≡◌, ◌==◌, Some, option_and_then};
 ghost use Rattle.rv_trace.specs.Code.{instr_of};
 ghost use Rattle.rv_calls.specs.Stack.{instr_action, is_link, jalr_action, op_action, pushes_frame};
 
-use rv_isa::{Instr, Op};
-use rv_trace::{Code, instr_of};
+use rv_trace::{Code, Instr, Op, instr_of};
 
 /// An instruction's hint to a return-address stack (ISA manual, table 2.1).
 #[derive(Clone, Copy)]

@@ -2,15 +2,13 @@
 
 ghost use Rattle.std.specs.Prelude.{◌≡◌, ◌==◌, ◌++◌, ◌-◌, ◌≤◌, OnOk, length, reverse, take, option_map};
 ghost use Rattle.std.specs.List.{flat_map};
-ghost use Rattle.rv_elf.specs.SymbolSearch.{symbol_at};
+ghost use Rattle.rv_trace.specs.SymbolSearch.{symbol_at};
 ghost use Rattle.rv_calls.specs.CallsLine.{call_text, calls_line, calls_text, more_text, most_shown, place_text};
 ghost use Rattle.rv_calls.specs.CallsLine.{places_text, rest_text, symbol_or_address};
 
 use crate::frames::{Frame, Frames};
 use crate::run::Calls;
-use rv_elf::{SymbolAt, symbol_at};
-use rv_text::{Span, push_spans, push_symbol, push_text, push_word_digits};
-use rv_trace::ElfFile;
+use rv_trace::{ElfFile, Span, SymbolAt, push_spans, push_symbol, push_text, push_word_digits, symbol_at};
 use std::alloc::{AllocError, Global};
 
 /// The maximum number of calls shown; with the final pc there are 32 addresses.

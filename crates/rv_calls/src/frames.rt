@@ -5,7 +5,7 @@ ghost use Rattle.rv_calls.specs.Stack.{after_transfer, depth_above, depth_after_
 
 use crate::action::StackAction;
 use crate::transfer::Transfer;
-use rv_base::Sequence;
+use rv_trace::Sequence;
 use std::alloc::AllocError;
 
 /// A call that has not returned.

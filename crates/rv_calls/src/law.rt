@@ -1,7 +1,7 @@
 //! A law about the calls of a run; it is not executed.
 
 ghost use Rattle.std.specs.Prelude.{◌≤◌, ℕ, length};
-ghost use Rattle.rv_machine.specs.State.{State};
+ghost use Rattle.rv_trace.specs.State.{State};
 ghost use Rattle.rv_calls.specs.Calls.{frames_of_run};
 ghost use Rattle.rv_calls.specs.Stack.{most_frames};
 

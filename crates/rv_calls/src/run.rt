@@ -1,16 +1,14 @@
 //! The call stack at the end of a run.
 
 ghost use Rattle.std.specs.Prelude.{◌≡◌, IfOk, OnOk};
-ghost use Rattle.rv_jobs.specs.declared_job.Job.{Job as AJob};
-ghost use Rattle.rv_machine.specs.Machine.{state_of};
+ghost use Rattle.rv_trace.specs.declared_job.Job.{Job as AJob};
+ghost use Rattle.rv_trace.specs.Machine.{state_of};
 ghost use Rattle.rv_trace.specs.Trace.{job_at, state_after};
 ghost use Rattle.rv_calls.specs.Calls.{calls_in, calls_of_run, frames_of_run};
 
 use crate::frames::{Frame, Frames, pass_control};
 use crate::transfer::next_transfer;
-use rv_machine::Machine;
-use rv_rows::machine_at;
-use rv_trace::JobImage;
+use rv_trace::{JobImage, Machine, machine_at};
 use std::alloc::{AllocError, Global};
 
 /// The call stack at the end of a run: the calls that have not returned.

@@ -1,16 +1,14 @@
 //! The transfer of control between instructions.
 
 ghost use Rattle.std.specs.Prelude.{◌≡◌, ◌+◌, ◌%◌, MatchBool, MatchOption, Ok, Some, false, is_ok};
-ghost use Rattle.rv_machine.specs.Machine.{state_of};
-ghost use Rattle.rv_machine.specs.Run.{step_of};
+ghost use Rattle.rv_trace.specs.Machine.{state_of};
+ghost use Rattle.rv_trace.specs.Run.{step_of};
 ghost use Rattle.rv_trace.specs.Code.{size_of_code};
 ghost use Rattle.rv_calls.specs.Calls.{after_code, transfer_of};
 ghost use Rattle.rv_calls.specs.Stack.{instr_action};
 
 use crate::action::{StackAction, action_of, action_of_code};
-use rv_isa::Instr;
-use rv_machine::Machine;
-use rv_trace::{Code, code_at, code_length};
+use rv_trace::{Code, Instr, Machine, code_at, code_length};
 
 /// How a completed instruction passed control to the next.
 #[derive(Clone, Copy)]

@@ -1,8 +1,5 @@
 //! Frames at the end of runs, by the lines of a table: a program, its budget and its frames.
-use rv_calls::calls_of_run;
-use rv_isa::Isa;
-use rv_machine::Machine;
-use rv_memory::{Bus, Map, Misaligned, Region};
+use rv_calls::{Bus, Isa, Machine, Map, Misaligned, Region, calls_of_run};
 use samples::{agree, cell_of, has_lines, numbers};
 use std::alloc::{AllocError, Global};
 use std::test::Fail;

@@ -4,13 +4,13 @@ use Rattle.std.specs.Borrow.{Bor}
 use Rattle.std.specs.Prelude.{option_map, unwrap_or}
 use Rattle.std.proofs.lemmas.List.{length-map}
 use Rattle.regex.specs.Patterns.{Re}
-use Rattle.rv_base.specs.Files.{FileContents}
+use Rattle.rv_command.specs.Files.{FileContents}
 use Rattle.rv_choice.specs.Choice.{chosen_marks}
 use Rattle.rv_choice.specs.Choice.{remaining_marks}
 use Rattle.rv_choice.specs.Chosen.{AreChosenBeside, AreLeft, AreRequested, IsChoice}
-use Rattle.rvtest_cli.specs.declared.run.RunArgs.{RunArgs}
+use Rattle.rv_command.specs.declared_run.RunArgs.{RunArgs}
 use Rattle.rv_expect.specs.declared.passing.Rule.{Rule}
-use Rattle.rv_lists.specs.declared.job.Job.{Job}
+use Rattle.rv_expect.specs.declared_job.Job.{Job}
 
 beside_count : (known : Option FileContents) (failed : Option (Bor (List ℕ))) (pattern : Option Re) (words : RunArgs)
     (rule : Rule) (jobs : List Job) (marks : List Bool) (notes : List ℕ)

@@ -3,7 +3,7 @@ use Rattle.std.proofs.Common.{◌≡◌, ◌∙◌, ◌<◌, ◌+◌, ◌||◌, 
 use Rattle.std.proofs.lemmas.List.{length-take-le, take_more}
 use Rattle.std.specs.Borrow.{Bor}
 use Rattle.std.specs.List.{flat_map, list_any}
-use Rattle.rv_lists.specs.declared.job.Job.{Job}
+use Rattle.rv_expect.specs.declared_job.Job.{Job}
 use Rattle.regex.specs.Patterns.{Re, find_str}
 use Rattle.rv_choice.specs.Choice.{borrowed_names, chosen_marks, is_found_in_names, stays_selected, remaining_marks}
 

@@ -3,16 +3,16 @@ use Rattle.std.proofs.Common.{◌≡◌, ◌⊎◌, ℕ, List, Option, Some, Non
 use Rattle.std.specs.Prelude.{option_map}
 use Rattle.std.specs.Borrow.{Bor}
 use Rattle.std.specs.declared.alloc.AllocError.{AllocError}
-use Rattle.rv_base.specs.Files.{FileContents}
-use Rattle.rvtest_cli.specs.RvtestWords.{borrowed_text}
-use Rattle.rvtest_cli.specs.declared.run.RunArgs.{RunArgs}
+use Rattle.rv_command.specs.Files.{FileContents}
+use Rattle.rv_command.specs.RvtestWords.{borrowed_text}
+use Rattle.rv_command.specs.declared_run.RunArgs.{RunArgs}
 use Rattle.rv_command.proofs.Public.{told_stop}
 use Rattle.rv_command.specs.Stops.{IsRequestedUnreadStop, stop_of_lines}
 use Rattle.rv_command.specs.declared.stop.Lines.TheVariants as lines
 use Rattle.rv_command.specs.declared.stop.Stop.{Stop}
 use Rattle.rv_command.specs.declared.stop.Stop.TheVariants as why
 use Rattle.rv_expect.specs.declared.passing.Rule.{Rule}
-use Rattle.rv_lists.specs.declared.job.Job.{Job}
+use Rattle.rv_expect.specs.declared_job.Job.{Job}
 use Rattle.regex.specs.Strings.{regex_source}
 use Rattle.regex.specs.declared.string.regex.Regex.{Regex}
 use Rattle.rv_choice.specs.Choice.{IsReadByDefault}

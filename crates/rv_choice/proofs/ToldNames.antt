@@ -1,7 +1,7 @@
 -- The names of jobs, told one after the other.
 use Rattle.std.proofs.Common.{◌≡◌, ◌∙◌, ◌<◌, ◌+◌, ℕ, List, [], ◌∷◌, ◌++◌, add-zero, ap, append_assoc, arith, get_or, length, sym, take}
 use Rattle.std.proofs.lemmas.List.{append-nil, length-take-le, take_more}
-use Rattle.rv_lists.specs.declared.job.Job.{Job}
+use Rattle.rv_expect.specs.declared_job.Job.{Job}
 use Rattle.rv_choice.specs.UnknownName.{names_from, text_before_name}
 
 -- one name more behind those of some jobs

@@ -8,8 +8,8 @@ use Rattle.regex.specs.Patterns.{Re, default_config, find_str}
 use Rattle.regex.specs.Strings.{IsReadFromSource, regex_config, regex_pattern}
 use Rattle.regex.specs.declared.string.regex.Regex.{Regex}
 use Rattle.rv_expect.specs.declared.passing.Rule.{Rule}
-use Rattle.rv_lists.specs.declared.job.Job.{Job}
-use Rattle.rv_report.specs.declared.row.Row.{Row}
+use Rattle.rv_expect.specs.declared_job.Job.{Job}
+use Rattle.rv_expect.specs.declared_row.Row.{Row}
 use Rattle.rv_expect.specs.Passing.{has_passed}
 
 -- a list of job names

@@ -6,16 +6,16 @@ use Rattle.regex.specs.Strings.{regex_pattern, regex_source}
 use Rattle.regex.specs.declared.error.Error as patterns
 use Rattle.regex.specs.declared.error.Error.TheVariants as refused
 use Rattle.regex.specs.declared.string.regex.Regex.{Regex}
-use Rattle.rv_base.specs.Files.{FileContents}
-use Rattle.rvtest_cli.specs.RvtestWords.{borrowed_text}
-use Rattle.rvtest_cli.specs.declared.run.RunArgs.{RunArgs}
+use Rattle.rv_command.specs.Files.{FileContents}
+use Rattle.rv_command.specs.RvtestWords.{borrowed_text}
+use Rattle.rv_command.specs.declared_run.RunArgs.{RunArgs}
 use Rattle.rv_choice.specs.BadValues.{IsBadPatternStop}
 use Rattle.rv_command.specs.Stops.{IsRequestedUnreadStop, IsStop}
 use Rattle.rv_command.specs.declared.stop.Stop.{Stop}
 use Rattle.rv_command.specs.declared.stop.Stop.TheVariants as why
 use Rattle.rv_expect.specs.declared.passing.Rule.{Rule}
-use Rattle.rv_lists.specs.declared.job.Job.{Job}
-use Rattle.rv_text.specs.Printable.{printable_text, printable_value}
+use Rattle.rv_expect.specs.declared_job.Job.{Job}
+use Rattle.rv_command.specs.Printable.{printable_text, printable_value}
 use Rattle.rv_choice.specs.Choice.{IsReadByDefault, are_emptied, is_found_in_names, remaining_marks}
 use Rattle.rv_choice.specs.Chosen.{AreRequested}
 use Rattle.rv_choice.specs.UnknownName.{IsUnknownNameStop, unknown_name}

@@ -4,14 +4,14 @@ use Rattle.regex.specs.Patterns.{Re}
 use Rattle.regex.specs.Strings.{regex_pattern, regex_source}
 use Rattle.regex.specs.declared.string.regex.Regex.{Regex}
 use Rattle.std.specs.Borrow.{Bor}
-use Rattle.rv_base.specs.Files.{FileContents}
-use Rattle.rvtest_cli.specs.RvtestWords.{borrowed_text}
-use Rattle.rvtest_cli.specs.declared.run.RunArgs.{RunArgs}
+use Rattle.rv_command.specs.Files.{FileContents}
+use Rattle.rv_command.specs.RvtestWords.{borrowed_text}
+use Rattle.rv_command.specs.declared_run.RunArgs.{RunArgs}
 use Rattle.rv_command.specs.Messages.{cut_off_note}
 use Rattle.rv_command.specs.Texts.{IsReportReadAt}
 use Rattle.rv_expect.specs.declared.passing.Rule.{Rule}
-use Rattle.rv_lists.specs.declared.job.Job.{Job}
-use Rattle.rv_report.specs.declared.partial.PartialReport.{PartialReport}
+use Rattle.rv_expect.specs.declared_job.Job.{Job}
+use Rattle.rv_expect.specs.declared_partial.PartialReport.{PartialReport}
 use Rattle.rv_choice.specs.Choice.{ChosenNames, IsReadByDefault, are_emptied, chosen_marks, failed_job_names, is_found_in_names}
 use Rattle.rv_choice.specs.Choice.{jobs_without_row, remaining_marks, requested_names}
 use Rattle.rv_choice.specs.FailedJobNotes.{failed_job_notes}

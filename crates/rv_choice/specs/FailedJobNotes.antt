@@ -1,8 +1,8 @@
 -- The notes about the jobs that failed in a report.
 use Rattle.std.specs.Prelude.{ℕ, List, [], ◌∷◌, ◌++◌, ◌==◌, codes, if◌then◌else◌}
 use Rattle.std.specs.List.{flat_map}
-use Rattle.rv_lists.specs.declared.job.Job.{Job}
-use Rattle.rv_text.specs.Printable.{printable_text}
+use Rattle.rv_expect.specs.declared_job.Job.{Job}
+use Rattle.rv_command.specs.Printable.{printable_text}
 use Rattle.rv_choice.specs.Choice.{has_job_named}
 use Rattle.rv_command.specs.Messages.{path_message, path_number_message}
 

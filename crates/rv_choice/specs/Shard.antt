@@ -6,13 +6,13 @@ use Rattle.std.specs.List.{after_first, before_first}
 use Rattle.std.specs.Str.Parse.{IsNumeral, digits_value}
 use Rattle.hex.specs.Hex.{encode_lower}
 use Rattle.sha2.specs.Sha256.{sha256}
-use Rattle.rv_base.specs.Limits.{most_jobs}
-use Rattle.rv_base.specs.Names.{is_name}
+use Rattle.rv_command.specs.Limits.{most_jobs}
+use Rattle.rv_command.specs.Names.{is_name}
 use Rattle.rv_choice.specs.BadValues.{bad_value_text}
 use Rattle.rv_command.specs.Stops.{IsUsageStop}
 use Rattle.rv_command.specs.declared.stop.Stop.{Stop}
 use Rattle.rv_command.specs.declared.stop.Stop.TheVariants as why
-use Rattle.rv_report.specs.declared.saved.Shard.{Shard}
+use Rattle.rv_expect.specs.declared_saved.Shard.{Shard}
 
 -- the text before the first slash
 abbrev pub before_slash : List ℕ → List ℕ

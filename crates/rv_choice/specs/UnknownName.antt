@@ -7,9 +7,9 @@ use Rattle.std.specs.List.{find}
 use Rattle.rv_command.specs.Stops.{IsStop}
 use Rattle.rv_command.specs.declared.stop.Stop.{Stop}
 use Rattle.rv_command.specs.declared.stop.Stop.TheVariants as why
-use Rattle.rv_list_errors.specs.NearestJob.{IsNearJob, IsNearestJob, job_name}
-use Rattle.rv_lists.specs.declared.job.Job.{Job}
-use Rattle.rv_text.specs.Printable.{printable_text, printable_value}
+use Rattle.rv_command.specs.NearestJob.{IsNearJob, IsNearestJob, job_name}
+use Rattle.rv_expect.specs.declared_job.Job.{Job}
+use Rattle.rv_command.specs.Printable.{printable_text, printable_value}
 use Rattle.rv_choice.specs.Choice.{has_job_named}
 
 -- the first of these names that no job of the list has, or `None` if each is the name of a job

@@ -4,8 +4,7 @@ ghost use Rattle.std.specs.Prelude.{◌≡◌, IfOk, string_bytes};
 ghost use Rattle.rv_choice.specs.BadValues.{IsBadValueStop, bad_value_text};
 
 use clap::error::ErrorKind;
-use rv_command::Stop;
-use rvtest_cli::{ChoosingCommand, usage_error};
+use rv_command::{ChoosingCommand, Stop, usage_error};
 use std::alloc::{AllocError, Global};
 
 /// Returns the message that the value of an option is invalid, and why. The option is written as in its help.

@@ -11,7 +11,7 @@ ghost use Rattle.rv_choice.specs.ChoiceStops.{unmatched_pattern};
 ghost use Rattle.rv_choice.specs.Chosen.{AreChosenBy, AreChosenFrom, AreLeft, AreRequested, IsChoice};
 ghost use Rattle.rv_choice.specs.FailedJobNotes.{failed_job_notes};
 ghost use Rattle.rv_choice.specs.UnknownName.{IsUnknownNameStop, unknown_name};
-ghost use Rattle.rvtest_cli.specs.RvtestWords.{borrowed_text};
+ghost use Rattle.rv_command.specs.RvtestWords.{borrowed_text};
 ghost use Rattle.rv_command.specs.Messages.{cut_off_note};
 ghost use Rattle.rv_command.specs.Stops.{IsRequestedUnreadStop, IsStop};
 
@@ -20,13 +20,8 @@ use crate::failed_jobs::{failed_job_names, failed_job_notes, jobs_without_row};
 use crate::marks::{Criteria, chosen_marks, first_unknown_name, remaining_marks};
 use crate::unknown_name::unknown_name_stop;
 use regex::Regex;
-use rv_command::{RequestedReport, Stop, cut_off_note, read_requested_report};
-use rv_expect::Rule;
-use rv_files::Inputs;
-use rv_jobs::Job;
-use rv_rows::Row;
-use rv_text::{Span, text_of_spans};
-use rvtest_cli::{ChoosingCommand, RunArgs};
+use rv_command::{ChoosingCommand, Inputs, RequestedReport, RunArgs, Span, Stop, cut_off_note, read_requested_report, text_of_spans};
+use rv_expect::{Job, Row, Rule};
 use std::alloc::{AllocError, Global};
 
 /// Chooses jobs of a list by the arguments.

@@ -6,11 +6,8 @@ ghost use Rattle.rv_choice.specs.FailedJobNotes.{failed_job_notes, missing_rows_
 ghost use Rattle.rv_choice.specs.FailedJobNotes.{removed_job_notes};
 
 use crate::marks::has_job_named;
-use rv_command::{path_message, path_number_message};
-use rv_expect::{Rule, has_passed};
-use rv_jobs::Job;
-use rv_rows::Row;
-use rv_text::{Span, push_spans};
+use rv_command::{Span, path_message, path_number_message, push_spans};
+use rv_expect::{Job, Row, Rule, has_passed};
 use std::alloc::{AllocError, Global};
 
 /// Returns the names of the rows that failed by this rule, in order.

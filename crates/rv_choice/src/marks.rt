@@ -7,7 +7,7 @@ ghost use Rattle.rv_choice.specs.Choice.{chosen_marks, borrowed_names, stays_sel
 ghost use Rattle.rv_choice.specs.UnknownName.{unknown_name};
 
 use regex::{Matcher, Regex};
-use rv_jobs::Job;
+use rv_expect::Job;
 use std::alloc::{AllocError, Global};
 
 /// The criteria that choose jobs: a job is chosen if one of them chooses it. Without criteria every job is chosen.

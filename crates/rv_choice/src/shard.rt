@@ -6,17 +6,15 @@ ghost use Rattle.std.specs.List.{list_all};
 ghost use Rattle.std.specs.Str.Parse.{IsNumeral, digits_value};
 ghost use Rattle.hex.specs.Hex.{encode_lower};
 ghost use Rattle.sha2.specs.Sha256.{sha256};
-ghost use Rattle.rv_lists.specs.Limits.{most_jobs};
+ghost use Rattle.rv_command.specs.Limits.{most_jobs};
 ghost use Rattle.rv_choice.specs.Shard.{IsShardOf, IsShardStop, IsShardText, bad_shard_text, bad_stamp_text, number_before_slash, number_after_slash, stamp_for};
 ghost use Rattle.rv_command.specs.Stops.{IsUsageStop};
-ghost use Rattle.rv_base.specs.Names.{is_name};
+ghost use Rattle.rv_command.specs.Names.{is_name};
 
 use crate::bad_value::{bad_value_stop, bad_value_text};
-use rv_command::Stop;
-use rv_jobs::Text;
-use rv_jobs::limits::MOST_JOBS;
-use rv_report::{Shard, is_name};
-use rvtest_cli::{ChoosingCommand, RunArgs};
+use rv_command::{ChoosingCommand, RunArgs, Stop, Text, is_name};
+use rv_command::limits::MOST_JOBS;
+use rv_expect::Shard;
 use sha2::{Digest, Sha256};
 use std::alloc::{AllocError, Global};
 

@@ -4,10 +4,8 @@ ghost use Rattle.std.specs.Prelude.{◌≡◌, ◌++◌, ◌<◌, ◌≤◌, ℕ
 ghost use Rattle.rv_choice.specs.UnknownName.{IsNameHint, IsUnknownNameStop, names_from, names_left, no_such_job, shown_names};
 ghost use Rattle.rv_choice.specs.UnknownName.{IsUnknownNameMessage, text_before_name};
 
-use rv_command::Stop;
-use rv_jobs::Job;
-use rv_list_errors::near_job;
-use rv_text::{Span, push_spans, push_text, text_of_spans};
+use rv_command::{Span, Stop, near_job, push_spans, push_text, text_of_spans};
+use rv_expect::Job;
 use std::alloc::{AllocError, Global};
 
 /// Returns the error that no job of the list has this name. It suggests the nearest name or, if none is near, shows the names of the jobs.

@@ -9,3 +9,6 @@ pub mod arguments;
 pub mod command_builder;
 pub mod rvfleet;
 pub mod values;
+
+// From the crates below: what this interface names, and what its callers need with it.
+pub use rv_base::{is_name, limits};

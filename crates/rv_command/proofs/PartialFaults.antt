@@ -1,8 +1,8 @@
 -- The line that is told of a text that begins no report.
 use Rattle.std.proofs.Common.{◌≡◌, ◌⊎◌, ℕ, List, ap, inl, inr, subst, sym}
-use Rattle.rv_report.specs.LeastLine.{IsLeastRefusedLine}
-use Rattle.rv_report.specs.declared.read.ReadError.{ReadError}
-use Rattle.rv_report.specs.declared.read.ReadError.TheVariants.{CutOff, Line, OutOfMemory}
+use Rattle.rv_rows.specs.LeastLine.{IsLeastRefusedLine}
+use Rattle.rv_rows.specs.declared_read.ReadError.{ReadError}
+use Rattle.rv_rows.specs.declared_read.ReadError.TheVariants.{CutOff, Line, OutOfMemory}
 
 line_of : ReadError → ℕ
 line_of (Line line) = line

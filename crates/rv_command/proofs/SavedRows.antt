@@ -1,9 +1,9 @@
 -- A report that can be has no more rows than a list may have jobs.
 use Rattle.std.proofs.Common.{◌≡◌, ℕ, ◌+◌, ◌≤◌, List, [], ◌∷◌, arith, length, true}
 use Rattle.std.proofs.lemmas.Bool.{and_parts, leb-true, ltb-true}
-use Rattle.rv_lists.specs.Limits.{most_jobs}
-use Rattle.rv_report.specs.declared.saved.SavedReport.{SavedReport}
-use Rattle.rv_report.specs.Saved.{IsSaved, are_rising}
+use Rattle.rv_files.specs.Limits.{most_jobs}
+use Rattle.rv_rows.specs.declared_saved.SavedReport.{SavedReport}
+use Rattle.rv_rows.specs.Saved.{IsSaved, are_rising}
 
 rising_few : (before last : ℕ) (ns : List ℕ) → are_rising before last ns ≡ true → before ≤ last →
     length ns + before ≤ last

@@ -3,8 +3,8 @@ use Rattle.std.proofs.Common.{◌≡◌, List, [], ◌∷◌, ℕ, IfOk, Result,
 use Rattle.std.specs.declared.alloc.AllocError.{AllocError}
 use Rattle.rv_list_errors.specs.FaultHeads.{fault_head}
 use Rattle.rv_list_errors.specs.Lines.{AppendsFaultLines}
-use Rattle.rv_lists.specs.JobList.{job_list_of}
-use Rattle.rv_lists.specs.declared.error.JobError.{JobError}
+use Rattle.rv_rows.specs.JobList.{job_list_of}
+use Rattle.rv_rows.specs.declared_lists_error.JobError.{JobError}
 use Rattle.rv_command.specs.Stops.{IsListFaultStop, IsStop, lines_status, stop_of_lines}
 use Rattle.rv_command.specs.declared.stop.Lines.{Lines}
 use Rattle.rv_command.specs.declared.stop.Lines.TheVariants as lines

@@ -2,10 +2,10 @@
 use Rattle.std.specs.Prelude.{◌≡◌, ◌==◌, ◌⊎◌, ◌++◌, if◌then◌else◌, ℕ, Bool, true, List, [], Option, codes, length}
 use Rattle.std.specs.Fmt.{decimal}
 use Rattle.std.specs.Io.KnownBytes.{Appends}
-use Rattle.rv_base.specs.Counts.{one_more}
-use Rattle.rv_base.specs.Sinks.{AppendsBeginning}
-use Rattle.rv_report.specs.declared.partial.PartialReport.{PartialReport}
-use Rattle.rv_text.specs.Printable.{printable_text}
+use Rattle.rv_files.specs.Counts.{one_more}
+use Rattle.rv_files.specs.Sinks.{AppendsBeginning}
+use Rattle.rv_rows.specs.declared_partial.PartialReport.{PartialReport}
+use Rattle.rv_list_errors.specs.Printable.{printable_text}
 use Rattle.rv_command.specs.declared.stop.Stop.{Stop}
 use Rattle.rv_command.specs.declared.stop.Stop.TheVariants as stop
 

@@ -5,11 +5,11 @@ use Rattle.std.specs.Prelude.{if◌then◌else◌, length, nat_eq, nat_lt, posit
 use Rattle.std.specs.Fmt.{decimal}
 use Rattle.std.specs.List.{starts_with}
 use Rattle.rv_list_errors.specs.LinesAndColumns.{is_feed}
-use Rattle.rv_lists.specs.ListFaults.{list_faults}
-use Rattle.rv_lists.specs.declared.error.JobError.{JobError}
-use Rattle.rv_lists.specs.declared.error.What.{What}
-use Rattle.rv_lists.specs.declared.error.What.TheVariants as what
-use Rattle.rv_text.specs.Printable.{printable_text, printable_value}
+use Rattle.rv_rows.specs.ListFaults.{list_faults}
+use Rattle.rv_rows.specs.declared_lists_error.JobError.{JobError}
+use Rattle.rv_rows.specs.declared_lists_error.What.{What}
+use Rattle.rv_rows.specs.declared_lists_error.What.TheVariants as what
+use Rattle.rv_list_errors.specs.Printable.{printable_text, printable_value}
 use Rattle.rv_command.specs.declared.refused_line.ResultKind.{ResultKind}
 use Rattle.rv_command.specs.declared.refused_line.ResultKind.TheVariants as expected
 

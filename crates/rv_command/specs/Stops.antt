@@ -3,8 +3,8 @@ use Rattle.std.specs.Prelude.{◌≡◌, ◌⊎◌, ◌<◌, ◌+◌, ℕ, Bool,
 use Rattle.std.specs.declared.alloc.AllocError.{AllocError}
 use Rattle.std.specs.declared.alloc.Global.{Global}
 use Rattle.std.specs.declared.io.ErrorKind.{ErrorKind}
-use Rattle.rv_base.specs.Files.{FileContents}
-use Rattle.rv_base.specs.Limits.{most_bytes}
+use Rattle.rv_files.specs.Files.{FileContents}
+use Rattle.rv_files.specs.Limits.{most_bytes}
 use Rattle.rvtest_cli.specs.WordsErrors.{IsUsageText}
 use Rattle.rvtest_cli.specs.declared.words_error.WordsError.{WordsError}
 use Rattle.rvtest_cli.specs.declared.words_error.WordsError.TheVariants as error
@@ -13,11 +13,11 @@ use Rattle.rv_files.specs.declared.file_error.FileError.{FileError}
 use Rattle.rv_files.specs.declared.file_error.FileError.TheVariants as file
 use Rattle.rv_list_errors.specs.FaultHeads.{fault_head}
 use Rattle.rv_list_errors.specs.Lines.{AppendsFaultLines}
-use Rattle.rv_lists.specs.JobList.{job_list_of}
-use Rattle.rv_lists.specs.declared.error.JobError.{JobError}
-use Rattle.rv_report.specs.Differences.{count_of_line_feeds}
-use Rattle.rv_report.specs.LeastLine.{BeginsReport, IsLeastRefusedLine, first_lines}
-use Rattle.rv_report.specs.declared.saved.SavedReport.{SavedReport}
+use Rattle.rv_rows.specs.JobList.{job_list_of}
+use Rattle.rv_rows.specs.declared_lists_error.JobError.{JobError}
+use Rattle.rv_rows.specs.Differences.{count_of_line_feeds}
+use Rattle.rv_rows.specs.LeastLine.{BeginsReport, IsLeastRefusedLine, first_lines}
+use Rattle.rv_rows.specs.declared_saved.SavedReport.{SavedReport}
 use Rattle.rv_command.specs.declared.stop.Lines.{Lines}
 use Rattle.rv_command.specs.declared.stop.Lines.TheVariants as lines
 use Rattle.rv_command.specs.declared.stop.Stop.{Stop}

@@ -1,11 +1,11 @@
 -- The texts that commands read.
 use Rattle.std.specs.Prelude.{◌≡◌, ℕ, Bool, true, List, IfSome, Option, Some, option_map}
 use Rattle.std.specs.Borrow.{Bor}
-use Rattle.rv_base.specs.Files.{FileContents}
-use Rattle.rv_report.specs.Partial.{IsReadAs}
-use Rattle.rv_report.specs.Saved.{IsSaved, saved_text}
-use Rattle.rv_report.specs.declared.partial.PartialReport.{PartialReport}
-use Rattle.rv_report.specs.declared.saved.SavedReport.{SavedReport}
+use Rattle.rv_files.specs.Files.{FileContents}
+use Rattle.rv_rows.specs.Partial.{IsReadAs}
+use Rattle.rv_rows.specs.Saved.{IsSaved, saved_text}
+use Rattle.rv_rows.specs.declared_partial.PartialReport.{PartialReport}
+use Rattle.rv_rows.specs.declared_saved.SavedReport.{SavedReport}
 
 -- if the contents of files are known, the text is the contents of the file at the path
 abbrev pub IsTextAt : Option FileContents → List ℕ → List ℕ → Type 0

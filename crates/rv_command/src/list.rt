@@ -1,21 +1,21 @@
 //! The job list that a command is given.
 
 ghost use Rattle.std.specs.Prelude.{◌≡◌, ◌≤◌, [], Err, IfErr, IfOk, Ok, length};
-ghost use Rattle.rv_base.specs.Limits.{most_bytes};
+ghost use Rattle.rv_files.specs.Limits.{most_bytes};
 ghost use Rattle.rv_command.specs.Stops.{IsListFaultStop, IsListUnreadStop};
 ghost use Rattle.rv_command.specs.Texts.{IsTextAt};
 ghost use Rattle.rv_list_errors.specs.FaultHeads.{fault_head};
 ghost use Rattle.rv_list_errors.specs.Lines.{AppendsFaultLines, AppendsLines};
 ghost use Rattle.rv_list_errors.specs.PlacedFaults.{IsToldFault, AppendsEachFault};
-ghost use Rattle.rv_lists.specs.JobList.{job_list_of};
+ghost use Rattle.rv_rows.specs.JobList.{job_list_of};
 
 use crate::files::read_file_up_to;
 use crate::messages::path_message;
 use crate::stop::Stop;
 use rv_files::Inputs;
-use rv_jobs::limits::MOST_BYTES;
-use rv_jobs::{JobError, JobList, What, read_jobs};
+use rv_files::limits::MOST_BYTES;
 use rv_list_errors::{push_all_faults, push_faults};
+use rv_rows::{JobError, JobList, What, read_jobs};
 use std::alloc::{AllocError, Global};
 
 /// Reads the text of a job list or of a file of known failures. Returns an error if it is too long.

@@ -2,15 +2,15 @@
 
 ghost use Rattle.std.specs.Prelude.{◌≡◌, ◌≤◌, ◌++◌, OnErr, OnOk, IfErr, IfOk, false};
 ghost use Rattle.std.specs.Io.KnownBytes.{Appends, Keeps};
-ghost use Rattle.rv_base.specs.Counts.{one_more};
-ghost use Rattle.rv_base.specs.Sinks.{AppendsBeginning};
+ghost use Rattle.rv_files.specs.Counts.{one_more};
+ghost use Rattle.rv_files.specs.Sinks.{AppendsBeginning};
 ghost use Rattle.rv_command.specs.Stops.{end_status, lines_status, stop_status};
 ghost use Rattle.rv_command.specs.Messages.{IsMessageWritten, end_message, path_message, path_number_message, stop_message};
 
 use crate::status::{BROKEN_PIPE, FAILED, REFUSED};
 use crate::stop::{Lines, Stop};
-use rv_rows::{Sink, put_all};
-use rv_text::{Span, text_of_spans};
+use rv_files::{Sink, put_all};
+use rv_list_errors::{Span, text_of_spans};
 use std::alloc::{AllocError, Global};
 
 /// Returns a line that says `what` is wrong with the file at the path.

@@ -6,8 +6,8 @@ ghost use Rattle.rv_command.specs.RefusedLines.{are_faults_of_list, after_line, 
 ghost use Rattle.rv_command.specs.RefusedLines.{line_before, line_message, list_message, numbered_line, refused_line_message};
 ghost use Rattle.rv_command.specs.RefusedLines.{expected_after, kind_noun, kind_text};
 
-use rv_lists::{JobError, What, read_faults};
-use rv_text::{Span, text_of_spans};
+use rv_list_errors::{Span, text_of_spans};
+use rv_rows::{JobError, What, read_faults};
 use std::alloc::{AllocError, Global};
 
 /// What a file with results should be.

@@ -1,18 +1,18 @@
 //! Reports named in the arguments, which may be truncated if the arguments allow it.
 
 ghost use Rattle.std.specs.Prelude.{◌≡◌, ◌≤◌, IfErr, IfOk, length};
-ghost use Rattle.rv_base.specs.Limits.{most_jobs};
+ghost use Rattle.rv_files.specs.Limits.{most_jobs};
 ghost use Rattle.rv_command.specs.Messages.{complete_rows_text, cut_off_note};
 ghost use Rattle.rv_command.specs.Stops.{IsPartialFaultStop, IsRequestedFaultStop, IsRequestedUnreadStop};
 ghost use Rattle.rv_command.specs.Texts.{IsReportRead, IsReportReadAt};
-ghost use Rattle.rv_report.specs.Partial.{IsReadAs};
+ghost use Rattle.rv_rows.specs.Partial.{IsReadAs};
 
 use crate::files::read_result_file;
 use crate::messages::path_number_message;
 use crate::saved_report::{parse_report, report_line_stop};
 use crate::stop::Stop;
 use rv_files::Inputs;
-use rv_report::{PartialReport, ReadError, read_partial_report};
+use rv_rows::{PartialReport, ReadError, read_partial_report};
 use std::alloc::{AllocError, Global};
 
 /// A report named in the arguments, and whether it may be truncated.

@@ -1,7 +1,7 @@
 //! Reading reports.
 
 ghost use Rattle.std.specs.Prelude.{◌≡◌, ◌≤◌, IfErr, IfOk, length};
-ghost use Rattle.rv_base.specs.Limits.{most_jobs};
+ghost use Rattle.rv_files.specs.Limits.{most_jobs};
 ghost use Rattle.rv_command.specs.Stops.{IsLineStop, IsReportFaultStop, IsReportReadError};
 ghost use Rattle.rv_command.specs.Texts.{IsReportAt, IsReportText};
 
@@ -10,7 +10,7 @@ use crate::messages::path_message;
 use crate::refused_line::{ResultKind, refused_line_message};
 use crate::stop::Stop;
 use rv_files::Inputs;
-use rv_report::{ReadError, SavedReport, read_report};
+use rv_rows::{ReadError, SavedReport, read_report};
 use std::alloc::Global;
 
 /// Reads a report: of a whole list, of a shard, or of chosen jobs.

@@ -3,3 +3,4 @@ pub use Rattle.rv_count_tables.proofs.Paths.{any_first, either, none_behind, non
 pub use Rattle.rv_count_tables.proofs.AddingImages.{no_images_rise}
 pub use Rattle.rv_count_tables.proofs.ToldImages.{one_table_of}
 pub use Rattle.rv_count_tables.proofs.NamesOfSpots.{are_more, first_is, last_of_more, name_with, not_named}
+pub use Rattle.rv_call_tree.proofs.Public.{last_parts, stand_of_parts}

@@ -6,7 +6,7 @@ ghost use Rattle.rv_count_tables.specs.Table.{name_of};
 
 use crate::growth::push_item;
 use crate::table::{FunctionName, FunctionNames};
-use rv_base::Text;
+use rv_call_tree::Text;
 use std::alloc::{AllocError, Global};
 use std::collections::BTreeMap;
 use std::marker::Model;

@@ -20,8 +20,7 @@ use crate::order::is_before;
 use crate::read_stacks::read_spots;
 use crate::table::{AddressCounts, Addresses, Digest, FunctionNames, ImageCounts, Images};
 use crate::text::{push_address_line, push_image_line, push_last_line};
-use rv_base::Text;
-use rv_call_tree::Spots;
+use rv_call_tree::{Spots, Text};
 use rv_text::tail_from;
 use std::alloc::{AllocError, Global};
 

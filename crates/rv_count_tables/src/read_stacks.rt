@@ -16,8 +16,7 @@ use crate::line_parts::{
 use crate::names_by_function::NamesByFunction;
 use crate::table::{FunctionName, FunctionNames, NamedSpot};
 use crate::text::push_spot_line;
-use rv_base::Text;
-use rv_call_tree::{Spot, Spots};
+use rv_call_tree::{Spot, Spots, Text};
 use rv_text::tail_from;
 use std::alloc::{AllocError, Global};
 

@@ -14,8 +14,7 @@ use crate::sum::SumError;
 use crate::sum_of_counts::sum_of_counts;
 use crate::sum_of_names::{copy_of_names, sum_of_names};
 use crate::table::{Addresses, Digest, ImageCounts, Images};
-use rv_base::Text;
-use rv_call_tree::{Spots, sum_of_spots};
+use rv_call_tree::{Spots, Text, sum_of_spots};
 use std::alloc::{AllocError, Global};
 
 /// Returns the sum of the images of two tables, sorted by digest, or why there is none. Allocates only the sum.

@@ -10,7 +10,7 @@ ghost use Rattle.rv_count_tables.specs.Table.{AreNames, IsName};
 use crate::growth::push_item;
 use crate::sum::SumError;
 use crate::table::{FunctionName, FunctionNames};
-use rv_base::Text;
+use rv_call_tree::Text;
 use std::alloc::{AllocError, Global};
 
 /// Returns the names of all functions in both lists, sorted by function, or an error if the lists give a function different names.

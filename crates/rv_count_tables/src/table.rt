@@ -1,7 +1,6 @@
 //! The table of counts.
 
-use rv_base::{Bytes, Sequence, Text};
-use rv_call_tree::{Spot, Spots};
+use rv_call_tree::{Bytes, Sequence, Spot, Spots, Text};
 
 /// The counts of one image's addresses; contracts see them as a list.
 pub type Addresses = Sequence<AddressCounts>;

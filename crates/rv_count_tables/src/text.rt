@@ -8,8 +8,7 @@ ghost use Rattle.rv_count_tables.specs.Text.{address_line, image_line, image_tex
 
 use crate::table::{AddressCounts, CountTable, FunctionName, ImageCounts};
 use itoa::Buffer;
-use rv_base::Text;
-use rv_call_tree::Spot;
+use rv_call_tree::{Spot, Text};
 use std::alloc::{AllocError, Global};
 use std::collections::BTreeMap;
 

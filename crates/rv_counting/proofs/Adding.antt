@@ -5,16 +5,16 @@ use Rattle.std.proofs.Math.Seq.{get_or-append_seam}
 use Rattle.std.proofs.lemmas.Bool.{false≢true}
 use Rattle.std.proofs.lemmas.Result.{IfErr-weaker, IfOk-weaker}
 use Rattle.std.proofs.lemmas.List.{get_or_append_left, length-append, length-take, map-append, map-id, take_all}
-use Rattle.rv_base.specs.Limits.{most_jobs}
+use Rattle.rv_count_tables.specs.Limits.{most_jobs}
 use Rattle.rv_count_tables.specs.declared.sum.SumError.{SumError}
 use Rattle.rv_count_tables.specs.declared.sum.SumError.TheVariants.{OutOfMemory, Count, Spot, Names, Runs}
 use Rattle.rv_count_tables.specs.declared.table.CountTable.{CountTable}
 use Rattle.rv_count_tables.specs.Sum.{IsSum, HaveNoSum, no_counts}
-use Rattle.rv_engine.specs.declared.engine.RunError.{RunError}
-use Rattle.rv_engine.specs.declared.listener.Flow.{Flow}
-use Rattle.rv_engine.specs.declared.listener.Flow.TheVariants.{GoOn, Stop}
-use Rattle.rv_engine.specs.Results.{IsRunDelivered, HasReceived, HasReceivedSome}
-use Rattle.rv_jobs.specs.Plans.{Planned}
+use Rattle.rv_fleet.specs.declared_engine.RunError.{RunError}
+use Rattle.rv_fleet.specs.declared_listener.Flow.{Flow}
+use Rattle.rv_fleet.specs.declared_listener.Flow.TheVariants.{GoOn, Stop}
+use Rattle.rv_fleet.specs.Results.{IsRunDelivered, HasReceived, HasReceivedSome}
+use Rattle.rv_trace.specs.Plans.{Planned}
 use Rattle.rv_counting.specs.declared.pieces.Piece.{Piece}
 use Rattle.rv_counting.specs.JobTables.{jobs_at, IsTableOfFew, IsTableOfJobs, IsTableOfPiece, IsTableOfPlaces, SumsTo}
 use Rattle.rv_counting.specs.BatchPieces.{piece_in, places_of, start_of, ArePieces}

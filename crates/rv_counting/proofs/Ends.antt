@@ -2,26 +2,26 @@
 use Rattle.std.proofs.Common.{◌≡◌, ◌∙◌, ◌==◌, ◌+◌, ◌*◌, ◌/◌, ◌%◌, ◌&&◌, not, ℕ, Bool, true, false, cond, Option, Some, None, Result, Ok, Err, refl, sym, ap, subst, arith}
 use Rattle.std.proofs.lemmas.Bool.{false≢true}
 use Rattle.std.specs.Prelude.{option_and_then}
-use Rattle.rv_isa.specs.declared.instruction.Instr.{Instr}
-use Rattle.rv_isa.specs.declared.instruction.Op.{Op}
-use Rattle.rv_isa.specs.declared.instruction.Op.TheVariants as op
-use Rattle.rv_isa.specs.declared.sets.Isa.{Isa}
-use Rattle.rv_isa.specs.Bits.{field}
-use Rattle.rv_isa.specs.Words.{meaning32}
-use Rattle.rv_isa.specs.Halfwords.{meaning16}
-use Rattle.rv_memory.specs.Bus.{Contents, load_from, store_to, fetch_half_from}
-use Rattle.rv_memory.specs.declared.access.Width.{Width}
-use Rattle.rv_memory.specs.declared.faults.BusFault.{BusFault}
-use Rattle.rv_memory.specs.declared.faults.BusFault.TheVariants as bus
-use Rattle.rv_memory.specs.declared.faults.FetchFault.{FetchFault}
-use Rattle.rv_memory.specs.declared.faults.FetchFault.TheVariants.{Unmapped, Stale}
-use Rattle.rv_machine.specs.declared.ending.Ending.{Ending}
-use Rattle.rv_machine.specs.declared.ending.Ending.TheVariants.{Exit, Fault}
-use Rattle.rv_machine.specs.declared.ending.FaultKind.TheVariants as fault
-use Rattle.rv_machine.specs.State.{State, register, is_misaligned}
-use Rattle.rv_machine.specs.Effect.{effect, effect_of, after_branch, from_pc, address, rs2_value, load, after_load, store, after_store, fault_of_load, fault_of_store, next_pc}
-use Rattle.rv_machine.specs.Fetch.{Fetched, fetch, with_half, or_illegal, fault_of_fetch, second_half}
-use Rattle.rv_machine.specs.Run.{Ran, after_fetch, step_of, run_of, run_rest}
+use Rattle.rv_trace.specs.declared_instruction.Instr.{Instr}
+use Rattle.rv_trace.specs.declared_instruction.Op.{Op}
+use Rattle.rv_trace.specs.declared_instruction.Op.TheVariants as op
+use Rattle.rv_trace.specs.declared_sets.Isa.{Isa}
+use Rattle.rv_trace.specs.Bits.{field}
+use Rattle.rv_trace.specs.IsaWords.{meaning32}
+use Rattle.rv_trace.specs.Halfwords.{meaning16}
+use Rattle.rv_trace.specs.Bus.{Contents, load_from, store_to, fetch_half_from}
+use Rattle.rv_trace.specs.declared_access.Width.{Width}
+use Rattle.rv_trace.specs.declared_faults.BusFault.{BusFault}
+use Rattle.rv_trace.specs.declared_faults.BusFault.TheVariants as bus
+use Rattle.rv_trace.specs.declared_faults.FetchFault.{FetchFault}
+use Rattle.rv_trace.specs.declared_faults.FetchFault.TheVariants.{Unmapped, Stale}
+use Rattle.rv_trace.specs.declared_ending.Ending.{Ending}
+use Rattle.rv_trace.specs.declared_ending.Ending.TheVariants.{Exit, Fault}
+use Rattle.rv_trace.specs.declared_ending.FaultKind.TheVariants as fault
+use Rattle.rv_trace.specs.State.{State, register, is_misaligned}
+use Rattle.rv_trace.specs.Effect.{effect, effect_of, after_branch, from_pc, address, rs2_value, load, after_load, store, after_store, fault_of_load, fault_of_store, next_pc}
+use Rattle.rv_trace.specs.Fetch.{Fetched, fetch, with_half, or_illegal, fault_of_fetch, second_half}
+use Rattle.rv_trace.specs.Run.{Ran, after_fetch, step_of, run_of, run_rest}
 use Rattle.rv_trace.specs.declared.code.Code.{Code}
 use Rattle.rv_trace.specs.Code.{code_at, instr_of}
 use Rattle.rv_trace.proofs.Public.{code_is_fetched}

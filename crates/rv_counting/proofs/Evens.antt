@@ -2,12 +2,12 @@
 use Rattle.std.proofs.Common.{◌≡◌, ◌∙◌, ◌==◌, ◌%◌, ◌≤◌, ◌&&◌, ℕ, zero, suc, Bool, true, false, cond, List, [], ◌∷◌, Result, Ok, Err, ◌⊎◌, inl, inr, refl, ap, arith}
 use Rattle.std.proofs.lemmas.Bool.Decides.{eqb_tells}
 use Rattle.std.specs.List.{AllByRecursion}
-use Rattle.rv_machine.proofs.Public.{effect_even, fetched_steady, ok_is}
-use Rattle.rv_machine.specs.declared.ending.Ending.{Ending}
-use Rattle.rv_machine.specs.Effect.{effect}
-use Rattle.rv_machine.specs.Fetch.{Fetched}
-use Rattle.rv_machine.specs.Run.{after_fetch, step_of}
-use Rattle.rv_machine.specs.State.{State}
+use Rattle.rv_trace.proofs.Public.{effect_even, fetched_steady, ok_is}
+use Rattle.rv_trace.specs.declared_ending.Ending.{Ending}
+use Rattle.rv_trace.specs.Effect.{effect}
+use Rattle.rv_trace.specs.Fetch.{Fetched}
+use Rattle.rv_trace.specs.Run.{after_fetch, step_of}
+use Rattle.rv_trace.specs.State.{State}
 use Rattle.rv_count_tables.specs.declared.table.AddressCounts.{AddressCounts}
 use Rattle.rv_count_tables.specs.Table.{executed_at, AreCounts, IsCounted}
 use Rattle.rv_counting.specs.Coverage.{fetch_at, is_executed, once_if, behind, executed_in_run, IsTallied, AreCountsOf, AreTallied}

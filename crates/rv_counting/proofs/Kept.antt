@@ -7,14 +7,14 @@ use Rattle.std.specs.List.{All, sum_by}
 use Rattle.std.specs.Result.{result_ok}
 use Rattle.rv_count_tables.specs.declared.table.CountTable.{CountTable}
 use Rattle.rv_count_tables.specs.Table.{least_path_of}
-use Rattle.rv_jobs.specs.declared.answers.Answer.{Answer}
-use Rattle.rv_jobs.specs.declared_job.Job.{Job}
-use Rattle.rv_machine.specs.State.{State}
-use Rattle.rv_report.specs.declared.row.Refusal.{Refusal}
-use Rattle.rv_rows.specs.Outcome.{start_of}
-use Rattle.rv_rows.specs.Rows.{content_if_read, start_in}
-use Rattle.rv_rows.specs.Wholes.{HaveSameResults}
-use Rattle.rv_text.specs.Printable.{printable_text}
+use Rattle.rv_trace.specs.declared_answers.Answer.{Answer}
+use Rattle.rv_trace.specs.declared_job.Job.{Job}
+use Rattle.rv_trace.specs.State.{State}
+use Rattle.rv_fleet.specs.declared_row.Refusal.{Refusal}
+use Rattle.rv_trace.specs.Outcome.{start_of}
+use Rattle.rv_trace.specs.Rows.{content_if_read, start_in}
+use Rattle.rv_trace.specs.Wholes.{HaveSameResults}
+use Rattle.rv_count_tables.specs.Printable.{printable_text}
 use Rattle.rv_counting.specs.Coverage.{once_if}
 use Rattle.rv_counting.specs.JobTables.{has_digest, start_over, begun_from, taken_from, begun_by, taken_by, runs_by, first_path, IsTableOfJobs}
 

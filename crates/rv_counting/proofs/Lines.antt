@@ -8,7 +8,7 @@ use Rattle.std.specs.Char.{encode_utf8, is_control}
 use Rattle.std.specs.List.{All}
 use Rattle.std.specs.Str.{chars, encode_utf8_all}
 use Rattle.rv_count_tables.specs.Lines.{lacks}
-use Rattle.rv_text.specs.Printable.{IsUtf8WithoutControls, is_format}
+use Rattle.rv_count_tables.specs.Printable.{IsUtf8WithoutControls, is_format}
 
 abbrev IsLine : List ℕ → Type 0
 IsLine text = lacks 10 text ≡ true

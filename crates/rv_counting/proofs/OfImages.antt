@@ -13,14 +13,14 @@ use Rattle.rv_count_tables.specs.declared.table.AddressCounts.{AddressCounts}
 use Rattle.rv_count_tables.specs.declared.table.CountTable.{CountTable}
 use Rattle.rv_count_tables.specs.Sum.{no_counts}
 use Rattle.rv_count_tables.specs.Table.{executed_at, is_before, least_path, least_path_of, IsTable}
-use Rattle.rv_jobs.specs.declared.answers.Answer.{Answer}
-use Rattle.rv_jobs.specs.declared_job.Job.{Job}
-use Rattle.rv_jobs.specs.Jobs.{single_job}
-use Rattle.rv_jobs.specs.Plans.{result_for_path, Planned}
-use Rattle.rv_machine.specs.State.{State}
-use Rattle.rv_report.specs.declared.row.Refusal.{Refusal}
-use Rattle.rv_rows.specs.Rows.{content_if_read, start_in}
-use Rattle.rv_text.specs.Printable.{printable_text}
+use Rattle.rv_trace.specs.declared_answers.Answer.{Answer}
+use Rattle.rv_trace.specs.declared_job.Job.{Job}
+use Rattle.rv_trace.specs.Jobs.{single_job}
+use Rattle.rv_trace.specs.Plans.{result_for_path, Planned}
+use Rattle.rv_trace.specs.State.{State}
+use Rattle.rv_fleet.specs.declared_row.Refusal.{Refusal}
+use Rattle.rv_trace.specs.Rows.{content_if_read, start_in}
+use Rattle.rv_count_tables.specs.Printable.{printable_text}
 use Rattle.rv_trace.specs.Trace.{image_bytes, job_at}
 use Rattle.rv_counting.proofs.OfJobs.{no_counts_are_few, no_counts_have_none, no_counts_is_table, none_if_no_ok, not_ok_if_none, not_over, run_has_none}
 use Rattle.rv_counting.proofs.RunCounts.{few_runs}

@@ -16,11 +16,11 @@ use Rattle.rv_count_tables.specs.declared.table.ImageCounts.{ImageCounts}
 use Rattle.rv_count_tables.specs.declared.sum.SumError.TheVariants.{Names}
 use Rattle.rv_count_tables.specs.Sum.{HasName, HasNameIn, HaveNoSum, IsSum, no_counts}
 use Rattle.rv_count_tables.specs.Table.{name_at, name_in, least_path, least_path_of, digests_rise, names_rise, AreNames, AreNamesOf, AreSpots, IsImage, IsTable}
-use Rattle.rv_jobs.specs.declared.answers.Answer.{Answer}
-use Rattle.rv_jobs.specs.declared_job.Job.{Job}
-use Rattle.rv_machine.specs.State.{State}
-use Rattle.rv_report.specs.declared.row.Refusal.{Refusal}
-use Rattle.rv_rows.specs.Rows.{start_in}
+use Rattle.rv_trace.specs.declared_answers.Answer.{Answer}
+use Rattle.rv_trace.specs.declared_job.Job.{Job}
+use Rattle.rv_trace.specs.State.{State}
+use Rattle.rv_fleet.specs.declared_row.Refusal.{Refusal}
+use Rattle.rv_trace.specs.Rows.{start_in}
 use Rattle.rv_counting.specs.Coverage.{executed_in_run, taken_in_run}
 use Rattle.rv_counting.specs.JobTables.{has_digest, start_over, begun_from, taken_from, begun_by, taken_by, path_by, runs_by, first_path, table_of_runs, HasNoStacks, IsTableOfFew, IsTableOfJobs}
 use Rattle.rv_trace.specs.Trace.{image_bytes}

@@ -6,8 +6,8 @@ use Rattle.std.specs.List.{filter}
 use Rattle.rv_count_tables.specs.declared.table.CountTable.{CountTable}
 use Rattle.rv_count_tables.specs.Sum.{no_counts}
 use Rattle.rv_count_tables.specs.Text.{table_text}
-use Rattle.rv_jobs.specs.declared_job.Job.{Job}
-use Rattle.rv_jobs.specs.Plans.{Planned}
+use Rattle.rv_trace.specs.declared_job.Job.{Job}
+use Rattle.rv_trace.specs.Plans.{Planned}
 use Rattle.rv_counting.specs.JobTables.{jobs_at, AreTablesOfShards, IsTableOfJobs, IsTableOfPlaces, SumsTo}
 use Rattle.rv_counting.proofs.OfJobs.{joined, none_of_none}
 use Rattle.rv_counting.proofs.Orders.{one_table_of_jobs, reordered}

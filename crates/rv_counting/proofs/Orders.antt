@@ -8,8 +8,8 @@ use Rattle.rv_count_tables.proofs.Public.{none_before_itself, not_before_back, n
 use Rattle.rv_count_tables.specs.declared.table.CountTable.{CountTable}
 use Rattle.rv_count_tables.specs.Sum.{no_counts}
 use Rattle.rv_count_tables.specs.Table.{is_before, least_path_of}
-use Rattle.rv_jobs.specs.declared.answers.Answer.{Answer}
-use Rattle.rv_jobs.specs.declared_job.Job.{Job}
+use Rattle.rv_trace.specs.declared_answers.Answer.{Answer}
+use Rattle.rv_trace.specs.declared_job.Job.{Job}
 use Rattle.rv_counting.specs.JobTables.{begun_by, taken_by, path_by, runs_by, first_path, AreTablesOfParts, IsTableOfJobs, SumsTo}
 use Rattle.rv_counting.proofs.OfJobs.{joined, none_of_none}
 

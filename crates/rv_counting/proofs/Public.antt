@@ -9,3 +9,4 @@ pub use Rattle.rv_counting.proofs.OfJobs.{first_path-append, no_counts_is_table,
 pub use Rattle.rv_counting.proofs.Orders.{first_moved}
 pub use Rattle.rv_counting.proofs.Parted.{all_parts, joined_parts}
 pub use Rattle.rv_counting.proofs.Starts.{no_bytes, no_image, start_even}
+pub use Rattle.rv_trace.proofs.Public.{after_none, code_is_fetched, each_completes}

@@ -7,13 +7,13 @@ use Rattle.std.specs.List.{sum_by}
 use Rattle.std.specs.Result.{result_ok}
 use Rattle.rv_count_tables.specs.declared.table.AddressCounts.{AddressCounts}
 use Rattle.rv_count_tables.specs.Table.{executed_at, taken_at}
-use Rattle.rv_jobs.specs.declared.answers.Answer.{Answer}
-use Rattle.rv_jobs.specs.declared_job.Job.{Job}
-use Rattle.rv_jobs.specs.Jobs.{single_job}
-use Rattle.rv_jobs.specs.Plans.{Planned}
-use Rattle.rv_machine.specs.State.{State}
-use Rattle.rv_report.specs.declared.row.Refusal.{Refusal}
-use Rattle.rv_rows.specs.Rows.{start_in}
+use Rattle.rv_trace.specs.declared_answers.Answer.{Answer}
+use Rattle.rv_trace.specs.declared_job.Job.{Job}
+use Rattle.rv_trace.specs.Jobs.{single_job}
+use Rattle.rv_trace.specs.Plans.{Planned}
+use Rattle.rv_trace.specs.State.{State}
+use Rattle.rv_fleet.specs.declared_row.Refusal.{Refusal}
+use Rattle.rv_trace.specs.Rows.{start_in}
 use Rattle.rv_trace.specs.Trace.{job_at}
 use Rattle.rv_counting.proofs.Evens.{few_begin, none_at_odd}
 use Rattle.rv_counting.proofs.OfJobs.{none_if_no_ok}

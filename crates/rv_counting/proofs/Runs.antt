@@ -1,9 +1,9 @@
 -- What is counted of a run in parts.
 use Rattle.std.proofs.Common.{◌≡◌, ◌∙◌, ◌+◌, ◌-◌, ◌<◌, ◌≤◌, ◌⊎◌, inl, inr, ℕ, zero, suc, Ok, Err, refl, sym, ap, arith}
 use Rattle.std.specs.Prelude.{◌==◌, ◌&&◌}
-use Rattle.rv_machine.specs.declared.ending.Ending.{Ending}
-use Rattle.rv_machine.specs.Run.{Ran, step_of, run_of, run_rest}
-use Rattle.rv_machine.specs.State.{State}
+use Rattle.rv_trace.specs.declared_ending.Ending.{Ending}
+use Rattle.rv_trace.specs.Run.{Ran, step_of, run_of, run_rest}
+use Rattle.rv_trace.specs.State.{State}
 use Rattle.rv_trace.proofs.Public.{after_none}
 use Rattle.rv_trace.specs.Trace.{state_after}
 use Rattle.rv_counting.specs.Coverage.{fetch_at, is_executed, takes, once_if, behind, executed_steps, executed_in_run, taken_in_run}

@@ -1,23 +1,23 @@
 -- What the state in which a job's run begins says of the job's image.
 use Rattle.std.proofs.Common.{◌≡◌, ◌∙◌, ◌%◌, ℕ, List, Option, Some, None, Result, Ok, Err, option_map, refl, sym, ap}
 use Rattle.std.specs.Result.{result_ok}
-use Rattle.rv_elf.proofs.Public.{entry_even}
-use Rattle.rv_elf.specs.declared.error.ImageError.{ImageError}
-use Rattle.rv_elf.specs.declared.image.Image.{Image}
-use Rattle.rv_elf.specs.Image.{image_of}
-use Rattle.rv_elf.specs.Loading.{map_check}
-use Rattle.rv_jobs.specs.Jobs.{console_path}
-use Rattle.rv_jobs.specs.Plans.{result_for_path}
-use Rattle.rv_jobs.specs.Reading.{◌>>=◌}
-use Rattle.rv_jobs.specs.declared.answers.Answer.{Answer}
-use Rattle.rv_jobs.specs.declared.kept.Kept.{Kept}
-use Rattle.rv_jobs.specs.declared.kept.Kept.TheVariants as kept
-use Rattle.rv_jobs.specs.declared_job.Job.{Job}
-use Rattle.rv_machine.specs.State.{State}
-use Rattle.rv_rows.specs.declared.outcome.Loadable.{Loadable}
-use Rattle.rv_rows.specs.declared_row.Refusal.{Refusal}
-use Rattle.rv_rows.specs.Outcome.{image_file_or_refusal, loadable_image, loaded_state, range_if_asked, reference_or_refusal, start_if_loadable, start_if_readable, start_of}
-use Rattle.rv_rows.specs.Rows.{content_if_read, start_in}
+use Rattle.rv_trace.proofs.Public.{entry_even}
+use Rattle.rv_trace.specs.declared_elf_error.ImageError.{ImageError}
+use Rattle.rv_trace.specs.declared_image.Image.{Image}
+use Rattle.rv_trace.specs.Image.{image_of}
+use Rattle.rv_trace.specs.Loading.{map_check}
+use Rattle.rv_trace.specs.Jobs.{console_path}
+use Rattle.rv_trace.specs.Plans.{result_for_path}
+use Rattle.rv_trace.specs.Reading.{◌>>=◌}
+use Rattle.rv_trace.specs.declared_answers.Answer.{Answer}
+use Rattle.rv_trace.specs.declared_kept.Kept.{Kept}
+use Rattle.rv_trace.specs.declared_kept.Kept.TheVariants as kept
+use Rattle.rv_trace.specs.declared_job.Job.{Job}
+use Rattle.rv_trace.specs.State.{State}
+use Rattle.rv_trace.specs.declared_outcome.Loadable.{Loadable}
+use Rattle.rv_fleet.specs.declared_row.Refusal.{Refusal}
+use Rattle.rv_trace.specs.Outcome.{image_file_or_refusal, loadable_image, loaded_state, range_if_asked, reference_or_refusal, start_if_loadable, start_if_readable, start_of}
+use Rattle.rv_trace.specs.Rows.{content_if_read, start_in}
 use Rattle.rv_trace.specs.Trace.{image_bytes}
 
 -- the bytes of the image were read, and the run begins at its entry

@@ -1,7 +1,7 @@
 -- The pieces of a batch.
 use Rattle.std.specs.Prelude.{◌≡◌, ◌<◌, ◌≤◌, ℕ, zero, suc, List, length, slice_index_or, slice_range}
-use Rattle.rv_jobs.specs.declared_job.Job.{Job}
-use Rattle.rv_jobs.specs.Plans.{Planned}
+use Rattle.rv_trace.specs.declared_job.Job.{Job}
+use Rattle.rv_trace.specs.Plans.{Planned}
 use Rattle.rv_trace.specs.Trace.{job_at}
 use Rattle.rv_counting.specs.declared.pieces.Piece.{Piece}
 

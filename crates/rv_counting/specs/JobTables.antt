@@ -9,13 +9,13 @@ use Rattle.rv_count_tables.specs.declared.table.AddressCounts.{AddressCounts}
 use Rattle.rv_count_tables.specs.declared.table.CountTable.{CountTable}
 use Rattle.rv_count_tables.specs.Sum.{IsSum}
 use Rattle.rv_count_tables.specs.Table.{executed_in, taken_in, path_in, name_in, arrivals_in, steps_in, least_path_of, IsTable}
-use Rattle.rv_jobs.specs.declared.answers.Answer.{Answer}
-use Rattle.rv_jobs.specs.declared_job.Job.{Job}
-use Rattle.rv_jobs.specs.Jobs.{single_job}
-use Rattle.rv_jobs.specs.Plans.{Planned}
-use Rattle.rv_machine.specs.State.{State}
-use Rattle.rv_rows.specs.Rows.{start_in}
-use Rattle.rv_text.specs.Printable.{printable_text}
+use Rattle.rv_trace.specs.declared_answers.Answer.{Answer}
+use Rattle.rv_trace.specs.declared_job.Job.{Job}
+use Rattle.rv_trace.specs.Jobs.{single_job}
+use Rattle.rv_trace.specs.Plans.{Planned}
+use Rattle.rv_trace.specs.State.{State}
+use Rattle.rv_trace.specs.Rows.{start_in}
+use Rattle.rv_count_tables.specs.Printable.{printable_text}
 use Rattle.rv_trace.specs.Trace.{image_bytes}
 use Rattle.rv_counting.specs.Coverage.{once_if, executed_in_run, taken_in_run}
 

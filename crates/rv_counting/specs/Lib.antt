@@ -6,3 +6,27 @@ pub mod JobTables
 pub mod RunCounts
 pub mod BatchPieces
 pub mod TableSums
+pub use Rattle.rv_fleet.specs.Choices
+pub use Rattle.rv_fleet.specs.Results
+pub use Rattle.rv_fleet.specs.declared_engine
+pub use Rattle.rv_fleet.specs.declared_listener
+pub use Rattle.rv_fleet.specs.declared_row
+pub use Rattle.rv_trace.specs.Bits
+pub use Rattle.rv_trace.specs.Code
+pub use Rattle.rv_trace.specs.Fetch
+pub use Rattle.rv_trace.specs.Image
+pub use Rattle.rv_trace.specs.Jobs
+pub use Rattle.rv_trace.specs.Machine
+pub use Rattle.rv_trace.specs.Plans
+pub use Rattle.rv_trace.specs.Rows
+pub use Rattle.rv_trace.specs.Run
+pub use Rattle.rv_trace.specs.State
+pub use Rattle.rv_trace.specs.SymbolSearch
+pub use Rattle.rv_trace.specs.Trace
+pub use Rattle.rv_trace.specs.declared.code as declared_code
+pub use Rattle.rv_trace.specs.declared_answers
+pub use Rattle.rv_trace.specs.declared_elf_error
+pub use Rattle.rv_trace.specs.declared_ending
+pub use Rattle.rv_trace.specs.declared_image
+pub use Rattle.rv_trace.specs.declared_instruction
+pub use Rattle.rv_trace.specs.declared_job

@@ -3,10 +3,10 @@ use Rattle.std.specs.Prelude.{◌≡◌, ◌+◌, ◌*◌, ◌^◌, ◌≤◌, �
 use Rattle.std.specs.List.{sum_by}
 use Rattle.std.specs.Result.{result_ok}
 use Rattle.rv_count_tables.specs.Table.{executed_at, taken_at}
-use Rattle.rv_jobs.specs.declared.answers.Answer.{Answer}
-use Rattle.rv_jobs.specs.declared_job.Job.{Job}
-use Rattle.rv_machine.specs.State.{State}
-use Rattle.rv_rows.specs.Rows.{start_in}
+use Rattle.rv_trace.specs.declared_answers.Answer.{Answer}
+use Rattle.rv_trace.specs.declared_job.Job.{Job}
+use Rattle.rv_trace.specs.State.{State}
+use Rattle.rv_trace.specs.Rows.{start_in}
 use Rattle.rv_counting.specs.declared.runs_counter.RunsCounter.{RunsCounter}
 use Rattle.rv_counting.specs.Blocks.{HasKnownPlaces}
 use Rattle.rv_counting.specs.Counters.{counts_of}

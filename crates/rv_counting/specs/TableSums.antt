@@ -5,8 +5,8 @@ use Rattle.rv_count_tables.specs.declared.sum.SumError.TheVariants.{OutOfMemory}
 use Rattle.rv_count_tables.specs.declared.table.CountTable.{CountTable}
 use Rattle.rv_count_tables.specs.Sum.{no_counts, HaveNoSum}
 use Rattle.rv_counting.specs.JobTables.{SumsTo}
-use Rattle.rv_engine.specs.declared.engine.RunError.{RunError}
-use Rattle.rv_engine.specs.declared.listener.Flow.{Flow}
+use Rattle.rv_fleet.specs.declared_engine.RunError.{RunError}
+use Rattle.rv_fleet.specs.declared_listener.Flow.{Flow}
 
 -- the sum of the tables that were added so far, and the error if the last one could not be added
 pub record Added : Type 0 where

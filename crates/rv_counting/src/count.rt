@@ -2,7 +2,7 @@
 
 ghost use Rattle.std.specs.Prelude.{◌^◌, ◌<◌, ℕ, IfOk, OnOk};
 ghost use Rattle.rv_count_tables.specs.Table.{executed_at};
-ghost use Rattle.rv_machine.specs.Machine.{state_of};
+ghost use Rattle.rv_trace.specs.Machine.{state_of};
 ghost use Rattle.rv_counting.specs.Blocks.{AreRight};
 ghost use Rattle.rv_counting.specs.Counters.{counts_of, HasCountedOn};
 ghost use Rattle.rv_counting.specs.Coverage.{AreCountsOf, EachTallied};
@@ -10,7 +10,7 @@ ghost use Rattle.rv_counting.specs.Tallies.{IsIndexed};
 
 use crate::counter::Counter;
 use rv_count_tables::Addresses;
-use rv_machine::Machine;
+use rv_trace::Machine;
 use std::alloc::{AllocError, Global};
 
 /// Runs a machine within a budget of steps, and returns the counts of the run. Takes longer than the run alone, and a lookup among the

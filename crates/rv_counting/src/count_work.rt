@@ -8,8 +8,7 @@ use crate::pieces::Piece;
 use crate::table_of_job::count_places;
 use crate::table_sum::HasTable;
 use rv_count_tables::CountTable;
-use rv_engine::{Work, WorkerState};
-use rv_fleet::Batch;
+use rv_fleet::{Batch, Work, WorkerState};
 use std::alloc::{AllocError, Global};
 use std::marker::Model;
 

@@ -34,3 +34,8 @@ pub use law::{
 pub use step::{begins_at_end, is_branch};
 pub use table_of_job::{digest_of, empty_table, images_of_one, shown_text};
 pub use table_sum::{HasTable, TableSum};
+
+// From the crates below: what this interface names, and what its callers need with it.
+pub use rv_count_tables::table_text;
+pub use rv_fleet::{Batch, Crew, Flow, Work, WorkerState, run_jobs};
+pub use rv_trace::{Bus, Code, CodeSymbols, Ending, Isa, JobImage, Machine, Map, Misaligned, Plan, Region, code_length, image_bytes, image_of_bytes, instr_of, is_long, read_image};

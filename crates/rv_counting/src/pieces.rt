@@ -4,7 +4,7 @@ ghost use Rattle.std.specs.Prelude.{◌≡◌, ◌+◌, ◌<◌, ◌≤◌, IfOk
 ghost use Rattle.rv_fleet.specs.Choices.{AreJobIndices};
 ghost use Rattle.rv_counting.specs.BatchPieces.{ArePieces, IsPiece};
 
-use rv_jobs::Plan;
+use rv_trace::Plan;
 use std::alloc::{AllocError, Global};
 
 /// Consecutive indices of a batch: from the first up to, but not including, the second.

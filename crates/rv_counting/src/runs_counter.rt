@@ -1,18 +1,16 @@
 //! The counts of several runs of one image.
 
 ghost use Rattle.std.specs.Prelude.{◌<◌, [], IfOk, List, OnOk, Some};
-ghost use Rattle.rv_jobs.specs.declared.answers.Answer.{Answer};
-ghost use Rattle.rv_jobs.specs.declared_job.Job.{Job as AJob};
-ghost use Rattle.rv_jobs.specs.Limits.{most_jobs};
-ghost use Rattle.rv_machine.specs.Machine.{state_of};
+ghost use Rattle.rv_trace.specs.declared_answers.Answer.{Answer};
+ghost use Rattle.rv_trace.specs.declared_job.Job.{Job as AJob};
+ghost use Rattle.rv_count_tables.specs.Limits.{most_jobs};
+ghost use Rattle.rv_trace.specs.Machine.{state_of};
 ghost use Rattle.rv_trace.specs.Trace.{job_at};
 ghost use Rattle.rv_counting.specs.RunCounts.{AddsJob, AddsRun, CanCountRuns, HasCountedJobs};
 
 use crate::count::follow_run;
 use crate::counter::Counter;
-use rv_machine::Machine;
-use rv_rows::{Spare, machine_at_reusing};
-use rv_trace::JobImage;
+use rv_trace::{JobImage, Machine, Spare, machine_at_reusing};
 use std::alloc::{AllocError, Global};
 
 /// The counts of some runs, and what the next run can use again: the decode cache and the indices of counts.

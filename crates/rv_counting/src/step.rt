@@ -1,14 +1,12 @@
 //! Single steps of a machine.
 
 ghost use Rattle.std.specs.Prelude.{◌≡◌};
-ghost use Rattle.rv_machine.specs.Machine.{state_of};
+ghost use Rattle.rv_trace.specs.Machine.{state_of};
 ghost use Rattle.rv_trace.specs.Code.{code_at, size_of_code};
 ghost use Rattle.rv_counting.specs.Blocks.{is_fence, is_straight};
 ghost use Rattle.rv_counting.specs.Coverage.{is_branch, is_branch_code, is_taken_code, begins_at_end, begins_at_fault, IsStepCount};
 
-use rv_isa::Op;
-use rv_machine::{Ending, FaultKind, Machine};
-use rv_trace::{Code, code_length, instr_of};
+use rv_trace::{Code, Ending, FaultKind, Machine, Op, code_length, instr_of};
 
 /// What a step adds to the counts: whether an instruction was executed, whether it completed, and whether it was a taken conditional
 /// branch.

@@ -9,9 +9,9 @@ ghost use Rattle.rv_count_tables.specs.Lines.{lacks};
 ghost use Rattle.rv_count_tables.specs.Sum.{no_counts};
 ghost use Rattle.rv_count_tables.specs.Table.{executed_at, IsTable};
 ghost use Rattle.rv_fleet.specs.Choices.{AreJobIndices};
-ghost use Rattle.rv_jobs.specs.declared_job.Job.{Job as AJob};
-ghost use Rattle.rv_jobs.specs.Limits.{most_jobs};
-ghost use Rattle.rv_text.specs.Printable.{printable_text};
+ghost use Rattle.rv_trace.specs.declared_job.Job.{Job as AJob};
+ghost use Rattle.rv_count_tables.specs.Limits.{most_jobs};
+ghost use Rattle.rv_count_tables.specs.Printable.{printable_text};
 ghost use Rattle.rv_trace.specs.Trace.{job_at};
 ghost use Rattle.rv_counting.specs.BatchPieces.{HaveOneImage};
 ghost use Rattle.rv_counting.specs.Counters.{counts_of};
@@ -20,12 +20,8 @@ ghost use Rattle.rv_counting.specs.RunCounts.{AddsJob, CanCountRuns};
 ghost use Rattle.rv_counting.specs.Tallies.{IsSorted};
 
 use crate::runs_counter::RunsCounter;
-use rv_call_tree::Spots;
-use rv_count_tables::{CountTable, FunctionNames, ImageCounts, Images};
-use rv_jobs::{Bytes, Plan, Text};
-use rv_rows::Spare;
-use rv_text::{printable_text_is_utf8_without_controls, push_printable_text};
-use rv_trace::{JobImage, image_bytes, image_of_bytes};
+use rv_count_tables::{Bytes, CountTable, FunctionNames, ImageCounts, Images, Spots, Text, printable_text_is_utf8_without_controls, push_printable_text};
+use rv_trace::{JobImage, Plan, Spare, image_bytes, image_of_bytes};
 use sha2::{Digest, Sha256};
 use std::alloc::{AllocError, Global};
 

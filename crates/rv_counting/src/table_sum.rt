@@ -6,7 +6,7 @@ ghost use Rattle.rv_counting.specs.TableSums.{sum_of_run};
 
 use crate::table_of_job::empty_table;
 use rv_count_tables::{CountTable, SumError, sum_of_tables};
-use rv_engine::{Flow, Listener, RunError};
+use rv_fleet::{Flow, Listener, RunError};
 use std::alloc::Global;
 use std::marker::Model;
 

@@ -1,8 +1,5 @@
 //! Counts of runs, by the lines of a table: a program, its budget and its counts.
-use rv_counting::count_run;
-use rv_isa::Isa;
-use rv_machine::Machine;
-use rv_memory::{Bus, Map, Misaligned, Region};
+use rv_counting::{Bus, Isa, Machine, Map, Misaligned, Region, count_run};
 use samples::{agree, cell_of, has_lines, numbers};
 use std::alloc::{AllocError, Global};
 use std::test::Fail;

@@ -1,12 +1,9 @@
 //! Tables of the jobs of a list, made by one thread and by several.
 ghost use Rattle.std.specs.Prelude.{◌<◌, ◌≤◌, IfOk, None};
 ghost use Rattle.std.specs.List.Sorted.{IsStrictlyIncreasing};
-ghost use Rattle.rv_fleet.specs.Choices.{AreJobIndices};
+ghost use Rattle.rv_counting.specs.Choices.{AreJobIndices};
 
-use rv_count_tables::table_text;
-use rv_counting::count_batch;
-use rv_engine::Crew;
-use rv_fleet::Batch;
+use rv_counting::{Batch, Crew, count_batch, table_text};
 use rv_jobs::{Plan, ReadError, Store, gather, read_jobs, selected_indices};
 use samples::{agree, cell_of, has_lines, sample_file};
 use std::alloc::{AllocError, Global};

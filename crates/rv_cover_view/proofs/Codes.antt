@@ -3,10 +3,10 @@ use Rattle.std.proofs.Common.{◌≡◌, ◌∙◌, ◌==◌, ◌+◌, ◌*◌, 
 use Rattle.std.specs.Prelude.{option_map}
 use Rattle.std.specs.Option.{option_map_or}
 use Rattle.std.proofs.lemmas.List.{length-drop}
-use Rattle.rv_isa.specs.Bits.{field}
-use Rattle.rv_trace.specs.declared.code.Code.{Code}
-use Rattle.rv_trace.specs.declared.code.Code.TheVariants.{Half, Word}
-use Rattle.rv_trace.specs.Code.{size_of_code}
+use Rattle.rv_counting.specs.Bits.{field}
+use Rattle.rv_counting.specs.declared_code.Code.{Code}
+use Rattle.rv_counting.specs.declared_code.Code.TheVariants.{Half, Word}
+use Rattle.rv_counting.specs.Code.{size_of_code}
 use Rattle.rv_cover_view.specs.Codes.{Placed, code_of_half, codes_from, front_code, front_half}
 
 -- a code has a byte at least, and no more than there are

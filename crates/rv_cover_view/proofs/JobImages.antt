@@ -5,15 +5,15 @@ use Rattle.std.specs.Option.{option_map_or}
 use Rattle.std.specs.Str.{bytes_eq}
 use Rattle.std.proofs.lemmas.List.{map-append, take_all, take_more}
 use Rattle.std.proofs.lemmas.List.Sums.{fold-append}
-use Rattle.rv_base.specs.Limits.{most_bytes}
+use Rattle.rv_count_tables.specs.Limits.{most_bytes}
 use Rattle.rv_counting.specs.JobTables.{jobs_at}
 use Rattle.rv_elf.specs.declared.image.Image.{Image}
-use Rattle.rv_jobs.specs.Jobs.{single_job}
-use Rattle.rv_jobs.specs.Plans.{Planned}
-use Rattle.rv_jobs.specs.declared.answers.Answer.{Answer}
-use Rattle.rv_jobs.specs.declared_job.Job.{Job}
-use Rattle.rv_rows.specs.Rows.{image_if_read}
-use Rattle.rv_trace.specs.Trace.{image_bytes, job_at}
+use Rattle.rv_counting.specs.Jobs.{single_job}
+use Rattle.rv_counting.specs.Plans.{Planned}
+use Rattle.rv_counting.specs.declared_answers.Answer.{Answer}
+use Rattle.rv_counting.specs.declared_job.Job.{Job}
+use Rattle.rv_counting.specs.Rows.{image_if_read}
+use Rattle.rv_counting.specs.Trace.{image_bytes, job_at}
 use Rattle.rv_cover_view.specs.JobImages.{AreSmall, FileImage, image_of_file, image_of_job, images_of, images_of_files, with_image, with_image_of}
 use Rattle.rv_cover_view.specs.declared.image_file.ImageFile.{ImageFile}
 

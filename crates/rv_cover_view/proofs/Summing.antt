@@ -9,8 +9,8 @@ use Rattle.rv_elf.specs.declared.function.Function.{Function}
 use Rattle.rv_elf.specs.Functions.{Named}
 use Rattle.rv_cover_view.specs.Functions.{address_of, bytes_of, code_bytes, named}
 use Rattle.rv_count_tables.specs.declared.table.AddressCounts.{AddressCounts}
-use Rattle.rv_trace.specs.declared.code.Code.{Code}
-use Rattle.rv_trace.specs.Code.{size_of_code}
+use Rattle.rv_counting.specs.declared_code.Code.{Code}
+use Rattle.rv_counting.specs.Code.{size_of_code}
 use Rattle.rv_cover_view.specs.declared.amounts.CodeAmounts.{CodeAmounts}
 use Rattle.rv_cover_view.specs.Codes.{Placed, codes_from, codes_of, front_code}
 use Rattle.rv_cover_view.specs.Cover.{amounts_of_codes}

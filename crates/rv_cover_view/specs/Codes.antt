@@ -2,10 +2,10 @@
 use Rattle.std.specs.Prelude.{◌+◌, ◌*◌, ◌%◌, ◌==◌, ℕ, zero, suc, if◌then◌else◌, List, [], ◌∷◌, Option, Some, None, drop, length, option_and_then, option_map}
 use Rattle.std.specs.Option.{option_map_or}
 use Rattle.rv_elf.specs.Functions.{Named}
-use Rattle.rv_isa.specs.Bits.{field}
-use Rattle.rv_trace.specs.declared.code.Code.{Code}
-use Rattle.rv_trace.specs.declared.code.Code.TheVariants.{Half, Word}
-use Rattle.rv_trace.specs.Code.{size_of_code}
+use Rattle.rv_counting.specs.Bits.{field}
+use Rattle.rv_counting.specs.declared_code.Code.{Code}
+use Rattle.rv_counting.specs.declared_code.Code.TheVariants.{Half, Word}
+use Rattle.rv_counting.specs.Code.{size_of_code}
 use Rattle.rv_cover_view.specs.Functions.{address_of, bytes_of}
 
 -- the little-endian halfword at the start of the bytes, or `None` if there are fewer than two

@@ -5,7 +5,7 @@ use Rattle.rv_count_tables.specs.declared.table.AddressCounts.{AddressCounts}
 use Rattle.rv_count_tables.specs.Table.{executed_at, taken_at}
 use Rattle.rv_counting.specs.Coverage.{is_branch_code}
 use Rattle.rv_elf.specs.Functions.{Named}
-use Rattle.rv_trace.specs.Code.{instr_of}
+use Rattle.rv_counting.specs.Code.{instr_of}
 use Rattle.rv_cover_view.specs.declared.amounts.Amounts.{Amounts}
 use Rattle.rv_cover_view.specs.declared.amounts.CodeAmounts.{CodeAmounts}
 use Rattle.rv_cover_view.specs.Codes.{Placed, codes_of}

@@ -7,7 +7,7 @@ use Rattle.sha2.specs.Sha256.{sha256}
 use Rattle.rv_count_tables.specs.declared.table.AddressCounts.{AddressCounts}
 use Rattle.rv_count_tables.specs.declared.table.CountTable.{CountTable}
 use Rattle.rv_count_tables.specs.declared.table.ImageCounts.{ImageCounts}
-use Rattle.rv_text.specs.Printable.{printable_text}
+use Rattle.rv_count_tables.specs.Printable.{printable_text}
 use Rattle.rv_cover_view.specs.JobImages.{FileImage}
 
 -- whether an image of a table has this digest

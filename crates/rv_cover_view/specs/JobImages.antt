@@ -3,13 +3,13 @@ use Rattle.std.specs.Prelude.{◌≤◌, ◌++◌, ℕ, if◌then◌else◌, Lis
 use Rattle.std.specs.List.{fold, list_any}
 use Rattle.std.specs.Option.{option_map_or}
 use Rattle.std.specs.Str.{bytes_eq}
-use Rattle.rv_base.specs.Limits.{most_bytes}
+use Rattle.rv_count_tables.specs.Limits.{most_bytes}
 use Rattle.rv_elf.specs.declared.image.Image.{Image}
-use Rattle.rv_jobs.specs.declared.answers.Answer.{Answer}
-use Rattle.rv_jobs.specs.declared_job.Job.{Job}
-use Rattle.rv_rows.specs.Rows.{image_if_read}
+use Rattle.rv_counting.specs.declared_answers.Answer.{Answer}
+use Rattle.rv_counting.specs.declared_job.Job.{Job}
+use Rattle.rv_counting.specs.Rows.{image_if_read}
 use Rattle.rv_cover_view.specs.declared.image_file.ImageFile.{ImageFile}
-use Rattle.rv_trace.specs.Trace.{image_bytes}
+use Rattle.rv_counting.specs.Trace.{image_bytes}
 
 -- an image file of a list: its path in the list, its bytes, and the image that they encode
 pub record FileImage : Type 0 where

@@ -3,7 +3,7 @@ use Rattle.std.specs.Prelude.{◌++◌, ◌-◌, ℕ, List, [], ◌∷◌, codes
 use Rattle.std.specs.Fmt.{decimal}
 use Rattle.std.specs.List.{flat_map}
 use Rattle.rv_elf.specs.Functions.{Named}
-use Rattle.rv_text.specs.Printable.{printable_name, printable_text}
+use Rattle.rv_count_tables.specs.Printable.{printable_name, printable_text}
 use Rattle.rv_cover_view.specs.declared.amounts.Amounts.{Amounts}
 use Rattle.rv_cover_view.specs.declared.amounts.CodeAmounts.{CodeAmounts}
 

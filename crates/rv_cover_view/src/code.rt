@@ -2,15 +2,13 @@
 
 ghost use Rattle.std.specs.Prelude.{◌≡◌, ◌≤◌, ◌∷◌, [], drop, length, true};
 ghost use Rattle.rv_count_tables.specs.Table.{rise_from};
-ghost use Rattle.rv_trace.specs.Code.{size_of_code};
+ghost use Rattle.rv_counting.specs.Code.{size_of_code};
 ghost use Rattle.rv_cover_view.specs.Codes.{codes_from, front_code, front_half};
 ghost use Rattle.rv_cover_view.specs.Cover.{amounts_of_codes};
 
 use crate::amounts::CodeAmounts;
 use rv_count_tables::{AddressCounts, counts_at};
-use rv_counting::is_branch;
-use rv_isa::is_long;
-use rv_trace::{Code, code_length, instr_of};
+use rv_counting::{Code, code_length, instr_of, is_branch, is_long};
 
 /// Returns the coverage of the encodings in `code`, whose first byte is at `address`.
 pub(crate) fn amounts_of_code(address: u32, code: &[u8], counts: &[AddressCounts]) -> CodeAmounts

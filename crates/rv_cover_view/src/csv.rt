@@ -5,7 +5,7 @@ ghost use Rattle.std.specs.List.{list_any};
 ghost use Rattle.rv_cover_view.specs.Csv.{csv_branches, csv_field, csv_functions, csv_head, csv_instructions, csv_row, is_special, with_quotes_twice};
 
 use crate::amounts::{Amounts, CodeAmounts};
-use rv_text::{Span, push_spans, push_text};
+use rv_count_tables::{Span, push_spans, push_text};
 use std::alloc::AllocError;
 
 /// Appends the CSV header, which names the columns.

@@ -9,8 +9,7 @@ ghost use Rattle.rv_cover_view.specs.ImageCounts.{counted_image, counts_of, is_o
 ghost use Rattle.rv_cover_view.specs.JobImages.{image_of_file, images_of_files};
 
 use crate::image_file::ImageFile;
-use rv_count_tables::{AddressCounts, CountTable, ImageCounts};
-use rv_text::push_printable_text;
+use rv_count_tables::{AddressCounts, CountTable, ImageCounts, push_printable_text};
 use sha2::{Digest, Sha256};
 use std::alloc::{AllocError, Global};
 

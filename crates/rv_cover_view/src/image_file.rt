@@ -1,11 +1,11 @@
 //! A job's image, with its file.
 
 ghost use Rattle.std.specs.Prelude.{◌≡◌, ◌≤◌, Ok, length};
-ghost use Rattle.rv_base.specs.Limits.{most_bytes};
+ghost use Rattle.rv_count_tables.specs.Limits.{most_bytes};
 ghost use Rattle.rv_elf.specs.Image.{image_of};
 
+use rv_counting::Isa;
 use rv_elf::Image;
-use rv_isa::Isa;
 
 /// A job's image, with its file.
 #[derive(Drop)]

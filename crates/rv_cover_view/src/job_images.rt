@@ -4,14 +4,13 @@ ghost use Rattle.std.specs.Prelude.{◌≡◌, ◌<◌, IfOk, IfSome, Ok, OnOk, 
 ghost use Rattle.std.specs.List.{list_any};
 ghost use Rattle.std.specs.Str.{bytes_eq};
 ghost use Rattle.rv_counting.specs.JobTables.{jobs_at};
-ghost use Rattle.rv_fleet.specs.Choices.{AreJobIndices};
-ghost use Rattle.rv_jobs.specs.declared_job.Job.{Job as AJob};
-ghost use Rattle.rv_trace.specs.Trace.{job_at};
+ghost use Rattle.rv_counting.specs.Choices.{AreJobIndices};
+ghost use Rattle.rv_counting.specs.declared_job.Job.{Job as AJob};
+ghost use Rattle.rv_counting.specs.Trace.{job_at};
 ghost use Rattle.rv_cover_view.specs.JobImages.{AreSmall, image_of_file, image_of_job, images_of, images_of_files, with_image, with_image_of};
 
 use crate::image_file::ImageFile;
-use rv_jobs::Plan;
-use rv_trace::{image_bytes, image_of_bytes};
+use rv_counting::{Plan, image_bytes, image_of_bytes};
 use std::alloc::{AllocError, Global};
 
 /// Returns the images of the jobs at these indices, in order. Images with equal bytes are returned once, with the path that the first of

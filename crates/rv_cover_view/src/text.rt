@@ -5,8 +5,8 @@ ghost use Rattle.rv_cover_view.specs.Functions.{named};
 ghost use Rattle.rv_cover_view.specs.Text.{code_columns, cover_head, function_columns, further_names, image_line, never_run_line, right};
 
 use crate::amounts::{Amounts, CodeAmounts};
+use rv_count_tables::{Span, push_number, push_spans, push_text};
 use rv_elf::Function;
-use rv_text::{Span, push_number, push_spans, push_text};
 use std::alloc::{AllocError, Global};
 
 /// Appends the heading of the coverage table for people.

@@ -5,7 +5,7 @@ use Rattle.std.specs.Fmt.{decimal}
 use Rattle.std.specs.List.{filter, flat_map}
 use Rattle.rv_rows.specs.declared_row.Row.{Row}
 use Rattle.rv_rows.specs.Report.{line}
-use Rattle.rv_text.specs.Words.{count_text}
+use Rattle.rv_rows.specs.Words.{count_text}
 use Rattle.rv_diff.specs.declared.diff.Differing.{Differing}
 use Rattle.rv_diff.specs.declared.diff.StepSums.{StepSums}
 use Rattle.rv_diff.specs.declared.change.Compare.{Compare}

@@ -4,13 +4,13 @@ use Rattle.std.specs.Prelude.{if◌then◌else◌, codes, drop, length, position
 use Rattle.std.specs.Fmt.{decimal}
 use Rattle.std.specs.List.{zip}
 use Rattle.rv_rows.specs.Faults.{fault_name}
-use Rattle.rv_text.specs.Printable.{printable_value}
+use Rattle.rv_rows.specs.Printable.{printable_value}
 use Rattle.rv_rows.specs.declared_row.Row.{Row}
 use Rattle.rv_rows.specs.declared_row.RowEnd.{RowEnd}
 use Rattle.rv_rows.specs.declared_row.RowEnd.TheVariants as ending
 use Rattle.rv_rows.specs.declared_row.Verdict.{Verdict}
 use Rattle.rv_rows.specs.Report.{line, refusal_name, verdict_name}
-use Rattle.rv_text.specs.Words.{count_text, exit_code_text, word_digits}
+use Rattle.rv_rows.specs.Words.{count_text, exit_code_text, word_digits}
 use Rattle.rv_rows.specs.Verdict.{are_same_signatures}
 use Rattle.rv_diff.specs.declared.change.Compare.{Compare}
 use Rattle.rv_diff.specs.declared.change.Compare.TheVariants.{Outcomes, Slower, Steps}

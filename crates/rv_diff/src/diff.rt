@@ -11,8 +11,7 @@ ghost use Rattle.rv_diff.specs.Diff.{rows_in_both, sums_words, total_steps};
 use crate::by_name::ByName;
 use crate::change::{Change, Compare, change_of};
 use crate::differences::push_change_lines;
-use rv_rows::Row;
-use rv_text::{Span, push_spans, push_text};
+use rv_rows::{Row, Span, push_spans, push_text};
 use std::alloc::{AllocError, Global};
 
 /// How many jobs of two reports differ.

@@ -9,8 +9,7 @@ use crate::change::{
     Compare, agree_in_steps, are_same_endings, are_same_verdicts, have_same_console,
 };
 use crate::signature_line::push_signature_change;
-use rv_rows::{Row, RowEnd};
-use rv_text::{Span, push_spans, push_text, tail_from};
+use rv_rows::{Row, RowEnd, Span, push_spans, push_text, tail_from};
 use std::alloc::AllocError;
 
 /// Appends a line for each field in which two rows differ.

@@ -5,8 +5,7 @@ ghost use Rattle.rv_rows.specs.Report.{line};
 ghost use Rattle.rv_rows.specs.Verdict.{are_same_signatures};
 ghost use Rattle.rv_diff.specs.Differences.{change_begin, change_line, first_differing_index, signature_words, word_change_words};
 
-use rv_rows::{Row, Words, are_same_signatures};
-use rv_text::{Span, push_spans};
+use rv_rows::{Row, Span, Words, are_same_signatures, push_spans};
 use std::alloc::AllocError;
 
 /// Appends the line for the signatures, if they differ: the first word that differs, or the sizes if one signature is missing or a prefix

@@ -1,1 +1,2 @@
 mod Hearing
+pub mod Public

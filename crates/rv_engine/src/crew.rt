@@ -1,6 +1,6 @@
 //! The threads that run jobs.
 
-ghost use Rattle.rv_jobs.specs.Limits.{most_group, most_workers};
+ghost use Rattle.rv_rows.specs.Limits.{most_group, most_workers};
 ghost use Rattle.std.specs.Prelude.{◌≡◌, ◌<◌, ◌≤◌};
 
 use std::alloc::Global;

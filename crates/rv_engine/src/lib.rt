@@ -23,3 +23,6 @@ pub use in_order::RunSpec;
 pub use listener::{Flow, Listener, Observer};
 pub use work::Work;
 pub use worker_state::WorkerState;
+
+// From the crates below: what this interface names, and what its callers need with it.
+pub use rv_claims::{Claims, Pass, SplitError};

@@ -1,7 +1,7 @@
 //! The chunks in which jobs are run.
 
 ghost use Rattle.std.specs.Prelude.{◌≡◌, ◌*◌, ◌<◌, ◌≤◌, IfOk, OnOk};
-ghost use Rattle.rv_jobs.specs.Limits.{most_group, most_jobs};
+ghost use Rattle.rv_rows.specs.Limits.{most_group, most_jobs};
 ghost use Rattle.rv_engine.specs.Results.{IsChunk, chunk_count};
 
 use crate::work::Work;

@@ -6,7 +6,7 @@ use std::alloc::{AllocError, Global};
 /// Computes a result for each job; jobs are numbered from 0.
 pub trait Work<H> {
     ghost use Rattle.std.specs.Prelude.{◌≡◌, ◌<◌, ◌≤◌, ℕ, IfOk, OnOk};
-    ghost use Rattle.rv_jobs.specs.Limits.{most_jobs};
+    ghost use Rattle.rv_rows.specs.Limits.{most_jobs};
     ghost use Rattle.rv_engine.specs.declared.worker_state.WorkerState.{WorkerState};
 
     // The number of jobs.

@@ -1,6 +1,6 @@
 //! The loop of a worker: draws chunks, computes their results and delivers them.
 
-ghost use Rattle.rv_jobs.specs.Limits.{most_group};
+ghost use Rattle.rv_rows.specs.Limits.{most_group};
 ghost use Rattle.std.specs.Prelude.{◌≡◌, ◌<◌, ◌≤◌};
 
 use crate::in_order::{InOrder, RunSpec};

@@ -1,6 +1,6 @@
 //! What a worker carries over from one job to the next.
 
-ghost use Rattle.rv_jobs.specs.Plans.{Planned};
+ghost use Rattle.rv_rows.specs.Plans.{Planned};
 ghost use Rattle.rv_rows.specs.Recent.{AreOutcomes};
 
 use rv_rows::{Recent, Spare};

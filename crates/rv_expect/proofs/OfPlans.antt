@@ -2,8 +2,8 @@
 use Rattle.std.proofs.Common.{◌≡◌, ◌==◌, true, length, refl, sym, ap, subst, Option, Some, None}
 use Rattle.std.specs.Prelude.{option_and_then, option_map, slice_get}
 use Rattle.std.specs.List.{AllByRecursion}
-use Rattle.rv_jobs.specs.declared_job.Job.{Job}
-use Rattle.rv_jobs.specs.Plans.{Planned}
+use Rattle.rv_rows.specs.declared_job.Job.{Job}
+use Rattle.rv_rows.specs.Plans.{Planned}
 use Rattle.rv_rows.specs.declared.outcome.Outcome.{Outcome}
 use Rattle.rv_rows.specs.Rows.{expected_console_bytes, named_job_outcome, outcome_in, signature_reference_bytes, row_of}
 use Rattle.rv_rows.specs.Verdict.{did_run, verdict_of}

@@ -4,13 +4,13 @@ use Rattle.std.proofs.Common.{refl, sym, ap, arith, Option, Some, None}
 use Rattle.std.specs.Option.{option_or}
 use Rattle.std.specs.Prelude.{is_some, option_map, option_to_list, ◌||◌}
 use Rattle.std.specs.List.{AllByRecursion, flat_map, list_any}
-use Rattle.rv_jobs.specs.declared_job.ExpectedEnd.{ExpectedEnd}
+use Rattle.rv_rows.specs.declared_job.ExpectedEnd.{ExpectedEnd}
 use Rattle.std.specs.Str.{bytes_eq}
 use Rattle.std.proofs.lemmas.Bool.{ne_eqb}
 use Rattle.std.proofs.lemmas.List.Folds.{list_any-append}
 use Rattle.std.proofs.lemmas.Slice.Eq.{bytes_eq-Decides}
-use Rattle.rv_jobs.specs.declared_job.ExpectedConsole.{ExpectedConsole}
-use Rattle.rv_jobs.specs.declared_job.ExpectedConsole.TheVariants.{Text, File}
+use Rattle.rv_rows.specs.declared_job.ExpectedConsole.{ExpectedConsole}
+use Rattle.rv_rows.specs.declared_job.ExpectedConsole.TheVariants.{Text, File}
 use Rattle.rv_rows.specs.declared.outcome.Outcome.{Outcome}
 use Rattle.rv_rows.specs.declared_row.Row.{Row}
 use Rattle.rv_rows.specs.declared_row.RowEnd.{RowEnd}

@@ -1,6 +1,6 @@
 -- A job's row, with the data that it is compared with.
 use Rattle.std.specs.Prelude.{ℕ, List, Option, option_map}
-use Rattle.rv_jobs.specs.declared_job.Job.{Job}
+use Rattle.rv_rows.specs.declared_job.Job.{Job}
 use Rattle.rv_rows.specs.declared_row.Row.{Row}
 use Rattle.rv_expect.specs.declared.comparison.Comparison.{Comparison}
 

@@ -3,8 +3,8 @@ use Rattle.std.specs.Prelude.{◌≡◌, ◌≢◌, ◌==◌, ◌+◌, ◌<◌, 
 use Rattle.std.specs.Prelude.{slice_index, Option, Some, None, option_map}
 use Rattle.std.specs.Prelude.{if◌then◌else◌}
 use Rattle.std.specs.Option.{option_or}
-use Rattle.rv_jobs.specs.declared_job.ExpectedConsole.{ExpectedConsole}
-use Rattle.rv_jobs.specs.declared_job.ExpectedConsole.TheVariants.{Text, File}
+use Rattle.rv_rows.specs.declared_job.ExpectedConsole.{ExpectedConsole}
+use Rattle.rv_rows.specs.declared_job.ExpectedConsole.TheVariants.{Text, File}
 use Rattle.rv_rows.specs.declared_row.Row.{Row}
 use Rattle.rv_rows.specs.Verdict.{are_alike_endings}
 use Rattle.rv_expect.specs.declared.difference.Difference.{Difference}

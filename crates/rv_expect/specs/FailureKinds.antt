@@ -3,10 +3,10 @@
 use Rattle.std.specs.Prelude.{◌==◌, ◌+◌, ◌-◌, ℕ, Bool, true, false, List, [], ◌∷◌, if◌then◌else◌}
 use Rattle.std.specs.Prelude.{Option, Some, None, length, option_to_list, slice_get}
 use Rattle.std.specs.List.{flat_map, zip}
-use Rattle.rv_machine.specs.declared.ending.FaultKind.{FaultKind}
-use Rattle.rv_machine.specs.Faults.{fault_kinds}
-use Rattle.rv_jobs.specs.Plans.{Planned}
-use Rattle.rv_jobs.specs.declared_job.Job.{Job}
+use Rattle.rv_rows.specs.declared_ending.FaultKind.{FaultKind}
+use Rattle.rv_rows.specs.Faults.{fault_kinds}
+use Rattle.rv_rows.specs.Plans.{Planned}
+use Rattle.rv_rows.specs.declared_job.Job.{Job}
 use Rattle.rv_rows.specs.declared_row.Row.{Row}
 use Rattle.rv_rows.specs.declared_row.RowEnd.{RowEnd}
 use Rattle.rv_rows.specs.declared_row.RowEnd.TheVariants as ending

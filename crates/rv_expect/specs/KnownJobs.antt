@@ -4,7 +4,7 @@ use Rattle.std.specs.Prelude.{if◌then◌else◌, is_some, length, map, option_
 use Rattle.std.specs.Borrow.{Bor}
 use Rattle.std.specs.List.{filter, find, list_any}
 use Rattle.std.specs.Str.{bytes_eq}
-use Rattle.rv_base.specs.Names.{is_name}
+use Rattle.rv_rows.specs.Names.{is_name}
 use Rattle.rv_expect.specs.declared.known_jobs.KnownJob.{KnownJob}
 use Rattle.rv_expect.specs.declared.known_jobs.KnownFault.{KnownFault}
 use Rattle.rv_expect.specs.declared.known_jobs.KnownFaultKind.{KnownFaultKind}

@@ -12,3 +12,7 @@ pub mod FailureKinds
 pub mod MetExpectations
 pub mod Problem
 pub mod TwoEnds
+pub use Rattle.rv_rows.specs.declared_job
+pub use Rattle.rv_rows.specs.declared_partial
+pub use Rattle.rv_rows.specs.declared_row
+pub use Rattle.rv_rows.specs.declared_saved

@@ -5,7 +5,7 @@ use Rattle.rv_expect.specs.declared.met_expectations.Expectation.{Expectation}
 use Rattle.rv_expect.specs.declared.met_expectations.Expectation.TheVariants as expectation
 use Rattle.rv_expect.specs.declared.unmet.Unmet.{Unmet}
 use Rattle.rv_expect.specs.declared.unmet.Unmet.TheVariants as unmet
-use Rattle.rv_jobs.specs.declared_job.Job.{Job}
+use Rattle.rv_rows.specs.declared_job.Job.{Job}
 use Rattle.rv_rows.specs.Verdict.{expects_anything}
 
 -- whether a job has an expectation of this kind; a job without any other has the default one, exit code 0

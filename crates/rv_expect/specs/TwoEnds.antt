@@ -1,6 +1,6 @@
 -- Jobs that expect two different ends.
 use Rattle.std.specs.Prelude.{◌&&◌, Bool, is_some}
-use Rattle.rv_jobs.specs.declared_job.Job.{Job}
+use Rattle.rv_rows.specs.declared_job.Job.{Job}
 
 -- whether a job expects an exit code and also another end than an exit
 abbrev pub expects_two_ends : Job → Bool

@@ -1,7 +1,7 @@
 -- The expectations of a job that its run does not meet.
 use Rattle.std.specs.Prelude.{ℕ, List, [], ◌++◌, Option, Some, None, option_map, option_to_list}
 use Rattle.std.specs.Prelude.{if◌then◌else◌}
-use Rattle.rv_jobs.specs.declared_job.Job.{Job}
+use Rattle.rv_rows.specs.declared_job.Job.{Job}
 use Rattle.rv_rows.specs.declared_row.Row.{Row}
 use Rattle.rv_rows.specs.declared_row.RowEnd.{RowEnd}
 use Rattle.rv_rows.specs.Verdict.{has_expected_end, has_expected_exit, expects_anything, did_run}

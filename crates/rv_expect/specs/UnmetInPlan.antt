@@ -1,7 +1,7 @@
 -- The expectations that the run of a plan's job does not meet.
 use Rattle.std.specs.Prelude.{List, Option, option_and_then, option_map, slice_get}
-use Rattle.rv_jobs.specs.declared_job.Job.{Job}
-use Rattle.rv_jobs.specs.Plans.{Planned}
+use Rattle.rv_rows.specs.declared_job.Job.{Job}
+use Rattle.rv_rows.specs.Plans.{Planned}
 use Rattle.rv_rows.specs.declared_row.Row.{Row}
 use Rattle.rv_rows.specs.Rows.{expected_console_bytes, signature_reference_bytes, row_of}
 use Rattle.rv_expect.specs.Comparisons.{Sides}

@@ -1,7 +1,6 @@
 //! A job's row, with the data that it is compared with.
 
-use rv_jobs::Job;
-use rv_rows::Row;
+use rv_rows::{Job, Row};
 
 /// A job and its row, with the data that the row is compared with.
 #[derive(Clone, Copy)]

@@ -4,8 +4,7 @@ ghost use Rattle.std.specs.Prelude.{◌≡◌, option_map};
 ghost use Rattle.rv_expect.specs.Difference.{console_difference, difference_of_runs, first_difference};
 ghost use Rattle.rv_expect.specs.Difference.{same_as_difference, signatures_difference};
 
-use rv_jobs::ExpectedConsole;
-use rv_rows::{Row, Words, are_alike_endings};
+use rv_rows::{ExpectedConsole, Row, Words, are_alike_endings};
 
 /// The first difference between two sequences.
 #[derive(Clone, Copy)]

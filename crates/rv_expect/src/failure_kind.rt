@@ -1,13 +1,12 @@
 //! The kinds of failures.
 
 ghost use Rattle.std.specs.Prelude.{◌≡◌, slice_get};
-ghost use Rattle.rv_machine.specs.Faults.{fault_kinds};
+ghost use Rattle.rv_rows.specs.Faults.{fault_kinds};
 ghost use Rattle.rv_expect.specs.FailureKinds.{failure_kind_at, failure_kind_of_end, failure_kind_of_first, failure_kind_of_unmet, is_same_failure_kind};
 ghost use Rattle.rv_expect.specs.FailureKinds.{kind_after_budget, kind_after_faults};
 
 use crate::unmet::Unmet;
-use rv_machine::FaultKind;
-use rv_rows::RowEnd;
+use rv_rows::{FaultKind, RowEnd};
 
 /// The kind of a failed job: how it ended, without the exit code, address or value; or, if it ended as expected, the first other
 /// expectation that its run does not meet.

@@ -1,7 +1,7 @@
 //! The failures among rows, each by its kind.
 
 ghost use Rattle.std.specs.Prelude.{◌≡◌, ◌++◌, ◌<◌, ◌≤◌, IfOk, OnOk, length, option_to_list, slice_index_or};
-ghost use Rattle.rv_jobs.specs.declared_job.Job.{Job as AJob};
+ghost use Rattle.rv_rows.specs.declared_job.Job.{Job as AJob};
 ghost use Rattle.rv_expect.specs.FailureKinds.{failure_by_end, failure_in_plan, failure_kind_of_unmet, failures_by_end, failures_in_plan};
 ghost use Rattle.rv_expect.specs.FailureKinds.{sides_without_named_job};
 ghost use Rattle.rv_expect.specs.Judgement.{judging_of};
@@ -11,8 +11,7 @@ use crate::comparison::Comparison;
 use crate::failure_kind::FailureKind;
 use crate::judgement::Judge;
 use crate::unmet::unmet_expectations;
-use rv_jobs::Plan;
-use rv_rows::{Row, expected_console_bytes, signature_reference_bytes};
+use rv_rows::{Plan, Row, expected_console_bytes, signature_reference_bytes};
 use std::alloc::{AllocError, Global};
 
 /// Returns the kind of failure of each row that counts as a failure, in order. It is the way the job ended, since a report has no

@@ -3,7 +3,7 @@
 ghost use Rattle.std.specs.Prelude.{◌≡◌, option_map};
 ghost use Rattle.rv_expect.specs.KnownJobs.{known_job_of, reason_of};
 
-use rv_base::{Bytes, Sequence, Text};
+use rv_rows::{Bytes, Sequence, Text};
 
 /// A job that is known to fail.
 #[derive(Debug, Drop)]

@@ -9,7 +9,7 @@ ghost use Rattle.rv_expect.specs.KnownLines.{borrowed_lines};
 
 use crate::known_jobs::{KnownFault, KnownFaultKind, KnownJob, known_job_of};
 use crate::known_lines::{lines_of, name_text, reason_text};
-use rv_base::{Bytes, Sequence, is_name};
+use rv_rows::{Bytes, Sequence, is_name};
 use std::alloc::{AllocError, Global};
 
 /// Parses a list of known failures: one job name per line, then the reason after a `#`. Lines without a name are ignored. `jobs` are the

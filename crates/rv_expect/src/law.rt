@@ -2,8 +2,8 @@
 
 ghost use Rattle.std.specs.Prelude.{◌≡◌, ◌==◌, ℕ, List, IsTrue, MatchOption, length};
 ghost use Rattle.std.specs.List.{AllByRecursion, flat_map};
-ghost use Rattle.rv_jobs.specs.declared_job.Job.{Job};
-ghost use Rattle.rv_jobs.specs.Plans.{Planned};
+ghost use Rattle.rv_rows.specs.declared_job.Job.{Job};
+ghost use Rattle.rv_rows.specs.Plans.{Planned};
 ghost use Rattle.rv_rows.specs.Report.{word_line};
 ghost use Rattle.rv_rows.specs.Rows.{expected_console_bytes, named_job_outcome, outcome_in, signature_reference_bytes, row_of};
 ghost use Rattle.rv_rows.specs.Verdict.{did_run};

@@ -46,3 +46,6 @@ pub use reference::signature_words_or_empty;
 pub use same_as_job::row_of_same_as_job;
 pub use two_ends::{expects_two_ends, two_ends_fail};
 pub use unmet::{Unmet, unmet_expectations};
+
+// From the crates below: what this interface names, and what its callers need with it.
+pub use rv_rows::{Job, Row, Shard};

@@ -5,8 +5,7 @@ ghost use Rattle.std.specs.List.{list_any};
 ghost use Rattle.rv_expect.specs.MetExpectations.{job_expects, is_expectation_met, is_unmet_of_kind};
 
 use crate::unmet::Unmet;
-use rv_jobs::Job;
-use rv_rows::expects_anything;
+use rv_rows::{Job, expects_anything};
 
 /// The kinds of expectations that a job can have.
 #[derive(Clone, Copy)]

@@ -5,8 +5,7 @@ ghost use Rattle.rv_expect.specs.Reference.{difference_from_reference, read_refe
 ghost use Rattle.rv_expect.specs.Reference.{word_of_line, signature_words_or_empty};
 
 use crate::difference::{Difference, SignatureDifference, first_word_difference};
-use rv_jobs::Text;
-use rv_rows::{LINE, Words, word_line};
+use rv_rows::{LINE, Text, Words, word_line};
 use std::alloc::{AllocError, Global};
 
 /// The text of an expected signature, as it was read.

@@ -3,8 +3,7 @@
 ghost use Rattle.std.specs.Prelude.{◌≡◌, ◌<◌, IfOk, IfSome, length};
 ghost use Rattle.rv_expect.specs.UnmetInPlan.{row_of_same_as_job};
 
-use rv_jobs::{Job, Plan};
-use rv_rows::{Row, row_at};
+use rv_rows::{Job, Plan, Row, row_at};
 use std::alloc::{AllocError, Global};
 
 /// Returns the row of the job that a job's `same_as` names, or `None` if it names none. The named job is run once more.

@@ -1,13 +1,13 @@
 //! Jobs that can never pass because they expect two ends.
 
 ghost use Rattle.std.specs.Prelude.{◌≡◌, List, Option, IsTrue, ℕ};
-ghost use Rattle.rv_jobs.specs.declared_job.Job.{Job};
+ghost use Rattle.rv_rows.specs.declared_job.Job.{Job};
 ghost use Rattle.rv_rows.specs.declared.outcome.Outcome.{Outcome};
 ghost use Rattle.rv_rows.specs.declared_row.Verdict.TheVariants.{Fail};
 ghost use Rattle.rv_rows.specs.Verdict.{verdict_of};
 ghost use Rattle.rv_expect.specs.TwoEnds.{expects_two_ends};
 
-use rv_jobs::Job;
+use rv_rows::Job;
 
 /// Whether a job expects an exit code and also another end than an exit.
 pub fn expects_two_ends(job: &Job) -> bool

@@ -10,8 +10,7 @@ use crate::difference::{
     Difference, SameDifference, SignatureDifference, console_difference, same_as_difference,
 };
 use crate::reference::signature_difference;
-use rv_jobs::Job;
-use rv_rows::{Row, RowEnd, did_run, expects_anything, has_expected_end, has_expected_exit};
+use rv_rows::{Job, Row, RowEnd, did_run, expects_anything, has_expected_end, has_expected_exit};
 use std::alloc::{AllocError, Global};
 
 /// An expectation of a job that its run does not meet, with the first difference.

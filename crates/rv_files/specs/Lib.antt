@@ -4,3 +4,8 @@ pub mod Saving
 pub mod CommittedFiles
 pub mod MemoryFiles
 pub mod IoErrors
+pub use Rattle.rv_base.specs.Counts
+pub use Rattle.rv_base.specs.Files
+pub use Rattle.rv_base.specs.Limits
+pub use Rattle.rv_base.specs.Names
+pub use Rattle.rv_base.specs.Sinks

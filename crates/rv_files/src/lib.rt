@@ -42,3 +42,6 @@ pub use recording_store::{RecordingStore, UnreadablePath};
 pub use roots::resolved_path;
 pub use streams::StreamSink;
 pub use system_outputs::SystemOutputs;
+
+// From the crates below: what this interface names, and what its callers need with it.
+pub use rv_base::{Bytes, ReadError, Sink, SinkFailed, Store, Text, is_name, limits, put_all};

@@ -8,7 +8,7 @@ use Rattle.rv_engine.specs.declared.listener.Flow.TheVariants.{GoOn}
 use Rattle.rv_engine.specs.Results.{IsRunDelivered}
 use Rattle.rv_fleet.specs.declared.batch.Batch.{Batch}
 use Rattle.rv_fleet.specs.Batches.{batch_rows, row_of_number}
-use Rattle.rv_jobs.specs.Jobs.{single_job}
+use Rattle.rv_rows.specs.Jobs.{single_job}
 use Rattle.rv_rows.specs.declared_row.Row.{Row}
 use Rattle.rv_rows.specs.Rows.{row_of, rows_at}
 

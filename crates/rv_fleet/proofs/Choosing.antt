@@ -2,12 +2,12 @@
 use Rattle.std.proofs.Common.{◌≡◌, ℕ, zero, suc, ◌<◌, ◌≤◌, List, [], ◌∷◌, length, get_or, arith, map, sym, ap, subst}
 use Rattle.std.proofs.Common.{◌∙◌, ◌+◌}
 use Rattle.std.specs.List.{All}
-use Rattle.rv_jobs.specs.Plans.{Planned}
+use Rattle.rv_rows.specs.Plans.{Planned}
 use Rattle.rv_fleet.specs.Choices.{AreJobIndices}
 use Rattle.rv_rows.specs.Rows.{rows_at}
 use Rattle.std.specs.List.Sorted.{IsStrictlyIncreasing}
 use Rattle.rv_rows.specs.declared_row.Row.{Row}
-use Rattle.rv_jobs.specs.Jobs.{single_job}
+use Rattle.rv_rows.specs.Jobs.{single_job}
 use Rattle.std.proofs.lemmas.List.{length-map, get_or-map, ext_get_or}
 use Rattle.rv_rows.specs.Rows.{row_of, rows_of}
 

@@ -6,8 +6,8 @@ use Rattle.std.specs.List.{filter}
 use Rattle.std.proofs.lemmas.Bool.{ltb-true}
 use Rattle.std.proofs.lemmas.List.{length-map}
 use Rattle.std.proofs.lemmas.List.Elements.{All-head, All-map, All-weaker, All-same, filter_passes}
-use Rattle.rv_jobs.specs.Jobs.{single_job}
-use Rattle.rv_jobs.specs.Plans.{Planned}
+use Rattle.rv_rows.specs.Jobs.{single_job}
+use Rattle.rv_rows.specs.Plans.{Planned}
 use Rattle.rv_rows.specs.Rows.{rows_at}
 use Rattle.rv_fleet.specs.declared.piece.Piece.{Piece}
 use Rattle.rv_rows.specs.declared_row.Row.{Row}
@@ -15,8 +15,8 @@ use Rattle.rv_fleet.specs.declared.pieces.Pieces.{Pieces}
 use Rattle.rv_fleet.specs.declared.worker_promise.WorkerResult.{WorkerResult}
 use Rattle.rv_fleet.specs.Batches.{batch_rows}
 use Rattle.rv_fleet.specs.Collected.{IsPiece, ArePieces}
-use Rattle.rv_claims.specs.Draws.{numbers}
-use Rattle.rv_claims.specs.Passes.{SharedDraw}
+use Rattle.rv_engine.specs.Draws.{numbers}
+use Rattle.rv_engine.specs.Passes.{SharedDraw}
 use Rattle.rv_fleet.specs.Pieces.{count_of_pieces, numbered_piece, piece_count_of_rows}
 use Rattle.rv_fleet.specs.Promised.{KeepsPromise}
 use Rattle.rv_rows.specs.Rows.{row_of}

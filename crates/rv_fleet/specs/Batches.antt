@@ -1,7 +1,7 @@
 -- The rows of a batch.
 use Rattle.std.specs.Prelude.{ℕ, List, [], slice_index_or}
 use Rattle.rv_fleet.specs.declared.batch.Batch.{Batch}
-use Rattle.rv_jobs.specs.Jobs.{single_job}
+use Rattle.rv_rows.specs.Jobs.{single_job}
 use Rattle.rv_rows.specs.declared_row.Row.{Row}
 use Rattle.rv_rows.specs.Rows.{row_of, rows_at}
 

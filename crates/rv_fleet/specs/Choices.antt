@@ -1,7 +1,7 @@
 -- A selection of a plan's jobs, as indices in order.
 use Rattle.std.specs.Prelude.{ℕ, ◌<◌, List, length}
 use Rattle.std.specs.List.{All}
-use Rattle.rv_jobs.specs.Plans.{Planned}
+use Rattle.rv_rows.specs.Plans.{Planned}
 
 -- each number in the list is the index of a job of the plan
 abbrev pub AreJobIndices : Planned → List ℕ → Type 0

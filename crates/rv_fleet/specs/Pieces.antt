@@ -2,7 +2,7 @@
 use Rattle.std.specs.Prelude.{ℕ, List, length}
 use Rattle.std.specs.Int.{div_ceil}
 use Rattle.std.specs.Fork.{slice_chunk}
-use Rattle.rv_jobs.specs.Plans.{Planned}
+use Rattle.rv_rows.specs.Plans.{Planned}
 use Rattle.rv_fleet.specs.Batches.{batch_rows}
 use Rattle.rv_fleet.specs.declared.piece.Piece.{Piece}
 use Rattle.rv_fleet.specs.declared.pieces.Pieces.{Pieces}

@@ -2,8 +2,8 @@
 use Rattle.std.specs.Prelude.{◌≡◌, ℕ, List, [], map, All, IfOk}
 use Rattle.rv_rows.specs.declared_row.Row.{Row}
 use Rattle.rv_fleet.specs.declared.worker_promise.WorkerResult.{WorkerResult}
-use Rattle.rv_claims.specs.NewPieces.{pieces_among}
-use Rattle.rv_claims.specs.Passes.{SharedDraw, PassView}
+use Rattle.rv_engine.specs.NewPieces.{pieces_among}
+use Rattle.rv_engine.specs.Passes.{SharedDraw, PassView}
 use Rattle.rv_fleet.specs.Pieces.{piece_for}
 
 -- the pass belongs to this shared counter and has not drawn yet

@@ -2,13 +2,13 @@
 use Rattle.std.specs.Prelude.{◌≡◌, ◌<◌, ◌≤◌, ℕ, List, length}
 use Rattle.std.specs.List.Sorted.{IsStrictlyIncreasing}
 use Rattle.std.specs.declared.thread.PromisedHandle.{PromisedHandle}
-use Rattle.rv_jobs.specs.Limits.{most_group, most_jobs}
+use Rattle.rv_rows.specs.Limits.{most_group, most_jobs}
 use Rattle.rv_rows.specs.declared_row.Row.{Row}
 use Rattle.rv_rows.specs.Rows.{rows_at}
 use Rattle.rv_fleet.specs.declared.worker_promise.WorkerResult.{WorkerResult}
 use Rattle.rv_fleet.specs.declared.worker_promise.WorkerPromise.{WorkerPromise}
-use Rattle.rv_claims.specs.Passes.{SharedDraw}
-use Rattle.rv_jobs.specs.Plans.{Planned}
+use Rattle.rv_engine.specs.Passes.{SharedDraw}
+use Rattle.rv_rows.specs.Plans.{Planned}
 use Rattle.rv_fleet.specs.Choices.{AreJobIndices}
 use Rattle.rv_fleet.specs.Pieces.{piece_count_of_rows}
 

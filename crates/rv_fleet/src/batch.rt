@@ -2,10 +2,10 @@
 
 ghost use Rattle.std.specs.Prelude.{◌≡◌, ◌≤◌, length};
 ghost use Rattle.std.specs.List.Sorted.{IsStrictlyIncreasing};
-ghost use Rattle.rv_jobs.specs.Limits.{most_jobs};
+ghost use Rattle.rv_rows.specs.Limits.{most_jobs};
 ghost use Rattle.rv_fleet.specs.Choices.{AreJobIndices};
 
-use rv_jobs::Plan;
+use rv_rows::Plan;
 
 /// The jobs of a plan that one run executes, given by strictly increasing indices.
 #[derive(Clone, Copy)]

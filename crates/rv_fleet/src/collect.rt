@@ -10,8 +10,7 @@ use crate::gate::Gate;
 use crate::piece::{Piece, compute_chunk};
 use crate::pieces::Pieces;
 use crate::worker_promise::WorkerResult;
-use rv_claims::{Claims, Pass};
-use rv_engine::WorkerState;
+use rv_engine::{Claims, Pass, WorkerState};
 use rv_rows::{Row, Rows};
 use std::alloc::{AllocError, Global};
 

@@ -1,6 +1,6 @@
 //! A fleet: the rows of a plan, computed by threads that draw its chunks.
 
-ghost use Rattle.rv_jobs.specs.Limits.{most_group, most_workers};
+ghost use Rattle.rv_rows.specs.Limits.{most_group, most_workers};
 ghost use Rattle.std.specs.Prelude.{◌≡◌, ◌<◌, ◌≤◌, IfOk};
 ghost use Rattle.rv_rows.specs.Rows.{rows_of};
 ghost use Rattle.rv_fleet.specs.declared.fleet.FleetError.TheVariants.{OutOfMemory};
@@ -12,8 +12,7 @@ use crate::pieces::Pieces;
 use crate::places::all_indices;
 use crate::threads::compute_chunks;
 use rv_engine::Crew;
-use rv_jobs::Plan;
-use rv_rows::Report;
+use rv_rows::{Plan, Report};
 use std::alloc::{AllocError, Global};
 use std::sync::Wait;
 use std::thread::Threads;

@@ -22,11 +22,8 @@ pub use batch_rows::run_batch;
 pub use fleet::{FleetError, run_fleet};
 pub use gate::{FreeGate, Gate};
 pub use piece::Piece;
-pub use rv_claims::{Claims, Pass, SplitError};
-pub use rv_engine::Crew;
-pub use rv_rows::{
-    Loadable, Outcome, Refusal, Report, Row, RowEnd, Rows, SignatureRange, Sink, SinkFailed,
-    Verdict, Words, WriteError, flat_row, narrower_sets_only_refuse,
-    parts_have_the_rows_of_the_whole, put_all, row_at, run_one, write_report,
-};
 pub use worker::work;
+
+// From the crates below: what this interface names, and what its callers need with it.
+pub use rv_engine::{Both, Claims, Crew, Flow, Listener, Observer, Pass, RunError, SplitError, Work, WorkerState, run_jobs};
+pub use rv_rows::{JobError, JobList, Kept, Loadable, Outcome, Plan, Recent, Refusal, Report, Row, RowEnd, RowReporter, Rows, SignatureRange, Sink, SinkFailed, Spare, Verdict, What, Words, WriteError, flat_row, gather, gather_jobs, narrower_sets_only_refuse, parts_have_the_rows_of_the_whole, put_all, read_jobs, row_at, row_at_with_recent, run_one, selected_indices, write_report};

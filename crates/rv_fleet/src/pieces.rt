@@ -1,6 +1,6 @@
 //! A batch divided into chunks.
 
-ghost use Rattle.rv_jobs.specs.Limits.{most_group, most_jobs};
+ghost use Rattle.rv_rows.specs.Limits.{most_group, most_jobs};
 ghost use Rattle.std.specs.Prelude.{◌≡◌, ◌<◌, ◌≤◌};
 
 use crate::batch::Batch;

@@ -5,7 +5,7 @@ ghost use Rattle.rv_fleet.specs.Choices.{AreJobIndices};
 ghost use Rattle.rv_rows.specs.Rows.{rows_at, rows_of};
 ghost use Rattle.std.specs.List.Sorted.{IsStrictlyIncreasing};
 
-use rv_jobs::Plan;
+use rv_rows::Plan;
 use std::alloc::{AllocError, Global};
 
 /// Returns the indices of all jobs of a plan, in order.

@@ -1,9 +1,9 @@
 //! The loop of a worker: draws chunks and computes them.
 
-ghost use Rattle.rv_jobs.specs.Limits.{most_group};
+ghost use Rattle.rv_rows.specs.Limits.{most_group};
 ghost use Rattle.std.specs.Prelude.{◌≡◌, ◌<◌, ◌≤◌, [], true, map, IfOk};
-ghost use Rattle.rv_claims.specs.NewPieces.{HasDrawnMore, new_pieces};
-ghost use Rattle.rv_claims.specs.Passes.{has_ended};
+ghost use Rattle.rv_engine.specs.NewPieces.{HasDrawnMore, new_pieces};
+ghost use Rattle.rv_engine.specs.Passes.{has_ended};
 ghost use Rattle.rv_fleet.specs.Batches.{batch_rows};
 ghost use Rattle.rv_fleet.specs.Pieces.{count_of_pieces, piece_at, numbered_piece, pieces_of};
 ghost use Rattle.rv_fleet.specs.Promised.{KeepsPromise};
@@ -14,9 +14,8 @@ use crate::piece::{Piece, compute_chunk};
 use crate::pieces::Pieces;
 use crate::places::all_indices;
 use crate::worker_promise::WorkerResult;
-use rv_claims::{Claims, Pass};
-use rv_engine::WorkerState;
-use rv_jobs::Plan;
+use rv_engine::{Claims, Pass, WorkerState};
+use rv_rows::Plan;
 use std::alloc::{AllocError, Global};
 
 /// Draws chunks until none is left, and computes each before it draws the next. Returns the chunks in the order drawn. `group` is the

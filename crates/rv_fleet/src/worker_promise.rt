@@ -1,8 +1,8 @@
 //! The result of a worker, and its promise about the result.
 
 use crate::piece::Piece;
-use rv_claims::{Claims, Pass};
-use rv_jobs::Plan;
+use rv_engine::{Claims, Pass};
+use rv_rows::Plan;
 use std::alloc::AllocError;
 use std::thread::Promise;
 

@@ -1,9 +1,8 @@
 //! Plans for all jobs and for a choice: which paths are read, and what is kept for each job.
 ghost use Rattle.std.specs.Prelude.{◌<◌, ◌≤◌, None, length};
 
-use rv_jobs::{
-    JobList, Kept, Plan, ReadError, Store, What, gather, gather_jobs, read_jobs, selected_indices,
-};
+use rv_fleet::{JobList, Kept, Plan, What, gather, gather_jobs, read_jobs, selected_indices};
+use rv_stream::{ReadError, Store};
 use samples::{agree, cell_of, has_lines};
 use std::alloc::{AllocError, Global};
 use std::test::Fail;

@@ -3,8 +3,8 @@ ghost use Rattle.std.specs.Prelude.{◌<◌, ◌≤◌, IfOk, None};
 ghost use Rattle.std.specs.List.Sorted.{IsStrictlyIncreasing};
 ghost use Rattle.rv_fleet.specs.Choices.{AreJobIndices};
 
-use rv_fleet::Row;
-use rv_jobs::{Plan, ReadError, Store, gather, read_jobs, selected_indices};
+use rv_fleet::{Plan, Row, gather, read_jobs, selected_indices};
+use rv_stream::{ReadError, Store};
 use samples::{agree, cell_of, has_lines, sample_file};
 use std::alloc::{AllocError, Global};
 use std::sync::Wait;

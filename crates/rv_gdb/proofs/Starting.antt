@@ -2,27 +2,27 @@
 use Rattle.std.proofs.Common.{◌≡◌, ◌∙◌, ◌%◌, ◌==◌, ◌&&◌, ℕ, Bool, true, false, not, List, Option, Some, None, Result, Ok, Err, option_map, refl, sym, ap}
 use Rattle.std.specs.Prelude.{is_ok}
 use Rattle.std.specs.Result.{result_ok}
-use Rattle.rv_elf.proofs.Public.{entry_aligned, entry_even}
-use Rattle.rv_elf.specs.declared.error.ImageError.{ImageError}
-use Rattle.rv_elf.specs.declared.image.Image.{Image}
-use Rattle.rv_elf.specs.Image.{image_of}
-use Rattle.rv_elf.specs.Loading.{map_check}
-use Rattle.rv_isa.specs.Extensions.{has, RV32C}
-use Rattle.rv_isa.specs.declared.sets.Isa.{Isa}
-use Rattle.rv_jobs.specs.Jobs.{console_path}
-use Rattle.rv_jobs.specs.Plans.{result_for_path}
-use Rattle.rv_jobs.specs.Reading.{◌>>=◌}
-use Rattle.rv_jobs.specs.declared.answers.Answer.{Answer}
-use Rattle.rv_jobs.specs.declared.kept.Kept.{Kept}
-use Rattle.rv_jobs.specs.declared.kept.Kept.TheVariants as kept
-use Rattle.rv_jobs.specs.declared_job.Job.{Job}
-use Rattle.rv_machine.specs.State.{State, at_reset, is_misaligned}
-use Rattle.rv_memory.specs.Bus.{Contents}
-use Rattle.rv_rows.specs.declared.outcome.Loadable.{Loadable}
-use Rattle.rv_rows.specs.declared_row.Refusal.{Refusal}
-use Rattle.rv_rows.specs.Outcome.{image_file_or_refusal, loadable_image, loaded_contents, loaded_state, range_if_asked, reference_or_refusal, start_if_loadable, start_if_readable, start_of}
-use Rattle.rv_rows.specs.Rows.{content_if_read, image_if_read, image_in, start_in}
-use Rattle.rv_history.specs.declared.start.Start.{Start}
+use Rattle.rv_trace.proofs.Public.{entry_aligned, entry_even}
+use Rattle.rv_trace.specs.declared_elf_error.ImageError.{ImageError}
+use Rattle.rv_trace.specs.declared_image.Image.{Image}
+use Rattle.rv_trace.specs.Image.{image_of}
+use Rattle.rv_trace.specs.Loading.{map_check}
+use Rattle.rv_trace.specs.Extensions.{has, RV32C}
+use Rattle.rv_trace.specs.declared_sets.Isa.{Isa}
+use Rattle.rv_trace.specs.Jobs.{console_path}
+use Rattle.rv_trace.specs.Plans.{result_for_path}
+use Rattle.rv_trace.specs.Reading.{◌>>=◌}
+use Rattle.rv_trace.specs.declared_answers.Answer.{Answer}
+use Rattle.rv_trace.specs.declared_kept.Kept.{Kept}
+use Rattle.rv_trace.specs.declared_kept.Kept.TheVariants as kept
+use Rattle.rv_trace.specs.declared_job.Job.{Job}
+use Rattle.rv_trace.specs.State.{State, at_reset, is_misaligned}
+use Rattle.rv_trace.specs.Bus.{Contents}
+use Rattle.rv_trace.specs.declared_outcome.Loadable.{Loadable}
+use Rattle.rv_trace.specs.declared_row.Refusal.{Refusal}
+use Rattle.rv_trace.specs.Outcome.{image_file_or_refusal, loadable_image, loaded_contents, loaded_state, range_if_asked, reference_or_refusal, start_if_loadable, start_if_readable, start_of}
+use Rattle.rv_trace.specs.Rows.{content_if_read, image_if_read, image_in, start_in}
+use Rattle.rv_session.specs.declared_start.Start.{Start}
 use Rattle.rv_session.specs.Sessions.{at_first}
 use Rattle.rv_session.specs.declared.session.Session.{Session}
 use Rattle.rv_gdb.specs.JobSessions.{IsSessionOf}

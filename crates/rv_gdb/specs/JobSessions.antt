@@ -1,10 +1,10 @@
 -- The session over the run of a plan's job.
 use Rattle.std.specs.Prelude.{◌≡◌, ℕ, List, Some, Ok}
-use Rattle.rv_history.specs.Starts.{start_of}
-use Rattle.rv_history.specs.declared.start.Start.{Start}
-use Rattle.rv_jobs.specs.declared.answers.Answer.{Answer}
-use Rattle.rv_jobs.specs.declared_job.Job.{Job}
-use Rattle.rv_rows.specs.Rows.{start_in}
+use Rattle.rv_session.specs.Starts.{start_of}
+use Rattle.rv_session.specs.declared_start.Start.{Start}
+use Rattle.rv_trace.specs.declared_answers.Answer.{Answer}
+use Rattle.rv_trace.specs.declared_job.Job.{Job}
+use Rattle.rv_trace.specs.Rows.{start_in}
 use Rattle.rv_session.specs.Sessions.{at_first}
 use Rattle.rv_session.specs.declared.session.Session.{Session}
 use Rattle.rv_trace.specs.Trace.{image_bytes}

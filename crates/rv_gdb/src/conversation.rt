@@ -2,7 +2,7 @@
 
 ghost use Rattle.std.specs.Prelude.{◌≡◌, ◌≢◌, ◌<◌, ◌==◌, IfErr, IfOk, None, OnOk, is_some, length, option_map, true};
 ghost use Rattle.std.specs.Io.KnownBytes.{Appends};
-ghost use Rattle.rv_base.specs.Counts.{one_more};
+ghost use Rattle.rv_trace.specs.Counts.{one_more};
 ghost use Rattle.rv_gdb.specs.Conversing.{IsChunkRead, IsConversed, IsEnded};
 ghost use Rattle.rv_gdb.specs.Chunks.{IsByteAnswered, IsByteReplyWritten, IsChunkAnswered, IsMoveReplyWritten};
 ghost use Rattle.rv_session.specs.Incoming.{is_interrupted};
@@ -10,9 +10,8 @@ ghost use Rattle.rv_session.specs.Sessions.{IsSameRun, IsOpenIfRequested};
 
 use crate::ctrl_c::{CTRL_C, Raised, SharedInterrupt, Unraised};
 use crate::reads::{check_raised, read_ahead, read_chunk};
-use rv_base::{Sink, put_all};
-use rv_history::Interrupt;
-use rv_session::{EndText, Session};
+use rv_session::{EndText, Interrupt, Session};
+use rv_trace::{Sink, put_all};
 use std::alloc::{AllocError, Global};
 use std::io::{ErrorKind, Read};
 use std::sync::atomic::AtomicBool;

@@ -1,6 +1,6 @@
 //! Ctrl-C, which gdb sends as the byte 0x03 while a move is in progress.
 
-use rv_history::Interrupt;
+use rv_session::Interrupt;
 use std::sync::atomic::AtomicBool;
 use std::sync::atomic::Ordering::SeqCst;
 

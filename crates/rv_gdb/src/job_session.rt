@@ -1,18 +1,13 @@
 //! The session over the run of a job.
 
 ghost use Rattle.std.specs.Prelude.{◌≡◌, ◌<◌, IfOk, MatchOption, Some, false, is_ok, length, option_map};
-ghost use Rattle.rv_jobs.specs.declared_job.Job.{Job as AJob};
+ghost use Rattle.rv_trace.specs.declared_job.Job.{Job as AJob};
 ghost use Rattle.rv_gdb.specs.JobSessions.{IsSessionOf};
-ghost use Rattle.rv_rows.specs.Rows.{image_if_read, image_in, start_in};
+ghost use Rattle.rv_trace.specs.Rows.{image_if_read, image_in, start_in};
 ghost use Rattle.rv_trace.specs.Trace.{image_bytes, job_at};
 
-use rv_base::Bytes;
-use rv_elf::Image;
-use rv_history::Start;
-use rv_jobs::Plan;
-use rv_rows::machine_at;
-use rv_session::{Program, Session};
-use rv_trace::{image_bytes, image_of_bytes};
+use rv_session::{Program, Session, Start};
+use rv_trace::{Bytes, Image, Plan, image_bytes, image_of_bytes, machine_at};
 use std::alloc::{AllocError, Global};
 
 /// Returns a session at the start of the run of the job at the index `place`, before gdb has sent anything, or `None` if the job is

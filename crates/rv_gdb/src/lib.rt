@@ -11,3 +11,6 @@ mod reads;
 
 pub use conversation::{SessionContext, SessionError, serve};
 pub use job_session::session_at;
+
+// From the crates below: what this interface names, and what its callers need with it.
+pub use rv_session::{EndText, Session};

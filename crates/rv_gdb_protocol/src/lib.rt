@@ -32,3 +32,6 @@ pub use reply::{fixed_reply, push_part, refusal_text};
 pub use request::{Move, Part, Range, Refusal, Register, Request, Stoppoint, Watched};
 pub use stop::{Stop, push_stop};
 pub use target::TARGET;
+
+// From the crates below: what this interface names, and what its callers need with it.
+pub use rv_base::{Bytes, Sequence};

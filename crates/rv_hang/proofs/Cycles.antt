@@ -4,10 +4,10 @@ use Rattle.std.proofs.Common.{sym, ap, refl, subst, arith, IfSome, is_some, â—Œâ
 use Rattle.std.proofs.lemmas.Bool.{and_from, and_parts, both_ways, eq-eqb, eqb-true}
 use Rattle.std.proofs.lemmas.Slice.Eq.{bytes_eq-Decides}
 use Rattle.std.specs.Str.{bytes_eq}
-use Rattle.rv_machine.specs.declared.ending.Ending.{Ending}
-use Rattle.rv_machine.specs.declared.ending.Ending.TheVariants.{Budget}
-use Rattle.rv_machine.specs.Run.{run_rest, run_of, step_of}
-use Rattle.rv_machine.specs.State.{State}
+use Rattle.rv_trace.specs.declared_ending.Ending.{Ending}
+use Rattle.rv_trace.specs.declared_ending.Ending.TheVariants.{Budget}
+use Rattle.rv_trace.specs.Run.{run_rest, run_of, step_of}
+use Rattle.rv_trace.specs.State.{State}
 use Rattle.rv_trace.specs.Trace.{state_after}
 use Rattle.rv_trace.proofs.Public.{after_more, completes, each_completes, steps_more}
 use Rattle.rv_hang.specs.Quiet.{is_step_quiet}

@@ -2,22 +2,22 @@
 use Rattle.std.proofs.Common.{◌≡◌, ◌∙◌, ◌==◌, ◌&&◌, ℕ, Bool, true, false, not, cond, List, [], ◌∷◌, Ok, Err, Result, Some}
 use Rattle.std.proofs.Common.{sym, ap, refl, arith, drop, length}
 use Rattle.std.proofs.lemmas.Bool.{both_ways, ne_eqb}
-use Rattle.rv_isa.specs.declared.instruction.Instr.{Instr}
-use Rattle.rv_isa.specs.declared.instruction.Op.{Op}
-use Rattle.rv_isa.specs.declared.instruction.Op.TheVariants as op
-use Rattle.rv_memory.specs.Bus.{Contents, console_load, load_from, next_of, refuses, size_of, store_to, touches_console, value_at}
-use Rattle.rv_memory.specs.Regions.{in_one}
-use Rattle.rv_memory.specs.declared.access.Width.{Width}
-use Rattle.rv_memory.specs.declared.access.Width.TheVariants.{Byte, Half, Word}
-use Rattle.rv_memory.specs.declared.faults.BusFault.{BusFault}
-use Rattle.rv_memory.specs.declared.faults.BusFault.TheVariants as bus
-use Rattle.rv_machine.specs.declared.ending.Ending.{Ending}
-use Rattle.rv_machine.specs.Effect.{address, after_branch, after_store, at_target, effect, effect_of, from_pc}
-use Rattle.rv_machine.specs.Effect.{next_pc, rs2_value, store}
-use Rattle.rv_machine.specs.Fetch.{Fetched, fetch}
-use Rattle.rv_machine.specs.Run.{after_fetch, step_of}
-use Rattle.rv_machine.specs.State.{State, at_pc, is_misaligned, with_bus, with_register}
-use Rattle.rv_machine.proofs.Public.{byte_loaded, half_loaded, ok_is, word_loaded}
+use Rattle.rv_trace.specs.declared_instruction.Instr.{Instr}
+use Rattle.rv_trace.specs.declared_instruction.Op.{Op}
+use Rattle.rv_trace.specs.declared_instruction.Op.TheVariants as op
+use Rattle.rv_trace.specs.Bus.{Contents, console_load, load_from, next_of, refuses, size_of, store_to, touches_console, value_at}
+use Rattle.rv_trace.specs.Regions.{in_one}
+use Rattle.rv_trace.specs.declared_access.Width.{Width}
+use Rattle.rv_trace.specs.declared_access.Width.TheVariants.{Byte, Half, Word}
+use Rattle.rv_trace.specs.declared_faults.BusFault.{BusFault}
+use Rattle.rv_trace.specs.declared_faults.BusFault.TheVariants as bus
+use Rattle.rv_trace.specs.declared_ending.Ending.{Ending}
+use Rattle.rv_trace.specs.Effect.{address, after_branch, after_store, at_target, effect, effect_of, from_pc}
+use Rattle.rv_trace.specs.Effect.{next_pc, rs2_value, store}
+use Rattle.rv_trace.specs.Fetch.{Fetched, fetch}
+use Rattle.rv_trace.specs.Run.{after_fetch, step_of}
+use Rattle.rv_trace.specs.State.{State, at_pc, is_misaligned, with_bus, with_register}
+use Rattle.rv_trace.proofs.Public.{byte_loaded, half_loaded, ok_is, word_loaded}
 use Rattle.rv_trace.proofs.Public.{code_is_fetched}
 use Rattle.rv_trace.specs.Steps.{instr_at}
 use Rattle.rv_hang.specs.Quiet.{is_found_quiet, is_instr_quiet, is_step_quiet, is_store_again, takes_script}

@@ -7,12 +7,12 @@ use Rattle.std.specs.Ordering.{nat_cmp}
 use Rattle.std.specs.FinMap as fin
 use Rattle.std.specs.FinSet as set
 use Rattle.std.specs.FinSet.{nat_cmp-IsAntisymmetric}
-use Rattle.rv_memory.specs.Bus.{Contents, console_store, put, with_stored_byte, refuses, size_of, store_to, touches_console}
-use Rattle.rv_memory.specs.Regions.{is_in_writable_region}
-use Rattle.rv_memory.specs.declared.access.Width.{Width}
-use Rattle.rv_memory.specs.declared.access.Width.TheVariants.{Byte, Half, Word}
-use Rattle.rv_memory.specs.declared.faults.BusFault.{BusFault}
-use Rattle.rv_memory.specs.declared.faults.BusFault.TheVariants as bus
+use Rattle.rv_trace.specs.Bus.{Contents, console_store, put, with_stored_byte, refuses, size_of, store_to, touches_console}
+use Rattle.rv_trace.specs.Regions.{is_in_writable_region}
+use Rattle.rv_trace.specs.declared_access.Width.{Width}
+use Rattle.rv_trace.specs.declared_access.Width.TheVariants.{Byte, Half, Word}
+use Rattle.rv_trace.specs.declared_faults.BusFault.{BusFault}
+use Rattle.rv_trace.specs.declared_faults.BusFault.TheVariants as bus
 use Rattle.rv_hang.specs.Quiet.{are_bytes_apart, is_byte_again, is_store_again, is_there, is_value_again}
 
 -- ---- maps and sets

@@ -2,7 +2,7 @@
 use Rattle.std.proofs.Common.{◌≡◌, ◌∙◌, ◌+◌, ◌-◌, ◌<◌, ◌≤◌, ℕ, Bool, true, false, cond, refl, sym, ap, arith, inl, inr}
 use Rattle.std.proofs.Math.Dec.{ltb}
 use Rattle.std.proofs.lemmas.Bool.{both_ways, lt-ltb, ltb-true}
-use Rattle.rv_machine.specs.State.{State}
+use Rattle.rv_trace.specs.State.{State}
 use Rattle.rv_trace.specs.Trace.{state_after}
 use Rattle.rv_hang.specs.Repetition.{IsWaitReported, waits_up_to}
 use Rattle.rv_hang.specs.ScriptEnd.{reads_script_end}

@@ -1,10 +1,10 @@
 -- The analysis of a used-up budget.
 use Rattle.std.specs.Prelude.{◌≡◌, ◌≤◌, ◌-◌, ℕ, min, Option, Some, None, Ok}
-use Rattle.rv_jobs.specs.Plans.{Planned}
-use Rattle.rv_jobs.specs.declared_job.Job.{Job}
-use Rattle.rv_machine.specs.Run.{run_of}
-use Rattle.rv_machine.specs.State.{State}
-use Rattle.rv_rows.specs.Rows.{start_in}
+use Rattle.rv_trace.specs.Plans.{Planned}
+use Rattle.rv_trace.specs.declared_job.Job.{Job}
+use Rattle.rv_trace.specs.Run.{run_of}
+use Rattle.rv_trace.specs.State.{State}
+use Rattle.rv_trace.specs.Rows.{start_in}
 use Rattle.rv_hang.specs.Repetition.{IsLastAgain, IsRepetition, IsWaitReported}
 use Rattle.rv_hang.specs.declared.budget_use.BudgetUse.{BudgetUse}
 use Rattle.rv_hang.specs.declared.budget_use.BudgetUse.TheVariants.{Changes, Repeats}

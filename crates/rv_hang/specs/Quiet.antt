@@ -2,14 +2,14 @@
 use Rattle.std.specs.Prelude.{ℕ, ◌+◌, ◌/◌, ◌%◌, ◌==◌, ◌&&◌, ◌||◌, Bool, true, false, nat_le, not, length, Option, Some, None}
 use Rattle.std.specs.FinMap as fin
 use Rattle.std.specs.FinSet as set
-use Rattle.rv_isa.specs.declared.instruction.Instr.{Instr}
-use Rattle.rv_isa.specs.declared.instruction.Op.{Op}
-use Rattle.rv_isa.specs.declared.instruction.Op.TheVariants as op
-use Rattle.rv_memory.specs.Bus.{Contents, size_of}
-use Rattle.rv_memory.specs.declared.access.Width.{Width}
-use Rattle.rv_memory.specs.declared.access.Width.TheVariants.{Byte, Half, Word}
-use Rattle.rv_machine.specs.Effect.{address, rs2_value}
-use Rattle.rv_machine.specs.State.{State}
+use Rattle.rv_trace.specs.declared_instruction.Instr.{Instr}
+use Rattle.rv_trace.specs.declared_instruction.Op.{Op}
+use Rattle.rv_trace.specs.declared_instruction.Op.TheVariants as op
+use Rattle.rv_trace.specs.Bus.{Contents, size_of}
+use Rattle.rv_trace.specs.declared_access.Width.{Width}
+use Rattle.rv_trace.specs.declared_access.Width.TheVariants.{Byte, Half, Word}
+use Rattle.rv_trace.specs.Effect.{address, rs2_value}
+use Rattle.rv_trace.specs.State.{State}
 use Rattle.rv_trace.specs.Steps.{instr_at}
 
 -- ---- stores that change nothing

@@ -1,10 +1,10 @@
 -- Loads from the console's exhausted input script, recognised before they are executed. Such a load returns all ones and consumes nothing.
 use Rattle.std.specs.Prelude.{◌==◌, ◌&&◌, Bool, false, length, Option, Some, None}
-use Rattle.rv_isa.specs.declared.instruction.Instr.{Instr}
-use Rattle.rv_isa.specs.declared.instruction.Op.{Op}
-use Rattle.rv_isa.specs.declared.instruction.Op.TheVariants as op
-use Rattle.rv_machine.specs.Effect.{address}
-use Rattle.rv_machine.specs.State.{State}
+use Rattle.rv_trace.specs.declared_instruction.Instr.{Instr}
+use Rattle.rv_trace.specs.declared_instruction.Op.{Op}
+use Rattle.rv_trace.specs.declared_instruction.Op.TheVariants as op
+use Rattle.rv_trace.specs.Effect.{address}
+use Rattle.rv_trace.specs.State.{State}
 use Rattle.rv_trace.specs.Steps.{instr_at}
 
 -- whether an instruction is a word load at the console's first address while the script has no bytes left

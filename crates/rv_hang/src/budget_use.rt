@@ -3,16 +3,14 @@
 ghost use Rattle.std.specs.Prelude.{◌≡◌, IfOk, MatchOption, true};
 ghost use Rattle.rv_hang.specs.BudgetUse.{IsBudgetUse, IsBudgetUseIn};
 ghost use Rattle.rv_hang.specs.Repetition.{has_values};
-ghost use Rattle.rv_jobs.specs.declared_job.Job.{Job as AJob};
-ghost use Rattle.rv_machine.specs.Machine.{state_of};
-ghost use Rattle.rv_machine.specs.Run.{run_of};
+ghost use Rattle.rv_trace.specs.declared_job.Job.{Job as AJob};
+ghost use Rattle.rv_trace.specs.Machine.{state_of};
+ghost use Rattle.rv_trace.specs.Run.{run_of};
 ghost use Rattle.rv_trace.specs.Trace.{job_at, state_after};
 
 use crate::hart::HartValues;
 use crate::repetition::{Repetition, find_repetition};
-use rv_machine::Machine;
-use rv_rows::machine_at;
-use rv_trace::JobImage;
+use rv_trace::{JobImage, Machine, machine_at};
 use std::alloc::{AllocError, Global};
 
 // The maximum number of a run's last steps that are searched.

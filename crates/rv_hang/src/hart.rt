@@ -2,9 +2,9 @@
 
 ghost use Rattle.std.specs.Prelude.{◌≡◌};
 ghost use Rattle.rv_hang.specs.Repetition.{has_values};
-ghost use Rattle.rv_machine.specs.Machine.{state_of};
+ghost use Rattle.rv_trace.specs.Machine.{state_of};
 
-use rv_machine::Machine;
+use rv_trace::Machine;
 
 /// The pc of a hart, and the values of x0 to x31.
 #[derive(Clone, Copy)]

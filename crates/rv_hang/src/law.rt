@@ -3,9 +3,9 @@
 ghost use Rattle.std.specs.Prelude.{◌≡◌, ℕ};
 ghost use Rattle.rv_hang.specs.Repetition.{IsRepetition};
 ghost use Rattle.rv_hang.specs.declared.repetition.Repetition.{Repetition as ARepetition};
-ghost use Rattle.rv_machine.specs.Run.{run_of};
-ghost use Rattle.rv_machine.specs.State.{State};
-ghost use Rattle.rv_machine.specs.declared.ending.Ending.TheVariants.{Budget};
+ghost use Rattle.rv_trace.specs.Run.{run_of};
+ghost use Rattle.rv_trace.specs.State.{State};
+ghost use Rattle.rv_trace.specs.declared_ending.Ending.TheVariants.{Budget};
 
 /// Proves that a run in which a state repeats within its first `steps` steps never ends: it uses up every budget.
 pub fn repetitions_never_end()

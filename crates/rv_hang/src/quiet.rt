@@ -3,15 +3,12 @@
 ghost use Rattle.std.specs.Prelude.{◌≡◌, ◌≤◌, ◌+◌};
 ghost use Rattle.rv_hang.specs.Quiet.{are_bytes_apart, is_byte_again, is_instr_quiet, is_step_quiet, is_store_again, is_value_again};
 ghost use Rattle.rv_hang.specs.Quiet.{takes_script};
-ghost use Rattle.rv_isa.specs.Words.{IsWellFormed};
-ghost use Rattle.rv_machine.specs.Effect.{address, rs2_value};
-ghost use Rattle.rv_machine.specs.Machine.{state_of};
-ghost use Rattle.rv_memory.specs.Bus.{size_of};
+ghost use Rattle.rv_trace.specs.IsaWords.{IsWellFormed};
+ghost use Rattle.rv_trace.specs.Effect.{address, rs2_value};
+ghost use Rattle.rv_trace.specs.Machine.{state_of};
+ghost use Rattle.rv_trace.specs.Bus.{size_of};
 
-use rv_isa::{Instr, Op};
-use rv_machine::Machine;
-use rv_memory::{Bus, Width};
-use rv_trace::{accessed_address, code_at, instr_of};
+use rv_trace::{Bus, Instr, Machine, Op, Width, accessed_address, code_at, instr_of};
 
 /// Whether the next step of a machine leaves the bus unchanged if it completes; false if there is no instruction.
 pub(crate) fn is_step_quiet(machine: &Machine) -> bool

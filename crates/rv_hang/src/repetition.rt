@@ -2,14 +2,14 @@
 
 ghost use Rattle.std.specs.Prelude.{◌≡◌, ◌≤◌, ◌<◌, ◌-◌, ℕ, IfSome, is_some, true};
 ghost use Rattle.rv_hang.specs.Repetition.{IsLastAgain, IsRepetition, IsWaitReported, again_after, has_values, waits_up_to};
-ghost use Rattle.rv_machine.specs.Machine.{state_of};
-ghost use Rattle.rv_machine.specs.Run.{run_of};
+ghost use Rattle.rv_trace.specs.Machine.{state_of};
+ghost use Rattle.rv_trace.specs.Run.{run_of};
 ghost use Rattle.rv_trace.specs.Trace.{state_after};
 
 use crate::hart::HartValues;
 use crate::quiet::is_step_quiet;
 use crate::script_end::reads_script_end;
-use rv_machine::Machine;
+use rv_trace::Machine;
 
 /// A repeated state of a run.
 #[derive(Clone, Copy)]

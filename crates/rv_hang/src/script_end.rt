@@ -2,12 +2,10 @@
 
 ghost use Rattle.std.specs.Prelude.{◌≡◌};
 ghost use Rattle.rv_hang.specs.ScriptEnd.{loads_script_end, reads_script_end};
-ghost use Rattle.rv_isa.specs.Words.{IsWellFormed};
-ghost use Rattle.rv_machine.specs.Machine.{state_of};
+ghost use Rattle.rv_trace.specs.IsaWords.{IsWellFormed};
+ghost use Rattle.rv_trace.specs.Machine.{state_of};
 
-use rv_isa::{Instr, Op};
-use rv_machine::Machine;
-use rv_trace::{accessed_address, code_at, instr_of};
+use rv_trace::{Instr, Machine, Op, accessed_address, code_at, instr_of};
 
 /// Whether the next step of a machine is a load from the exhausted input script.
 pub(crate) fn reads_script_end(machine: &Machine) -> bool

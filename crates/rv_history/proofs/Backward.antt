@@ -1,8 +1,8 @@
 -- Searches backward.
 use Rattle.std.proofs.Common.{◌≡◌, ◌∙◌, ◌+◌, ◌-◌, ◌<◌, ◌≤◌, ℕ, zero, suc, Bool, true, false, Ok, Option, Some, None, ap, sym, refl, subst, arith, add-zero, inl, inr}
 use Rattle.std.proofs.lemmas.Bool.{both_ways, cases_eq, cases_lt}
-use Rattle.rv_machine.specs.Run.{run_of, step_of}
-use Rattle.rv_machine.specs.State.{State}
+use Rattle.rv_trace.specs.Run.{run_of, step_of}
+use Rattle.rv_trace.specs.State.{State}
 use Rattle.rv_trace.specs.Trace.{state_after}
 use Rattle.rv_trace.proofs.Public.{each_completes}
 use Rattle.rv_history.specs.declared.found.StopInfo.{StopInfo}

@@ -4,12 +4,12 @@ use Rattle.std.specs.List.{list_any}
 use Rattle.std.specs.Prelude.{◌==◌, slice_index_or}
 use Rattle.std.proofs.lemmas.Bool.{and_right, cases_Bool, eqb-true}
 use Rattle.std.proofs.lemmas.List.Folds.{list_any_more}
-use Rattle.rv_machine.specs.DecodeCache.{CachedInstrs}
-use Rattle.rv_machine.specs.ValidEntries.{IsCached, NoneBecomesValid}
-use Rattle.rv_machine.specs.declared.ending.Ending.{Ending}
-use Rattle.rv_machine.specs.declared.ending.Ending.TheVariants.{Budget}
-use Rattle.rv_machine.specs.Run.{Ran, with_one_more_step, run_of, step_of}
-use Rattle.rv_machine.specs.State.{State}
+use Rattle.rv_trace.specs.DecodeCache.{CachedInstrs}
+use Rattle.rv_trace.specs.ValidEntries.{IsCached, NoneBecomesValid}
+use Rattle.rv_trace.specs.declared_ending.Ending.{Ending}
+use Rattle.rv_trace.specs.declared_ending.Ending.TheVariants.{Budget}
+use Rattle.rv_trace.specs.Run.{Ran, with_one_more_step, run_of, step_of}
+use Rattle.rv_trace.specs.State.{State}
 use Rattle.rv_trace.proofs.Public.{each_completes}
 use Rattle.rv_history.specs.declared.bounds.Bounds.{Bounds}
 use Rattle.rv_history.specs.declared.bounds.Bounds.TheVariants as bounds

@@ -2,10 +2,10 @@
 use Rattle.std.proofs.Common.{◌≡◌, ◌∙◌, ◌+◌, ◌<◌, ◌≤◌, ℕ, Option, Some, None, Err, true, false, ap, sym, subst, arith, length, inl, inr}
 use Rattle.std.specs.Prelude.{◌≢◌, MatchOption, is_some}
 use Rattle.std.proofs.lemmas.Bool.{cases_eq}
-use Rattle.rv_machine.specs.declared.ending.Ending.{Ending}
-use Rattle.rv_machine.specs.Run.{step_of}
-use Rattle.rv_machine.specs.State.{State}
-use Rattle.rv_memory.specs.Bus.{Contents}
+use Rattle.rv_trace.specs.declared_ending.Ending.{Ending}
+use Rattle.rv_trace.specs.Run.{step_of}
+use Rattle.rv_trace.specs.State.{State}
+use Rattle.rv_trace.specs.Bus.{Contents}
 use Rattle.rv_history.specs.Counts.{IsFound, count_at, count_in}
 use Rattle.rv_history.specs.Places.{IsReached, last_step}
 use Rattle.rv_history.specs.declared.counts.Count.{Count}

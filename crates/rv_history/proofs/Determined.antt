@@ -1,6 +1,6 @@
 -- Where a move comes to, and what it finds there, is determined by where it begins.
 use Rattle.std.proofs.Common.{◌≡◌, ◌∙◌, ◌+◌, ◌<◌, ℕ, ap, arith, refl, subst, sym}
-use Rattle.rv_machine.specs.State.{State}
+use Rattle.rv_trace.specs.State.{State}
 use Rattle.rv_history.specs.declared.bounds.Bounds.{Bounds}
 use Rattle.rv_history.specs.declared.counts.Count.{Count}
 use Rattle.rv_history.specs.declared.found.Found.{Found}

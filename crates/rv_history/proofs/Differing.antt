@@ -4,8 +4,8 @@ use Rattle.std.specs.Prelude.{if◌then◌else◌}
 use Rattle.std.specs.Result.{IfOk}
 use Rattle.std.specs.Str.{bytes_eq}
 use Rattle.std.proofs.lemmas.List.{at_drop_more}
-use Rattle.rv_memory.specs.Bus.{Contents}
-use Rattle.rv_machine.specs.State.{State}
+use Rattle.rv_trace.specs.Bus.{Contents}
+use Rattle.rv_trace.specs.State.{State}
 use Rattle.rv_history.specs.Stops.{first_differing, first_triggered, watch_bytes}
 use Rattle.rv_history.specs.declared.stops.WatchHit.{WatchHit}
 use Rattle.rv_history.specs.declared.stops.Stops.{Stops}

@@ -3,10 +3,10 @@ use Rattle.std.proofs.Common.{◌≡◌, ◌∙◌, ◌+◌, ◌<◌, ◌≤◌,
 use Rattle.std.specs.Prelude.{is_some}
 use Rattle.rv_trace.specs.Trace.{state_after}
 use Rattle.std.proofs.lemmas.Bool.{and_from, and_parts, both_ways, cases_eq, lt-ltb, ltb-true}
-use Rattle.rv_machine.specs.declared.ending.Ending.{Ending}
-use Rattle.rv_machine.specs.declared.ending.Ending.TheVariants.{Budget}
-use Rattle.rv_machine.specs.Run.{run_of, step_of}
-use Rattle.rv_machine.specs.State.{State}
+use Rattle.rv_trace.specs.declared_ending.Ending.{Ending}
+use Rattle.rv_trace.specs.declared_ending.Ending.TheVariants.{Budget}
+use Rattle.rv_trace.specs.Run.{run_of, step_of}
+use Rattle.rv_trace.specs.State.{State}
 use Rattle.rv_history.specs.declared.bounds.Bounds.{Bounds}
 use Rattle.rv_history.specs.declared.found.Found.{Found}
 use Rattle.rv_history.specs.declared.found.Found.TheVariants as found

@@ -1,21 +1,21 @@
 -- What is printed stays: the output at a place begins with that at each place before.
 use Rattle.std.proofs.Common.{◌≡◌, ◌∙◌, ◌≤◌, ◌++◌, ◌∷◌, ◌%◌, ◌/◌, ◌*◌, [], ℕ, zero, suc, Bool, true, false, cond, List, length, drop, Result, Ok, Err, ap, append-nil, append_assoc, arith, eqb, ltb, not, refl, subst, sym}
 use Rattle.std.specs.Prelude.{slice_set}
-use Rattle.rv_isa.specs.declared.instruction.Instr.{Instr}
-use Rattle.rv_isa.specs.declared.instruction.Op.{Op}
-use Rattle.rv_isa.specs.declared.instruction.Op.TheVariants as op
-use Rattle.rv_memory.specs.Bus.{Contents, console_load, console_store, load_from, next_of, put, refuses, size_of, store_to, touches_console, value_at}
-use Rattle.rv_memory.specs.Regions.{in_one, is_in_writable_region}
-use Rattle.rv_memory.specs.declared.access.Width.{Width}
-use Rattle.rv_memory.specs.declared.access.Width.TheVariants.{Byte, Half, Word}
-use Rattle.rv_memory.specs.declared.faults.BusFault.{BusFault}
-use Rattle.rv_memory.specs.declared.faults.BusFault.TheVariants.{Access, ConsoleFull, Misaligned}
-use Rattle.rv_machine.specs.declared.ending.Ending.{Ending}
-use Rattle.rv_machine.specs.State.{State, at_pc, is_misaligned, with_bus, with_register}
-use Rattle.rv_machine.specs.Fetch.{Fetched, fetch}
-use Rattle.rv_machine.specs.Effect.{address, after_branch, after_store, at_target, effect, effect_of, from_pc, next_pc, rs2_value, store}
-use Rattle.rv_machine.specs.Run.{after_fetch, step_of}
-use Rattle.rv_machine.proofs.Public.{ok_is}
+use Rattle.rv_trace.specs.declared_instruction.Instr.{Instr}
+use Rattle.rv_trace.specs.declared_instruction.Op.{Op}
+use Rattle.rv_trace.specs.declared_instruction.Op.TheVariants as op
+use Rattle.rv_trace.specs.Bus.{Contents, console_load, console_store, load_from, next_of, put, refuses, size_of, store_to, touches_console, value_at}
+use Rattle.rv_trace.specs.Regions.{in_one, is_in_writable_region}
+use Rattle.rv_trace.specs.declared_access.Width.{Width}
+use Rattle.rv_trace.specs.declared_access.Width.TheVariants.{Byte, Half, Word}
+use Rattle.rv_trace.specs.declared_faults.BusFault.{BusFault}
+use Rattle.rv_trace.specs.declared_faults.BusFault.TheVariants.{Access, ConsoleFull, Misaligned}
+use Rattle.rv_trace.specs.declared_ending.Ending.{Ending}
+use Rattle.rv_trace.specs.State.{State, at_pc, is_misaligned, with_bus, with_register}
+use Rattle.rv_trace.specs.Fetch.{Fetched, fetch}
+use Rattle.rv_trace.specs.Effect.{address, after_branch, after_store, at_target, effect, effect_of, from_pc, next_pc, rs2_value, store}
+use Rattle.rv_trace.specs.Run.{after_fetch, step_of}
+use Rattle.rv_trace.proofs.Public.{ok_is}
 use Rattle.rv_trace.specs.Trace.{state_after}
 use Rattle.rv_trace.proofs.Public.{after_none}
 use Rattle.rv_history.specs.Printing.{Begins}

@@ -1,9 +1,9 @@
 -- Places that a run comes to.
 use Rattle.std.proofs.Common.{◌≡◌, ◌∙◌, ◌+◌, ◌-◌, ◌<◌, ◌≤◌, ℕ, zero, suc, Ok, Err, ap, sym, refl, subst, arith, zero-add, add-one}
-use Rattle.rv_machine.specs.declared.ending.Ending.{Ending}
-use Rattle.rv_machine.specs.declared.ending.Ending.TheVariants.{Budget}
-use Rattle.rv_machine.specs.Run.{Ran, run_rest, run_of, step_of}
-use Rattle.rv_machine.specs.State.{State}
+use Rattle.rv_trace.specs.declared_ending.Ending.{Ending}
+use Rattle.rv_trace.specs.declared_ending.Ending.TheVariants.{Budget}
+use Rattle.rv_trace.specs.Run.{Ran, run_rest, run_of, step_of}
+use Rattle.rv_trace.specs.State.{State}
 use Rattle.rv_trace.specs.Trace.{state_after}
 use Rattle.rv_trace.proofs.Public.{after_more, after_none, completes, steps_more}
 use Rattle.rv_history.specs.Places.{IsReached, last_step}

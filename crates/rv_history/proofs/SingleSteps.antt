@@ -2,9 +2,9 @@
 use Rattle.std.proofs.Common.{◌≡◌, ◌≢◌, ◌==◌, ℕ, Bool, Result, Ok, Err, ne_eqb, refl, subst}
 use Rattle.std.proofs.lemmas.Bool.{eq-eqb}
 use Rattle.std.specs.Prelude.{MatchBool}
-use Rattle.rv_machine.specs.declared.ending.Ending.{Ending}
-use Rattle.rv_machine.specs.Run.{Ran, run_rest, step_of, run_of}
-use Rattle.rv_machine.specs.State.{State}
+use Rattle.rv_trace.specs.declared_ending.Ending.{Ending}
+use Rattle.rv_trace.specs.Run.{Ran, run_rest, step_of, run_of}
+use Rattle.rv_trace.specs.State.{State}
 
 -- what the steps of it tell: where there is one, the step completed with the state at the end, and else it gave the ending and left the state
 abbrev Told : State → ℕ → Ending → Result State Ending → State → Type 0

@@ -1,9 +1,9 @@
 -- Moves forward on their way, and where they end.
 use Rattle.std.proofs.Common.{◌≡◌, ◌∙◌, ◌&&◌, ◌<◌, ◌≤◌, ℕ, true, false, Ok, Err, ap, arith, ltb, refl, subst, sym}
-use Rattle.rv_machine.specs.Machine.{state_of}
-use Rattle.rv_machine.specs.Run.{run_of, step_of}
-use Rattle.rv_machine.specs.State.{State}
-use Rattle.rv_machine.specs.declared.ending.Ending.{Ending}
+use Rattle.rv_trace.specs.Machine.{state_of}
+use Rattle.rv_trace.specs.Run.{run_of, step_of}
+use Rattle.rv_trace.specs.State.{State}
+use Rattle.rv_trace.specs.declared_ending.Ending.{Ending}
 use Rattle.rv_trace.specs.Trace.{state_after}
 use Rattle.rv_history.specs.Kept.{IsAt}
 use Rattle.rv_history.specs.ForwardMoves.{IsArrival, IsMoveInProgress}

@@ -1,10 +1,10 @@
 -- The bytes that an instruction reads or writes (ISA manual, 2.6).
 use Rattle.std.specs.Prelude.{ℕ, ◌+◌, ◌&&◌, Bool, true, false, Option, Some, None, nat_lt, option_and_then, option_map}
-use Rattle.rv_isa.specs.declared.instruction.Instr.{Instr}
-use Rattle.rv_isa.specs.declared.instruction.Op.{Op}
-use Rattle.rv_isa.specs.declared.instruction.Op.TheVariants as op
-use Rattle.rv_machine.specs.Effect.{address}
-use Rattle.rv_machine.specs.State.{State}
+use Rattle.rv_trace.specs.declared_instruction.Instr.{Instr}
+use Rattle.rv_trace.specs.declared_instruction.Op.{Op}
+use Rattle.rv_trace.specs.declared_instruction.Op.TheVariants as op
+use Rattle.rv_trace.specs.Effect.{address}
+use Rattle.rv_trace.specs.State.{State}
 use Rattle.rv_trace.specs.Steps.{instr_at}
 use Rattle.rv_history.specs.declared.access.Access.{Access}
 use Rattle.rv_history.specs.declared.access.Reach.{Reach}

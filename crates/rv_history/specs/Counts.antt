@@ -1,7 +1,7 @@
 -- Counts that a run reaches.
 use Rattle.std.specs.Prelude.{ℕ, ◌≡◌, ◌≢◌, ◌<◌, ◌≤◌, ◌-◌, Option, Some, None, length}
-use Rattle.rv_machine.specs.State.{State}
-use Rattle.rv_memory.specs.Bus.{Contents}
+use Rattle.rv_trace.specs.State.{State}
+use Rattle.rv_trace.specs.Bus.{Contents}
 use Rattle.rv_trace.specs.Trace.{state_after}
 use Rattle.rv_history.specs.Places.{last_step}
 use Rattle.rv_history.specs.declared.counts.Count.{Count}

@@ -1,6 +1,6 @@
 -- Forward moves in progress.
 use Rattle.std.specs.Prelude.{ℕ, ◌≤◌, ◌<◌}
-use Rattle.rv_machine.specs.State.{State}
+use Rattle.rv_trace.specs.State.{State}
 use Rattle.rv_history.specs.Kept.{IsAt}
 use Rattle.rv_history.specs.Moves.{HasNoStopAhead, IsNextStop}
 use Rattle.rv_history.specs.declared.forward_move.Arrived.{Arrived}

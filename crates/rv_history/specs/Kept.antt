@@ -1,8 +1,8 @@
 -- Stored machines at steps of a run.
 use Rattle.std.specs.Prelude.{ℕ, ◌<◌, ◌≤◌, List, All}
 use Rattle.std.specs.List.{AllPairs}
-use Rattle.rv_machine.specs.Machine.{state_of}
-use Rattle.rv_machine.specs.State.{State}
+use Rattle.rv_trace.specs.Machine.{state_of}
+use Rattle.rv_trace.specs.State.{State}
 use Rattle.rv_history.specs.declared.machine_at.MachineAt.{MachineAt}
 use Rattle.rv_history.specs.Places.{IsReached}
 

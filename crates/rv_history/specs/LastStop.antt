@@ -1,6 +1,6 @@
 -- The last stop that a backward search has found.
 use Rattle.std.specs.Prelude.{ℕ, ◌+◌, ◌<◌, ◌≤◌, Bool, Option, Some, None, if◌then◌else◌}
-use Rattle.rv_machine.specs.State.{State}
+use Rattle.rv_trace.specs.State.{State}
 use Rattle.rv_history.specs.Moves.{IsStopBefore, IsUninterrupted}
 use Rattle.rv_history.specs.Places.{IsBreakAt, IsChangeAt}
 use Rattle.rv_history.specs.declared.found.StopInfo.{StopInfo}

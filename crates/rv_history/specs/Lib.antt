@@ -11,3 +11,8 @@ pub mod PositionInside
 pub mod Printing
 pub mod Kept
 pub mod ForwardMoves
+pub use Rattle.rv_trace.specs.Bus
+pub use Rattle.rv_trace.specs.Machine
+pub use Rattle.rv_trace.specs.State
+pub use Rattle.rv_trace.specs.Trace
+pub use Rattle.rv_trace.specs.declared_ending

@@ -1,9 +1,9 @@
 -- Where the moves of a debugger stop, in a run within a budget.
 use Rattle.std.specs.Prelude.{ℕ, Bool, if◌then◌else◌, ◌≡◌, ◌+◌, ◌<◌, ◌≤◌}
-use Rattle.rv_machine.specs.Run.{run_of}
-use Rattle.rv_machine.specs.State.{State}
-use Rattle.rv_machine.specs.declared.ending.Ending.{Ending}
-use Rattle.rv_machine.specs.declared.ending.Ending.TheVariants.{Budget}
+use Rattle.rv_trace.specs.Run.{run_of}
+use Rattle.rv_trace.specs.State.{State}
+use Rattle.rv_trace.specs.declared_ending.Ending.{Ending}
+use Rattle.rv_trace.specs.declared_ending.Ending.TheVariants.{Budget}
 use Rattle.rv_history.specs.Places.{IsBreakAt, IsChangeAt, IsHaltAt, last_step}
 use Rattle.rv_history.specs.declared.bounds.Bounds.{Bounds}
 use Rattle.rv_history.specs.declared.found.Found.{Found}

@@ -1,7 +1,7 @@
 -- The steps of a run, from 0 at its start to the number of steps that it completes, and the stops there.
 use Rattle.std.specs.Prelude.{ℕ, ◌≡◌, ◌+◌, ◌<◌, true}
-use Rattle.rv_machine.specs.Run.{run_of}
-use Rattle.rv_machine.specs.State.{State}
+use Rattle.rv_trace.specs.Run.{run_of}
+use Rattle.rv_trace.specs.State.{State}
 use Rattle.rv_trace.specs.Trace.{state_after}
 use Rattle.rv_history.specs.Stops.{TriggersWatch, is_break, is_halt}
 use Rattle.rv_history.specs.declared.bounds.Bounds.{Bounds}

@@ -2,8 +2,8 @@
 -- states nothing about runs.
 use Rattle.std.specs.Prelude.{ℕ, refl}
 use Rattle.std.specs.Coded.{Coded, code_by, coded_ℕ, coded×}
-use Rattle.rv_machine.specs.State.{State}
-pub use Rattle.rv_machine.proofs.Public.{state_code}
+use Rattle.rv_trace.specs.State.{State}
+pub use Rattle.rv_trace.proofs.Public.{state_code}
 use Rattle.rv_history.specs.Positions.{Position}
 
 -- the encoding of a `Position` as nested pairs for the prover

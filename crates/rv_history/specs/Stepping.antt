@@ -1,7 +1,7 @@
 -- A step, and whether it triggers a watchpoint.
 use Rattle.std.specs.Prelude.{◌≡◌, Ok, Err}
-use Rattle.rv_machine.specs.Run.{step_of}
-use Rattle.rv_machine.specs.State.{State}
+use Rattle.rv_trace.specs.Run.{step_of}
+use Rattle.rv_trace.specs.State.{State}
 use Rattle.rv_history.specs.Stops.{TriggersWatch, TriggersNoWatch}
 use Rattle.rv_history.specs.declared.stepping.Stepped.{Stepped}
 use Rattle.rv_history.specs.declared.stepping.Stepped.TheVariants as stepped

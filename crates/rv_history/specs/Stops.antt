@@ -3,8 +3,8 @@ use Rattle.std.specs.Prelude.{ℕ, List, [], ◌∷◌, ◌≡◌, ◌≢◌, �
 use Rattle.std.specs.Str.{bytes_eq}
 use Rattle.std.specs.FinMap as fin
 use Rattle.std.specs.List.{filter_map, find, flat_map, list_any, range_with_len}
-use Rattle.rv_memory.specs.Bus.{Contents}
-use Rattle.rv_machine.specs.State.{State}
+use Rattle.rv_trace.specs.Bus.{Contents}
+use Rattle.rv_trace.specs.State.{State}
 use Rattle.rv_history.specs.Accesses.{access_at, is_hit}
 use Rattle.rv_history.specs.declared.access.Access.{Access}
 use Rattle.rv_history.specs.declared.bounds.Bounds.{Bounds}

@@ -1,15 +1,13 @@
 //! The bytes that an instruction reads or writes.
 
 ghost use Rattle.std.specs.Prelude.{◌≡◌, ◌+◌};
-ghost use Rattle.rv_isa.specs.Words.{IsWellFormed};
-ghost use Rattle.rv_machine.specs.Effect.{address};
-ghost use Rattle.rv_machine.specs.Machine.{state_of};
+ghost use Rattle.rv_trace.specs.IsaWords.{IsWellFormed};
+ghost use Rattle.rv_trace.specs.Effect.{address};
+ghost use Rattle.rv_trace.specs.Machine.{state_of};
 ghost use Rattle.rv_history.specs.Accesses.{access_at, access_by, is_hit, reach_of};
 
 use crate::stops::Watch;
-use rv_isa::{Instr, Op};
-use rv_machine::Machine;
-use rv_trace::{accessed_address, code_at, instr_of};
+use rv_trace::{Instr, Machine, Op, accessed_address, code_at, instr_of};
 
 /// How an instruction accesses memory.
 #[derive(Clone, Copy)]

@@ -1,9 +1,9 @@
 //! Searches for breakpoints only. Between two of them a run goes at full speed.
 
 ghost use Rattle.std.specs.Prelude.{◌≡◌, ◌≤◌, ◌<◌, ℕ, IfNone, IfOk, IfSome, false, true};
-ghost use Rattle.rv_machine.specs.Machine.{state_of};
-ghost use Rattle.rv_machine.specs.Run.{run_of};
-ghost use Rattle.rv_machine.specs.declared.ending.Ending.TheVariants.{Budget};
+ghost use Rattle.rv_trace.specs.Machine.{state_of};
+ghost use Rattle.rv_trace.specs.Run.{run_of};
+ghost use Rattle.rv_trace.specs.declared_ending.Ending.TheVariants.{Budget};
 ghost use Rattle.rv_history.specs.LastStop.{IsPart};
 ghost use Rattle.rv_history.specs.ForwardMoves.{IsArrival, IsMoveInProgress};
 ghost use Rattle.rv_history.specs.Stops.{AreUnwatched, is_break};
@@ -18,7 +18,7 @@ use crate::search_back::{Part, last_stop_after};
 use crate::slices::{fill_a_slice, is_slice_end, slice_end};
 use crate::stepping::{Stepped, step};
 use crate::stops::Stops;
-use rv_machine::Machine;
+use rv_trace::Machine;
 use std::alloc::{AllocError, Global};
 
 /// Returns where a forward move without bounds ends, if there are no watchpoints, and the result of the move. Runs at full speed between

@@ -1,7 +1,7 @@
 //! Stored states of a run.
 
 ghost use Rattle.std.specs.Prelude.{◌≡◌, ◌≤◌, ◌<◌, [], All, IfNone, IfSome};
-ghost use Rattle.rv_machine.specs.State.{State};
+ghost use Rattle.rv_trace.specs.State.{State};
 ghost use Rattle.rv_history.specs.Kept.{AreStates, IsAt, IsLastUpTo};
 
 use crate::machine_at::MachineAt;

@@ -1,15 +1,14 @@
 //! A run with some of its states stored.
 
 ghost use Rattle.std.specs.Prelude.{◌≡◌, ◌≤◌, ◌<◌, [], IfOk, IfSome};
-ghost use Rattle.rv_machine.specs.Machine.{state_of};
-ghost use Rattle.rv_machine.specs.Run.{run_of};
+ghost use Rattle.rv_trace.specs.Machine.{state_of};
+ghost use Rattle.rv_trace.specs.Run.{run_of};
 ghost use Rattle.rv_trace.specs.Trace.{state_after};
 
 use crate::checkpoint_list::CheckpointList;
 use crate::machine_at::MachineAt;
 use crate::start::Start;
-use rv_machine::{Ending, Machine};
-use rv_memory::Bus;
+use rv_trace::{Bus, Ending, Machine};
 use std::alloc::{AllocError, Global};
 use std::marker::Model;
 
@@ -53,7 +52,7 @@ pub(crate) struct Checkpoints {
 
 impl Model for Checkpoints {
     ghost use Rattle.std.specs.Prelude.{◌<◌};
-    ghost use Rattle.rv_machine.specs.State.{State};
+    ghost use Rattle.rv_trace.specs.State.{State};
     ghost use Rattle.rv_history.specs.Kept.{AreStates};
     ghost use Rattle.rv_history.specs.PositionInside.{state_code};
     ghost use Rattle.rv_history.specs.Starts.{start_of};

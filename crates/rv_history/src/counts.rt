@@ -6,7 +6,7 @@ ghost use Rattle.rv_history.specs.Starts.{start_of};
 
 use crate::start::Start;
 use crate::stepping::step;
-use rv_memory::Bus;
+use rv_trace::Bus;
 use std::alloc::{AllocError, Global};
 
 /// What is counted in a run.

@@ -1,7 +1,7 @@
 //! Forward moves in progress.
 
 ghost use Rattle.std.specs.Prelude.{◌≡◌, ◌≤◌, ◌&&◌, IfOk, IsTrue, nat_lt, true};
-ghost use Rattle.rv_machine.specs.Machine.{state_of};
+ghost use Rattle.rv_trace.specs.Machine.{state_of};
 ghost use Rattle.rv_history.specs.Kept.{IsAt};
 ghost use Rattle.rv_history.specs.Moves.{found_at_budget};
 ghost use Rattle.rv_history.specs.Stops.{is_halt};
@@ -13,7 +13,7 @@ use crate::interrupt::Interrupt;
 use crate::machine_at::MachineAt;
 use crate::slices::{fill_a_slice, is_slice_end};
 use crate::stops::Stops;
-use rv_machine::Ending;
+use rv_trace::Ending;
 use std::alloc::{AllocError, Global};
 
 /// A forward move in progress.

@@ -1,6 +1,6 @@
 //! Results of moves.
 
-use rv_machine::Ending;
+use rv_trace::Ending;
 
 /// The result of a move: why it ended.
 #[derive(Clone, Copy)]

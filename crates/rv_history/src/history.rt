@@ -1,7 +1,7 @@
 //! A position in a run, and the moves from it.
 
 ghost use Rattle.std.specs.Prelude.{◌≡◌, ◌+◌, ◌-◌, ◌<◌, ◌≤◌, ◌↔◌, IfOk, IsTrue, MatchBool, OnErr, if◌then◌else◌, true};
-ghost use Rattle.rv_machine.specs.Machine.{state_of};
+ghost use Rattle.rv_trace.specs.Machine.{state_of};
 ghost use Rattle.rv_trace.specs.Trace.{state_after};
 
 use crate::bounds::Bounds;
@@ -16,7 +16,7 @@ use crate::search_back::{step_before, stop_before};
 use crate::start::Start;
 use crate::stepping::{Stepped, step_watched};
 use crate::stops::{Stops, WatchHit};
-use rv_machine::{Ending, Machine};
+use rv_trace::{Ending, Machine};
 use std::alloc::{AllocError, Global};
 use std::marker::Model;
 
@@ -32,7 +32,7 @@ pub struct History {
 
 impl Model for History {
     ghost use Rattle.std.specs.Prelude.{◌≤◌};
-    ghost use Rattle.rv_machine.specs.Machine.{state_of};
+    ghost use Rattle.rv_trace.specs.Machine.{state_of};
     ghost use Rattle.rv_history.specs.Places.{IsReached};
     ghost use Rattle.rv_history.specs.PositionInside.{position_code};
     ghost use Rattle.rv_history.specs.Positions.{Position};

@@ -8,7 +8,7 @@ ghost use Rattle.rv_history.specs.declared.bounds.Bounds.{Bounds};
 ghost use Rattle.rv_history.specs.declared.counts.Count.{Count};
 ghost use Rattle.rv_history.specs.declared.found.Found.{Found};
 ghost use Rattle.rv_history.specs.declared.stops.Stops.{Stops};
-ghost use Rattle.rv_machine.specs.State.{State};
+ghost use Rattle.rv_trace.specs.State.{State};
 ghost use Rattle.rv_trace.specs.Trace.{state_after};
 
 /// Proves that the result of a move that is not interrupted, and the step where it ends, depend only on the run, the step where it begins,

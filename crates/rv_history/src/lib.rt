@@ -33,3 +33,6 @@ pub use interrupt::Interrupt;
 pub use law::{moves_are_determined, printed_bytes_stay};
 pub use start::Start;
 pub use stops::{Stops, Watch, WatchHit};
+
+// From the crates below: what this interface names, and what its callers need with it.
+pub use rv_trace::{Bus, Ending, Isa, Machine, Map, Misaligned, Region, Sequence};

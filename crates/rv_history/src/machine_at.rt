@@ -1,12 +1,12 @@
 //! Machines at steps of a run.
 
 ghost use Rattle.std.specs.Prelude.{◌≡◌, ◌≤◌, IfOk};
-ghost use Rattle.rv_machine.specs.Machine.{state_of};
-ghost use Rattle.rv_machine.specs.Run.{run_of};
-ghost use Rattle.rv_machine.specs.State.{State};
+ghost use Rattle.rv_trace.specs.Machine.{state_of};
+ghost use Rattle.rv_trace.specs.Run.{run_of};
+ghost use Rattle.rv_trace.specs.State.{State};
 ghost use Rattle.rv_history.specs.Kept.{IsAt};
 
-use rv_machine::{Ending, Machine};
+use rv_trace::{Ending, Machine};
 use std::alloc::{AllocError, Global};
 
 /// A machine, and how many steps of its run are completed.

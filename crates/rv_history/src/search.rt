@@ -16,7 +16,7 @@ use crate::interrupt::Interrupt;
 use crate::slices::slice_end;
 use crate::stepping::{Stepped, step_with_watched_bytes};
 use crate::stops::Stops;
-use rv_machine::Ending;
+use rv_trace::Ending;
 use std::alloc::{AllocError, Global};
 
 /// Returns where a forward move ends, with the machine there and the result of the move. Stores states on the way.

@@ -1,7 +1,7 @@
 //! Backward searches in a run. It is repeated in parts, each from a stored state, the last part first.
 
 ghost use Rattle.std.specs.Prelude.{◌≡◌, ◌≤◌, ◌<◌, ℕ, IfNone, IfOk, IfSome, true};
-ghost use Rattle.rv_machine.specs.Run.{run_of};
+ghost use Rattle.rv_trace.specs.Run.{run_of};
 ghost use Rattle.rv_history.specs.LastStop.{IsPart, last_stop_after};
 ghost use Rattle.rv_history.specs.Moves.{IsStepBefore, IsStopBefore};
 ghost use Rattle.rv_history.specs.declared.found.Found.TheVariants.{Interrupted};

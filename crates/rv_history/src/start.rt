@@ -1,12 +1,10 @@
 //! The start of a run.
 
 ghost use Rattle.std.specs.Prelude.{◌≡◌, ◌%◌, IfOk, false};
-ghost use Rattle.rv_machine.specs.Machine.{state_of};
-ghost use Rattle.rv_machine.specs.State.{is_misaligned};
+ghost use Rattle.rv_trace.specs.Machine.{state_of};
+ghost use Rattle.rv_trace.specs.State.{is_misaligned};
 
-use rv_isa::Isa;
-use rv_machine::Machine;
-use rv_memory::Bus;
+use rv_trace::{Bus, Isa, Machine};
 use std::alloc::{AllocError, Global};
 
 /// The start of a run: a hart at reset, and a bus, of which each run gets a copy.

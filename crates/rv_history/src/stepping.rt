@@ -1,13 +1,13 @@
 //! A step, and whether it triggers a watchpoint.
 
 ghost use Rattle.std.specs.Prelude.{◌≡◌, IfOk, MatchOption, OnOk, Ok, Err};
-ghost use Rattle.rv_machine.specs.Machine.{state_of};
-ghost use Rattle.rv_machine.specs.Run.{step_of};
+ghost use Rattle.rv_trace.specs.Machine.{state_of};
+ghost use Rattle.rv_trace.specs.Run.{step_of};
 ghost use Rattle.rv_history.specs.Stepping.{IsStepped};
 ghost use Rattle.rv_history.specs.Stops.{watched_bytes};
 
 use crate::stops::Stops;
-use rv_machine::{Ending, Machine};
+use rv_trace::{Ending, Machine};
 use std::alloc::{AllocError, Global};
 
 /// The result of a step.

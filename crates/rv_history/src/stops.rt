@@ -2,9 +2,7 @@
 
 ghost use Rattle.std.specs.Prelude.{◌≡◌, ◌≤◌, ◌+◌, ◌^◌, ◌++◌, ◌↔◌, [], ℕ, List, IfOk, IfSome, IsTrue, MatchOption, OnOk, drop, length, true};
 
-use rv_base::Sequence;
-use rv_machine::Machine;
-use rv_memory::Bus;
+use rv_trace::{Bus, Machine, Sequence};
 use std::alloc::{AllocError, Global};
 
 /// A range of watched bytes, all of them within the address space.
@@ -40,8 +38,8 @@ pub enum WatchHit {
 }
 
 impl Stops {
-    ghost use Rattle.rv_machine.specs.Machine.{state_of};
-    ghost use Rattle.rv_machine.specs.ValidEntries.{IsCached};
+    ghost use Rattle.rv_trace.specs.Machine.{state_of};
+    ghost use Rattle.rv_trace.specs.ValidEntries.{IsCached};
     ghost use Rattle.rv_history.specs.Stops.{first_differing, is_break, watched_bytes};
 
     /// Whether there are no breakpoints and no watchpoints.

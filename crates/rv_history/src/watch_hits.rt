@@ -2,13 +2,13 @@
 
 ghost use Rattle.std.specs.Prelude.{◌≡◌, IfOk, option_map};
 ghost use Rattle.std.specs.List.{find};
-ghost use Rattle.rv_machine.specs.Machine.{state_of};
+ghost use Rattle.rv_trace.specs.Machine.{state_of};
 ghost use Rattle.rv_history.specs.Accesses.{is_hit};
 ghost use Rattle.rv_history.specs.Stops.{first_hit, first_read, first_triggered, access_hit};
 
 use crate::access::{Access, access_at};
 use crate::stops::{Stops, Watch, WatchHit};
-use rv_machine::Machine;
+use rv_trace::Machine;
 use std::alloc::{AllocError, Global};
 
 impl Stops {

@@ -1,10 +1,6 @@
 //! Moves among the steps of a run, by the lines of a table.
 use crate::alarm::Alarm;
-use rv_base::Sequence;
-use rv_history::{Bounds, Found, History, Start, Stops, Watch};
-use rv_isa::Isa;
-use rv_machine::Ending;
-use rv_memory::{Bus, Map, Misaligned, Region};
+use rv_history::{Bounds, Bus, Ending, Found, History, Isa, Map, Misaligned, Region, Sequence, Start, Stops, Watch};
 use samples::{agree, cell_of, has_lines, hex_of, numbers};
 use std::alloc::{AllocError, Global};
 use std::test::Fail;

@@ -6,3 +6,4 @@ pub mod Counts
 pub mod DifferingLines
 pub mod FirstLines
 pub mod NoStarts
+pub mod Public

@@ -4,18 +4,18 @@ use Rattle.std.specs.Prelude.{MatchOption}
 use Rattle.std.specs.Result.{result_ok}
 use Rattle.rv_calls.specs.declared.run.Calls.{Calls}
 use Rattle.rv_calls.specs.CallsLine.{calls_text}
-use Rattle.rv_elf.specs.declared.error.ImageError.{ImageError}
-use Rattle.rv_elf.specs.declared.image.Image.{Image}
-use Rattle.rv_elf.specs.declared.symbol_search.SymbolAt.{SymbolAt}
-use Rattle.rv_elf.specs.Image.{image_of}
-use Rattle.rv_elf.specs.SymbolSearch.{symbol_at}
-use Rattle.rv_elf.specs.Symbols.{symbol_of}
-use Rattle.rv_isa.specs.declared.sets.Isa.{Isa}
-use Rattle.rv_jobs.specs.declared_job.Symbols.{Symbols}
+use Rattle.rv_rows.specs.declared_elf_error.ImageError.{ImageError}
+use Rattle.rv_rows.specs.declared_image.Image.{Image}
+use Rattle.rv_rows.specs.declared_symbol_search.SymbolAt.{SymbolAt}
+use Rattle.rv_rows.specs.Image.{image_of}
+use Rattle.rv_rows.specs.SymbolSearch.{symbol_at}
+use Rattle.rv_rows.specs.Symbols.{symbol_of}
+use Rattle.rv_rows.specs.declared_sets.Isa.{Isa}
+use Rattle.rv_rows.specs.declared_job.Symbols.{Symbols}
 use Rattle.rv_rows.specs.declared_row.RowEnd.{RowEnd}
 use Rattle.rv_rows.specs.Rows.{image_if_read}
-use Rattle.rv_trace.specs.declared.trace.Trace.{Trace}
-use Rattle.rv_trace.specs.Text.{trace_text}
+use Rattle.rv_calls.specs.declared_trace.Trace.{Trace}
+use Rattle.rv_calls.specs.Text.{trace_text}
 use Rattle.rv_job_text.specs.ImageSymbols.{signature_begin, signature_begin_in_image, symbol_in_file, symbol_in_image, value_if_defined}
 use Rattle.rv_job_text.specs.TraceOptions.{optional_calls_text, optional_trace_text, text_in_file, text_in_image}
 

@@ -4,8 +4,8 @@ use Rattle.rv_hang.specs.BudgetUse.{IsBudgetUseIn}
 use Rattle.rv_hang.specs.declared.budget_use.BudgetUse.{BudgetUse}
 use Rattle.rv_hang.specs.declared.budget_use.BudgetUse.TheVariants.{Changes, Repeats}
 use Rattle.rv_hang.specs.declared.repetition.Repetition.{Repetition}
-use Rattle.rv_jobs.specs.Plans.{Planned}
-use Rattle.rv_jobs.specs.declared_job.Job.{Job}
+use Rattle.rv_rows.specs.Plans.{Planned}
+use Rattle.rv_rows.specs.declared_job.Job.{Job}
 use Rattle.rv_rows.specs.declared_row.Row.{Row}
 use Rattle.rv_rows.specs.declared_row.RowEnd.{RowEnd}
 use Rattle.rv_rows.specs.declared_row.RowEnd.TheVariants.{Budget}

@@ -4,19 +4,19 @@ use Rattle.std.specs.Prelude.{◌+◌, ◌-◌, ◌^◌, ℕ, List, [], ◌∷�
 use Rattle.std.specs.Prelude.{option_map, Result, Ok, Err, Bool, true, false, if◌then◌else◌, nat_lt}
 use Rattle.std.specs.List.{find, flat_map}
 use Rattle.std.specs.Option.{option_or}
-use Rattle.rv_elf.specs.declared.error.ImageError.{ImageError}
-use Rattle.rv_elf.specs.declared.error.ImageError.TheVariants as image
-use Rattle.rv_elf.specs.declared.image.Image.{Image}
-use Rattle.rv_elf.specs.declared.image.Segment.{Segment}
-use Rattle.rv_elf.specs.declared.loading.LoadAt.{LoadAt}
-use Rattle.rv_elf.specs.Image.{image_of}
-use Rattle.rv_elf.specs.Loading.{load_address, segments_overlap, unfit_segment}
-use Rattle.rv_elf.specs.Symbols.{symbol_of}
-use Rattle.rv_jobs.specs.declared_job.Job.{Job}
-use Rattle.rv_jobs.specs.declared_job.Symbols.{Symbols}
+use Rattle.rv_rows.specs.declared_elf_error.ImageError.{ImageError}
+use Rattle.rv_rows.specs.declared_elf_error.ImageError.TheVariants as image
+use Rattle.rv_rows.specs.declared_image.Image.{Image}
+use Rattle.rv_rows.specs.declared_image.Segment.{Segment}
+use Rattle.rv_rows.specs.declared_loading.LoadAt.{LoadAt}
+use Rattle.rv_rows.specs.Image.{image_of}
+use Rattle.rv_rows.specs.Loading.{load_address, segments_overlap, unfit_segment}
+use Rattle.rv_rows.specs.Symbols.{symbol_of}
+use Rattle.rv_rows.specs.declared_job.Job.{Job}
+use Rattle.rv_rows.specs.declared_job.Symbols.{Symbols}
 use Rattle.rv_text.specs.Printable.{printable_text}
-use Rattle.rv_memory.specs.declared.map.Region.{Region}
-use Rattle.rv_memory.specs.Regions.{in_one}
+use Rattle.rv_rows.specs.declared_map.Region.{Region}
+use Rattle.rv_rows.specs.Regions.{in_one}
 use Rattle.rv_text.specs.Words.{word_digits}
 
 -- ---- addresses

@@ -1,12 +1,12 @@
 -- What a job's image contributes to its lines: the symbol of a fault's address, and the address of a signature.
 use Rattle.std.specs.Prelude.{ℕ, List, Option, Some, None, Result, Ok, Err}
-use Rattle.rv_elf.specs.declared.error.ImageError.{ImageError}
-use Rattle.rv_elf.specs.declared.image.Image.{Image}
-use Rattle.rv_elf.specs.Image.{image_of}
-use Rattle.rv_elf.specs.SymbolSearch.{symbol_at}
-use Rattle.rv_elf.specs.Symbols.{symbol_of}
-use Rattle.rv_isa.specs.declared.sets.Isa.{Isa}
-use Rattle.rv_jobs.specs.declared_job.Symbols.{Symbols}
+use Rattle.rv_rows.specs.declared_elf_error.ImageError.{ImageError}
+use Rattle.rv_rows.specs.declared_image.Image.{Image}
+use Rattle.rv_rows.specs.Image.{image_of}
+use Rattle.rv_rows.specs.SymbolSearch.{symbol_at}
+use Rattle.rv_rows.specs.Symbols.{symbol_of}
+use Rattle.rv_rows.specs.declared_sets.Isa.{Isa}
+use Rattle.rv_rows.specs.declared_job.Symbols.{Symbols}
 use Rattle.rv_rows.specs.declared_row.RowEnd.{RowEnd}
 use Rattle.rv_rows.specs.declared_row.RowEnd.TheVariants as ending
 

@@ -4,7 +4,7 @@ use Rattle.std.specs.Prelude.{if◌then◌else◌}
 use Rattle.rv_expect.specs.declared.unmet.Unmet.{Unmet}
 use Rattle.rv_expect.specs.Comparisons.{Sides}
 use Rattle.rv_expect.specs.MetExpectations.{is_expectation_met}
-use Rattle.rv_jobs.specs.Jobs.{console_path}
+use Rattle.rv_rows.specs.Jobs.{console_path}
 use Rattle.rv_text.specs.Printable.{printable_text}
 use Rattle.rv_expect.specs.declared.met_expectations.Expectation.{Expectation}
 use Rattle.rv_expect.specs.declared.met_expectations.Expectation.TheVariants as expectation

@@ -2,12 +2,12 @@
 -- it.
 use Rattle.std.specs.Prelude.{ℕ, List, Option, Some, None, option_map}
 use Rattle.std.specs.Option.{option_or}
-use Rattle.rv_elf.specs.declared.error.ImageError.{ImageError}
+use Rattle.rv_rows.specs.declared_elf_error.ImageError.{ImageError}
 use Rattle.rv_files.specs.declared.recording_store.UnreadablePath.{UnreadablePath}
-use Rattle.rv_jobs.specs.declared.answers.Answer.{Answer}
-use Rattle.rv_jobs.specs.Plans.{result_for_path}
-use Rattle.rv_jobs.specs.declared_job.Job.{Job}
-use Rattle.rv_jobs.specs.Jobs.{console_path}
+use Rattle.rv_rows.specs.declared_answers.Answer.{Answer}
+use Rattle.rv_rows.specs.Plans.{result_for_path}
+use Rattle.rv_rows.specs.declared_job.Job.{Job}
+use Rattle.rv_rows.specs.Jobs.{console_path}
 use Rattle.rv_job_text.specs.ImageReasons.{image_reason}
 use Rattle.rv_rows.specs.declared_row.Refusal.{Refusal}
 use Rattle.rv_rows.specs.declared_row.Refusal.TheVariants as refusal

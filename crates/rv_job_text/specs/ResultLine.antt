@@ -1,6 +1,6 @@
 -- The line about a row.
 use Rattle.std.specs.Prelude.{◌==◌, length, ℕ, List, [], ◌++◌, Option, Some, None, codes, if◌then◌else◌}
-use Rattle.rv_machine.specs.Faults.{fault_name}
+use Rattle.rv_rows.specs.Faults.{fault_name}
 use Rattle.rv_rows.specs.declared_row.Row.{Row}
 use Rattle.rv_rows.specs.declared_row.RowEnd.{RowEnd}
 use Rattle.rv_rows.specs.declared_row.RowEnd.TheVariants as ending

@@ -6,8 +6,8 @@ use Rattle.rv_expect.specs.declared.unmet.Unmet.{Unmet}
 use Rattle.rv_expect.specs.Comparisons.{Sides}
 use Rattle.rv_expect.specs.UnmetInPlan.{sides_in, unmet_in}
 use Rattle.rv_files.specs.declared.recording_store.UnreadablePath.{UnreadablePath}
-use Rattle.rv_jobs.specs.declared_job.Job.{Job}
-use Rattle.rv_jobs.specs.Plans.{Planned}
+use Rattle.rv_rows.specs.declared_job.Job.{Job}
+use Rattle.rv_rows.specs.Plans.{Planned}
 use Rattle.rv_expect.specs.Judgement.{Judging, fails, is_unknown_failure, judgement, judging_of}
 use Rattle.rv_job_text.specs.ConsoleTail.{console_tail}
 use Rattle.rv_job_text.specs.ResultLine.{result_line}
@@ -25,7 +25,7 @@ use Rattle.rv_job_text.specs.RefusalReasons.{ending_reason}
 use Rattle.rv_job_text.specs.BudgetUseLine.{budget_use_line}
 use Rattle.rv_job_text.specs.TraceOptions.{optional_calls_text, optional_trace_text}
 use Rattle.rv_job_text.specs.declared.end_trace.TraceOptions.{TraceOptions}
-use Rattle.rv_trace.specs.Trace.{image_bytes, trace_in}
+use Rattle.rv_calls.specs.Trace.{image_bytes, trace_in}
 
 -- a reporter of the rows of a plan: what it knows about the jobs, and which rows it shows in which detail
 pub record RowReporter : Type 0 where

@@ -3,8 +3,8 @@ use Rattle.std.specs.Prelude.{◌==◌, ℕ, zero, suc, List, [], ◌∷◌, ◌
 use Rattle.std.specs.Prelude.{codes, if◌then◌else◌, length, sum_by, count_by}
 use Rattle.std.specs.List.{flat_map}
 use Rattle.std.specs.Fmt.{decimal}
-use Rattle.rv_jobs.specs.Plans.{Planned}
-use Rattle.rv_machine.specs.Faults.{fault_name}
+use Rattle.rv_rows.specs.Plans.{Planned}
+use Rattle.rv_rows.specs.Faults.{fault_name}
 use Rattle.rv_rows.specs.declared_row.Row.{Row}
 use Rattle.rv_rows.specs.Report.{line}
 use Rattle.rv_text.specs.Words.{count_text}

@@ -1,14 +1,14 @@
 -- How a run reached its end, as shown to a person, with the symbols of the job's image.
 use Rattle.std.specs.Prelude.{ℕ, List, [], Option, Some, None, Result, Ok, Err}
-use Rattle.rv_elf.specs.declared.error.ImageError.{ImageError}
-use Rattle.rv_elf.specs.declared.image.Image.{Image}
-use Rattle.rv_elf.specs.Image.{image_of}
-use Rattle.rv_isa.specs.declared.sets.Isa.{Isa}
+use Rattle.rv_rows.specs.declared_elf_error.ImageError.{ImageError}
+use Rattle.rv_rows.specs.declared_image.Image.{Image}
+use Rattle.rv_rows.specs.Image.{image_of}
+use Rattle.rv_rows.specs.declared_sets.Isa.{Isa}
 use Rattle.rv_calls.specs.declared.run.Calls.{Calls}
 use Rattle.rv_calls.specs.CallsLine.{calls_text}
 use Rattle.rv_rows.specs.declared_row.RowEnd.{RowEnd}
-use Rattle.rv_trace.specs.declared.trace.Trace.{Trace}
-use Rattle.rv_trace.specs.Text.{trace_text}
+use Rattle.rv_calls.specs.declared_trace.Trace.{Trace}
+use Rattle.rv_calls.specs.Text.{trace_text}
 
 -- the result of `text` for the image and the bytes of a file; empty if the file cannot be parsed as an image
 abbrev pub text_in_image : Result Image ImageError → List ℕ → (Image → List ℕ → List ℕ) → List ℕ

@@ -15,12 +15,12 @@ use Rattle.rv_expect.specs.declared.unmet.Unmet.{Unmet}
 use Rattle.rv_expect.specs.declared.unmet.Unmet.TheVariants as unmet
 use Rattle.rv_expect.specs.Comparisons.{Sides}
 use Rattle.rv_expect.specs.Reference.{signature_words_or_empty}
-use Rattle.rv_jobs.specs.declared_job.ExpectedConsole.{ExpectedConsole}
-use Rattle.rv_jobs.specs.declared_job.ExpectedConsole.TheVariants as console
-use Rattle.rv_jobs.specs.declared_job.ExpectedEnd.{ExpectedEnd}
-use Rattle.rv_jobs.specs.declared_job.ExpectedEnd.TheVariants as expected
+use Rattle.rv_rows.specs.declared_job.ExpectedConsole.{ExpectedConsole}
+use Rattle.rv_rows.specs.declared_job.ExpectedConsole.TheVariants as console
+use Rattle.rv_rows.specs.declared_job.ExpectedEnd.{ExpectedEnd}
+use Rattle.rv_rows.specs.declared_job.ExpectedEnd.TheVariants as expected
 use Rattle.rv_text.specs.Printable.{printable_text, printable_value}
-use Rattle.rv_machine.specs.Faults.{fault_name}
+use Rattle.rv_rows.specs.Faults.{fault_name}
 use Rattle.rv_rows.specs.declared_row.Row.{Row}
 use Rattle.rv_rows.specs.declared_row.RowEnd.{RowEnd}
 use Rattle.rv_rows.specs.declared_row.RowEnd.TheVariants as ending

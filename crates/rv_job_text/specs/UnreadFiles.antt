@@ -5,7 +5,7 @@ use Rattle.std.specs.List.{find}
 use Rattle.std.specs.Str.{bytes_eq}
 use Rattle.rv_files.specs.IoErrors.{io_error_text}
 use Rattle.rv_files.specs.declared.recording_store.UnreadablePath.{UnreadablePath}
-use Rattle.rv_jobs.specs.Limits.{most_bytes}
+use Rattle.rv_files.specs.Limits.{most_bytes}
 
 -- the first entry for this path in the list of files that could not be read, or `None` if there is none
 abbrev pub unread_note : List UnreadablePath → List ℕ → Option UnreadablePath

@@ -5,7 +5,7 @@ ghost use Rattle.rv_text.specs.Printable.{printable_text};
 ghost use Rattle.rv_job_text.specs.UnmetLines.{byte_difference_text, bytes_difference_text, console_difference_text, count_difference_text};
 
 use rv_expect::Difference;
-use rv_jobs::ExpectedConsole;
+use rv_rows::ExpectedConsole;
 use rv_text::{Span, actual_and_expected_from, push_spans, push_text};
 use std::alloc::AllocError;
 

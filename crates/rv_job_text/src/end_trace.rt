@@ -2,18 +2,16 @@
 
 ghost use Rattle.std.specs.Prelude.{◌≡◌, ◌<◌, ◌++◌, IfOk, OnOk, length};
 ghost use Rattle.rv_hang.specs.BudgetUse.{IsBudgetUseIn};
-ghost use Rattle.rv_jobs.specs.declared_job.Job.{Job as AJob};
-ghost use Rattle.rv_trace.specs.Trace.{job_at};
+ghost use Rattle.rv_rows.specs.declared_job.Job.{Job as AJob};
+ghost use Rattle.rv_calls.specs.Trace.{job_at};
 ghost use Rattle.rv_job_text.specs.BudgetUseLine.{IsUseOfRow};
 ghost use Rattle.rv_job_text.specs.RowReporter.{calls_lines, end_trace_lines};
 
 use crate::job_file::JobFile;
 use crate::job_row::JobRow;
-use rv_calls::{calls_at_end, push_calls_text};
+use rv_calls::{JobImage, calls_at_end, push_calls_text, push_trace, trace_job};
 use rv_hang::{BudgetUse, budget_use_of};
-use rv_jobs::Plan;
-use rv_rows::{Row, RowEnd};
-use rv_trace::{JobImage, push_trace, trace_job};
+use rv_rows::{Plan, Row, RowEnd};
 use std::alloc::{AllocError, Global};
 
 /// Options for showing how a run reached its end.

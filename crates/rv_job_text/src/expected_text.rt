@@ -6,7 +6,7 @@ ghost use Rattle.rv_job_text.specs.ConsoleLines.{is_shown_by_lines, shown_by_lin
 
 use crate::difference_text::bytes_or_empty;
 use rv_expect::{Comparison, Difference, Unmet};
-use rv_jobs::ExpectedConsole;
+use rv_rows::ExpectedConsole;
 use rv_text::{Span, is_utf8};
 
 /// An expected text and its name.

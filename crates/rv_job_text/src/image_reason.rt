@@ -1,16 +1,14 @@
 //! Why an image was refused, as shown to a person.
 
 ghost use Rattle.std.specs.Prelude.{◌≡◌, ◌<◌, ◌++◌, IfSome, OnOk, codes, length, option_map};
-ghost use Rattle.rv_elf.specs.Image.{IsImageOf};
-ghost use Rattle.rv_elf.specs.Symbols.{symbol_of};
+ghost use Rattle.rv_rows.specs.Image.{IsImageOf};
+ghost use Rattle.rv_rows.specs.Symbols.{symbol_of};
 ghost use Rattle.rv_text.specs.Spans.{span_text};
 ghost use Rattle.rv_job_text.specs.ImageReasons.{symbol_address_text, signature_ends_text, image_reason, image_details_text, missing_symbol_text, image_error_sentence};
 ghost use Rattle.rv_job_text.specs.ImageReasons.{signature_range_text};
 
 use crate::segment_reason::{push_regions, push_segment_overlap, push_unfit_segment};
-use rv_elf::{Image, ImageError, find_symbol, read_image, unfit_segment};
-use rv_jobs::{Job, Symbols};
-use rv_memory::Region;
+use rv_rows::{Image, ImageError, Job, Region, Symbols, find_symbol, read_image, unfit_segment};
 use rv_text::{Span, push_spans, push_text};
 use std::alloc::{AllocError, Global};
 

@@ -3,13 +3,11 @@
 ghost use Rattle.std.specs.Prelude.{◌≡◌, ◌<◌, IfSome, length, option_map};
 ghost use Rattle.rv_job_text.specs.ImageSymbols.{fault_symbol, signature_begin, symbol_in_file};
 ghost use Rattle.rv_job_text.specs.ImageSymbols.{value_if_defined};
-ghost use Rattle.rv_elf.specs.Symbols.{symbol_of};
+ghost use Rattle.rv_rows.specs.Symbols.{symbol_of};
 
 use crate::job_file::JobFile;
-use rv_elf::{SymbolAt, find_symbol, symbol_at};
-use rv_jobs::Symbols;
-use rv_rows::RowEnd;
-use rv_trace::ElfFile;
+use rv_calls::ElfFile;
+use rv_rows::{RowEnd, SymbolAt, Symbols, find_symbol, symbol_at};
 
 impl<'a> JobFile<'a> {
     /// Returns the symbol that the pc of a fault belongs to, or `None` if there is none or the run did not end with a fault.

@@ -1,15 +1,13 @@
 //! The file of a job's image, parsed once for all lines of the job.
 
 ghost use Rattle.std.specs.Prelude.{◌≡◌, ◌<◌, IfOk, MatchOption, None, Some, length, option_map};
-ghost use Rattle.rv_jobs.specs.declared_job.Job.{Job as AJob};
-ghost use Rattle.rv_jobs.specs.Plans.{result_for_path};
+ghost use Rattle.rv_rows.specs.declared_job.Job.{Job as AJob};
+ghost use Rattle.rv_rows.specs.Plans.{result_for_path};
 ghost use Rattle.rv_rows.specs.Rows.{content_if_read, image_if_read};
-ghost use Rattle.rv_trace.specs.Trace.{job_at};
+ghost use Rattle.rv_calls.specs.Trace.{job_at};
 
-use rv_elf::{Image, ImageError, read_image};
-use rv_isa::Isa;
-use rv_jobs::Plan;
-use rv_trace::{ElfFile, image_bytes};
+use rv_calls::{ElfFile, image_bytes};
+use rv_rows::{Image, ImageError, Isa, Plan, read_image};
 use std::alloc::{AllocError, Global};
 
 /// The bytes of a job's image file, if they were read, and the image, if they are a valid one.

@@ -1,14 +1,13 @@
 //! The row of a plan's job.
 
 ghost use Rattle.std.specs.Prelude.{◌≡◌, ◌<◌, Some, length, option_map};
-ghost use Rattle.rv_jobs.specs.declared_job.Job.{Job as AJob};
-ghost use Rattle.rv_jobs.specs.Plans.{result_for_path};
+ghost use Rattle.rv_rows.specs.declared_job.Job.{Job as AJob};
+ghost use Rattle.rv_rows.specs.Plans.{result_for_path};
 ghost use Rattle.rv_rows.specs.Rows.{content_if_read};
-ghost use Rattle.rv_trace.specs.Trace.{job_at};
+ghost use Rattle.rv_calls.specs.Trace.{job_at};
 
 use crate::job_file::JobFile;
-use rv_jobs::Plan;
-use rv_rows::Row;
+use rv_rows::{Plan, Row};
 
 /// The row of the job at an index of a plan, with the file of the job's image.
 #[derive(Clone, Copy)]

@@ -46,3 +46,8 @@ pub use text_reporter::TextReporter;
 pub use totals_line::{RunRows, job_word, known_count, push_run_totals_line, push_totals_line};
 pub use unread_files::{too_long_file_text, unread_file_text};
 pub use verbosity::Verbosity;
+
+// From the crates below: what this interface names, and what its callers need with it.
+pub use rv_expect::{Judge, Judgement, is_error, is_failure};
+pub use rv_rows::{RowReporter, did_run};
+pub use rv_text::{Span, Within, push_spans, push_text, push_xml_text, text_of_spans};

@@ -1,9 +1,9 @@
 //! The paths of the files that a job's run is compared with.
 
 ghost use Rattle.std.specs.Prelude.{◌≡◌, option_map};
-ghost use Rattle.rv_jobs.specs.Jobs.{console_path};
+ghost use Rattle.rv_rows.specs.Jobs.{console_path};
 
-use rv_jobs::Job;
+use rv_rows::Job;
 
 /// Returns the path of the file with the expected signature, or `None` if the job names none.
 pub fn reference_path(job: &Job) -> Option<&str>

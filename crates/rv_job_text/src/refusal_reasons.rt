@@ -1,8 +1,8 @@
 //! Why a job was refused.
 
 ghost use Rattle.std.specs.Prelude.{◌≡◌, ◌<◌, IfOk, length, option_map};
-ghost use Rattle.rv_jobs.specs.declared_job.Job.{Job as AJob};
-ghost use Rattle.rv_trace.specs.Trace.{job_at};
+ghost use Rattle.rv_rows.specs.declared_job.Job.{Job as AJob};
+ghost use Rattle.rv_calls.specs.Trace.{job_at};
 ghost use Rattle.rv_job_text.specs.RefusalReasons.{image_refusal_text, path_if_unread, ending_reason, refusal_reason};
 ghost use Rattle.rv_job_text.specs.RefusalReasons.{unread_reference_path};
 ghost use Rattle.rv_job_text.specs.UnreadFiles.{too_long_file_text, unread_file_text};
@@ -10,11 +10,9 @@ ghost use Rattle.rv_job_text.specs.UnreadFiles.{too_long_file_text, unread_file_
 use crate::image_reason::push_image_reason;
 use crate::paths::{console_path, reference_path};
 use crate::unread_files::{too_long_file_text, unread_file_text};
-use rv_elf::ImageError;
+use rv_calls::image_bytes;
 use rv_files::UnreadablePath;
-use rv_jobs::Plan;
-use rv_rows::{Refusal, RowEnd, expected_console_bytes, signature_reference_bytes};
-use rv_trace::image_bytes;
+use rv_rows::{ImageError, Plan, Refusal, RowEnd, expected_console_bytes, signature_reference_bytes};
 use std::alloc::{AllocError, Global};
 
 /// Returns the reason why the job at index `place` is refused, or `None` if it is not refused.

@@ -2,7 +2,7 @@
 
 ghost use Rattle.std.specs.Prelude.{◌≡◌, ◌++◌, OnOk, codes, option_map};
 ghost use Rattle.rv_expect.specs.Judgement.{judged_of};
-ghost use Rattle.rv_machine.specs.Faults.{fault_name};
+ghost use Rattle.rv_rows.specs.Faults.{fault_name};
 ghost use Rattle.rv_rows.specs.Report.{refusal_name};
 ghost use Rattle.rv_text.specs.Words.{exit_code_text, word_digits};
 ghost use Rattle.rv_job_text.specs.ResultLine.{judged_ending_text, judged_word, known_reason_text, now_passes_text, optional_reason_text, result_ending_text};
@@ -10,10 +10,8 @@ ghost use Rattle.rv_text.specs.Symbol.{symbol_in_brackets};
 ghost use Rattle.rv_job_text.specs.ResultLine.{result_line, after_steps_text};
 ghost use Rattle.rv_text.specs.Symbol.{symbol_text};
 
-use rv_elf::SymbolAt;
 use rv_expect::Judgement;
-use rv_machine::FaultKind;
-use rv_rows::{Refusal, Row, RowEnd};
+use rv_rows::{FaultKind, Refusal, Row, RowEnd, SymbolAt};
 use rv_text::{Span, push_spans, push_symbol_in_brackets, push_text};
 use std::alloc::{AllocError, Global};
 

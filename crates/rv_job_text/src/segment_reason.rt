@@ -2,15 +2,13 @@
 
 ghost use Rattle.std.specs.Prelude.{◌≡◌, ◌+◌, ◌++◌, OnOk, codes, option_map};
 ghost use Rattle.std.specs.List.{find};
-ghost use Rattle.rv_elf.specs.Loading.{load_address, segments_overlap};
-ghost use Rattle.rv_memory.specs.Regions.{in_one};
+ghost use Rattle.rv_rows.specs.Loading.{load_address, segments_overlap};
+ghost use Rattle.rv_rows.specs.Regions.{in_one};
 ghost use Rattle.rv_text.specs.Spans.{span_text};
 ghost use Rattle.rv_job_text.specs.ImageReasons.{last_address_text, unfit_segment_text, outside_segment_text, segment_overlap_text, segment_pair_text, address_range_text};
 ghost use Rattle.rv_job_text.specs.ImageReasons.{regions_text, overlapping_segments};
 
-use rv_elf::{LoadAt, Segment, segments_overlap};
-use rv_jobs::Job;
-use rv_memory::Region;
+use rv_rows::{Job, LoadAt, Region, Segment, segments_overlap};
 use rv_text::{Span, push_spans, push_text};
 use std::alloc::AllocError;
 

@@ -4,8 +4,8 @@ ghost use Rattle.std.specs.Prelude.{◌≡◌, ◌<◌, ◌++◌, OnOk, length, 
 ghost use Rattle.rv_expect.specs.Comparisons.{sides_of};
 ghost use Rattle.rv_expect.specs.Judgement.{judging_of};
 ghost use Rattle.rv_expect.specs.UnmetInPlan.{row_of_same_as_job};
-ghost use Rattle.rv_jobs.specs.declared_job.Job.{Job as AJob};
-ghost use Rattle.rv_trace.specs.Trace.{image_bytes, job_at};
+ghost use Rattle.rv_rows.specs.declared_job.Job.{Job as AJob};
+ghost use Rattle.rv_calls.specs.Trace.{image_bytes, job_at};
 ghost use Rattle.rv_job_text.specs.ImageSymbols.{fault_symbol};
 ghost use Rattle.rv_job_text.specs.RowReporter.{compared_lines, expectation_lines, explanation_text, row_line};
 ghost use Rattle.rv_job_text.specs.RowReporter.{outcome_text, run_explanation, run_lines, reporter_of, row_lines};
@@ -20,13 +20,9 @@ use crate::refusal_reasons::ending_reason;
 use crate::result_line::{EndDetail, push_result_line};
 use crate::unmet_line::push_unmet_lines;
 use crate::verbosity::{Detail, Verbosity};
-use rv_elf::SymbolAt;
 use rv_expect::{Comparison, Judge, Unmet, row_of_same_as_job, unmet_expectations};
 use rv_files::UnreadablePath;
-use rv_jobs::Plan;
-use rv_rows::{
-    Row, RowEnd, RowReporter, did_run, expected_console_bytes, signature_reference_bytes,
-};
+use rv_rows::{Plan, Row, RowEnd, RowReporter, SymbolAt, did_run, expected_console_bytes, signature_reference_bytes};
 use std::alloc::{AllocError, Global};
 
 /// Reports the rows of a plan as text.

@@ -7,8 +7,7 @@ ghost use Rattle.rv_expect.specs.Judgement.{judging_of};
 
 use crate::failure_counts::push_failure_counts;
 use rv_expect::{FailureKind, Judge, failures_by_end, failures_in_plan};
-use rv_jobs::Plan;
-use rv_rows::Row;
+use rv_rows::{Plan, Row};
 use rv_text::{Span, push_spans, push_text};
 use std::alloc::AllocError;
 

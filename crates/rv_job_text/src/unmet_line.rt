@@ -10,8 +10,7 @@ use crate::difference_text::{push_bytes_difference, push_compared_name, push_con
 use crate::expected_text::{ExpectedText, expected_by_lines};
 use crate::signature_difference_text::{push_signature_difference, push_signatures_difference};
 use rv_expect::{Comparison, SameDifference, Unmet};
-use rv_jobs::ExpectedEnd;
-use rv_rows::{Row, RowEnd};
+use rv_rows::{ExpectedEnd, Row, RowEnd};
 use rv_text::{Span, push_spans, push_text};
 use std::alloc::AllocError;
 

@@ -14,15 +14,15 @@ use Rattle.rv_jobs.specs.declared.kept.Kept.{Kept}
 use Rattle.rv_jobs.specs.declared.kept.Kept.TheVariants.{Unreadable}
 use Rattle.rv_jobs.specs.declared.answers.Answer.{Answer}
 use Rattle.rv_jobs.specs.declared.path_reading.Places.{Places}
-use Rattle.rv_base.specs.Names.{index_in}
-use Rattle.rv_base.specs.Files.{FileContents}
+use Rattle.rv_lists.specs.Names.{index_in}
+use Rattle.rv_lists.specs.Files.{FileContents}
 use Rattle.rv_jobs.specs.Kept.{IsKeptOf, is_unreadable, faults_with}
-use Rattle.rv_base.specs.Counts.{one_more}
+use Rattle.rv_lists.specs.Counts.{one_more}
 use Rattle.rv_lists.specs.Jobs.{console_path}
 use Rattle.rv_jobs.specs.Plans.{paths_of, answers_with, with_path, with_path_if, with_job, result_of_path}
 use Rattle.rv_jobs.specs.Plans.{AgreeWithContents, result_for_path, unreadable_count, one_more_times}
 use Rattle.rv_jobs.specs.Placed.{ArePlaced, IsFound}
-use Rattle.rv_base.proofs.Public.{place_below, place_last}
+use Rattle.rv_lists.proofs.Public.{place_below, place_last}
 use Rattle.std.proofs.lemmas.Slice.Eq.{bytes_eq-Decides}
 
 -- ---- what is kept of a path

@@ -9,7 +9,7 @@ use Rattle.std.proofs.lemmas.List.{take_more, length-take, get_or-take}
 use Rattle.rv_lists.specs.declared.job.Job.{Job}
 use Rattle.rv_jobs.specs.declared.path_reading.Places.{Places}
 use Rattle.rv_lists.specs.Jobs.{AreJobs, console_path, single_job}
-use Rattle.rv_base.specs.Names.{index_in}
+use Rattle.rv_lists.specs.Names.{index_in}
 use Rattle.rv_jobs.specs.Placed.{ArePlaced}
 use Rattle.rv_jobs.specs.declared.answers.Answer.{Answer}
 use Rattle.rv_jobs.specs.declared.kept.Kept.TheVariants.{Unreadable}

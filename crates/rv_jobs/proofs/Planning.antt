@@ -7,7 +7,7 @@ use Rattle.rv_jobs.specs.declared.kept.Kept.{Kept}
 use Rattle.rv_jobs.specs.declared.path_reading.Found.{Found}
 use Rattle.rv_jobs.specs.declared.plan.Plan.TheInside.{Inside}
 use Rattle.rv_lists.specs.Jobs.{single_job}
-use Rattle.rv_base.specs.Names.{index_in}
+use Rattle.rv_lists.specs.Names.{index_in}
 use Rattle.rv_jobs.specs.Placed.{IsFound}
 use Rattle.rv_jobs.specs.PlanInside.{IsPlanInside, paths_read, plan_view}
 use Rattle.rv_jobs.specs.Plans.{Planned, paths_of, result_for_path}

@@ -4,7 +4,7 @@ use Rattle.std.specs.HashMap.{get_by}
 use Rattle.std.specs.Str.{bytes_eq}
 use Rattle.rv_jobs.specs.declared.answers.Answer.{Answer}
 use Rattle.rv_jobs.specs.declared.answers.Answers.TheInside.{Inside}
-use Rattle.rv_base.specs.Names.{index_in}
+use Rattle.rv_lists.specs.Names.{index_in}
 use Rattle.rv_jobs.specs.Plans.{answers_with}
 
 -- the paths that were read, in order

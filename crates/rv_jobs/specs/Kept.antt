@@ -1,9 +1,9 @@
 -- The result of reading a path.
 use Rattle.std.specs.Prelude.{◌≡◌, ◌≤◌, ◌<◌, ℕ, Bool, true, false, List, Option, Some, IfSome}
 use Rattle.std.specs.Prelude.{IsSomeAnd, length, if◌then◌else◌}
-use Rattle.rv_base.specs.Counts.{one_more}
-use Rattle.rv_base.specs.Files.{FileContents}
-use Rattle.rv_base.specs.Limits.{most_bytes}
+use Rattle.rv_lists.specs.Counts.{one_more}
+use Rattle.rv_lists.specs.Files.{FileContents}
+use Rattle.rv_lists.specs.Limits.{most_bytes}
 use Rattle.rv_jobs.specs.declared.kept.Kept.{Kept}
 use Rattle.rv_jobs.specs.declared.kept.Kept.TheVariants.{Content, TooLong, Unreadable}
 

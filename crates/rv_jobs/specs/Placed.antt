@@ -4,7 +4,7 @@ use Rattle.std.specs.Prelude.{option_and_then, slice_index_or}
 use Rattle.rv_lists.specs.declared.job.Job.{Job}
 use Rattle.rv_jobs.specs.declared.path_reading.Places.{Places}
 use Rattle.rv_jobs.specs.declared.path_reading.Found.{Found}
-use Rattle.rv_base.specs.Names.{index_in}
+use Rattle.rv_lists.specs.Names.{index_in}
 use Rattle.rv_lists.specs.Jobs.{console_path}
 
 -- each path of the job is in `paths`, and `at` has its index there

@@ -8,11 +8,11 @@ use Rattle.rv_lists.specs.declared.job.Job.{Job}
 use Rattle.rv_jobs.specs.declared.kept.Kept.{Kept}
 use Rattle.rv_jobs.specs.declared.kept.Kept.TheVariants.{Unreadable}
 use Rattle.rv_jobs.specs.declared.answers.Answer.{Answer}
-use Rattle.rv_base.specs.Names.{index_in}
+use Rattle.rv_lists.specs.Names.{index_in}
 use Rattle.rv_lists.specs.Jobs.{console_path, single_job}
-use Rattle.rv_base.specs.Files.{FileContents}
+use Rattle.rv_lists.specs.Files.{FileContents}
 use Rattle.rv_jobs.specs.Kept.{IsKeptOf, is_unreadable}
-use Rattle.rv_base.specs.Counts.{one_more}
+use Rattle.rv_lists.specs.Counts.{one_more}
 
 -- the paths of these results, in order
 abbrev pub paths_of : List Answer → List (List ℕ)

@@ -1,12 +1,11 @@
 //! The results for the distinct paths of jobs, while a plan is gathered.
 
 ghost use Rattle.std.specs.Prelude.{◌≡◌, ℕ, [], IfOk, Some, map};
-ghost use Rattle.rv_base.specs.Names.{index_in};
+ghost use Rattle.rv_lists.specs.Names.{index_in};
 ghost use Rattle.rv_jobs.specs.Plans.{paths_of, with_path, AgreeWithContents, unreadable_count, one_more_times};
 
 use crate::kept::{Kept, read_path};
-use rv_base::Store;
-use rv_lists::Text;
+use rv_lists::{Store, Text};
 use std::alloc::{AllocError, Global};
 use std::collections::HashMap;
 use std::hash::{BuildHasherDefault, FoldHasher};

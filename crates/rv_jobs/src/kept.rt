@@ -3,7 +3,7 @@
 ghost use Rattle.std.specs.Prelude.{◌≡◌, IfOk};
 ghost use Rattle.rv_jobs.specs.Kept.{IsKeptOf, faults_with};
 
-use rv_base::{Bytes, ReadError, Store};
+use rv_lists::{Bytes, ReadError, Store};
 use std::alloc::{AllocError, Global};
 
 /// The result of reading a path.

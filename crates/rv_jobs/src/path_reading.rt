@@ -4,14 +4,13 @@ ghost use Rattle.std.specs.Prelude.{◌≡◌, ◌<◌, ℕ, IfOk, IfSome, Some,
 ghost use Rattle.std.specs.Prelude.{option_map, option_and_then};
 ghost use Rattle.std.specs.List.{fold};
 ghost use Rattle.rv_lists.specs.Jobs.{AreJobs, console_path, single_job};
-ghost use Rattle.rv_base.specs.Names.{index_in};
+ghost use Rattle.rv_lists.specs.Names.{index_in};
 ghost use Rattle.rv_jobs.specs.Plans.{paths_of, with_job, with_path_if, jobs_needed_at};
 ghost use Rattle.rv_jobs.specs.Plans.{AgreeWithContents, unreadable_count, one_more_times};
 ghost use Rattle.rv_jobs.specs.Placed.{ArePlaced, AreNoted, IsFound, AreFound};
 
 use crate::answers::Answers;
-use rv_base::Store;
-use rv_lists::Job;
+use rv_lists::{Job, Store};
 use std::alloc::{AllocError, Global};
 
 /// The indices of the results for a job's paths, all of which were read.

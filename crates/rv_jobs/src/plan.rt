@@ -1,20 +1,19 @@
 //! A plan: the jobs of a list, and the results for the paths that they name.
 
-ghost use Rattle.rv_base.specs.Limits.{most_jobs};
+ghost use Rattle.rv_lists.specs.Limits.{most_jobs};
 ghost use Rattle.rv_lists.specs.declared.job.Job.{Job as AJob};
 ghost use Rattle.std.specs.Prelude.{◌≡◌, ◌<◌, ◌≤◌, ℕ, List, IfOk, IfSome, length};
 ghost use Rattle.std.specs.Prelude.{slice_index_or, option_map};
 ghost use Rattle.std.specs.List.{All};
 ghost use Rattle.rv_lists.specs.Jobs.{IsJob, console_path};
-ghost use Rattle.rv_base.specs.Names.{index_in};
+ghost use Rattle.rv_lists.specs.Names.{index_in};
 ghost use Rattle.rv_jobs.specs.Plans.{paths_of, paths_used, jobs_needed_for, result_for_path};
 ghost use Rattle.rv_jobs.specs.Plans.{AgreeWithContents, unreadable_count, one_more_times};
 
 use crate::answers::Answers;
 use crate::kept::Kept;
 use crate::path_reading::{Found, blank_job_places, console_path, reference_path, result_indices};
-use rv_base::Store;
-use rv_lists::{Job, JobList};
+use rv_lists::{Job, JobList, Store};
 use std::alloc::{AllocError, Global};
 use std::marker::Model;
 

@@ -3,14 +3,14 @@ use Rattle.std.proofs.Common.{◌≡◌, ◌∙◌, refl, sym, ap, append_assoc,
 use Rattle.std.specs.Prelude.{OnOk, Result, Ok, Err, codes, count_by, if◌then◌else◌, length}
 use Rattle.std.specs.Result.{is_ok}
 use Rattle.std.proofs.KnownBytes.{Appends-nil}
-use Rattle.rv_rows.specs.declared_row.Row.{Row}
-use Rattle.rv_rows.specs.Sinks.{AppendsBeginning}
-use Rattle.rv_expect.specs.Judgement.{Judging, judgement}
+use Rattle.rv_stream.specs.declared_row.Row.{Row}
+use Rattle.rv_stream.specs.Sinks.{AppendsBeginning}
+use Rattle.rv_job_text.specs.Judgement.{Judging, judgement}
 use Rattle.rv_stream.specs.Streams.{row_text_list, joined_row_texts}
-use Rattle.rv_text.specs.declared.xml.Within.TheVariants.{Element}
-use Rattle.rv_text.specs.Words.{count_text}
-use Rattle.rv_text.specs.Xml.{xml_text}
-use Rattle.rv_expect.specs.Problem.{is_error, is_failure}
+use Rattle.rv_job_text.specs.declared_xml.Within.TheVariants.{Element}
+use Rattle.rv_job_text.specs.TextWords.{count_text}
+use Rattle.rv_job_text.specs.Xml.{xml_text}
+use Rattle.rv_job_text.specs.Problem.{is_error, is_failure}
 use Rattle.rv_junit.specs.Pieces.{attribute, number_attribute}
 use Rattle.rv_job_text.specs.TotalsLine.{known_count}
 use Rattle.rv_junit.specs.Junit.{judged_text, junit_text, output_text, skipped_attribute, steps_properties, suite_begin_text, suite_end_text}

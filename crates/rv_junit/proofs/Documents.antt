@@ -5,25 +5,25 @@ use Rattle.std.specs.Prelude.{◌==◌, IfSome, codes, count_by, option_map, pos
 use Rattle.std.specs.Str.{bytes_eq}
 use Rattle.std.specs.List.{AllByRecursion, flat_map}
 use Rattle.hex.specs.Hex.{IsBytes}
-use Rattle.rv_rows.specs.declared_row.Row.{Row}
-use Rattle.rv_rows.specs.Verdict.{did_run}
-use Rattle.rv_expect.specs.Judgement.{Judged, Judging, failed, judged_by_known, judged_in_file, judged_unknown, judgement, known, now_passes, passed}
-use Rattle.rv_expect.specs.Passing.{has_passed}
-use Rattle.rv_expect.specs.KnownJobs.{known_job_of, reason_of}
-use Rattle.rv_expect.specs.declared.known_jobs.KnownJob.{KnownJob}
-use Rattle.rv_expect.specs.declared.known_jobs.KnownJobs.{KnownJobs}
+use Rattle.rv_stream.specs.declared_row.Row.{Row}
+use Rattle.rv_job_text.specs.Verdict.{did_run}
+use Rattle.rv_job_text.specs.Judgement.{Judged, Judging, failed, judged_by_known, judged_in_file, judged_unknown, judgement, known, now_passes, passed}
+use Rattle.rv_job_text.specs.Passing.{has_passed}
+use Rattle.rv_job_text.specs.KnownJobs.{known_job_of, reason_of}
+use Rattle.rv_job_text.specs.declared_known_jobs.KnownJob.{KnownJob}
+use Rattle.rv_job_text.specs.declared_known_jobs.KnownJobs.{KnownJobs}
 use Rattle.rv_job_text.specs.ConsoleTail.{is_feed}
 use Rattle.rv_job_text.specs.TotalsLine.{known_count}
-use Rattle.rv_text.specs.declared.xml.Within.TheVariants.{Attribute, Element}
+use Rattle.rv_job_text.specs.declared_xml.Within.TheVariants.{Attribute, Element}
 use Rattle.rv_junit.specs.Pieces.{attribute, number_attribute}
 use Rattle.rv_junit.specs.Junit.{IsWrittenRow, suite_begin_text, test_case_text, test_cases_text, suite_end_text, first_line}
-use Rattle.rv_expect.specs.Problem.{is_error, is_failure}
+use Rattle.rv_job_text.specs.Problem.{is_error, is_failure}
 use Rattle.rv_junit.specs.Junit.{AreReasonsBytes, HasBytesAsReason, judged_text, junit_text, output_text, problem_element_name, skipped_text}
 use Rattle.rv_junit.specs.Junit.{problem_text, steps_properties, steps_property, text_up_to}
-use Rattle.rv_text.specs.Words.{count_text}
-use Rattle.rv_text.specs.Xml.{IsXmlCharacters}
+use Rattle.rv_job_text.specs.TextWords.{count_text}
+use Rattle.rv_job_text.specs.Xml.{IsXmlCharacters}
 use Rattle.rv_junit.proofs.Laws.{all_are_counted}
-use Rattle.rv_text.proofs.Public.{xml_append, xml_decimal, xml_escaped, xml_nil, xml_plain}
+use Rattle.rv_job_text.proofs.Public.{xml_append, xml_decimal, xml_escaped, xml_nil, xml_plain}
 
 bytes_take : (n : ℕ) (text : List ℕ) → IsBytes text → IsBytes (take n text)
 bytes_take zero text are = λ i. omega arith

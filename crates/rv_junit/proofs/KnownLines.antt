@@ -5,8 +5,8 @@ use Rattle.std.specs.declared.alloc.Global.{Global}
 use Rattle.std.proofs.lemmas.Bool.{cases_lt, false≢true}
 use Rattle.std.proofs.lemmas.List.{get_or-map, get_or_append_left, length-append, length-map}
 use Rattle.std.proofs.Math.Seq.{get_or-append_seam}
-use Rattle.rv_expect.specs.Judgement.{Judging, fails}
-use Rattle.rv_rows.specs.declared_row.Row.{Row}
+use Rattle.rv_job_text.specs.Judgement.{Judging, fails}
+use Rattle.rv_stream.specs.declared_row.Row.{Row}
 use Rattle.rv_stream.specs.Seen.{HasSeenRows, IsReportOf}
 use Rattle.rv_stream.specs.declared.reported_row.ReportedRow.{ReportedRow}
 use Rattle.rv_junit.specs.KnownLines.{AreFailureTexts, AreLinesOf, IsFailureText}

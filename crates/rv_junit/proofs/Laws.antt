@@ -3,11 +3,11 @@ use Rattle.std.proofs.Common.{◌≡◌, refl, ℕ, suc, ◌+◌, List, [], ◌�
 use Rattle.std.proofs.Common.{Bool, true, false, cond, arith}
 use Rattle.std.specs.Prelude.{◌&&◌, count_by, not}
 use Rattle.std.proofs.lemmas.List.Sums.{sum_by-cons}
-use Rattle.rv_rows.specs.declared_row.Row.{Row}
-use Rattle.rv_rows.specs.Verdict.{did_run}
-use Rattle.rv_expect.specs.Judgement.{Judged, Judging, failed, is_failing, is_known_failure, is_passed, judgement, known, now_passes, passed}
+use Rattle.rv_stream.specs.declared_row.Row.{Row}
+use Rattle.rv_job_text.specs.Verdict.{did_run}
+use Rattle.rv_job_text.specs.Judgement.{Judged, Judging, failed, is_failing, is_known_failure, is_passed, judgement, known, now_passes, passed}
 use Rattle.rv_job_text.specs.TotalsLine.{known_count, passed_count}
-use Rattle.rv_expect.specs.Problem.{is_error, is_failure}
+use Rattle.rv_job_text.specs.Problem.{is_error, is_failure}
 
 one_of_four : (judged : Judged) (ran : Bool) (failures errors skips passes count : ℕ)
     → failures + errors + skips + passes ≡ count

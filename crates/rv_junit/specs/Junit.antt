@@ -3,16 +3,16 @@ use Rattle.std.specs.Prelude.{◌==◌, ◌^◌, ◌<◌, ℕ, List, [], ◌∷�
 use Rattle.std.specs.Prelude.{IfSome, count_by, if◌then◌else◌, length, position, take}
 use Rattle.std.specs.List.{AllByRecursion, flat_map}
 use Rattle.hex.specs.Hex.{IsBytes}
-use Rattle.rv_expect.specs.declared.known_jobs.KnownJob.{KnownJob}
-use Rattle.rv_rows.specs.declared_row.Row.{Row}
-use Rattle.rv_rows.specs.Verdict.{did_run}
+use Rattle.rv_job_text.specs.declared_known_jobs.KnownJob.{KnownJob}
+use Rattle.rv_stream.specs.declared_row.Row.{Row}
+use Rattle.rv_job_text.specs.Verdict.{did_run}
 use Rattle.rv_job_text.specs.ConsoleTail.{is_feed}
-use Rattle.rv_expect.specs.Judgement.{Judged, Judging, failed, judgement, known, now_passes, passed}
+use Rattle.rv_job_text.specs.Judgement.{Judged, Judging, failed, judgement, known, now_passes, passed}
 use Rattle.rv_job_text.specs.TotalsLine.{known_count}
-use Rattle.rv_expect.specs.Problem.{is_error, is_failure}
-use Rattle.rv_text.specs.declared.xml.Within.TheVariants.{Element}
-use Rattle.rv_text.specs.Words.{count_text}
-use Rattle.rv_text.specs.Xml.{xml_text}
+use Rattle.rv_job_text.specs.Problem.{is_error, is_failure}
+use Rattle.rv_job_text.specs.declared_xml.Within.TheVariants.{Element}
+use Rattle.rv_job_text.specs.TextWords.{count_text}
+use Rattle.rv_job_text.specs.Xml.{xml_text}
 use Rattle.rv_junit.specs.Pieces.{attribute, number_attribute}
 
 -- ---- a case

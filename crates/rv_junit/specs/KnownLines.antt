@@ -1,8 +1,8 @@
 -- Lines of rows that are known before a document is written.
 use Rattle.std.specs.Prelude.{◌≡◌, ◌<◌, ◌≤◌, ℕ, Bool, false, true, List, [], Option, None, IfSome, length, slice_index_or, Vec}
 use Rattle.std.specs.declared.alloc.Global.{Global}
-use Rattle.rv_expect.specs.Judgement.{Judging, fails}
-use Rattle.rv_rows.specs.declared_row.Row.{Row}
+use Rattle.rv_job_text.specs.Judgement.{Judging, fails}
+use Rattle.rv_stream.specs.declared_row.Row.{Row}
 use Rattle.rv_stream.specs.declared.reported_row.ReportedRow.{ReportedRow}
 
 -- each entry of `texts` has the lines that `line` makes of a row and the index of its job, or is `None` if the lines are not known

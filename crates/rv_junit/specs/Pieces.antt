@@ -3,9 +3,9 @@ use Rattle.std.specs.Prelude.{ℕ, List, ◌++◌, codes}
 use Rattle.std.specs.Fmt.{decimal}
 use Rattle.rv_junit.specs.declared.pieces.Piece.{Piece}
 use Rattle.rv_junit.specs.declared.pieces.Piece.TheVariants as piece
-use Rattle.rv_text.specs.declared.xml.Within.TheVariants.{Attribute, Element}
-use Rattle.rv_text.specs.Words.{count_text}
-use Rattle.rv_text.specs.Xml.{xml_text}
+use Rattle.rv_job_text.specs.declared_xml.Within.TheVariants.{Attribute, Element}
+use Rattle.rv_job_text.specs.TextWords.{count_text}
+use Rattle.rv_job_text.specs.Xml.{xml_text}
 
 -- an XML attribute with a name and a text as its value, which is escaped
 unfoldable pub attribute : List ℕ → List ℕ → List ℕ

@@ -1,17 +1,18 @@
 //! The cases of a document, written in few large writes.
 
 ghost use Rattle.std.specs.Prelude.{◌≡◌, ◌++◌, ◌<◌, ◌≤◌, IfErr, IfSome, OnErr, OnOk, length, slice_index_or};
-ghost use Rattle.rv_expect.specs.Judgement.{judging_of};
+ghost use Rattle.rv_job_text.specs.Judgement.{judging_of};
 ghost use Rattle.rv_junit.specs.Junit.{case_text};
 ghost use Rattle.rv_junit.specs.KnownLines.{AreLinesOf};
-ghost use Rattle.rv_rows.specs.Counts.{one_more};
-ghost use Rattle.rv_rows.specs.declared_row.Row.{Row as ARow};
-ghost use Rattle.rv_rows.specs.Sinks.{AppendsBeginning, IsPartlySent};
+ghost use Rattle.rv_stream.specs.Counts.{one_more};
+ghost use Rattle.rv_stream.specs.declared_row.Row.{Row as ARow};
+ghost use Rattle.rv_stream.specs.Sinks.{AppendsBeginning, IsPartlySent};
 ghost use Rattle.rv_stream.specs.Streams.{joined_row_texts};
 
 use crate::junit::push_test_case;
 use crate::suite::Suite;
-use rv_rows::{Row, RowReporter, Sink, WriteError, put_all};
+use rv_job_text::RowReporter;
+use rv_stream::{Row, Sink, WriteError, put_all};
 use std::alloc::{AllocError, Global};
 
 // The size in bytes from which the buffered text is written.

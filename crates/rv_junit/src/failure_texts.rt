@@ -1,10 +1,10 @@
 //! The texts of failed jobs, kept while a run reports them.
 
 ghost use Rattle.std.specs.Prelude.{◌≡◌, [], IfSome, false, true};
-ghost use Rattle.rv_expect.specs.Judgement.{judging_of};
+ghost use Rattle.rv_job_text.specs.Judgement.{judging_of};
 ghost use Rattle.rv_junit.specs.KnownLines.{AreFailureTexts, IsFailureText};
 
-use rv_expect::Judge;
+use rv_job_text::Judge;
 use rv_stream::{Flow, Observer, ReportedRow, StreamSpec};
 use std::alloc::Global;
 use std::marker::PhantomData;

@@ -3,17 +3,15 @@
 ghost use Rattle.std.specs.Prelude.{◌≡◌, ◌++◌, IfOk, OnOk, codes, count_by, position, string_bytes};
 ghost use Rattle.std.specs.List.{flat_map};
 ghost use Rattle.rv_job_text.specs.ConsoleTail.{is_feed};
-ghost use Rattle.rv_expect.specs.Problem.{is_error, is_failure};
+ghost use Rattle.rv_job_text.specs.Problem.{is_error, is_failure};
 ghost use Rattle.rv_junit.specs.Junit.{suite_begin_text, test_case_text, first_line, steps_properties, steps_property};
 ghost use Rattle.rv_junit.specs.Junit.{judged_text, problem_element_name, problem_text, reason_attribute, skipped_attribute, skipped_text};
-ghost use Rattle.rv_expect.specs.Judgement.{judged_of, judging_of};
+ghost use Rattle.rv_job_text.specs.Judgement.{judged_of, judging_of};
 
 use crate::pieces::{Piece, push_attribute, push_number_attribute, push_pieces};
 use crate::suite::Suite;
-use rv_expect::{Judge, Judgement, is_error, is_failure};
-use rv_job_text::known_count;
-use rv_rows::{Row, did_run};
-use rv_text::push_text;
+use rv_job_text::{Judge, Judgement, did_run, is_error, is_failure, known_count, push_text};
+use rv_stream::Row;
 use std::alloc::{AllocError, Global};
 
 /// Appends the beginning of a document: the declaration, the suite's name and counts, and the steps of the rows.

@@ -2,18 +2,18 @@
 
 ghost use Rattle.std.specs.Prelude.{◌≡◌, IfErr, OnErr, OnOk};
 ghost use Rattle.std.specs.Io.KnownBytes.{Appends};
-ghost use Rattle.rv_rows.specs.Sinks.{AppendsBeginning};
-ghost use Rattle.rv_rows.specs.Counts.{HasIncreased};
+ghost use Rattle.rv_stream.specs.Sinks.{AppendsBeginning};
+ghost use Rattle.rv_stream.specs.Counts.{HasIncreased};
 ghost use Rattle.rv_stream.specs.Streams.{row_text_list};
-ghost use Rattle.rv_expect.specs.Judgement.{judging_of};
+ghost use Rattle.rv_job_text.specs.Judgement.{judging_of};
 ghost use Rattle.rv_junit.specs.Junit.{junit_text};
 ghost use Rattle.rv_junit.specs.KnownLines.{AreLinesOf};
 
 use crate::case_writes::{Cases, write_cases};
 use crate::junit::push_suite_begin;
 use crate::suite::Suite;
-use rv_rows::{RowReporter, Sink, WriteError, put_all};
-use rv_text::push_text;
+use rv_job_text::{RowReporter, push_text};
+use rv_stream::{Sink, WriteError, put_all};
 use std::alloc::Global;
 
 /// Writes rows as JUnit XML: one suite, and one test case per row, in order, with its steps and its console. A failed row is a failure, or

@@ -3,12 +3,12 @@
 ghost use Rattle.std.specs.Prelude.{◌≡◌, ◌+◌, ◌<◌, ◌^◌, ℕ, List, count_by, length};
 ghost use Rattle.std.specs.List.{AllByRecursion};
 ghost use Rattle.hex.specs.Hex.{IsBytes};
-ghost use Rattle.rv_rows.specs.declared_row.Row.{Row};
-ghost use Rattle.rv_expect.specs.Judgement.{Judging};
+ghost use Rattle.rv_stream.specs.declared_row.Row.{Row};
+ghost use Rattle.rv_job_text.specs.Judgement.{Judging};
 ghost use Rattle.rv_job_text.specs.TotalsLine.{known_count, passed_count};
-ghost use Rattle.rv_expect.specs.Problem.{is_error, is_failure};
+ghost use Rattle.rv_job_text.specs.Problem.{is_error, is_failure};
 ghost use Rattle.rv_junit.specs.Junit.{AreReasonsBytes, IsWrittenRow, junit_text};
-ghost use Rattle.rv_text.specs.Xml.{IsXmlCharacters};
+ghost use Rattle.rv_job_text.specs.Xml.{IsXmlCharacters};
 
 /// Proves that a document is the UTF-8 encoding of XML 1.0 characters, whatever bytes its names, lines, reasons and consoles have.
 pub fn documents_are_xml_characters()

@@ -1,6 +1,6 @@
 //! Rows as JUnit XML.
 //!
-//! [`write_junit`] writes [`Cases`] as a [`Suite`], with the lines that a caller's [`RowReporter`](rv_rows::RowReporter) makes for them.
+//! [`write_junit`] writes [`Cases`] as a [`Suite`], with the lines that a caller's [`RowReporter`](rv_job_text::RowReporter) makes for them.
 //! [`FailureTexts`] keeps these lines while a run reports them. The output is exactly the text of its definition in `specs/`, and consists
 //! of XML 1.0 characters ([`documents_are_xml_characters`]).
 #![tactic(auto)]

@@ -3,9 +3,9 @@
 ghost use Rattle.std.specs.Prelude.{◌≡◌, ◌++◌, OnOk, string_bytes};
 ghost use Rattle.std.specs.List.{flat_map};
 ghost use Rattle.rv_junit.specs.Pieces.{attribute, number_attribute, piece_text};
-ghost use Rattle.rv_text.specs.Words.{count_text};
+ghost use Rattle.rv_job_text.specs.TextWords.{count_text};
 
-use rv_text::{Within, push_xml_text};
+use rv_job_text::{Within, push_xml_text};
 use std::alloc::{AllocError, Global};
 use std::fmt::Write;
 

@@ -1,6 +1,6 @@
 //! The suite of a document.
 
-use rv_expect::Judge;
+use rv_job_text::Judge;
 
 /// The only suite of a document.
 #[derive(Clone, Copy)]

@@ -7,7 +7,7 @@ use Rattle.std.specs.Str.{bytes_eq}
 use Rattle.toml.specs.Data.{Members, get_member}
 use Rattle.rv_lists.specs.Keys.{number_at_key, text_at_key}
 use Rattle.rv_lists.specs.Limits.{most_console, most_path}
-use Rattle.rv_machine.specs.Faults.{fault_kinds}
+use Rattle.rv_lists.specs.MachineFaults.{fault_kinds}
 use Rattle.rv_list_errors.specs.Explanation.{first_kinds_text, letters_words, sets_words}
 
 -- ---- expectations

@@ -9,8 +9,8 @@ use Rattle.rv_lists.specs.Keys.{is_job_key, is_list_key, is_region_key}
 use Rattle.rv_lists.specs.Limits.{most_budget, most_jobs, most_name, most_path, most_symbol}
 use Rattle.rv_lists.specs.declared.error.What.{What}
 use Rattle.rv_lists.specs.declared.error.What.TheVariants as what
-use Rattle.rv_machine.specs.Faults.{fault_kinds, fault_name}
-use Rattle.rv_machine.specs.declared.ending.FaultKind.TheVariants as fault
+use Rattle.rv_lists.specs.MachineFaults.{fault_kinds, fault_name}
+use Rattle.rv_lists.specs.declared_ending.FaultKind.TheVariants as fault
 use Rattle.rv_text.specs.Printable.{printable_value}
 use Rattle.rv_list_errors.specs.NearNames.{IsNearName, names_text, present, quoted}
 use Rattle.rv_list_locations.specs.LinesAndColumns.{column_at, line_at}

@@ -16,7 +16,7 @@ use Rattle.rv_lists.specs.Faults.{what_name}
 use Rattle.rv_lists.specs.declared.error.JobError.{JobError}
 use Rattle.rv_lists.specs.declared.error.What.{What}
 use Rattle.rv_lists.specs.declared.error.What.TheVariants as what
-use Rattle.rv_memory.specs.declared.map.Region.{Region}
+use Rattle.rv_lists.specs.declared_map.Region.{Region}
 use Rattle.rv_text.specs.Words.{word_digits}
 use Rattle.rv_list_errors.specs.Lines.{BeginsWith}
 use Rattle.rv_list_errors.specs.Expectations.{IsExpectationTold, isa_explanation}

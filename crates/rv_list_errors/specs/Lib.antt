@@ -1,5 +1,3 @@
-pub use Rattle.rv_list_locations.specs.LinesAndColumns
-pub use Rattle.rv_list_locations.specs.JobLocations
 pub mod FaultHeads
 pub mod Lines
 pub mod PlacedFaults
@@ -10,3 +8,6 @@ pub mod UnknownKeys
 pub mod Expectations
 pub mod JobFaults
 pub mod FaultsTold
+pub use Rattle.rv_list_locations.specs.JobLocations
+pub use Rattle.rv_list_locations.specs.LinesAndColumns
+pub use Rattle.rv_text.specs.Printable

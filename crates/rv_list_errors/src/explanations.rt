@@ -3,7 +3,7 @@
 ghost use Rattle.std.specs.Prelude.{◌≡◌, ◌++◌, ◌<◌, IfSome, codes, length};
 ghost use Rattle.toml.specs.View.{table_view};
 ghost use Rattle.rv_lists.specs.Keys.{text_at_key};
-ghost use Rattle.rv_machine.specs.Faults.{fault_kinds};
+ghost use Rattle.rv_lists.specs.MachineFaults.{fault_kinds};
 ghost use Rattle.rv_list_errors.specs.FaultHeads.{borrowed_name};
 ghost use Rattle.rv_list_errors.specs.JobFaults.{ExplainsKey, ExplainsExpectedValue, bytes_text, text_length, shown_byte_count, expected_words};
 ghost use Rattle.rv_list_errors.specs.NearNames.{Adds};
@@ -11,8 +11,8 @@ ghost use Rattle.rv_list_errors.specs.Explanation.{AddsSome, first_kinds_text, k
 
 use crate::message::Message;
 use crate::values::{push_key_and_value, text_at_key};
+use rv_lists::FaultKind;
 use rv_lists::limits::{MOST_BUDGET, MOST_CONSOLE, MOST_NAME, MOST_PATH, MOST_SCRIPT, MOST_SYMBOL};
-use rv_machine::FaultKind;
 use toml::Table;
 
 /// The explanation of a bad value: what is expected of the value of one key, or a text about two keys.

@@ -8,8 +8,7 @@ ghost use Rattle.rv_list_errors.specs.Explanation.{AddsSome};
 
 use crate::message::Message;
 use crate::regions::push_region_number;
-use rv_lists::What;
-use rv_memory::Region;
+use rv_lists::{Region, What};
 
 // The console's 16 bytes.
 const CONSOLE: Region = Region {

@@ -8,8 +8,7 @@ ghost use Rattle.rv_list_errors.specs.Explanation.{AddsSome, region_number_text}
 use crate::message::Message;
 use crate::overlaps::{push_console_overlap, push_region_overlap, region_end};
 use crate::values::{elements_at_key, push_expected_value, word_at_key};
-use rv_lists::What;
-use rv_memory::{Map, MapError, Region};
+use rv_lists::{Map, MapError, Region, What};
 use toml::{Table, Value};
 
 const BASE: &str = "expected a multiple of 4 from 0 to 0xfffffffc";

@@ -1,8 +1,8 @@
 -- A job behind its name, its image and its budget.
 use Rattle.std.proofs.Common.{◌≡◌, ◌∙◌, ℕ, false, List, Option, Result, Ok, Err, refl, is_some}
 use Rattle.toml.specs.Data.{Members}
-use Rattle.rv_isa.specs.declared.sets.Isa.{Isa}
-use Rattle.rv_memory.specs.declared.access.Misaligned.{Misaligned}
+use Rattle.rv_machine.specs.declared_sets.Isa.{Isa}
+use Rattle.rv_machine.specs.declared_access.Misaligned.{Misaligned}
 use Rattle.rv_lists.specs.declared.error.What.{What}
 use Rattle.rv_lists.specs.declared.job.ExpectedEnd.{ExpectedEnd}
 use Rattle.rv_lists.specs.declared.job.Job.{Job}
@@ -12,7 +12,7 @@ use Rattle.rv_lists.specs.declared.run_keys.RunOptions.{RunOptions}
 use Rattle.rv_lists.specs.declared.results.Results.{Results}
 use Rattle.rv_lists.specs.declared.setup.Setup.{Setup}
 use Rattle.rv_elf.specs.declared.loading.LoadAt.{LoadAt}
-use Rattle.rv_memory.specs.declared.map.Region.{Region}
+use Rattle.rv_machine.specs.declared_map.Region.{Region}
 use Rattle.rv_lists.specs.Keys.{has_unknown_job_or_region_key, has_wrong_kind}
 use Rattle.rv_lists.specs.JobList.{job_from_table, name_from_table, image_from_table, budget_from_table, script_from_table, map_from_table, load_from_table}
 use Rattle.rv_base.specs.Names.{index_in}

@@ -3,3 +3,4 @@ pub mod JobPlaces
 pub mod Steps
 pub mod JobStages
 pub mod AllFaults
+pub mod Public

@@ -10,7 +10,7 @@ use Rattle.toml.specs.Data.{Data, Items, item, array, as_array, Members}
 use Rattle.toml.specs.declared.value.Value.{Value}
 use Rattle.toml.specs.View.{view, items_view}
 use Rattle.toml.proofs.Views.{items_view-drop}
-use Rattle.rv_memory.specs.declared.map.Region.{Region}
+use Rattle.rv_machine.specs.declared_map.Region.{Region}
 use Rattle.rv_lists.specs.declared.error.What.{What}
 use Rattle.rv_lists.specs.declared.job.Job.{Job}
 use Rattle.rv_base.specs.Limits.{most_jobs}

@@ -12,13 +12,13 @@ use Rattle.toml.specs.Data.{Data, Items, no_items, item, Members, table, array, 
 use Rattle.toml.specs.Data.{get_item, as_str}
 use Rattle.hex.specs.Hex.{decode_of}
 use Rattle.hex.specs.declared.error.FromHexError.{FromHexError}
-use Rattle.rv_isa.specs.declared.sets.Isa.{Isa}
-use Rattle.rv_isa.specs.declared.sets.Isa.TheVariants as isa
-use Rattle.rv_memory.specs.declared.map.MapError.{MapError}
-use Rattle.rv_memory.specs.declared.map.Region.{Region}
-use Rattle.rv_memory.specs.declared.access.Misaligned.{Misaligned as Choice}
-use Rattle.rv_memory.specs.declared.access.Misaligned.TheVariants.{Fault, Allow}
-use Rattle.rv_memory.specs.Maps.{map_error}
+use Rattle.rv_machine.specs.declared_sets.Isa.{Isa}
+use Rattle.rv_machine.specs.declared_sets.Isa.TheVariants as isa
+use Rattle.rv_machine.specs.declared_map.MapError.{MapError}
+use Rattle.rv_machine.specs.declared_map.Region.{Region}
+use Rattle.rv_machine.specs.declared_access.Misaligned.{Misaligned as Choice}
+use Rattle.rv_machine.specs.declared_access.Misaligned.TheVariants.{Fault, Allow}
+use Rattle.rv_machine.specs.Maps.{map_error}
 use Rattle.rv_elf.specs.declared.loading.LoadAt.{LoadAt}
 use Rattle.rv_elf.specs.declared.loading.LoadAt.TheVariants.{Physical, Virtual}
 use Rattle.rv_lists.specs.declared.error.What.{What}

@@ -1,9 +1,9 @@
 -- What always holds for the jobs of a list.
 use Rattle.std.specs.Prelude.{ℕ, ◌<◌, ◌≤◌, List, [], ◌∷◌, length, map, slice_index_or, IfSome, Option}
 use Rattle.std.specs.Prelude.{Some, None, true, codes}
-use Rattle.rv_isa.specs.declared.sets.Isa.TheVariants.{Imc}
-use Rattle.rv_memory.specs.declared.map.Region.{Region}
-use Rattle.rv_memory.specs.declared.access.Misaligned.TheVariants.{Fault}
+use Rattle.rv_machine.specs.declared_sets.Isa.TheVariants.{Imc}
+use Rattle.rv_machine.specs.declared_map.Region.{Region}
+use Rattle.rv_machine.specs.declared_access.Misaligned.TheVariants.{Fault}
 use Rattle.rv_elf.specs.declared.loading.LoadAt.TheVariants.{Physical}
 use Rattle.rv_lists.specs.declared.job.Job.{Job}
 use Rattle.rv_lists.specs.declared.job.ExpectedConsole.{ExpectedConsole}

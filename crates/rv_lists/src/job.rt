@@ -6,9 +6,7 @@ ghost use Rattle.rv_lists.specs.Jobs.{AreJobs, console_path, job_with_budget, si
 
 use rv_base::{Bytes, Text};
 use rv_elf::LoadAt;
-use rv_isa::Isa;
-use rv_machine::FaultKind;
-use rv_memory::{Map, Misaligned};
+use rv_machine::{FaultKind, Isa, Map, Misaligned};
 use std::alloc::{AllocError, Global};
 use std::marker::Model;
 

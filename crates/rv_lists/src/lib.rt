@@ -25,4 +25,7 @@ pub use error::{JobError, What};
 pub use job::{ExpectedConsole, ExpectedEnd, Job, JobList, Symbols};
 pub use keys::{JOB_KEYS, Kind};
 pub use list::read_jobs;
-pub use rv_base::{Bytes, Text, limits};
+
+// From the crates below: what this interface names, and what its callers need with it.
+pub use rv_base::{Bytes, ReadError, Store, Text, is_name, limits};
+pub use rv_machine::{FaultKind, Map, MapError, Region};

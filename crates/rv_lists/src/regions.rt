@@ -9,7 +9,7 @@ ghost use Rattle.rv_lists.specs.JobList.{map_from_table};
 
 use crate::error::What;
 use crate::keys::{array_at_key, boolean_at_key, number_at_key};
-use rv_memory::{Map, Region};
+use rv_machine::{Map, Region};
 use std::alloc::Global;
 use toml::{Table, Value};
 

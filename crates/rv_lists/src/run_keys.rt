@@ -10,8 +10,7 @@ use crate::error::What;
 use crate::expectation_keys::end_from_table;
 use crate::job::ExpectedEnd;
 use crate::keys::text_at_key;
-use rv_isa::Isa;
-use rv_memory::Misaligned;
+use rv_machine::{Isa, Misaligned};
 use toml::Table;
 
 /// The values of the last four keys of a job: how its run should end, the job whose results it must have, and its hart.

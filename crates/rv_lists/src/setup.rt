@@ -16,7 +16,7 @@ use hex::FromHexError;
 use rv_base::Bytes;
 use rv_base::limits::MOST_SCRIPT;
 use rv_elf::LoadAt;
-use rv_memory::Map;
+use rv_machine::Map;
 use std::alloc::Global;
 use toml::Table;
 

@@ -22,3 +22,7 @@ mod transfers;
 
 pub use ending::{Ending, FaultKind, Outcome};
 pub use machine::Machine;
+
+// From the crates below: what this interface names, and what its callers need with it.
+pub use rv_isa::{Instr, Isa, Op, decode16, decode32, is_long};
+pub use rv_memory::{Bus, Map, MapError, Misaligned, Region, Width};

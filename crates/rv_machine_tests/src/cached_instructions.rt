@@ -1,7 +1,5 @@
 //! `rv_machine`: the decode cache, tested with the lines of a table: an image, requests to its machine, and the results.
-use rv_isa::Isa;
-use rv_machine::Machine;
-use rv_memory::{Bus, Map, Misaligned, Region};
+use rv_machine::{Bus, Isa, Machine, Map, Misaligned, Region};
 use samples::{agree, cell_of, has_lines, hex_of, numbers};
 use std::alloc::{AllocError, Global};
 use std::test::Fail;

@@ -7,16 +7,16 @@ use Rattle.std.proofs.lemmas.List.{get_or_default, get_or-set_same, get_or-set_o
 use Rattle.std.proofs.lemmas.List.Elements.{All-same}
 use Rattle.std.proofs.lemmas.Option.{same_Some, none-some, slice_get-get_or}
 use Rattle.std.specs.List.{All}
-use Rattle.rv_jobs.specs.Limits.{most_jobs}
-use Rattle.rv_report.specs.declared.row.Row.{Row}
-use Rattle.rv_report.specs.declared.saved.Extent.TheVariants as extent
-use Rattle.rv_report.specs.declared.saved.Shard.{Shard}
-use Rattle.rv_report.specs.declared.saved.SavedReport.{SavedReport}
-use Rattle.rv_report.specs.Saved.{IsSaved, saved_text}
-use Rattle.rv_report.specs.declared.read.ReadError.{ReadError}
-use Rattle.rv_report.specs.declared.read.ReadError.TheVariants as read
-use Rattle.rv_report.specs.Differences.{IsSameReadError, BeginsAlike, first_read_error}
-use Rattle.rv_report.specs.LenientReport.{lenient_report}
+use Rattle.rv_rows.specs.Limits.{most_jobs}
+use Rattle.rv_rows.specs.declared_row.Row.{Row}
+use Rattle.rv_rows.specs.declared_saved.Extent.TheVariants as extent
+use Rattle.rv_rows.specs.declared_saved.Shard.{Shard}
+use Rattle.rv_rows.specs.declared_saved.SavedReport.{SavedReport}
+use Rattle.rv_rows.specs.Saved.{IsSaved, saved_text}
+use Rattle.rv_rows.specs.declared_read.ReadError.{ReadError}
+use Rattle.rv_rows.specs.declared_read.ReadError.TheVariants as read
+use Rattle.rv_rows.specs.Differences.{IsSameReadError, BeginsAlike, first_read_error}
+use Rattle.rv_rows.specs.LenientReport.{lenient_report}
 use Rattle.rv_merge.specs.declared.error.Flaw.{Flaw}
 use Rattle.rv_merge.specs.declared.error.Flaw.TheVariants as flaw
 use Rattle.rv_merge.specs.GatheredParts.{Holds, IsOtherKind, IsOtherRun, IsSource, IsTaken, IsTextOf, filled_slots}

@@ -5,19 +5,19 @@ use Rattle.std.specs.Prelude.{codes, if◌then◌else◌}
 use Rattle.std.specs.List.{list_all}
 use Rattle.std.proofs.lemmas.Bool.{and_from, ltb-false}
 use Rattle.toml.specs.Data.{Data, Items, no_items, item, Members, table, array, get_member}
-use Rattle.rv_jobs.specs.declared_error.What.{What}
-use Rattle.rv_jobs.specs.declared_job.Job.{Job}
-use Rattle.rv_jobs.specs.Limits.{most_jobs}
-use Rattle.rv_jobs.specs.declared_error.What.TheVariants as what
-use Rattle.rv_jobs.specs.Keys.{any_unknown_key, item_count, has_unknown_job_or_region_key, has_wrong_kind, is_list_key}
-use Rattle.rv_jobs.specs.Reading.{◌>>=◌, fault_if, passing_value, numbered_reading}
-use Rattle.rv_jobs.specs.JobList.{name_from_table, names_of_jobs, image_from_table, budget_from_table, script_from_table, map_from_table}
-use Rattle.rv_jobs.specs.Names.{is_name, index_in}
-use Rattle.rv_jobs.specs.JobList.{load_from_table, signature_from_table, exit_from_table, reference_from_table, console_from_table, end_from_table, same_as_from_table, isa_from_table}
-use Rattle.rv_jobs.specs.JobList.{misaligned_from_table, job_from_table, job_from_element, jobs_of_elements, has_no_jobs, has_too_many_jobs, array_elements}
-use Rattle.rv_jobs.specs.JobList.{job_elements, jobs_of_document}
-use Rattle.rv_jobs.specs.JobList.{document_of, job_list_of}
-use Rattle.rv_report.specs.Saved.{are_new}
+use Rattle.rv_rows.specs.declared_lists_error.What.{What}
+use Rattle.rv_rows.specs.declared_job.Job.{Job}
+use Rattle.rv_rows.specs.Limits.{most_jobs}
+use Rattle.rv_rows.specs.declared_lists_error.What.TheVariants as what
+use Rattle.rv_rows.specs.Keys.{any_unknown_key, item_count, has_unknown_job_or_region_key, has_wrong_kind, is_list_key}
+use Rattle.rv_rows.specs.Reading.{◌>>=◌, fault_if, passing_value, numbered_reading}
+use Rattle.rv_rows.specs.JobList.{name_from_table, names_of_jobs, image_from_table, budget_from_table, script_from_table, map_from_table}
+use Rattle.rv_rows.specs.Names.{is_name, index_in}
+use Rattle.rv_rows.specs.JobList.{load_from_table, signature_from_table, exit_from_table, reference_from_table, console_from_table, end_from_table, same_as_from_table, isa_from_table}
+use Rattle.rv_rows.specs.JobList.{misaligned_from_table, job_from_table, job_from_element, jobs_of_elements, has_no_jobs, has_too_many_jobs, array_elements}
+use Rattle.rv_rows.specs.JobList.{job_elements, jobs_of_document}
+use Rattle.rv_rows.specs.JobList.{document_of, job_list_of}
+use Rattle.rv_rows.specs.Saved.{are_new}
 
 -- a step that found no fault had a value, with which the next one found none
 taken : {F A B : Type 0} (r : Result A F) (f : A → Result B F) (y : B) → (r >>= f) ≡ Ok y

@@ -5,9 +5,9 @@ use Rattle.std.specs.Prelude.{slice_get, is_some}
 use Rattle.std.proofs.lemmas.Bool.{and_parts, false≢true}
 use Rattle.std.proofs.lemmas.List.{append_assoc, append-nil, at_drop_all, at_drop_more}
 use Rattle.std.proofs.lemmas.Option.{same_Some, none-some}
-use Rattle.rv_jobs.specs.Names.{index_in}
-use Rattle.rv_report.specs.declared.row.Row.{Row}
-use Rattle.rv_report.specs.Saved.{are_new, row_names}
+use Rattle.rv_rows.specs.Names.{index_in}
+use Rattle.rv_rows.specs.declared_row.Row.{Row}
+use Rattle.rv_rows.specs.Saved.{are_new, row_names}
 
 not_true : (b : Bool) → not b ≡ true → b ≡ false
 not_true true e = sym e

@@ -6,15 +6,15 @@ use Rattle.std.proofs.Common.{inl, inr}
 use Rattle.std.proofs.lemmas.Bool.{and_parts, cases_lt, leb-true}
 use Rattle.std.proofs.lemmas.Option.{same_Some, slice_get_past}
 use Rattle.std.proofs.lemmas.List.{get_or_default}
-use Rattle.rv_jobs.specs.Names.{is_name}
-use Rattle.rv_jobs.specs.Limits.{most_jobs}
-use Rattle.rv_report.specs.declared.row.Row.{Row}
-use Rattle.rv_report.specs.declared.saved.Extent.{Extent}
-use Rattle.rv_report.specs.declared.saved.Extent.TheVariants as extent
-use Rattle.rv_report.specs.declared.saved.Shard.{Shard}
-use Rattle.rv_report.specs.declared.saved.SavedReport.{SavedReport}
-use Rattle.rv_report.specs.Saved.{IsSaved, are_evenly_spaced, matches_job_numbers, is_valid_shard}
-use Rattle.rv_report.proofs.Public.{same_reports}
+use Rattle.rv_rows.specs.Names.{is_name}
+use Rattle.rv_rows.specs.Limits.{most_jobs}
+use Rattle.rv_rows.specs.declared_row.Row.{Row}
+use Rattle.rv_rows.specs.declared_saved.Extent.{Extent}
+use Rattle.rv_rows.specs.declared_saved.Extent.TheVariants as extent
+use Rattle.rv_rows.specs.declared_saved.Shard.{Shard}
+use Rattle.rv_rows.specs.declared_saved.SavedReport.{SavedReport}
+use Rattle.rv_rows.specs.Saved.{IsSaved, are_evenly_spaced, matches_job_numbers, is_valid_shard}
+use Rattle.rv_rows.proofs.Public.{same_reports}
 use Rattle.rv_merge.specs.Parts.{ArePartsIn, IsReportOf, IsPart, Run, run_of_shard, shard_in, nth_text}
 use Rattle.rv_merge.proofs.Slots.{same_by_get, under}
 use Rattle.rv_merge.proofs.Stepping.{shard_at, stepped_has}

@@ -7,35 +7,35 @@ use Rattle.std.proofs.lemmas.Bool.{and_parts, or_parts, ltb-false}
 use Rattle.rv_rows.specs.declared_sets.Isa.{Isa}
 use Rattle.rv_rows.specs.declared_map.Region.{Region}
 use Rattle.rv_rows.specs.Regions.{in_one}
-use Rattle.rv_report.specs.declared_error.ImageError.{ImageError}
-use Rattle.rv_report.specs.declared_error.ImageError.TheVariants as image
-use Rattle.rv_report.specs.declared_image.Segment.{Segment}
-use Rattle.rv_report.specs.declared_loading.LoadAt.{LoadAt}
-use Rattle.rv_report.specs.Rows.{RefusalRow, first_refusal, accepted}
-use Rattle.rv_report.specs.Image.{image_of, unchecked_image, refusals}
-use Rattle.rv_report.specs.Loading.{map_check, map_rows}
-use Rattle.rv_report.specs.Symbols.{symbol_of, symbol_rows, signature_check, is_bad_signature_range}
-use Rattle.rv_jobs.specs.declared_job.Job.{Job}
-use Rattle.rv_jobs.specs.declared_job.Symbols.{Symbols}
-use Rattle.rv_jobs.specs.Reading.{◌>>=◌}
-use Rattle.rv_jobs.specs.declared.kept.Kept.{Kept}
-use Rattle.rv_jobs.specs.declared.kept.Kept.TheVariants as kept
-use Rattle.rv_report.specs.declared.row.Refusal.{Refusal}
-use Rattle.rv_report.specs.declared.row.Refusal.TheVariants as refusal
+use Rattle.rv_rows.specs.declared_elf_error.ImageError.{ImageError}
+use Rattle.rv_rows.specs.declared_elf_error.ImageError.TheVariants as image
+use Rattle.rv_rows.specs.declared_image.Segment.{Segment}
+use Rattle.rv_rows.specs.declared_loading.LoadAt.{LoadAt}
+use Rattle.rv_rows.specs.ElfRows.{RefusalRow, first_refusal, accepted}
+use Rattle.rv_rows.specs.Image.{image_of, unchecked_image, refusals}
+use Rattle.rv_rows.specs.Loading.{map_check, map_rows}
+use Rattle.rv_rows.specs.Symbols.{symbol_of, symbol_rows, signature_check, is_bad_signature_range}
+use Rattle.rv_rows.specs.declared_job.Job.{Job}
+use Rattle.rv_rows.specs.declared_job.Symbols.{Symbols}
+use Rattle.rv_rows.specs.Reading.{◌>>=◌}
+use Rattle.rv_rows.specs.declared_kept.Kept.{Kept}
+use Rattle.rv_rows.specs.declared_kept.Kept.TheVariants as kept
+use Rattle.rv_rows.specs.declared_row.Refusal.{Refusal}
+use Rattle.rv_rows.specs.declared_row.Refusal.TheVariants as refusal
 use Rattle.rv_rows.specs.declared.outcome.SignatureRange.{SignatureRange}
 use Rattle.rv_rows.specs.Outcome.{content_or_refusal, reference_or_refusal, image_file_or_refusal, end_of_signature, signature_range, range_if_asked}
 use Rattle.rv_rows.specs.Outcome.{loadable_image, row_end, outcome_of_run, refused_outcome, outcome_if_loadable}
 use Rattle.rv_rows.specs.Outcome.{loaded_state, file_outcome_of, outcome_if_readable, outcome_of}
 use Rattle.rv_rows.specs.declared.outcome.Loadable.{Loadable}
 use Rattle.rv_rows.specs.declared.outcome.Outcome.{Outcome}
-use Rattle.rv_report.specs.declared.row.RowEnd.TheVariants as ending
-use Rattle.rv_report.specs.declared_image.Image.{Image}
-use Rattle.rv_report.specs.declared_ending.Ending.{Ending}
-use Rattle.rv_report.specs.declared_ending.Ending.TheVariants as machine
-use Rattle.rv_report.specs.Run.{Ran, run_of}
+use Rattle.rv_rows.specs.declared_row.RowEnd.TheVariants as ending
+use Rattle.rv_rows.specs.declared_image.Image.{Image}
+use Rattle.rv_rows.specs.declared_ending.Ending.{Ending}
+use Rattle.rv_rows.specs.declared_ending.Ending.TheVariants as machine
+use Rattle.rv_rows.specs.Run.{Ran, run_of}
 use Rattle.rv_rows.specs.Bus.{word_at}
 use Rattle.rv_rows.specs.SignatureWords.{words_of}
-use Rattle.rv_report.specs.Saved.{most_words}
+use Rattle.rv_rows.specs.Saved.{most_words}
 use Rattle.std.specs.FinMap as fin
 use Rattle.std.specs.List.{list_all}
 use Rattle.std.specs.Ordering.{nat_cmp}

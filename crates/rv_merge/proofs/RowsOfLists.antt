@@ -7,19 +7,19 @@ use Rattle.std.specs.List.{All, AllByRecursion, list_all}
 use Rattle.std.proofs.lemmas.Bool.{and_parts, cases_lt, false≢true}
 use Rattle.std.proofs.lemmas.List.{get_or_default, length-map}
 use Rattle.std.proofs.lemmas.List.Elements.{recursion_from_All}
-use Rattle.rv_jobs.specs.declared.answers.Answer.{Answer}
-use Rattle.rv_jobs.specs.Plans.{Planned, result_for_path}
-use Rattle.rv_jobs.specs.declared_job.Job.{Job}
-use Rattle.rv_jobs.specs.Jobs.{console_path}
-use Rattle.rv_jobs.specs.JobList.{job_list_of, names_of_jobs as job_names}
-use Rattle.rv_jobs.specs.Names.{is_name}
-use Rattle.rv_report.specs.declared.row.Refusal.{Refusal}
-use Rattle.rv_report.specs.declared.row.Row.{Row}
-use Rattle.rv_report.specs.declared.row.RowEnd.{RowEnd}
-use Rattle.rv_report.specs.declared.row.RowEnd.TheVariants as ending
+use Rattle.rv_rows.specs.declared_answers.Answer.{Answer}
+use Rattle.rv_rows.specs.Plans.{Planned, result_for_path}
+use Rattle.rv_rows.specs.declared_job.Job.{Job}
+use Rattle.rv_rows.specs.Jobs.{console_path}
+use Rattle.rv_rows.specs.JobList.{job_list_of, names_of_jobs as job_names}
+use Rattle.rv_rows.specs.Names.{is_name}
+use Rattle.rv_rows.specs.declared_row.Refusal.{Refusal}
+use Rattle.rv_rows.specs.declared_row.Row.{Row}
+use Rattle.rv_rows.specs.declared_row.RowEnd.{RowEnd}
+use Rattle.rv_rows.specs.declared_row.RowEnd.TheVariants as ending
 use Rattle.rv_rows.specs.Rows.{row_of, rows_of}
 use Rattle.rv_rows.specs.Wholes.{plan_of_jobs}
-use Rattle.rv_report.specs.Saved.{AreWords, IsEnd, IsRow, most_words, are_new, row_names}
+use Rattle.rv_rows.specs.Saved.{AreWords, IsEnd, IsRow, most_words, are_new, row_names}
 use Rattle.rv_merge.specs.Parts.{AreListed}
 use Rattle.rv_merge.specs.Numbers.{EndsInWords, HasNumbers, HasWords}
 use Rattle.rv_merge.proofs.ListNames.{are_read}

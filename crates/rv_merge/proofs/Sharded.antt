@@ -10,19 +10,19 @@ use Rattle.std.proofs.lemmas.List.Elements.{All-from_recursion, recursion_from_A
 use Rattle.std.proofs.lemmas.List.FromFn.{get_or-range_with_len, length-range_with_len}
 use Rattle.std.proofs.lemmas.Option.{get_or_from_slice_get, none-some, same_Some, slice_get-get_or, slice_get-map}
 use Rattle.std.proofs.lemmas.Option.{slice_get_within}
-use Rattle.rv_jobs.specs.declared_job.Job.{Job}
-use Rattle.rv_jobs.specs.Names.{is_name}
-use Rattle.rv_jobs.specs.Limits.{most_jobs}
-use Rattle.rv_jobs.specs.Jobs.{single_job}
-use Rattle.rv_jobs.specs.declared.answers.Answer.{Answer}
-use Rattle.rv_jobs.specs.Choices.{selected_indices}
-use Rattle.rv_jobs.specs.Plans.{Planned, jobs_needed_for}
-use Rattle.rv_report.specs.declared.row.Row.{Row}
+use Rattle.rv_rows.specs.declared_job.Job.{Job}
+use Rattle.rv_rows.specs.Names.{is_name}
+use Rattle.rv_rows.specs.Limits.{most_jobs}
+use Rattle.rv_rows.specs.Jobs.{single_job}
+use Rattle.rv_rows.specs.declared_answers.Answer.{Answer}
+use Rattle.rv_rows.specs.Choices.{selected_indices}
+use Rattle.rv_rows.specs.Plans.{Planned, jobs_needed_for}
+use Rattle.rv_rows.specs.declared_row.Row.{Row}
 use Rattle.rv_rows.specs.Rows.{row_of, rows_at, rows_of}
 use Rattle.rv_rows.specs.Wholes.{HaveSameResults, plan_of_jobs}
-use Rattle.rv_report.specs.declared.saved.Extent.TheVariants as extent
-use Rattle.rv_report.specs.declared.saved.Shard.{Shard}
-use Rattle.rv_report.specs.Saved.{IsRow, IsSaved, are_evenly_spaced, matches_job_numbers, is_valid_shard, row_names, saved_text}
+use Rattle.rv_rows.specs.declared_saved.Extent.TheVariants as extent
+use Rattle.rv_rows.specs.declared_saved.Shard.{Shard}
+use Rattle.rv_rows.specs.Saved.{IsRow, IsSaved, are_evenly_spaced, matches_job_numbers, is_valid_shard, row_names, saved_text}
 use Rattle.rv_merge.specs.Parts.{AreListed, AreParts, IsPart, Run, shard_in}
 use Rattle.rv_merge.specs.Shards.{AreTextsFrom, IsRunOf, IsTextFrom, is_in_shard, shard_places, shard_report}
 use Rattle.rv_merge.proofs.Sharing.{new_under, rising_from, stepped_from}

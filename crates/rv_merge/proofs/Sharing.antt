@@ -10,8 +10,8 @@ use Rattle.std.proofs.lemmas.Option.{same_Some, none-some}
 use Rattle.std.proofs.lemmas.Slice.Eq.{bytes_eq-Decides}
 use Rattle.std.proofs.lemmas.List.{append_assoc, append-nil}
 use Rattle.std.proofs.Math.Nat.{add-mod_right, mod-add-mod, mod-lt}
-use Rattle.rv_jobs.specs.Names.{index_in}
-use Rattle.rv_report.specs.Saved.{are_new, are_rising, are_evenly_spaced}
+use Rattle.rv_rows.specs.Names.{index_in}
+use Rattle.rv_rows.specs.Saved.{are_new, are_rising, are_evenly_spaced}
 use Rattle.rv_merge.specs.Shards.{is_in_shard}
 use Rattle.rv_merge.proofs.Named.{new_at}
 use Rattle.rv_merge.proofs.Stepping.{one_shard, rising_at, rising_parts, step_up}

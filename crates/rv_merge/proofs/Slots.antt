@@ -4,7 +4,7 @@ use Rattle.std.proofs.Common.{length, map, set, get_or, refl, sym, ap, arith, op
 use Rattle.std.specs.Prelude.{slice_get}
 use Rattle.std.proofs.lemmas.List.{get_or-set_same, get_or-set_other, length-set}
 use Rattle.std.proofs.lemmas.Option.{same_Some, none-some, slice_get-map}
-use Rattle.rv_report.specs.Saved.{are_rising}
+use Rattle.rv_rows.specs.Saved.{are_rising}
 use Rattle.rv_merge.specs.GatheredParts.{filled_slots, rows_from_slots}
 use Rattle.rv_merge.proofs.Stepping.{rising_at, rising_parts}
 

@@ -5,7 +5,7 @@ use Rattle.std.specs.Prelude.{nat_le, nat_lt, slice_get}
 use Rattle.std.proofs.lemmas.Bool.{and_parts, eqb-true, leb-true, ltb-true, cases_lt, cases_eq}
 use Rattle.std.proofs.lemmas.Option.{same_Some, none-some}
 use Rattle.std.proofs.Math.Nat.{add-mod_right, mod-add-mod, div-add-mod', mul-le-mul_right, mod-lt, mod-le}
-use Rattle.rv_report.specs.Saved.{are_rising, are_evenly_spaced}
+use Rattle.rv_rows.specs.Saved.{are_rising, are_evenly_spaced}
 
 -- the first is next, and the others go on from there
 pub stepped_parts : (next step last n : ℕ) (ns : List ℕ) → are_evenly_spaced next step last (n ∷ ns) ≡ true

@@ -3,12 +3,12 @@ use Rattle.std.proofs.Common.{◌≡◌, ◌∙◌, ◌<◌, ℕ, List, [], leng
 use Rattle.std.specs.Str.{bytes_eq}
 use Rattle.std.proofs.lemmas.List.{get_or-map, length-map}
 use Rattle.std.proofs.lemmas.Slice.Eq.{bytes_eq-Decides}
-use Rattle.rv_report.specs.declared.read.ReadError.{ReadError}
-use Rattle.rv_report.specs.declared.read.ReadError.TheVariants as read
-use Rattle.rv_report.specs.declared.saved.SavedReport.{SavedReport}
-use Rattle.rv_report.specs.Differences.{IsSameReadError, BeginsAlike, first_read_error}
-use Rattle.rv_report.specs.LenientReport.{lenient_report}
-use Rattle.rv_report.specs.Saved.{IsSaved, saved_text}
+use Rattle.rv_rows.specs.declared_read.ReadError.{ReadError}
+use Rattle.rv_rows.specs.declared_read.ReadError.TheVariants as read
+use Rattle.rv_rows.specs.declared_saved.SavedReport.{SavedReport}
+use Rattle.rv_rows.specs.Differences.{IsSameReadError, BeginsAlike, first_read_error}
+use Rattle.rv_rows.specs.LenientReport.{lenient_report}
+use Rattle.rv_rows.specs.Saved.{IsSaved, saved_text}
 use Rattle.rv_merge.specs.declared.error.Flaw.{Flaw}
 use Rattle.rv_merge.specs.GatheredParts.{IsOtherKind}
 use Rattle.rv_merge.specs.Parts.{bytes_of_texts, nth_text}

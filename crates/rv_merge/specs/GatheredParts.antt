@@ -1,12 +1,12 @@
 -- What has been gathered from the first texts of a merge.
 use Rattle.std.specs.Prelude.{◌≡◌, ◌+◌, ◌-◌, ◌<◌, ◌≤◌, ℕ, true, List, [], ◌∷◌, length, map, Option}
 use Rattle.std.specs.Prelude.{Some, None, is_some, slice_index_or, slice_set, ◌%◌}
-use Rattle.rv_report.specs.declared.row.Row.{Row}
-use Rattle.rv_report.specs.declared.saved.Extent.{Extent}
-use Rattle.rv_report.specs.declared.saved.Extent.TheVariants as extent
-use Rattle.rv_report.specs.declared.saved.Shard.{Shard}
-use Rattle.rv_report.specs.declared.saved.SavedReport.{SavedReport}
-use Rattle.rv_report.specs.Saved.{IsSaved, are_new, row_names, saved_text}
+use Rattle.rv_rows.specs.declared_row.Row.{Row}
+use Rattle.rv_rows.specs.declared_saved.Extent.{Extent}
+use Rattle.rv_rows.specs.declared_saved.Extent.TheVariants as extent
+use Rattle.rv_rows.specs.declared_saved.Shard.{Shard}
+use Rattle.rv_rows.specs.declared_saved.SavedReport.{SavedReport}
+use Rattle.rv_rows.specs.Saved.{IsSaved, are_new, row_names, saved_text}
 use Rattle.rv_merge.specs.declared.error.Flaw.{Flaw}
 use Rattle.rv_merge.specs.declared.error.Flaw.TheVariants as flaw
 use Rattle.rv_merge.specs.declared.error.MergeError.{MergeError}

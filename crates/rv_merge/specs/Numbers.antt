@@ -2,10 +2,10 @@
 use Rattle.std.specs.Prelude.{List, ℕ, Option, Some, None}
 use Rattle.std.specs.List.{AllByRecursion}
 use Rattle.hex.specs.Hex.{IsBytes}
-use Rattle.rv_report.specs.declared.row.Row.{Row}
-use Rattle.rv_report.specs.declared.row.RowEnd.{RowEnd}
-use Rattle.rv_report.specs.declared.row.RowEnd.TheVariants as ending
-use Rattle.rv_report.specs.Saved.{IsWord}
+use Rattle.rv_rows.specs.declared_row.Row.{Row}
+use Rattle.rv_rows.specs.declared_row.RowEnd.{RowEnd}
+use Rattle.rv_rows.specs.declared_row.RowEnd.TheVariants as ending
+use Rattle.rv_rows.specs.Saved.{IsWord}
 
 -- the numbers of an ending have 32 bits
 abbrev pub EndsInWords : RowEnd → Type 0

@@ -3,13 +3,13 @@ use Rattle.std.specs.Prelude.{◌≡◌, ◌-◌, ◌<◌, ◌≤◌, ℕ, true,
 use Rattle.std.specs.Prelude.{slice_get, slice_index_or}
 use Rattle.std.specs.Borrow.{Bor}
 use Rattle.std.specs.List.{All, AllByRecursion}
-use Rattle.rv_jobs.specs.Limits.{most_jobs}
-use Rattle.rv_report.specs.declared.row.Row.{Row}
-use Rattle.rv_report.specs.declared.saved.Extent.{Extent}
-use Rattle.rv_report.specs.declared.saved.Extent.TheVariants as extent
-use Rattle.rv_report.specs.declared.saved.Shard.{Shard}
-use Rattle.rv_report.specs.declared.saved.SavedReport.{SavedReport}
-use Rattle.rv_report.specs.Saved.{IsRow, IsSaved, are_new, row_names, saved_text}
+use Rattle.rv_rows.specs.Limits.{most_jobs}
+use Rattle.rv_rows.specs.declared_row.Row.{Row}
+use Rattle.rv_rows.specs.declared_saved.Extent.{Extent}
+use Rattle.rv_rows.specs.declared_saved.Extent.TheVariants as extent
+use Rattle.rv_rows.specs.declared_saved.Shard.{Shard}
+use Rattle.rv_rows.specs.declared_saved.SavedReport.{SavedReport}
+use Rattle.rv_rows.specs.Saved.{IsRow, IsSaved, are_new, row_names, saved_text}
 
 -- the texts that these references point to
 abbrev pub bytes_of_texts : List (Bor (List ℕ)) → List (List ℕ)

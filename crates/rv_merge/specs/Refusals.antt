@@ -2,16 +2,16 @@
 use Rattle.std.specs.Prelude.{◌≡◌, ◌-◌, ◌<◌, ◌≤◌, ℕ, true, List, [], length, take, Some, Result}
 use Rattle.std.specs.Prelude.{Ok, Err, is_some, slice_get}
 use Rattle.std.specs.List.{All}
-use Rattle.rv_jobs.specs.Names.{index_in}
-use Rattle.rv_report.specs.declared.row.Row.{Row}
-use Rattle.rv_report.specs.declared.read.ReadError.{ReadError}
-use Rattle.rv_report.specs.declared.read.ReadError.TheVariants as read
-use Rattle.rv_report.specs.declared.saved.Extent.TheVariants as extent
-use Rattle.rv_report.specs.declared.saved.Shard.{Shard}
-use Rattle.rv_report.specs.declared.saved.SavedReport.{SavedReport}
-use Rattle.rv_report.specs.Differences.{IsSameReadError, BeginsAlike, first_read_error}
-use Rattle.rv_report.specs.LenientReport.{lenient_report}
-use Rattle.rv_report.specs.Saved.{IsSaved, row_names, saved_text}
+use Rattle.rv_rows.specs.Names.{index_in}
+use Rattle.rv_rows.specs.declared_row.Row.{Row}
+use Rattle.rv_rows.specs.declared_read.ReadError.{ReadError}
+use Rattle.rv_rows.specs.declared_read.ReadError.TheVariants as read
+use Rattle.rv_rows.specs.declared_saved.Extent.TheVariants as extent
+use Rattle.rv_rows.specs.declared_saved.Shard.{Shard}
+use Rattle.rv_rows.specs.declared_saved.SavedReport.{SavedReport}
+use Rattle.rv_rows.specs.Differences.{IsSameReadError, BeginsAlike, first_read_error}
+use Rattle.rv_rows.specs.LenientReport.{lenient_report}
+use Rattle.rv_rows.specs.Saved.{IsSaved, row_names, saved_text}
 use Rattle.rv_merge.specs.declared.error.Flaw.{Flaw}
 use Rattle.rv_merge.specs.declared.error.Flaw.TheVariants as flaw
 use Rattle.rv_merge.specs.declared.error.MergeError.{MergeError}

@@ -2,16 +2,16 @@
 use Rattle.std.specs.Prelude.{◌≡◌, ◌==◌, ◌+◌, ◌-◌, ◌%◌, ◌<◌, ◌≤◌, ℕ, Bool, true, List, length}
 use Rattle.std.specs.Prelude.{map, Any}
 use Rattle.std.specs.List.{All, filter, range_with_len}
-use Rattle.rv_jobs.specs.declared_job.Job.{Job}
-use Rattle.rv_jobs.specs.Names.{is_name}
-use Rattle.rv_jobs.specs.Limits.{most_jobs}
-use Rattle.rv_jobs.specs.declared.answers.Answer.{Answer}
-use Rattle.rv_jobs.specs.Plans.{Planned, jobs_needed_for}
+use Rattle.rv_rows.specs.declared_job.Job.{Job}
+use Rattle.rv_rows.specs.Names.{is_name}
+use Rattle.rv_rows.specs.Limits.{most_jobs}
+use Rattle.rv_rows.specs.declared_answers.Answer.{Answer}
+use Rattle.rv_rows.specs.Plans.{Planned, jobs_needed_for}
 use Rattle.rv_rows.specs.Rows.{rows_at}
 use Rattle.rv_rows.specs.Wholes.{HaveSameResults, plan_of_jobs}
-use Rattle.rv_report.specs.declared.saved.Extent.TheVariants as extent
-use Rattle.rv_report.specs.declared.saved.SavedReport.{SavedReport}
-use Rattle.rv_report.specs.Saved.{saved_text}
+use Rattle.rv_rows.specs.declared_saved.Extent.TheVariants as extent
+use Rattle.rv_rows.specs.declared_saved.SavedReport.{SavedReport}
+use Rattle.rv_rows.specs.Saved.{saved_text}
 use Rattle.rv_merge.specs.Parts.{Run, shard_in}
 
 -- whether shard `n` of `shards` shards has the job at the index `place`, counted from 0

@@ -9,9 +9,7 @@ ghost use Rattle.rv_merge.specs.GatheredParts.{IsTextOf, IsOtherRun, HoldsIn, fi
 
 use crate::error::{Flaw, MergeError};
 use crate::part::Part;
-use rv_jobs::Text;
-use rv_report::Shard;
-use rv_rows::Row;
+use rv_rows::{Row, Shard, Text};
 use std::alloc::{AllocError, Global};
 
 /// The rows of the texts so far, each in the slot of its job.

@@ -1,8 +1,8 @@
 //! A law of parts, with no code to run.
 
 ghost use Rattle.std.specs.Prelude.{ℕ, List};
-ghost use Rattle.rv_jobs.specs.declared.answers.Answer.{Answer};
-ghost use Rattle.rv_jobs.specs.declared_job.Job.{Job};
+ghost use Rattle.rv_rows.specs.declared_answers.Answer.{Answer};
+ghost use Rattle.rv_rows.specs.declared_job.Job.{Job};
 ghost use Rattle.rv_rows.specs.Rows.{rows_of};
 ghost use Rattle.rv_rows.specs.Wholes.{plan_of_jobs};
 ghost use Rattle.rv_merge.specs.Parts.{AreListed, AreParts, Run};

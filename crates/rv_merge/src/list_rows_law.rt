@@ -3,17 +3,16 @@
 ghost use Rattle.std.specs.Prelude.{◌≡◌, ◌<◌, ◌^◌, ℕ, List, Ok};
 ghost use Rattle.std.specs.List.{All, AllByRecursion};
 ghost use Rattle.hex.specs.Hex.{IsBytes};
-ghost use Rattle.rv_jobs.specs.declared.answers.Answer.{Answer};
-ghost use Rattle.rv_jobs.specs.declared_job.Job.{Job};
-ghost use Rattle.rv_jobs.specs.JobList.{job_list_of};
+ghost use Rattle.rv_rows.specs.declared_answers.Answer.{Answer};
+ghost use Rattle.rv_rows.specs.declared_job.Job.{Job};
+ghost use Rattle.rv_rows.specs.JobList.{job_list_of};
 ghost use Rattle.rv_merge.specs.Parts.{AreListed};
-ghost use Rattle.rv_report.specs.Saved.{IsWord};
+ghost use Rattle.rv_rows.specs.Saved.{IsWord};
 ghost use Rattle.rv_rows.specs.Rows.{rows_of};
 ghost use Rattle.rv_rows.specs.Wholes.{plan_of_jobs};
 ghost use Rattle.rv_merge.specs.Numbers.{EndsInWords, HasNumbers, HasWords};
 
-use rv_jobs::Bytes;
-use rv_rows::{Row, RowEnd, Words};
+use rv_rows::{Bytes, Row, RowEnd, Words};
 
 /// Proves that the rows of a list that was read may be those of a list, whatever the results for its paths are: there are up to 4,096, with
 /// distinct valid names, numbers of 32 bits, consoles of bytes, signatures of at most 65,536 words, and no refusal for lack of memory.

@@ -2,7 +2,7 @@
 
 ghost use Rattle.std.specs.Prelude.{◌≡◌, ◌<◌, ◌+◌, ◌%◌, List, IfOk, IfErr, MatchOption, None, length};
 ghost use Rattle.std.specs.Prelude.{slice_index_or};
-ghost use Rattle.rv_report.specs.declared.row.Row.{Row};
+ghost use Rattle.rv_rows.specs.declared_row.Row.{Row};
 ghost use Rattle.rv_merge.specs.Parts.{AreParts, bytes_of_texts};
 ghost use Rattle.rv_merge.specs.Refusals.{AnswersRows, IsRefused};
 ghost use Rattle.rv_merge.specs.GatheredParts.{HaveSources, HoldsIn, IsComplete};

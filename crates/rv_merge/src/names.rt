@@ -1,7 +1,7 @@
 //! Names that two rows have.
 
 ghost use Rattle.std.specs.Prelude.{◌≡◌, ◌<◌, [], true, IfOk, IfSome, MatchOption};
-ghost use Rattle.rv_report.specs.Saved.{are_new, row_names};
+ghost use Rattle.rv_rows.specs.Saved.{are_new, row_names};
 ghost use Rattle.rv_merge.specs.Refusals.{IsNameTwice};
 
 use rv_rows::Row;

@@ -6,8 +6,7 @@ ghost use Rattle.rv_merge.specs.Refusals.{IsRefused, HasFlaw};
 ghost use Rattle.rv_merge.specs.GatheredParts.{IsTextOf, IsOtherKind, report_of_part};
 
 use crate::error::{Flaw, MergeError};
-use rv_report::{Extent, Numbers, ReadError, SavedReport, Shard, read_report};
-use rv_rows::Rows;
+use rv_rows::{Extent, Numbers, ReadError, Rows, SavedReport, Shard, read_report};
 use std::alloc::Global;
 
 /// The rows of a shard, under the numbers of their jobs.

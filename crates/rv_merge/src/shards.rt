@@ -1,7 +1,7 @@
 //! The jobs of a shard.
 
 ghost use Rattle.std.specs.Prelude.{◌≡◌, ◌<◌, ◌≤◌, IfOk, length};
-ghost use Rattle.rv_jobs.specs.Choices.{selected_indices};
+ghost use Rattle.rv_rows.specs.Choices.{selected_indices};
 ghost use Rattle.rv_merge.specs.Shards.{shard_selection, shard_places};
 
 use std::alloc::{AllocError, Global};

@@ -1,9 +1,9 @@
 //! A law from a list's text to the report that its shards are merged into, with no code to run.
 
 ghost use Rattle.std.specs.Prelude.{◌≡◌, ℕ, List, Ok};
-ghost use Rattle.rv_jobs.specs.declared.answers.Answer.{Answer};
-ghost use Rattle.rv_jobs.specs.declared_job.Job.{Job};
-ghost use Rattle.rv_jobs.specs.JobList.{job_list_of};
+ghost use Rattle.rv_rows.specs.declared_answers.Answer.{Answer};
+ghost use Rattle.rv_rows.specs.declared_job.Job.{Job};
+ghost use Rattle.rv_rows.specs.JobList.{job_list_of};
 ghost use Rattle.rv_merge.specs.Parts.{AreParts, Run};
 ghost use Rattle.rv_merge.specs.Shards.{AreTextsFrom, IsRunOf};
 ghost use Rattle.rv_rows.specs.Rows.{rows_of};

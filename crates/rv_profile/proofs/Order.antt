@@ -10,8 +10,8 @@ use Rattle.std.proofs.lemmas.Simd.{map-map}
 use Rattle.std.proofs.lemmas.List.Sorted.{IsPermutation-map, ties_still_rise}
 use Rattle.rv_count_tables.specs.Table.{names_rise}
 use Rattle.rv_count_tables.specs.declared.table.FunctionName.{FunctionName}
-use Rattle.rv_call_tree.specs.Trees.{all_steps}
-use Rattle.rv_call_tree.specs.declared.spot.Spot.{Spot}
+use Rattle.rv_count_tables.specs.Trees.{all_steps}
+use Rattle.rv_count_tables.specs.declared_spot.Spot.{Spot}
 use Rattle.rv_profile.specs.Profile.{AreWithin, IsProfileOf, Profiled, goes_before, profile_of, profiled, profiles_of}
 use Rattle.rv_profile.specs.declared.function.FunctionProfile.{FunctionProfile}
 use Rattle.rv_profile.proofs.Parts.{profile_within}

@@ -6,9 +6,9 @@ use Rattle.std.proofs.lemmas.List.Sorted.{sum_by-IsPermutation}
 use Rattle.std.proofs.lemmas.List.Sums.{sum_by-cons}
 use Rattle.rv_count_tables.specs.Table.{AreNamesOf, has_name, name_of, names_rise}
 use Rattle.rv_count_tables.specs.declared.table.FunctionName.{FunctionName}
-use Rattle.rv_call_tree.specs.Profiles.{AreFunctionsOf, own_of_all, times}
-use Rattle.rv_call_tree.specs.Trees.{once_if}
-use Rattle.rv_call_tree.specs.declared.spot.Spot.{Spot}
+use Rattle.rv_count_tables.specs.Profiles.{AreFunctionsOf, own_of_all, times}
+use Rattle.rv_count_tables.specs.Trees.{once_if}
+use Rattle.rv_count_tables.specs.declared_spot.Spot.{Spot}
 use Rattle.rv_profile.specs.Profile.{IsProfileOf, Profiled, own_steps, profiled}
 
 abbrev pub function_of : FunctionName → ℕ

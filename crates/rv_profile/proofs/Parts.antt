@@ -1,8 +1,8 @@
 -- What functions have of the steps of all spots is no more than that.
 use Rattle.std.proofs.Common.{◌==◌, ◌≤◌, Bool, true, false, ℕ, List, [], ◌∷◌, arith}
-use Rattle.rv_call_tree.specs.Profiles.{has_function, inclusive_after}
-use Rattle.rv_call_tree.specs.Trees.{all_steps, own_in, path_after, steps_if}
-use Rattle.rv_call_tree.specs.declared.spot.Spot.{Spot}
+use Rattle.rv_count_tables.specs.Profiles.{has_function, inclusive_after}
+use Rattle.rv_count_tables.specs.Trees.{all_steps, own_in, path_after, steps_if}
+use Rattle.rv_count_tables.specs.declared_spot.Spot.{Spot}
 use Rattle.std.specs.List.Sorted.{IsPermutation}
 use Rattle.std.specs.Prelude.{map}
 use Rattle.std.proofs.lemmas.List.Elements.{All-cons, All-nil}

@@ -3,7 +3,7 @@ use Rattle.std.specs.Prelude.{◌++◌, ℕ, List, codes}
 use Rattle.std.specs.Fmt.{decimal}
 use Rattle.std.specs.List.{flat_map}
 use Rattle.rv_cover_view.specs.Csv.{csv_field}
-use Rattle.rv_text.specs.Words.{word_digits}
+use Rattle.rv_count_tables.specs.Words.{word_digits}
 use Rattle.rv_profile.specs.Profile.{Profiled}
 
 -- the first line of the CSV, with the column names

@@ -6,8 +6,8 @@ use Rattle.rv_count_tables.specs.declared.table.CountTable.{CountTable}
 use Rattle.rv_count_tables.specs.declared.table.FunctionName.{FunctionName}
 use Rattle.rv_cover_view.specs.ImageCounts.{counted_image}
 use Rattle.rv_cover_view.specs.JobImages.{FileImage}
-use Rattle.rv_call_tree.specs.Trees.{all_arrivals, all_steps}
-use Rattle.rv_call_tree.specs.declared.spot.Spot.{Spot}
+use Rattle.rv_count_tables.specs.Trees.{all_arrivals, all_steps}
+use Rattle.rv_count_tables.specs.declared_spot.Spot.{Spot}
 use Rattle.rv_profile.specs.declared.sums.Sums.{Sums}
 
 -- the call-tree nodes that the table has for the image with these bytes; empty if the table does not have this image

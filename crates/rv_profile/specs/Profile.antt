@@ -3,9 +3,9 @@ use Rattle.std.specs.Prelude.{◌==◌, ◌≤◌, ◌&&◌, ◌||◌, ℕ, Bool
 use Rattle.std.specs.List.{All, sum_by}
 use Rattle.std.specs.List.Sorted.{IsPermutation, IsSortedBy}
 use Rattle.rv_count_tables.specs.declared.table.FunctionName.{FunctionName}
-use Rattle.rv_call_tree.specs.Profiles.{arrivals_in, inclusive_after}
-use Rattle.rv_call_tree.specs.Trees.{own_in}
-use Rattle.rv_call_tree.specs.declared.spot.Spot.{Spot}
+use Rattle.rv_count_tables.specs.Profiles.{arrivals_in, inclusive_after}
+use Rattle.rv_count_tables.specs.Trees.{own_in}
+use Rattle.rv_count_tables.specs.declared_spot.Spot.{Spot}
 use Rattle.rv_profile.specs.declared.function.FunctionProfile.{FunctionProfile}
 
 -- the counts of a function: its own steps, those of the nodes that end in it; its inclusive steps, those of the nodes whose path has it,

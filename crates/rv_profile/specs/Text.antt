@@ -4,7 +4,7 @@ use Rattle.std.specs.Prelude.{Option, Some, None}
 use Rattle.std.specs.Fmt.{decimal}
 use Rattle.std.specs.List.{flat_map}
 use Rattle.rv_cover_view.specs.Text.{right}
-use Rattle.rv_text.specs.Printable.{printable_name, printable_text}
+use Rattle.rv_count_tables.specs.Printable.{printable_name, printable_text}
 use Rattle.rv_profile.specs.Profile.{Profiled}
 use Rattle.rv_profile.specs.declared.columns.Columns.{Columns}
 use Rattle.rv_profile.specs.declared.sums.Sums.{Sums}

@@ -4,7 +4,7 @@ ghost use Rattle.std.specs.Prelude.{◌≡◌, IfOk};
 ghost use Rattle.rv_profile.specs.Text.{columns_of, width};
 
 use crate::sums::Sums;
-use rv_text::push_number;
+use rv_count_tables::push_number;
 use std::alloc::{AllocError, Global};
 
 /// The widths of the columns of an image.

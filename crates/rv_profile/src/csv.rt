@@ -5,8 +5,8 @@ ghost use Rattle.rv_profile.specs.Csv.{csv_head, csv_numbers, csv_row, csv_rows}
 ghost use Rattle.rv_profile.specs.Profile.{profile_of, profiles_of};
 
 use crate::function::FunctionProfile;
+use rv_count_tables::{Span, push_spans, push_text};
 use rv_cover_view::push_csv_field;
-use rv_text::{Span, push_spans, push_text};
 use std::alloc::AllocError;
 
 /// Appends the first line of the CSV, with the column names.

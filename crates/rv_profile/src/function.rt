@@ -3,8 +3,7 @@
 ghost use Rattle.std.specs.Prelude.{◌≡◌};
 ghost use Rattle.rv_profile.specs.Profile.{profile_of, profiled};
 
-use rv_call_tree::{FunctionSteps, SpotIndex};
-use rv_count_tables::FunctionName;
+use rv_count_tables::{FunctionName, FunctionSteps, SpotIndex};
 
 /// The counts of a function with its name.
 #[derive(Clone, Copy)]

@@ -2,12 +2,12 @@
 
 ghost use Rattle.std.specs.Prelude.{◌≡◌, IfOk, map, true};
 ghost use Rattle.rv_profile.specs.ImageStacks.{are_few, sums_of};
-ghost use Rattle.rv_call_tree.specs.Trees.{IsTree};
+ghost use Rattle.rv_count_tables.specs.Trees.{IsTree};
 ghost use Rattle.rv_profile.specs.Profile.{IsProfileOf, profiled, profiles_of};
 
 use crate::function::{FunctionProfile, profile_of_function};
 use crate::image_stacks::ImageStacks;
-use rv_call_tree::SpotIndex;
+use rv_count_tables::SpotIndex;
 use std::alloc::{AllocError, Global};
 
 /// Returns the functions of an image with their counts in its call tree, sorted by own steps in descending order, and then by address.

@@ -2,7 +2,7 @@
 
 ghost use Rattle.std.specs.Prelude.{◌≡◌, IfOk, true};
 ghost use Rattle.rv_profile.specs.ImageStacks.{are_few, sums_of};
-ghost use Rattle.rv_call_tree.specs.Trees.{IsTree};
+ghost use Rattle.rv_count_tables.specs.Trees.{IsTree};
 ghost use Rattle.rv_profile.specs.Profile.{AreWithin, IsProfileOf, profiles_of};
 
 use crate::function::FunctionProfile;

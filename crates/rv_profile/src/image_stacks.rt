@@ -4,12 +4,11 @@ ghost use Rattle.std.specs.Prelude.{◌≡◌, [], find, option_map, true};
 ghost use Rattle.std.specs.List.{list_any};
 ghost use Rattle.rv_count_tables.specs.Table.{IsImage, IsTable, names_rise};
 ghost use Rattle.rv_cover_view.specs.JobImages.{image_of_file, images_of_files};
-ghost use Rattle.rv_call_tree.specs.Trees.{IsTree};
+ghost use Rattle.rv_count_tables.specs.Trees.{IsTree};
 ghost use Rattle.rv_profile.specs.ImageStacks.{has_stacks, image_past_64_bits, is_past_64_bits, is_some_spot, names_of, spots_of};
 
 use crate::sums::sums_of;
-use rv_call_tree::Spot;
-use rv_count_tables::{CountTable, FunctionName, ImageCounts};
+use rv_count_tables::{CountTable, FunctionName, ImageCounts, Spot};
 use rv_cover_view::{ImageFile, counted_image};
 
 /// The call tree of an image.

@@ -5,9 +5,9 @@ ghost use Rattle.rv_count_tables.specs.Table.{IsTable};
 ghost use Rattle.rv_count_tables.specs.declared.table.CountTable.{CountTable as ATable};
 ghost use Rattle.rv_profile.specs.ImageStacks.{names_of, spots_of};
 ghost use Rattle.rv_profile.specs.Profile.{IsProfileOf, Profiled, own_steps};
-ghost use Rattle.rv_call_tree.specs.Trees.{all_steps};
+ghost use Rattle.rv_count_tables.specs.Trees.{all_steps};
 
-use rv_call_tree::own_steps_sum_to_all;
+use rv_count_tables::own_steps_sum_to_all;
 
 /// Proves that the own steps of all functions of an image add up to the steps of its call tree.
 pub fn own_steps_sum_to_all_steps()

@@ -3,7 +3,7 @@
 ghost use Rattle.std.specs.Prelude.{◌≡◌};
 ghost use Rattle.rv_profile.specs.ImageStacks.{fitting, sums_of, with_spot};
 
-use rv_call_tree::Spot;
+use rv_count_tables::Spot;
 
 /// How many instructions were executed in all nodes, and how often runs entered them.
 #[derive(Clone, Copy)]

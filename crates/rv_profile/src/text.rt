@@ -6,8 +6,8 @@ ghost use Rattle.rv_profile.specs.Text.{columns_head, function_line, functions_w
 
 use crate::columns::Columns;
 use crate::function::FunctionProfile;
+use rv_count_tables::{Span, push_number, push_spans, push_text};
 use rv_cover_view::{push_right, push_spaces};
-use rv_text::{Span, push_number, push_spans, push_text};
 use std::alloc::{AllocError, Global};
 
 /// Appends the line of the image with this path: the path and the number of steps.

@@ -27,8 +27,11 @@ pub use partial::{PartialReport, read_partial_report};
 pub use read::{ReadError, read_report};
 pub use report::{Report, Rows, WriteError, push_row, write_report};
 pub use row::{Refusal, Row, RowEnd, Verdict, Words};
-pub use rv_base::is_name;
 pub use saved::{Extent, Numbers, SavedReport, Shard};
 pub use saved_report_text::push_extent_line;
 pub use saved_writer::write_saved_report;
 pub use signature_lines::{LINE, are_word_lines, word_line};
+
+// From the crates below: what this interface names, and what its callers need with it.
+pub use rv_base::{Bytes, Sequence, Sink, SinkFailed, Text, is_name, put_all};
+pub use rv_text::{Span, is_utf8, push_number, push_spans, push_text, tail_from};

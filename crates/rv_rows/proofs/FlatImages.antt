@@ -6,10 +6,10 @@ use Rattle.std.specs.Bool.{IsTrue}
 use Rattle.std.specs.Cmp.{nat_cmp_total, unsigned_tied}
 use Rattle.std.specs.FinMap as fin
 use Rattle.std.specs.Ordering.{nat_cmp}
-use Rattle.rv_memory.proofs.Public.{among, get-tabulate}
-use Rattle.rv_memory.specs.declared.access.Misaligned.TheVariants.{Fault}
-use Rattle.rv_memory.specs.Bus.{Contents, byte_at, with_bytes_written, new_bus}
-use Rattle.rv_memory.specs.Regions.{addresses, in_one}
+use Rattle.rv_machine.proofs.Public.{among, get-tabulate}
+use Rattle.rv_machine.specs.declared_access.Misaligned.TheVariants.{Fault}
+use Rattle.rv_machine.specs.Bus.{Contents, byte_at, with_bytes_written, new_bus}
+use Rattle.rv_machine.specs.Regions.{addresses, in_one}
 use Rattle.rv_rows.specs.Flat.{flat_byte, flat_contents, image_room}
 use Rattle.rv_jobs.specs.Jobs.{default_regions}
 

@@ -4,3 +4,4 @@ pub mod Loadables
 pub mod Narrower
 pub mod Wholes
 pub mod RestsOfRuns
+pub mod Public

@@ -2,8 +2,8 @@
 use Rattle.std.proofs.Common.{◌≡◌, ◌%◌, ◌==◌, ◌&&◌, ℕ, Bool, true, false, not, subst, List, Option, Some, None, IfSome}
 use Rattle.std.proofs.Common.{Result, Ok, Err, refl, sym, ap, ◌∙◌}
 use Rattle.std.specs.Result.{result_ok}
-use Rattle.rv_isa.specs.declared.sets.Isa.{Isa}
-use Rattle.rv_isa.specs.Extensions.{RV32C, has}
+use Rattle.rv_machine.specs.declared_sets.Isa.{Isa}
+use Rattle.rv_machine.specs.Extensions.{RV32C, has}
 use Rattle.rv_elf.specs.declared.image.Image.{Image}
 use Rattle.rv_elf.specs.Image.{image_of}
 use Rattle.rv_elf.specs.Loading.{map_check, initial_memory}
@@ -13,9 +13,9 @@ use Rattle.rv_jobs.specs.declared_job.Job.{Job}
 use Rattle.rv_jobs.specs.declared_job.Symbols.{Symbols}
 use Rattle.rv_jobs.specs.declared.kept.Kept.{Kept}
 use Rattle.rv_jobs.specs.declared.kept.Kept.TheVariants as kept
-use Rattle.rv_memory.specs.declared.map.Region.{Region}
-use Rattle.rv_memory.specs.declared.access.Misaligned.{Misaligned as Choice}
-use Rattle.rv_memory.specs.Bus.{Contents, new_bus}
+use Rattle.rv_machine.specs.declared_map.Region.{Region}
+use Rattle.rv_machine.specs.declared_access.Misaligned.{Misaligned as Choice}
+use Rattle.rv_machine.specs.Bus.{Contents, new_bus}
 use Rattle.rv_machine.specs.Run.{Ran, run_of}
 use Rattle.rv_machine.specs.State.{State, at_reset, is_misaligned}
 use Rattle.rv_machine.proofs.Public.{run_keeps}

@@ -4,7 +4,7 @@ use Rattle.std.proofs.Common.{Err, arith, map, refl, sym, ap, subst}
 use Rattle.std.specs.Prelude.{slice_get, option_map, option_and_then, IsTrue}
 use Rattle.std.proofs.lemmas.Bool.{false≢true}
 use Rattle.std.proofs.lemmas.Option.{slice_get-map, slice_get_within, get_or_from_slice_get}
-use Rattle.rv_isa.specs.declared.sets.Isa.TheVariants.{Imc}
+use Rattle.rv_machine.specs.declared_sets.Isa.TheVariants.{Imc}
 use Rattle.rv_elf.specs.declared.error.ImageError.{ImageError}
 use Rattle.rv_elf.specs.Image.{image_of}
 use Rattle.rv_elf.proofs.Public.{image_wider}

@@ -5,7 +5,7 @@ use Rattle.rv_elf.specs.Rows.{accepted}
 use Rattle.rv_elf.specs.Symbols.{signature_check}
 use Rattle.rv_jobs.specs.declared_job.Job.{Job}
 use Rattle.rv_jobs.specs.declared.kept.Kept.{Kept}
-use Rattle.rv_memory.specs.declared.map.Region.{Region}
+use Rattle.rv_machine.specs.declared_map.Region.{Region}
 use Rattle.rv_machine.specs.declared.ending.Ending.{Ending}
 use Rattle.rv_machine.specs.Run.{Ran, run_rest, with_one_more_step, run_of, step_of}
 use Rattle.rv_machine.specs.State.{State}

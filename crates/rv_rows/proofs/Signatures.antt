@@ -2,8 +2,8 @@
 use Rattle.std.proofs.Common.{◌≡◌, ◌-◌, ◌%◌, ◌≤◌, ◌==◌, ◌||◌, ◌&&◌, ℕ, Bool, true, false, not, cond, List, Err, refl}
 use Rattle.std.proofs.Common.{arith, eqb-true, nat_lt, ltb}
 use Rattle.std.proofs.lemmas.Bool.{ltb-false}
-use Rattle.rv_memory.specs.declared.map.Region.{Region}
-use Rattle.rv_memory.specs.Regions.{in_one}
+use Rattle.rv_machine.specs.declared_map.Region.{Region}
+use Rattle.rv_machine.specs.Regions.{in_one}
 use Rattle.rv_elf.specs.declared.error.ImageError.{ImageError}
 use Rattle.rv_elf.specs.declared.error.ImageError.TheVariants.{SignatureRange}
 use Rattle.rv_elf.specs.Rows.{accepted}

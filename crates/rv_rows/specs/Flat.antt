@@ -1,9 +1,9 @@
 -- The row of a flat image: bytes without a header, for the default map.
 use Rattle.std.specs.Prelude.{ℕ, ◌-◌, true, List, [], ◌∷◌, length, get_or, leb, codes, None, nat_lt}
 use Rattle.std.specs.Prelude.{if◌then◌else◌}
-use Rattle.rv_isa.specs.declared.sets.Isa.TheVariants.{Imc}
-use Rattle.rv_memory.specs.declared.access.Misaligned.TheVariants.{Fault}
-use Rattle.rv_memory.specs.Bus.{Contents, new_bus, with_bytes}
+use Rattle.rv_machine.specs.declared_sets.Isa.TheVariants.{Imc}
+use Rattle.rv_machine.specs.declared_access.Misaligned.TheVariants.{Fault}
+use Rattle.rv_machine.specs.Bus.{Contents, new_bus, with_bytes}
 use Rattle.rv_jobs.specs.Jobs.{default_regions}
 use Rattle.rv_machine.specs.Run.{run_of}
 use Rattle.rv_machine.specs.State.{State, at_reset}

@@ -1,6 +1,6 @@
 -- Plans that differ in the instruction set of one job, and the endings that a larger instruction set does not change.
 use Rattle.std.specs.Prelude.{ℕ, zero, suc, Bool, true, false, not, List, [], ◌∷◌}
-use Rattle.rv_isa.specs.declared.sets.Isa.TheVariants.{Imc}
+use Rattle.rv_machine.specs.declared_sets.Isa.TheVariants.{Imc}
 use Rattle.rv_jobs.specs.declared_job.Job.{Job}
 use Rattle.rv_jobs.specs.Plans.{Planned}
 use Rattle.rv_machine.specs.Sets.{depends_on_isa}

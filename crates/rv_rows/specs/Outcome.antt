@@ -11,9 +11,9 @@ use Rattle.rv_jobs.specs.declared_job.Symbols.{Symbols}
 use Rattle.rv_jobs.specs.Reading.{◌>>=◌}
 use Rattle.rv_jobs.specs.declared.kept.Kept.{Kept}
 use Rattle.rv_jobs.specs.declared.kept.Kept.TheVariants as kept
-use Rattle.rv_memory.specs.declared.map.Region.{Region}
-use Rattle.rv_memory.specs.Bus.{Contents, new_bus}
-use Rattle.rv_memory.specs.SignatureWords.{words_of}
+use Rattle.rv_machine.specs.declared_map.Region.{Region}
+use Rattle.rv_machine.specs.Bus.{Contents, new_bus}
+use Rattle.rv_machine.specs.SignatureWords.{words_of}
 use Rattle.rv_machine.specs.declared.ending.Ending.{Ending}
 use Rattle.rv_machine.specs.declared.ending.Ending.TheVariants as machine
 use Rattle.rv_machine.specs.Run.{Ran, run_of}

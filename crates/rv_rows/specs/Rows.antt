@@ -4,7 +4,7 @@ use Rattle.std.specs.Prelude.{[], slice_get, slice_index_or}
 use Rattle.std.specs.Result.{result_ok}
 use Rattle.rv_elf.specs.declared.image.Image.{Image}
 use Rattle.rv_elf.specs.Image.{image_of}
-use Rattle.rv_isa.specs.declared.sets.Isa.{Isa}
+use Rattle.rv_machine.specs.declared_sets.Isa.{Isa}
 use Rattle.rv_jobs.specs.declared.answers.Answer.{Answer}
 use Rattle.rv_jobs.specs.declared_job.Job.{Job}
 use Rattle.rv_jobs.specs.declared.kept.Kept.{Kept}

@@ -6,7 +6,7 @@ ghost use Rattle.rv_elf.specs.Image.{IsImageOf, image_of};
 ghost use Rattle.rv_elf.specs.Loading.{map_check};
 ghost use Rattle.rv_elf.specs.Symbols.{signature_check, symbol_of};
 ghost use Rattle.rv_elf.specs.Rows.{accepted};
-ghost use Rattle.rv_base.specs.Limits.{most_script};
+ghost use Rattle.rv_report.specs.Limits.{most_script};
 ghost use Rattle.rv_machine.specs.Machine.{state_of};
 ghost use Rattle.rv_rows.specs.Attempt.{HasSignature, IsReadable, outcome_in_bus, outcome_of_attempt};
 ghost use Rattle.rv_rows.specs.Outcome.{row_end, end_of_signature, image_file_or_refusal, file_outcome_of, loadable_image, loaded_state};
@@ -17,8 +17,7 @@ use crate::outcome::{Attempt, EndedRun, Loadable, SignatureRange};
 use crate::spare_bus::Spare;
 use rv_elf::{Image, ImageError, check_map, check_signature, find_symbol, load, read_image};
 use rv_jobs::{Job, Kept, Symbols};
-use rv_machine::{Ending, Machine, Outcome};
-use rv_memory::Map;
+use rv_machine::{Ending, Machine, Map, Outcome};
 use rv_report::{Refusal, RowEnd};
 use std::alloc::{AllocError, Global};
 

@@ -1,16 +1,14 @@
 //! The row of a flat image: bytes without a header.
 
 ghost use Rattle.std.specs.Prelude.{◌≡◌, ◌≤◌, ℕ, IfOk, length};
-ghost use Rattle.rv_memory.specs.Bus.{byte_at};
+ghost use Rattle.rv_machine.specs.Bus.{byte_at};
 ghost use Rattle.rv_machine.specs.Machine.{state_of};
 ghost use Rattle.rv_rows.specs.Flat.{flat_byte, flat_contents, flat_outcome_of, flat_row_of, flat_state, image_room};
 
 use crate::attempt::ended_run;
 use crate::outcome::{Outcome, refused_outcome};
 use crate::plan_rows::row_of_outcome;
-use rv_isa::Isa;
-use rv_machine::Machine;
-use rv_memory::{Bus, Map, Misaligned};
+use rv_machine::{Bus, Isa, Machine, Map, Misaligned};
 use rv_report::{Refusal, Row, Verdict};
 use std::alloc::{AllocError, Global};
 

@@ -28,12 +28,14 @@ pub use plan_rows::{
 pub use recent_outcomes::Recent;
 pub use reporter::RowReporter;
 pub use rest_of_run::row_from;
-pub use rv_base::{Sink, SinkFailed, put_all};
-pub use rv_report::{
-    LINE, Refusal, Report, Row, RowEnd, Rows, Verdict, Words, WriteError, word_line, write_report,
-};
 pub use spare_bus::Spare;
 pub use verdict::{
     are_alike_endings, are_same_outcomes, are_same_signatures, did_run, expects_anything,
     has_expected_end, has_expected_exit,
 };
+
+// From the crates below: what this interface names, and what its callers need with it.
+pub use rv_elf::{CodeSymbols, Image, ImageError, LoadAt, Segment, SymbolAt, find_symbol, read_image, segments_overlap, symbol_at, symbol_of_value, unfit_segment};
+pub use rv_jobs::{ExpectedConsole, ExpectedEnd, Job, JobError, JobList, Kept, Plan, Symbols, What, gather, gather_jobs, read_faults, read_jobs, selected_indices};
+pub use rv_machine::{FaultKind, Isa, Machine, Region};
+pub use rv_report::{Bytes, Extent, LINE, Numbers, PartialReport, ReadError, Refusal, Report, Row, RowEnd, Rows, SavedReport, Sequence, Shard, Sink, SinkFailed, Span, Text, Verdict, Words, WriteError, is_name, is_utf8, push_extent_line, push_number, push_row, push_spans, push_text, put_all, read_partial_report, read_report, tail_from, word_line, write_report, write_saved_report};

@@ -7,9 +7,8 @@ ghost use Rattle.rv_rows.specs.Attempt.{HasSignature, IsReadable, outcome_in_bus
 ghost use Rattle.rv_rows.specs.Outcome.{refused_outcome, signature_words_between};
 
 use rv_elf::Image;
-use rv_jobs::Bytes;
-use rv_memory::Bus;
-use rv_report::{Refusal, RowEnd, Words};
+use rv_machine::Bus;
+use rv_report::{Bytes, Refusal, RowEnd, Words};
 use std::alloc::{AllocError, Global};
 
 /// The result of a job, without its verdict.

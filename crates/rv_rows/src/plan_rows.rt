@@ -20,9 +20,9 @@ use crate::recent_outcomes::{MOST, Recent};
 use crate::spare_bus::Spare;
 use crate::verdict::{are_same_outcomes, is_same_as_attempt, verdict_of};
 use rv_elf::Image;
-use rv_jobs::{Job, Kept, Plan, Text};
+use rv_jobs::{Job, Kept, Plan};
 use rv_machine::Machine;
-use rv_report::{Refusal, Report, Row, Rows, Verdict};
+use rv_report::{Refusal, Report, Row, Rows, Text, Verdict};
 use std::alloc::{AllocError, Global};
 
 /// Returns the row of the job at an index of a plan, counted from 0.

@@ -1,10 +1,10 @@
 //! The memory of a run, reused for the next run.
 
 ghost use Rattle.std.specs.Prelude.{◌≡◌, ◌≤◌, IfOk, vec_len};
-ghost use Rattle.rv_memory.specs.Bus.{new_bus};
+ghost use Rattle.rv_machine.specs.Bus.{new_bus};
 
 use crate::outcome::Attempt;
-use rv_memory::{Bus, Map, Misaligned};
+use rv_machine::{Bus, Map, Misaligned};
 use std::alloc::{AllocError, Global};
 
 /// The bus of the last run, if any. A worker creates the bus of its next run in the memory of the last one if the maps have the same size:

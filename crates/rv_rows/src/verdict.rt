@@ -8,8 +8,8 @@ ghost use Rattle.rv_rows.specs.Verdict.{has_expected_end, has_expected_exit, has
 ghost use Rattle.rv_rows.specs.Verdict.{is_same_as_named, expects_anything, did_run, lines_of_signature, ran_with_console, are_same_signatures, verdict_of};
 
 use crate::outcome::{Attempt, EndedRun, Outcome};
-use rv_jobs::{ExpectedConsole, ExpectedEnd, Job, Text};
-use rv_report::{RowEnd, Verdict, Words, are_word_lines};
+use rv_jobs::{ExpectedConsole, ExpectedEnd, Job};
+use rv_report::{RowEnd, Text, Verdict, Words, are_word_lines};
 
 /// Returns the verdict on the outcome of a job. `reference` and `console` are the bytes of the files with the expected signature and
 /// console, if they were read; `same` says whether the outcome equals the outcome of the job that `same_as` names.

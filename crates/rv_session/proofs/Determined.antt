@@ -11,8 +11,8 @@ use Rattle.rv_history.specs.declared.bounds.Bounds.TheVariants as bounds
 use Rattle.rv_history.specs.declared.stops.Stops.{Stops}
 use Rattle.rv_history.specs.declared.stops.Watch.{Watch}
 use Rattle.rv_history.proofs.Public.{one_first_with, one_next_step, one_next_stop, one_step_before, one_stop_before}
-use Rattle.rv_machine.specs.State.{State}
-use Rattle.rv_memory.specs.Bus.{Contents}
+use Rattle.rv_history.specs.State.{State}
+use Rattle.rv_history.specs.Bus.{Contents}
 use Rattle.rv_gdb_protocol.specs.Frames.{frame_after, incoming_at}
 use Rattle.rv_gdb_protocol.specs.Packets.{request_of}
 use Rattle.rv_gdb_protocol.specs.Stops.{stop_text}

@@ -5,10 +5,10 @@ use Rattle.rv_history.specs.declared.found.Found.{Found}
 use Rattle.rv_history.specs.declared.found.Found.TheVariants as found
 use Rattle.rv_history.specs.declared.stops.WatchHit.{WatchHit}
 use Rattle.rv_history.specs.declared.stops.WatchHit.TheVariants as set_off
-use Rattle.rv_machine.specs.declared.ending.Ending.{Ending}
-use Rattle.rv_machine.specs.declared.ending.Ending.TheVariants as ending
-use Rattle.rv_machine.specs.declared.ending.FaultKind.{FaultKind}
-use Rattle.rv_machine.specs.declared.ending.FaultKind.TheVariants as fault
+use Rattle.rv_history.specs.declared_ending.Ending.{Ending}
+use Rattle.rv_history.specs.declared_ending.Ending.TheVariants as ending
+use Rattle.rv_history.specs.declared_ending.FaultKind.{FaultKind}
+use Rattle.rv_history.specs.declared_ending.FaultKind.TheVariants as fault
 use Rattle.rv_gdb_protocol.specs.Stops.{NoEnding, Told, end_kind_of_stop, end_kind_of_fault}
 use Rattle.rv_gdb_protocol.specs.declared.request.Move.{Move}
 use Rattle.rv_session.specs.Endings.{text_with, end_kind_of_ending, end_kind_of_found}

@@ -8,13 +8,13 @@ use Rattle.rv_history.specs.declared.bounds.Bounds.TheVariants as bounds
 use Rattle.rv_history.specs.declared.found.Found.{Found}
 use Rattle.rv_history.specs.declared.found.Found.TheVariants as found
 use Rattle.rv_history.specs.declared.stops.Stops.{Stops}
-use Rattle.rv_machine.specs.State.{State}
+use Rattle.rv_history.specs.State.{State}
 use Rattle.rv_gdb_protocol.specs.Stops.{stop_text}
 use Rattle.rv_gdb_protocol.specs.declared.request.Move.{Move}
 use Rattle.rv_gdb_protocol.specs.declared.request.Move.TheVariants as move
 use Rattle.rv_gdb_protocol.specs.declared.stop.Stop.{Stop}
-use Rattle.rv_trace.proofs.Public.{completes}
-use Rattle.rv_trace.specs.Trace.{state_after}
+use Rattle.rv_history.proofs.Public.{completes}
+use Rattle.rv_history.specs.Trace.{state_after}
 use Rattle.rv_session.specs.Moved.{CanReportHit, IsMoveResult, IsMoved, end_text_at, is_forward, printed_on, shown_on, stop_of}
 use Rattle.rv_session.specs.Replies.{stopping}
 use Rattle.rv_session.specs.Sessions.{at_place, here, state_at}

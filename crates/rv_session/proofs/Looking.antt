@@ -5,7 +5,7 @@ use Rattle.std.specs.FinMap as fin
 use Rattle.std.specs.List.{flat_map, list_any, range_with_len}
 use Rattle.std.proofs.lemmas.Bool.{cases_lt}
 use Rattle.std.proofs.lemmas.List.{at_drop_more, drop_all, flat_map_more, take_all, take_min}
-use Rattle.rv_memory.specs.Bus.{Contents}
+use Rattle.rv_history.specs.Bus.{Contents}
 use Rattle.rv_session.specs.Memory.{end_of_addresses, is_byte, leading, has_bytes_at}
 
 -- ---- reads

@@ -9,14 +9,14 @@ use Rattle.rv_history.specs.declared.found.Found.{Found}
 use Rattle.rv_history.specs.declared.found.Found.TheVariants as found
 use Rattle.rv_history.specs.declared.stops.Stops.{Stops}
 use Rattle.rv_history.proofs.Public.{printed_stays}
-use Rattle.rv_machine.specs.State.{State}
+use Rattle.rv_history.specs.State.{State}
 use Rattle.rv_gdb_protocol.specs.declared.request.Move.{Move}
 use Rattle.rv_gdb_protocol.specs.declared.request.Move.TheVariants as move
 use Rattle.rv_session.specs.Console.{HasShown, printed_by}
 use Rattle.rv_session.specs.Incoming.{IsByteReceived}
 use Rattle.rv_session.specs.Moved.{IsMoveResult, IsMoved, is_forward, printed_on, shown_on}
 use Rattle.rv_session.specs.Sessions.{state_at}
-use Rattle.rv_trace.specs.Trace.{state_after}
+use Rattle.rv_history.specs.Trace.{state_after}
 use Rattle.rv_session.proofs.Same.{byte_same, byte_shows_none}
 use Rattle.rv_session.specs.declared.reply.Reply.{Reply}
 use Rattle.rv_session.specs.declared.session.Session.{Session}

@@ -4,7 +4,7 @@ use Rattle.std.specs.Prelude.{◌==◌}
 use Rattle.std.proofs.lemmas.Bool.{and_from}
 use Rattle.rv_history.specs.declared.stops.Stops.{Stops}
 use Rattle.rv_history.specs.declared.stops.Watch.{Watch}
-use Rattle.rv_memory.specs.Bus.{Contents}
+use Rattle.rv_history.specs.Bus.{Contents}
 use Rattle.rv_gdb_protocol.specs.declared.request.Range.{Range}
 use Rattle.rv_gdb_protocol.specs.declared.request.Refusal.TheVariants as refusal
 use Rattle.rv_gdb_protocol.specs.declared.request.Stoppoint.{Stoppoint}

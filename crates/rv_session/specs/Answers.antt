@@ -10,7 +10,7 @@ use Rattle.rv_history.specs.Places.{last_step}
 use Rattle.rv_history.specs.declared.counts.Count.{Count}
 use Rattle.rv_history.specs.declared.counts.Count.TheVariants as count
 use Rattle.rv_history.specs.declared.stops.Stops.{Stops}
-use Rattle.rv_machine.specs.State.{register}
+use Rattle.rv_history.specs.State.{register}
 use Rattle.rv_gdb_protocol.specs.Replies.{fixed_reply, part_text}
 use Rattle.rv_gdb_protocol.specs.Shown.{register_text, registers_text}
 use Rattle.rv_gdb_protocol.specs.Stops.{stop_text}

@@ -2,8 +2,8 @@
 use Rattle.std.specs.Prelude.{ℕ, List, []}
 use Rattle.rv_history.specs.declared.found.Found.{Found}
 use Rattle.rv_history.specs.declared.found.Found.TheVariants as found
-use Rattle.rv_machine.specs.declared.ending.Ending.{Ending}
-use Rattle.rv_machine.specs.declared.ending.Ending.TheVariants as ending
+use Rattle.rv_history.specs.declared_ending.Ending.{Ending}
+use Rattle.rv_history.specs.declared_ending.Ending.TheVariants as ending
 use Rattle.rv_gdb_protocol.specs.Stops.{Aborted, BadCall, BusError, Exited, FileTooLarge, IllegalInstruction, NoEnding, SegmentFault, Told, UsedUp, end_kind_of_fault}
 
 -- the kind of end that a stop reports if the run ended with this ending

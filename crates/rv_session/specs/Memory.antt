@@ -2,7 +2,7 @@
 use Rattle.std.specs.Prelude.{ℕ, List, [], ◌∷◌, ◌==◌, ◌&&◌, ◌+◌, ◌-◌, Bool, true, false, Option, Some, None, map, min, nat_lt}
 use Rattle.std.specs.FinMap as fin
 use Rattle.std.specs.List.{range_with_len}
-use Rattle.rv_memory.specs.Bus.{Contents}
+use Rattle.rv_history.specs.Bus.{Contents}
 use Rattle.rv_gdb_protocol.specs.declared.request.Range.{Range}
 
 -- the values before the first `None`

@@ -2,10 +2,10 @@
 use Rattle.std.specs.Prelude.{ℕ, [], ◌≡◌, ◌⊎◌, None, true, false, length}
 use Rattle.rv_history.specs.Starts.{start_of}
 use Rattle.rv_history.specs.declared.start.Start.{Start}
-use Rattle.rv_machine.specs.State.{State}
+use Rattle.rv_history.specs.State.{State}
 use Rattle.rv_gdb_protocol.specs.Frames.{between}
 use Rattle.rv_gdb_protocol.specs.declared.stop.Stop.TheVariants as stop
-use Rattle.rv_trace.specs.Trace.{state_after}
+use Rattle.rv_history.specs.Trace.{state_after}
 use Rattle.rv_session.specs.declared.program.Program.{Program}
 use Rattle.rv_session.specs.declared.session.Session.{Session}
 

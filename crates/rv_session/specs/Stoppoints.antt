@@ -4,7 +4,7 @@ use Rattle.std.specs.FinMap as fin
 use Rattle.std.specs.List.{filter, list_any, range_with_len}
 use Rattle.rv_history.specs.declared.stops.Stops.{Stops}
 use Rattle.rv_history.specs.declared.stops.Watch.{Watch}
-use Rattle.rv_memory.specs.Bus.{Contents}
+use Rattle.rv_history.specs.Bus.{Contents}
 use Rattle.rv_gdb_protocol.specs.declared.request.Range.{Range}
 use Rattle.rv_gdb_protocol.specs.declared.request.Refusal.{Refusal}
 use Rattle.rv_gdb_protocol.specs.declared.request.Refusal.TheVariants as refusal

@@ -1,14 +1,14 @@
 //! The text about a run's end.
 
-use rv_machine::Machine;
+use rv_history::Machine;
 use std::alloc::{AllocError, Global};
 
 /// Provides a text about how a run ended.
 pub trait EndText {
     ghost use Rattle.std.specs.Prelude.{◌≡◌, ◌++◌, ℕ, List, OnOk};
     ghost use Rattle.rv_history.specs.Places.{IsReached};
-    ghost use Rattle.rv_machine.specs.Machine.{state_of};
-    ghost use Rattle.rv_machine.specs.State.{State};
+    ghost use Rattle.rv_history.specs.Machine.{state_of};
+    ghost use Rattle.rv_history.specs.State.{State};
 
     // The start of the run that it describes.
     ghost start: { Self → State };

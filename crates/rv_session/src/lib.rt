@@ -27,3 +27,7 @@ pub use law::{
 pub use program::Program;
 pub use reply::Reply;
 pub use session::Session;
+
+// From the crates below: what this interface names, and what its callers need with it.
+pub use rv_gdb_protocol::{Bytes, push_frame};
+pub use rv_history::{Bus, Interrupt, Isa, Machine, Map, Misaligned, Region, Start};

@@ -12,10 +12,8 @@ ghost use Rattle.rv_session.specs.Sessions.{IsSameRun, at_place, here};
 use crate::end_text::EndText;
 use crate::reply::Reply;
 use crate::session::Session;
-use rv_base::Bytes;
-use rv_gdb_protocol::{Move, Stop, Watched, push_stop};
-use rv_history::{Bounds, Found, Interrupt, WatchHit};
-use rv_machine::Ending;
+use rv_gdb_protocol::{Bytes, Move, Stop, Watched, push_stop};
+use rv_history::{Bounds, Ending, Found, Interrupt, WatchHit};
 use std::alloc::{AllocError, Global};
 
 impl Session {

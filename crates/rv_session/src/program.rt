@@ -1,6 +1,6 @@
 //! The program that is debugged.
 
-use rv_base::Bytes;
+use rv_gdb_protocol::Bytes;
 
 /// The debugged program: its image file, which gdb can read.
 #[derive(Drop)]

@@ -11,7 +11,7 @@ ghost use Rattle.rv_session.specs.Sessions.{here};
 use crate::reply::Reply;
 use crate::session::Session;
 use rv_gdb_protocol::{Range, Refusal, Register, push_memory, push_register, push_registers};
-use rv_memory::Bus;
+use rv_history::Bus;
 use std::alloc::{AllocError, Global};
 
 /// The maximum number of memory bytes in a reply, two digits each.

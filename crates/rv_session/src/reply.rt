@@ -2,8 +2,7 @@
 
 ghost use Rattle.std.specs.Prelude.{◌≡◌, IfOk, codes};
 
-use rv_base::Bytes;
-use rv_gdb_protocol::{Refusal, refusal_text};
+use rv_gdb_protocol::{Bytes, Refusal, refusal_text};
 use std::alloc::{AllocError, Global};
 
 /// The reply to a request.

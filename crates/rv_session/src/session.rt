@@ -5,8 +5,7 @@ ghost use Rattle.rv_history.specs.Places.{last_step};
 ghost use Rattle.rv_session.specs.Sessions.{at_first};
 
 use crate::program::Program;
-use rv_base::{Bytes, Sequence};
-use rv_gdb_protocol::{Move, Reader, Stop};
+use rv_gdb_protocol::{Bytes, Move, Reader, Sequence, Stop};
 use rv_history::{History, Start, Stops};
 use std::alloc::{AllocError, Global};
 

@@ -2,13 +2,11 @@
 
 ghost use Rattle.std.specs.Prelude.{◌≡◌, ◌≤◌, ◌+◌, ◌^◌, IfOk};
 ghost use Rattle.rv_session.specs.Stoppoints.{IsStoppointAdded, has_byte, is_full, is_on, is_set, watches_of, with_watches, without_stoppoint};
-ghost use Rattle.rv_memory.specs.Bus.{Contents};
+ghost use Rattle.rv_history.specs.Bus.{Contents};
 ghost use Rattle.rv_gdb_protocol.specs.declared.request.Stoppoint.TheVariants as trap;
 
-use rv_base::Sequence;
-use rv_gdb_protocol::{Range, Refusal, Stoppoint, Watched};
-use rv_history::{Stops, Watch};
-use rv_memory::Bus;
+use rv_gdb_protocol::{Range, Refusal, Sequence, Stoppoint, Watched};
+use rv_history::{Bus, Stops, Watch};
 use std::alloc::{AllocError, Global};
 
 /// The maximum number of breakpoints and watchpoints together.

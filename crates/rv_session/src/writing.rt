@@ -14,8 +14,7 @@ use crate::reading::are_same;
 use crate::reply::Reply;
 use crate::session::Session;
 use rv_gdb_protocol::{Refusal, Register, push_memory, push_registers};
-use rv_history::Count;
-use rv_memory::Bus;
+use rv_history::{Bus, Count};
 use std::alloc::{AllocError, Global};
 
 /// One past the last address.

@@ -2,17 +2,11 @@
 
 ghost use Rattle.std.specs.Prelude.{◌≡◌, OnOk, false, is_some};
 ghost use Rattle.std.specs.Coded.{Coded-set};
-ghost use Rattle.rv_history.specs.Starts.{start_of};
-ghost use Rattle.rv_machine.proofs.Public.{state_code};
+ghost use Rattle.rv_session.specs.Starts.{start_of};
+ghost use Rattle.rv_session.proofs.Public.{state_code};
 ghost use Rattle.rv_session_tests.specs.Talks.{IsReady};
 
-use rv_base::Bytes;
-use rv_gdb_protocol::push_frame;
-use rv_history::{Interrupt, Start};
-use rv_isa::Isa;
-use rv_machine::Machine;
-use rv_memory::{Bus, Map, Misaligned, Region};
-use rv_session::{EndText, Program, Session};
+use rv_session::{Bus, Bytes, EndText, Interrupt, Isa, Machine, Map, Misaligned, Program, Region, Session, Start, push_frame};
 use samples::{agree, cell_of, has_lines, numbers};
 use std::alloc::{AllocError, Global};
 use std::test::Fail;
@@ -98,7 +92,7 @@ struct End {
 
 impl EndText for End {
     ghost use Rattle.std.specs.Prelude.{codes};
-    ghost use Rattle.rv_history.specs.Starts.{start_of};
+    ghost use Rattle.rv_session.specs.Starts.{start_of};
 
     ghost start = { λ end. start_of end.start };
 

@@ -6,11 +6,11 @@ use Rattle.std.specs.Prelude.{nat_le}
 use Rattle.rv_count_tables.specs.declared.table.AddressCounts.{AddressCounts}
 use Rattle.rv_count_tables.specs.Table.{executed_at, rise_from}
 use Rattle.rv_counting.specs.Coverage.{behind, executed_in_run, fetch_at, is_executed, once_if, AreCountsOf}
-use Rattle.rv_machine.specs.declared.ending.Ending.{Ending}
-use Rattle.rv_machine.specs.Run.{step_of}
-use Rattle.rv_machine.specs.State.{State}
-use Rattle.rv_call_tree.specs.declared.spot.Spot.{Spot}
-use Rattle.rv_call_tree.specs.Trees.{own_in}
+use Rattle.rv_counting.specs.declared_ending.Ending.{Ending}
+use Rattle.rv_counting.specs.Run.{step_of}
+use Rattle.rv_counting.specs.State.{State}
+use Rattle.rv_count_tables.specs.declared_spot.Spot.{Spot}
+use Rattle.rv_count_tables.specs.Trees.{own_in}
 use Rattle.rv_stacks.specs.Stacks.{executed_in_function, counts_of_function, AreStacksOf}
 
 module _ (function : ℕ → ℕ) (f : ℕ) where

@@ -9,8 +9,8 @@ use Rattle.rv_count_tables.specs.Sum.{Agree, IsSum}
 use Rattle.rv_count_tables.specs.Table.{executed_at, taken_at, executed_in, taken_in, path_in, name_at, name_in, arrivals_in, steps_in, digests_rise, is_greater_than_last, least_path_of, IsImage, IsTable}
 use Rattle.rv_counting.proofs.Public.{no_names, no_owners, no_spots}
 use Rattle.rv_counting.specs.JobTables.{jobs_at, IsTableOfPlaces}
-use Rattle.rv_jobs.specs.Plans.{Planned}
-use Rattle.rv_call_tree.specs.Trees.{arrivals_at, steps_at}
+use Rattle.rv_counting.specs.Plans.{Planned}
+use Rattle.rv_count_tables.specs.Trees.{arrivals_at, steps_at}
 use Rattle.rv_stacks.specs.StackTables.{image_without_stacks, without_stacks, AreStacksOfPlaces, IsNamedBy, IsTableWithStacks}
 use Rattle.rv_stacks.proofs.Tables.{no_addresses}
 use Rattle.rv_stacks.proofs.WithStacks.{each_so, of_places, with_itself, IsOfJobs}

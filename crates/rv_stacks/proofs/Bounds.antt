@@ -7,9 +7,9 @@ use Rattle.rv_calls.specs.Calls.{transfer_of}
 use Rattle.rv_calls.specs.Stack.{after_transfer}
 use Rattle.rv_counting.specs.Coverage.{behind, executed_in_run, fetch_at, is_executed, once_if}
 use Rattle.rv_counting.specs.JobTables.{begun_from}
-use Rattle.rv_machine.specs.declared.ending.Ending.{Ending}
-use Rattle.rv_machine.specs.Run.{step_of}
-use Rattle.rv_machine.specs.State.{State}
+use Rattle.rv_counting.specs.declared_ending.Ending.{Ending}
+use Rattle.rv_counting.specs.Run.{step_of}
+use Rattle.rv_counting.specs.State.{State}
 use Rattle.rv_stacks.specs.Stacks.{arrivals_by, arrivals_in, calls_to, jumps_to, path_at, steps_in}
 use Rattle.rv_stacks.specs.StackTables.{arrivals_from, steps_from}
 

@@ -6,13 +6,13 @@ use Rattle.rv_calls.specs.declared.frames.Frame.{Frame}
 use Rattle.rv_calls.specs.Calls.{transfer_of}
 use Rattle.rv_calls.specs.Stack.{after_transfer}
 use Rattle.rv_counting.specs.Coverage.{behind, executed_steps, completes, fetch_at, is_executed, once_if, IsStateAfter}
-use Rattle.rv_machine.specs.declared.ending.Ending.{Ending}
-use Rattle.rv_machine.specs.Run.{step_of}
-use Rattle.rv_machine.specs.State.{State}
+use Rattle.rv_counting.specs.declared_ending.Ending.{Ending}
+use Rattle.rv_counting.specs.Run.{step_of}
+use Rattle.rv_counting.specs.State.{State}
 use Rattle.rv_stacks.specs.declared.walk.Walk.{Walk}
 use Rattle.rv_stacks.specs.Nodes.{all_arrivals, all_steps}
 use Rattle.rv_stacks.specs.Stacks.{arrivals_by, arrivals_in, executed_in_function, path_at, steps_in, AreStacksOf}
-use Rattle.rv_call_tree.specs.declared.spot.Spot.{Spot}
+use Rattle.rv_count_tables.specs.declared_spot.Spot.{Spot}
 use Rattle.rv_stacks.specs.declared.node.Node.{Node}
 use Rattle.rv_stacks.specs.Walks.{AreSpotsOf}
 use Rattle.rv_stacks.specs.StackSteps.{AreNodesOf, BeginsAt, SoFar, StacksStep}

@@ -4,10 +4,10 @@ use Rattle.std.proofs.lemmas.Bool.{and_parts, eqb-true}
 use Rattle.std.proofs.lemmas.List.{take_all}
 use Rattle.std.specs.List.{list_all}
 use Rattle.std.specs.Str.{bytes_eq}
-use Rattle.rv_call_tree.specs.declared.spot.Spot.{Spot}
-use Rattle.rv_call_tree.specs.Trees.{arrivals_of, counted_after, counted_in_all, last_path, path_after, steps_if, steps_of, HasArrivals, IsTree, FollowsInPreorder}
-use Rattle.rv_call_tree.specs.Trees as spots
-use Rattle.rv_call_tree.proofs.Public.{last_parts, stand_of_parts}
+use Rattle.rv_count_tables.specs.declared_spot.Spot.{Spot}
+use Rattle.rv_count_tables.specs.Trees.{arrivals_of, counted_after, counted_in_all, last_path, path_after, steps_if, steps_of, HasArrivals, IsTree, FollowsInPreorder}
+use Rattle.rv_count_tables.specs.Trees as spots
+use Rattle.rv_count_tables.proofs.Public.{last_parts, stand_of_parts}
 use Rattle.rv_stacks.specs.declared.flat.Flat.{Flat}
 use Rattle.rv_stacks.specs.declared.node.Node.{Node}
 use Rattle.rv_stacks.specs.Nodes.{all_steps, arrivals_at, is_empty, own_in, path_below, path_of, steps_at, weighted_sum, weighted_sum_after}

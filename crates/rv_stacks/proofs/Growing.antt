@@ -4,7 +4,7 @@ use Rattle.std.proofs.lemmas.Bool.{cases_lt}
 use Rattle.std.proofs.lemmas.List.{get_or_append_left, take-append-le, take_all}
 use Rattle.std.proofs.Math.Seq.{get_or-append_seam}
 use Rattle.std.specs.Str.{bytes_eq}
-use Rattle.rv_call_tree.specs.Trees.{ends_with, once_if, steps_if}
+use Rattle.rv_count_tables.specs.Trees.{ends_with, once_if, steps_if}
 use Rattle.rv_stacks.specs.declared.node.Node.{Node}
 use Rattle.rv_stacks.specs.declared.walk.Walk.{Walk}
 use Rattle.rv_stacks.specs.Nodes.{all_arrivals, all_steps, arrivals_at, own_in, path_below, paths_appended, path_of, paths_of, steps_at, weighted_sum, ArrivesOnce, HasChild, IsChild, KeepsPaths, StepsMore, times_if}

@@ -8,9 +8,9 @@ use Rattle.std.specs.Str.{bytes_eq}
 use Rattle.rv_count_tables.proofs.Public.{first_is}
 use Rattle.rv_count_tables.specs.declared.table.ImageCounts.{ImageCounts}
 use Rattle.rv_count_tables.specs.Table.{arrivals_in, has_name, least_path_of, name_at, name_in, IsImage, IsSpot}
-use Rattle.rv_call_tree.specs.declared.spot.Spot.{Spot}
-use Rattle.rv_call_tree.specs.Profiles.{is_last_of_some}
-use Rattle.rv_call_tree.specs.Trees.{arrivals_at, arrivals_of, counted_after, ends_with, path_after}
+use Rattle.rv_count_tables.specs.declared_spot.Spot.{Spot}
+use Rattle.rv_count_tables.specs.Profiles.{is_last_of_some}
+use Rattle.rv_count_tables.specs.Trees.{arrivals_at, arrivals_of, counted_after, ends_with, path_after}
 use Rattle.rv_stacks.proofs.Steps.{last_of}
 
 here_counts : (b : Bool) (n m : ℕ) → b ≡ true → 0 < n → 0 < cond b n 0 + m

@@ -11,10 +11,10 @@ use Rattle.rv_count_tables.specs.Lines.{lacks}
 use Rattle.rv_count_tables.specs.ReadSteps.{with_name, AgreesWith}
 use Rattle.rv_count_tables.specs.Table.{has_name, name_of, IsSpot}
 use Rattle.rv_counting.proofs.Public.{no_names}
-use Rattle.rv_call_tree.specs.declared.spot.Spot.{Spot}
-use Rattle.rv_call_tree.specs.Profiles.{is_last_of_some}
-use Rattle.rv_call_tree.specs.Sums.{FitsSpot}
-use Rattle.rv_call_tree.specs.Trees.{arrivals_of, counted_after, ends_with, path_after, HasArrivals}
+use Rattle.rv_count_tables.specs.declared_spot.Spot.{Spot}
+use Rattle.rv_count_tables.specs.Profiles.{is_last_of_some}
+use Rattle.rv_count_tables.specs.Sums.{FitsSpot}
+use Rattle.rv_count_tables.specs.Trees.{arrivals_of, counted_after, ends_with, path_after, HasArrivals}
 use Rattle.rv_stacks.specs.StackTables.{AreNamesBy}
 use Rattle.rv_stacks.proofs.Steps.{last_of}
 

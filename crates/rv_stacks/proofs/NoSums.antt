@@ -5,7 +5,7 @@ use Rattle.std.proofs.lemmas.List.Sums.{sum_by-cons}
 use Rattle.std.specs.List.{AllByRecursion, sum_by}
 use Rattle.std.specs.Result.{result_ok}
 use Rattle.std.specs.Prelude.{is_ok}
-use Rattle.rv_base.specs.Limits.{most_jobs}
+use Rattle.rv_count_tables.specs.Limits.{most_jobs}
 use Rattle.rv_count_tables.specs.declared.sum.SumError.{SumError}
 use Rattle.rv_count_tables.specs.declared.sum.SumError.TheVariants.{OutOfMemory, Count, Spot, Names, Runs}
 use Rattle.rv_count_tables.specs.declared.table.CountTable.{CountTable}
@@ -13,13 +13,13 @@ use Rattle.rv_count_tables.specs.Sum.{HaveNoSum}
 use Rattle.rv_count_tables.specs.Table.{executed_in, arrivals_in, steps_in}
 use Rattle.rv_counting.specs.JobTables.{begun_by, begun_from, jobs_at, runs_by, start_over}
 use Rattle.rv_counting.proofs.Public.{not_over}
-use Rattle.rv_jobs.specs.declared.answers.Answer.{Answer}
-use Rattle.rv_machine.specs.State.{State}
-use Rattle.rv_report.specs.declared.row.Refusal.{Refusal}
-use Rattle.rv_jobs.specs.declared_job.Job.{Job}
-use Rattle.rv_jobs.specs.Jobs.{single_job}
-use Rattle.rv_jobs.specs.Plans.{Planned}
-use Rattle.rv_rows.specs.Rows.{start_in}
+use Rattle.rv_counting.specs.declared_answers.Answer.{Answer}
+use Rattle.rv_counting.specs.State.{State}
+use Rattle.rv_counting.specs.declared_row.Refusal.{Refusal}
+use Rattle.rv_counting.specs.declared_job.Job.{Job}
+use Rattle.rv_counting.specs.Jobs.{single_job}
+use Rattle.rv_counting.specs.Plans.{Planned}
+use Rattle.rv_calls.specs.Rows.{start_in}
 use Rattle.rv_stacks.specs.StackTables.{arrivals_by_job, arrivals_from, function_of_job, steps_by_job, steps_from, HaveNoTableWithStacks, HasNextNoSum, IsOfNamesOrMemory, IsTableWithStacks, RunsWithinABudget}
 use Rattle.rv_stacks.proofs.Bounds.{arrivals_at_most, begun_at_most, once_at_most, steps_at_most}
 use Rattle.rv_stacks.proofs.WithStacks.{of_places, IsOfJobs}

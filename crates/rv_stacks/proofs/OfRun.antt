@@ -12,20 +12,20 @@ use Rattle.rv_count_tables.specs.Table.{executed_at, name_at, taken_at, least_pa
 use Rattle.rv_counting.proofs.Public.{no_counts_is_table, none_if_no_ok, not_ok_if_none, not_over, over, picked_begun, picked_path, picked_taken}
 use Rattle.rv_counting.specs.Coverage.{once_if, AreCountsOf}
 use Rattle.rv_counting.specs.JobTables.{begun_from, taken_from}
-use Rattle.rv_elf.specs.declared.image.Image.{Image}
-use Rattle.rv_jobs.specs.declared.answers.Answer.{Answer}
-use Rattle.rv_jobs.specs.declared_job.Job.{Job}
-use Rattle.rv_machine.specs.State.{State}
-use Rattle.rv_report.specs.declared.row.Refusal.{Refusal}
-use Rattle.rv_rows.specs.Rows.{image_in, start_in}
-use Rattle.rv_call_tree.specs.declared.spot.Spot.{Spot}
-use Rattle.rv_call_tree.specs.Trees.{arrivals_at, steps_at, HasArrivals, IsTree}
+use Rattle.rv_counting.specs.declared_image.Image.{Image}
+use Rattle.rv_counting.specs.declared_answers.Answer.{Answer}
+use Rattle.rv_counting.specs.declared_job.Job.{Job}
+use Rattle.rv_counting.specs.State.{State}
+use Rattle.rv_counting.specs.declared_row.Refusal.{Refusal}
+use Rattle.rv_calls.specs.Rows.{image_in, start_in}
+use Rattle.rv_count_tables.specs.declared_spot.Spot.{Spot}
+use Rattle.rv_count_tables.specs.Trees.{arrivals_at, steps_at, HasArrivals, IsTree}
 use Rattle.rv_stacks.specs.Stacks.{function_at, AreCountsAndStacksOfJob, AreStacksOf}
 use Rattle.rv_stacks.specs.StackTables.{arrivals_by_job, arrivals_from, function_in, function_of_job, name_in_image, name_of_function, steps_by_job, steps_from, table_of_run, AreNamesBy, IsNamedBy, IsTableOfRun, RunsWithinABudget}
-use Rattle.rv_text.specs.Printable.{printable_text}
+use Rattle.rv_count_tables.specs.Printable.{printable_text}
 use Rattle.rv_stacks.proofs.NamedSpots.{last_if_come}
 use Rattle.rv_stacks.proofs.WithStacks.{IsOfJobs}
-use Rattle.rv_trace.specs.Trace.{image_bytes}
+use Rattle.rv_counting.specs.Trace.{image_bytes}
 
 picked_arrivals : (b : Bool) (n : ℕ) (function : ℕ → ℕ) (path : List ℕ) (budget : ℕ) (s : State)
     → n ≡ arrivals_from function path budget (Some s)

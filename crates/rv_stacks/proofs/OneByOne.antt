@@ -10,10 +10,10 @@ use Rattle.rv_count_tables.specs.Sum.{IsSum, no_counts}
 use Rattle.rv_counting.proofs.Public.{run_added, run_ended, NextRefused}
 use Rattle.rv_counting.specs.JobTables.{jobs_at}
 use Rattle.rv_counting.specs.TableSums.{sum_of_run, Added, AreAdded}
-use Rattle.rv_engine.specs.declared.engine.RunError.{RunError}
-use Rattle.rv_engine.specs.declared.listener.Flow.{Flow}
-use Rattle.rv_engine.specs.Results.{IsRunDelivered}
-use Rattle.rv_jobs.specs.Plans.{Planned}
+use Rattle.rv_counting.specs.declared_engine.RunError.{RunError}
+use Rattle.rv_counting.specs.declared_listener.Flow.{Flow}
+use Rattle.rv_counting.specs.Results.{IsRunDelivered}
+use Rattle.rv_counting.specs.Plans.{Planned}
 use Rattle.rv_stacks.specs.StackTables.{HasNextNoSum, HaveNoTableWithStacks, IsTableWithStacks}
 use Rattle.rv_stacks.proofs.Apart.{counts_and_stacks}
 use Rattle.rv_stacks.proofs.WithStacks.{of_both, of_none, of_places, IsOfJobs}

@@ -13,9 +13,9 @@ use Rattle.rv_count_tables.specs.declared.table.FunctionName.{FunctionName}
 use Rattle.rv_count_tables.specs.Lines.{lacks}
 use Rattle.rv_count_tables.specs.ReadSteps.{inserted, with_name}
 use Rattle.rv_count_tables.specs.Table.{has_name, name_of}
-use Rattle.rv_call_tree.specs.declared.spot.Spot.{Spot}
-use Rattle.rv_call_tree.specs.Profiles.{is_last_of_some}
-use Rattle.rv_call_tree.specs.Sums.{FitsSpot}
+use Rattle.rv_count_tables.specs.declared_spot.Spot.{Spot}
+use Rattle.rv_count_tables.specs.Profiles.{is_last_of_some}
+use Rattle.rv_count_tables.specs.Sums.{FitsSpot}
 use Rattle.rv_stacks.specs.StackTables.{AreNamedUpTo, AreNamesBy}
 use Rattle.rv_stacks.proofs.NamedSpots.{each_push, none_named, one_known, one_named, or_with}
 

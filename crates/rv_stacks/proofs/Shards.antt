@@ -9,8 +9,8 @@ use Rattle.rv_count_tables.specs.Sum.{no_counts}
 use Rattle.rv_count_tables.specs.Text.{table_text}
 use Rattle.rv_counting.proofs.Public.{all_parts, joined_parts}
 use Rattle.rv_counting.specs.JobTables.{jobs_at, SumsTo}
-use Rattle.rv_jobs.specs.declared_job.Job.{Job}
-use Rattle.rv_jobs.specs.Plans.{Planned}
+use Rattle.rv_counting.specs.declared_job.Job.{Job}
+use Rattle.rv_counting.specs.Plans.{Planned}
 use Rattle.rv_stacks.specs.StackTables.{places_of_shard, AreTablesWithStacksOfParts, IsTableWithStacks}
 use Rattle.rv_stacks.proofs.Apart.{counts_and_stacks}
 use Rattle.rv_stacks.proofs.WithStacks.{in_order, of_both, of_none, of_places, one_table, IsOfJobs}

@@ -8,11 +8,11 @@ use Rattle.rv_calls.specs.declared.transfer.Transfer.{Transfer}
 use Rattle.rv_calls.specs.Calls.{transfer_of}
 use Rattle.rv_calls.specs.Stack.{after_transfer}
 use Rattle.rv_counting.specs.Coverage.{completes, fetch_at, is_executed, once_if, IsStateAfter}
-use Rattle.rv_machine.specs.declared.ending.Ending.{Ending}
-use Rattle.rv_machine.specs.Run.{Ran, run_rest, run_of, step_of}
-use Rattle.rv_machine.specs.State.{State}
+use Rattle.rv_counting.specs.declared_ending.Ending.{Ending}
+use Rattle.rv_counting.specs.Run.{Ran, run_rest, run_of, step_of}
+use Rattle.rv_counting.specs.State.{State}
 use Rattle.rv_stacks.specs.declared.walk.Walk.{Walk}
-use Rattle.rv_call_tree.specs.Trees.{ends_with}
+use Rattle.rv_count_tables.specs.Trees.{ends_with}
 use Rattle.rv_stacks.specs.Nodes.{all_steps, own_in, steps_at}
 use Rattle.rv_stacks.specs.Walks.{Steps}
 use Rattle.rv_stacks.specs.Stacks.{arrivals_by, path_at}

@@ -11,13 +11,13 @@ use Rattle.rv_count_tables.specs.Lines.{lacks}
 use Rattle.rv_count_tables.specs.Sum.{Agree, IsSum}
 use Rattle.rv_count_tables.specs.Table.{name_in, least_path_of, rise_from, AreCounts, IsImage, IsTable}
 use Rattle.rv_counting.proofs.Public.{one_rises}
-use Rattle.rv_jobs.specs.declared.answers.Answer.{Answer}
-use Rattle.rv_jobs.specs.declared_job.Job.{Job}
-use Rattle.rv_call_tree.specs.declared.spot.Spot.{Spot}
-use Rattle.rv_call_tree.specs.Sums.{FitsSpot}
-use Rattle.rv_call_tree.specs.Trees.{HasArrivals, IsTree}
+use Rattle.rv_counting.specs.declared_answers.Answer.{Answer}
+use Rattle.rv_counting.specs.declared_job.Job.{Job}
+use Rattle.rv_count_tables.specs.declared_spot.Spot.{Spot}
+use Rattle.rv_count_tables.specs.Sums.{FitsSpot}
+use Rattle.rv_count_tables.specs.Trees.{HasArrivals, IsTree}
 use Rattle.rv_stacks.specs.StackTables.{name_of_job, AreNamesBy, IsNamedBy, IsTableOfRun, RunsWithinABudget}
-use Rattle.rv_text.specs.Printable.{printable_text}
+use Rattle.rv_count_tables.specs.Printable.{printable_text}
 use Rattle.rv_stacks.proofs.NamedSpots.{can_stand}
 
 -- ---- the table of one image

@@ -11,10 +11,10 @@ use Rattle.rv_count_tables.specs.Sum.{IsSum, no_counts}
 use Rattle.rv_count_tables.specs.Table.{executed_in, taken_in, path_in, name_in, arrivals_in, steps_in, has_name, is_before, least_path_of, IsTable}
 use Rattle.rv_counting.proofs.Public.{first_moved, first_path-append, no_counts_is_table}
 use Rattle.rv_counting.specs.JobTables.{begun_by, first_path, jobs_at, runs_by, taken_by}
-use Rattle.rv_jobs.specs.declared.answers.Answer.{Answer}
-use Rattle.rv_jobs.specs.declared_job.Job.{Job}
-use Rattle.rv_jobs.specs.Plans.{Planned}
-use Rattle.rv_call_tree.specs.Trees.{ends_with}
+use Rattle.rv_counting.specs.declared_answers.Answer.{Answer}
+use Rattle.rv_counting.specs.declared_job.Job.{Job}
+use Rattle.rv_counting.specs.Plans.{Planned}
+use Rattle.rv_count_tables.specs.Trees.{ends_with}
 use Rattle.rv_stacks.specs.StackTables.{arrivals_by_job, steps_by_job, IsNamedBy, IsTableWithStacks, RunsWithinABudget}
 use Rattle.rv_stacks.proofs.Named.{come_to}
 use Rattle.rv_stacks.proofs.Tables.{budgets_of_both, names_of_both, same_either}

@@ -3,3 +3,4 @@ pub mod StackSteps
 pub mod StackTables
 pub mod Nodes
 pub mod Walks
+pub use Rattle.rv_counting.specs.JobTables

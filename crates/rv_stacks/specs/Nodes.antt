@@ -1,7 +1,7 @@
 -- Nodes: paths of functions, each of which called the next. A node stores the number of its parent and its own function.
 use Rattle.std.specs.Prelude.{◌≡◌, ◌==◌, ◌+◌, ◌<◌, ◌≤◌, ◌&&◌, ℕ, Bool, if◌then◌else◌, List, [], ◌∷◌, ◌++◌, length, slice_index_or}
 use Rattle.std.specs.Str.{bytes_eq}
-use Rattle.rv_call_tree.specs.Trees.{ends_with, once_if, steps_if}
+use Rattle.rv_count_tables.specs.Trees.{ends_with, once_if, steps_if}
 use Rattle.rv_stacks.specs.declared.node.Node.{Node}
 
 -- ---- the path of a node

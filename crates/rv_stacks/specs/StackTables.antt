@@ -15,19 +15,19 @@ use Rattle.rv_count_tables.specs.Sum.{HaveNoSum, IsSum}
 use Rattle.rv_count_tables.specs.Table.{executed_in, taken_in, path_in, name_in, arrivals_in, steps_in, has_name, name_of, AreNames, AreNamesOf, IsTable}
 use Rattle.rv_counting.specs.Coverage.{once_if}
 use Rattle.rv_counting.specs.JobTables.{first_path, jobs_at, start_over, IsTableOfPlaces}
-use Rattle.rv_elf.specs.declared.image.Image.{Image}
-use Rattle.rv_elf.specs.SymbolSearch.{symbol_at}
-use Rattle.rv_jobs.specs.declared.answers.Answer.{Answer}
-use Rattle.rv_jobs.specs.declared_job.Job.{Job}
-use Rattle.rv_jobs.specs.Plans.{Planned}
-use Rattle.rv_machine.specs.State.{State}
-use Rattle.rv_rows.specs.Rows.{image_in, start_in}
-use Rattle.rv_call_tree.specs.declared.spot.Spot.{Spot}
-use Rattle.rv_call_tree.specs.Profiles.{is_last_of_some}
-use Rattle.rv_call_tree.specs.Trees.{ends_with}
+use Rattle.rv_counting.specs.declared_image.Image.{Image}
+use Rattle.rv_counting.specs.SymbolSearch.{symbol_at}
+use Rattle.rv_counting.specs.declared_answers.Answer.{Answer}
+use Rattle.rv_counting.specs.declared_job.Job.{Job}
+use Rattle.rv_counting.specs.Plans.{Planned}
+use Rattle.rv_counting.specs.State.{State}
+use Rattle.rv_calls.specs.Rows.{image_in, start_in}
+use Rattle.rv_count_tables.specs.declared_spot.Spot.{Spot}
+use Rattle.rv_count_tables.specs.Profiles.{is_last_of_some}
+use Rattle.rv_count_tables.specs.Trees.{ends_with}
 use Rattle.rv_stacks.specs.Stacks as run
-use Rattle.rv_text.specs.Printable.{printable_text}
-use Rattle.rv_trace.specs.Trace.{image_bytes}
+use Rattle.rv_count_tables.specs.Printable.{printable_text}
+use Rattle.rv_counting.specs.Trace.{image_bytes}
 
 -- ---- names
 

@@ -7,13 +7,13 @@ use Rattle.rv_calls.specs.Calls.{transfer_of}
 use Rattle.rv_calls.specs.Stack.{after_transfer, frame_of, is_pushed, popped}
 use Rattle.rv_count_tables.specs.declared.table.AddressCounts.{AddressCounts}
 use Rattle.rv_counting.specs.Coverage.{behind, executed_steps, fetch_at, is_executed, once_if, AreCountsOf}
-use Rattle.rv_elf.specs.declared.image.Image.{Image}
-use Rattle.rv_elf.specs.SymbolSearch.{symbol_at}
-use Rattle.rv_machine.specs.Run.{step_of}
-use Rattle.rv_machine.specs.State.{State}
-use Rattle.rv_report.specs.declared.row.Refusal.{Refusal}
-use Rattle.rv_call_tree.specs.declared.spot.Spot.{Spot}
-use Rattle.rv_call_tree.specs.Trees.{all_steps, arrivals_at, own_in, steps_at, HasArrivals, IsTree}
+use Rattle.rv_counting.specs.declared_image.Image.{Image}
+use Rattle.rv_counting.specs.SymbolSearch.{symbol_at}
+use Rattle.rv_counting.specs.Run.{step_of}
+use Rattle.rv_counting.specs.State.{State}
+use Rattle.rv_counting.specs.declared_row.Refusal.{Refusal}
+use Rattle.rv_count_tables.specs.declared_spot.Spot.{Spot}
+use Rattle.rv_count_tables.specs.Trees.{all_steps, arrivals_at, own_in, steps_at, HasArrivals, IsTree}
 
 -- ---- functions
 

@@ -1,9 +1,9 @@
 -- A walk from node to node that follows calls, jumps and returns, and its nodes in preorder.
 use Rattle.std.specs.Prelude.{◌≡◌, ◌+◌, ◌<◌, ◌≤◌, ℕ, List, [], length, take, slice_index_or}
 use Rattle.std.specs.Str.{bytes_eq}
-use Rattle.rv_call_tree.specs.declared.spot.Spot.{Spot}
-use Rattle.rv_call_tree.specs.Trees as spots
-use Rattle.rv_call_tree.specs.Trees.{ends_with, last_path, once_if, HasArrivals, IsTree}
+use Rattle.rv_count_tables.specs.declared_spot.Spot.{Spot}
+use Rattle.rv_count_tables.specs.Trees as spots
+use Rattle.rv_count_tables.specs.Trees.{ends_with, last_path, once_if, HasArrivals, IsTree}
 use Rattle.rv_stacks.specs.declared.flat.Flat.{Flat}
 use Rattle.rv_stacks.specs.declared.node.Node.{Node}
 use Rattle.rv_stacks.specs.declared.walk.Walk.{Walk}

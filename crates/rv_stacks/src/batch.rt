@@ -5,9 +5,7 @@ ghost use Rattle.rv_stacks.specs.StackTables.{HaveNoTableWithStacks, IsOfNamesOr
 
 use crate::stack_work::StackWork;
 use rv_count_tables::{CountTable, SumError};
-use rv_counting::{JobTable, TableSum};
-use rv_engine::{Crew, run_jobs};
-use rv_fleet::Batch;
+use rv_counting::{Batch, Crew, JobTable, TableSum, run_jobs};
 use std::marker::Brand;
 use std::sync::Wait;
 use std::thread::Threads;

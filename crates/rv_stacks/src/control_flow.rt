@@ -10,7 +10,7 @@ ghost use Rattle.rv_stacks.specs.Stacks.{function_at};
 use crate::functions::{CachedFunction, look_up};
 use crate::walk::Walk;
 use rv_calls::{Frame, Transfer, frames_left, pass_control};
-use rv_elf::CodeSymbols;
+use rv_counting::CodeSymbols;
 use std::alloc::AllocError;
 
 /// Moves the walk as a transfer of control says, and applies the transfer to the frames.

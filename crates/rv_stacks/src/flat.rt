@@ -8,7 +8,7 @@ ghost use Rattle.rv_stacks.specs.Walks.{AreSpotsOf, GoesBack, IsFlat, IsNext, Mo
 
 use crate::children::Children;
 use crate::node::Node;
-use rv_call_tree::{Spot, Spots};
+use rv_count_tables::{Spot, Spots};
 use std::alloc::{AllocError, Global};
 
 /// The preorder nodes built so far, and the node up to which counts have been moved.

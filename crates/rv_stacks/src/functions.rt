@@ -3,12 +3,11 @@
 ghost use Rattle.std.specs.Prelude.{◌≡◌, ◌+◌, ◌<◌, ◌≤◌, ℕ, IfOk, length};
 ghost use Rattle.rv_counting.specs.Blocks.{address_at};
 ghost use Rattle.rv_stacks.specs.StackSteps.{IsFunctionCache};
-ghost use Rattle.rv_elf.specs.SymbolSearch.{symbol_at};
+ghost use Rattle.rv_counting.specs.SymbolSearch.{symbol_at};
 ghost use Rattle.rv_stacks.specs.Stacks.{function_at, no_function, start_of};
 
 use rv_count_tables::AddressCounts;
-use rv_counting::Block;
-use rv_elf::CodeSymbols;
+use rv_counting::{Block, CodeSymbols};
 use std::alloc::{AllocError, Global};
 
 /// The number of cached functions. Addresses that share a slot evict each other.

@@ -2,18 +2,16 @@
 
 ghost use Rattle.std.specs.Prelude.{IfOk, IfSome};
 ghost use Rattle.rv_count_tables.specs.Table.{AreCounts};
-ghost use Rattle.rv_jobs.specs.declared_job.Job.{Job as AJob};
-ghost use Rattle.rv_rows.specs.Rows.{start_in};
+ghost use Rattle.rv_counting.specs.declared_job.Job.{Job as AJob};
+ghost use Rattle.rv_calls.specs.Rows.{start_in};
 ghost use Rattle.rv_stacks.specs.Stacks.{function_at, AreCountsAndStacksOfJob};
 ghost use Rattle.rv_stacks.specs.StackTables.{RunsWithinABudget};
-ghost use Rattle.rv_trace.specs.Trace.{job_at};
+ghost use Rattle.rv_counting.specs.Trace.{job_at};
 
 use crate::run::count_with_stacks;
-use rv_call_tree::Spots;
-use rv_count_tables::Addresses;
-use rv_elf::CodeSymbols;
-use rv_rows::machine_at;
-use rv_trace::JobImage;
+use rv_calls::machine_at;
+use rv_count_tables::{Addresses, Spots};
+use rv_counting::{CodeSymbols, JobImage};
 use std::alloc::{AllocError, Global};
 
 /// Returns the counts of a job's run within its budget, and its call tree with the functions that the symbols define; `None` if the job is

@@ -10,15 +10,15 @@ ghost use Rattle.rv_count_tables.specs.Sum.{no_counts};
 ghost use Rattle.rv_count_tables.specs.Text.{table_text};
 ghost use Rattle.rv_counting.specs.Coverage.{AreCountsOf};
 ghost use Rattle.rv_counting.specs.JobTables.{IsTableOfPlaces, SumsTo};
-ghost use Rattle.rv_jobs.specs.Limits.{most_jobs};
-ghost use Rattle.rv_jobs.specs.Plans.{Planned};
-ghost use Rattle.rv_machine.specs.State.{State};
-ghost use Rattle.rv_call_tree.specs.declared.spot.Spot.{Spot};
-ghost use Rattle.rv_call_tree.specs.Trees.{own_in};
+ghost use Rattle.rv_count_tables.specs.Limits.{most_jobs};
+ghost use Rattle.rv_counting.specs.Plans.{Planned};
+ghost use Rattle.rv_counting.specs.State.{State};
+ghost use Rattle.rv_count_tables.specs.declared_spot.Spot.{Spot};
+ghost use Rattle.rv_count_tables.specs.Trees.{own_in};
 ghost use Rattle.rv_stacks.specs.Stacks.{counts_of_function, AreStacksOf};
 ghost use Rattle.rv_stacks.specs.StackTables.{places_of_shard, without_stacks, AreTablesWithStacksOfParts, HaveNoTableWithStacks, IsOfNamesOrMemory, IsTableWithStacks};
 
-use rv_call_tree::one_tree_has_these_counts;
+use rv_count_tables::one_tree_has_these_counts;
 
 /// A run has exactly one list of call-tree nodes.
 pub fn run_has_one_list_of_spots()

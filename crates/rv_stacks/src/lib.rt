@@ -37,3 +37,6 @@ pub use node::Node;
 pub use run::count_with_stacks;
 pub use stacks::Stacks;
 pub use walk::Walk;
+
+// From the crates below: what this interface names, and what its callers need with it.
+pub use rv_counting::{Bus, CodeSymbols, Isa, Machine, Map, Misaligned, Region, count_batch, read_image};

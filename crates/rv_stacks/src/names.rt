@@ -5,17 +5,14 @@ ghost use Rattle.std.specs.List.{AllByRecursion};
 ghost use Rattle.std.specs.List.Sorted.{IsNonDecreasingBy};
 ghost use Rattle.std.specs.Str.{IsUtf8};
 ghost use Rattle.rv_count_tables.specs.Lines.{lacks};
-ghost use Rattle.rv_elf.specs.SymbolSearch.{symbol_at};
-ghost use Rattle.rv_call_tree.specs.declared.spot.Spot.{Spot as ASpot};
-ghost use Rattle.rv_call_tree.specs.Sums.{FitsSpot};
+ghost use Rattle.rv_counting.specs.SymbolSearch.{symbol_at};
+ghost use Rattle.rv_count_tables.specs.declared_spot.Spot.{Spot as ASpot};
+ghost use Rattle.rv_count_tables.specs.Sums.{FitsSpot};
 ghost use Rattle.rv_stacks.specs.StackTables.{name_in_file, name_of_function, symbol_name, AreNamedUpTo, AreNamesBy};
 
 use crate::functions::LAST_ADDRESS;
-use rv_base::Text;
-use rv_call_tree::Spot;
-use rv_count_tables::{FunctionName, FunctionNames};
-use rv_counting::shown_text;
-use rv_elf::CodeSymbols;
+use rv_count_tables::{FunctionName, FunctionNames, Spot, Text};
+use rv_counting::{CodeSymbols, shown_text};
 use std::alloc::{AllocError, Global};
 
 /// Returns the names of the functions with which the paths of the nodes end, each once. Needs a symbol lookup for each function, a sort of

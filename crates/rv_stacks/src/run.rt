@@ -3,16 +3,13 @@
 ghost use Rattle.std.specs.Prelude.{◌≡◌, IfOk};
 ghost use Rattle.rv_counting.specs.Counters.{HasCounted};
 ghost use Rattle.rv_counting.specs.Coverage.{AreCountsOf};
-ghost use Rattle.rv_machine.specs.Machine.{state_of};
+ghost use Rattle.rv_counting.specs.Machine.{state_of};
 ghost use Rattle.rv_stacks.specs.StackSteps.{AreNodesOf};
 ghost use Rattle.rv_stacks.specs.Stacks.{function_at, AreStacksOf};
 
 use crate::stacks::Stacks;
-use rv_call_tree::Spots;
-use rv_count_tables::Addresses;
-use rv_counting::Counter;
-use rv_elf::CodeSymbols;
-use rv_machine::Machine;
+use rv_count_tables::{Addresses, Spots};
+use rv_counting::{CodeSymbols, Counter, Machine};
 use std::alloc::{AllocError, Global};
 
 /// Returns the counts of a machine's run within a budget of steps, and its call tree with the functions that the symbols define. Takes

@@ -1,9 +1,7 @@
 //! The table of each job of a batch, with its call tree.
 
 use crate::table::stack_table_of_job;
-use rv_counting::JobTable;
-use rv_engine::{Work, WorkerState};
-use rv_fleet::Batch;
+use rv_counting::{Batch, JobTable, Work, WorkerState};
 use std::alloc::{AllocError, Global};
 
 /// The work of a batch: one table for each of its jobs, with its counts and its call tree.

@@ -2,17 +2,13 @@
 
 ghost use Rattle.std.specs.Prelude.{◌<◌, ◌∷◌, [], IfOk, length};
 ghost use Rattle.rv_count_tables.specs.Table.{AreCounts};
-ghost use Rattle.rv_call_tree.specs.Trees.{HasArrivals, IsTree};
+ghost use Rattle.rv_count_tables.specs.Trees.{HasArrivals, IsTree};
 ghost use Rattle.rv_stacks.specs.StackTables.{name_of_function, IsTableOfRun, IsTableWithStacks};
 
 use crate::job::count_job_with_stacks;
 use crate::names::names_of_spots;
-use rv_call_tree::Spots;
-use rv_count_tables::{Addresses, CountTable, ImageCounts};
-use rv_counting::{digest_of, empty_table, images_of_one, shown_text};
-use rv_elf::CodeSymbols;
-use rv_jobs::Plan;
-use rv_trace::{JobImage, image_bytes, image_of_bytes};
+use rv_count_tables::{Addresses, CountTable, ImageCounts, Spots};
+use rv_counting::{CodeSymbols, JobImage, Plan, digest_of, empty_table, image_bytes, image_of_bytes, images_of_one, shown_text};
 use std::alloc::{AllocError, Global};
 
 /// Runs the job at an index once more, and returns its table: the counts and the call tree of its run. The table of a refused job has no

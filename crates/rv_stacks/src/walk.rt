@@ -7,7 +7,7 @@ ghost use Rattle.rv_stacks.specs.Walks.{Arrives, AreSpotsOf, IsWalk, Returns, St
 use crate::children::Children;
 use crate::flat::spots_of_nodes;
 use crate::node::{Node, count_arrival, count_steps, number_of_child};
-use rv_call_tree::Spots;
+use rv_count_tables::Spots;
 use std::alloc::{AllocError, Global};
 
 /// The call-tree nodes so far, and the current one.

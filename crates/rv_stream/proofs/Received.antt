@@ -5,18 +5,18 @@ use Rattle.std.proofs.lemmas.List.{length-map, take_all}
 use Rattle.std.specs.Prelude.{is_ok, IfOk, OnErr, OnOk}
 use Rattle.std.specs.List.{concat}
 use Rattle.rv_base.proofs.Public.{beginning_of_longer}
-use Rattle.rv_engine.specs.declared.engine.RunError.{RunError}
-use Rattle.rv_engine.specs.declared.listener.Flow.{Flow}
-use Rattle.rv_engine.specs.declared.listener.Flow.TheVariants.{GoOn, Stop}
-use Rattle.rv_engine.specs.Results.{IsRunDelivered, HasReceived}
+use Rattle.rv_fleet.specs.declared_engine.RunError.{RunError}
+use Rattle.rv_fleet.specs.declared_listener.Flow.{Flow}
+use Rattle.rv_fleet.specs.declared_listener.Flow.TheVariants.{GoOn, Stop}
+use Rattle.rv_fleet.specs.Results.{IsRunDelivered, HasReceived}
 use Rattle.rv_expect.specs.Judgement.{Judging, fails}
 use Rattle.rv_fleet.proofs.Public.{rows_count}
 use Rattle.rv_fleet.specs.declared.batch.Batch.{Batch}
 use Rattle.rv_fleet.specs.Batches.{batch_rows}
-use Rattle.rv_jobs.specs.Jobs.{single_job}
-use Rattle.rv_rows.specs.declared_row.Row.{Row}
-use Rattle.rv_rows.specs.Rows.{row_of, rows_at}
-use Rattle.rv_rows.specs.Sinks.{AppendsBeginning}
+use Rattle.rv_fleet.specs.Jobs.{single_job}
+use Rattle.rv_fleet.specs.declared_row.Row.{Row}
+use Rattle.rv_fleet.specs.Rows.{row_of, rows_at}
+use Rattle.rv_base.specs.Sinks.{AppendsBeginning}
 use Rattle.rv_stream.specs.declared.reported_row.ReportedRow.{ReportedRow}
 use Rattle.rv_stream.specs.Limits.{rows_up_to}
 use Rattle.rv_stream.specs.Streams.{joined_row_texts, row_text_list}

@@ -7,11 +7,11 @@ use Rattle.std.proofs.KnownBytes.{Appends-nil, Appends-trans}
 use Rattle.std.proofs.lemmas.List.{map-append}
 use Rattle.std.proofs.lemmas.List.Folds.{concat-append}
 use Rattle.rv_base.specs.Counts.{one_more}
-use Rattle.rv_rows.specs.Sinks.{AppendsBeginning}
-use Rattle.rv_rows.specs.declared_report.WriteError.{WriteError}
-use Rattle.rv_rows.specs.declared_report.WriteError.TheVariants.{Failed, OutOfMemory}
+use Rattle.rv_base.specs.Sinks.{AppendsBeginning}
+use Rattle.rv_fleet.specs.declared_report.WriteError.{WriteError}
+use Rattle.rv_fleet.specs.declared_report.WriteError.TheVariants.{Failed, OutOfMemory}
 use Rattle.rv_stream.specs.declared.reported_row.ReportedRow.{ReportedRow}
-use Rattle.rv_rows.specs.declared_row.Row.{Row}
+use Rattle.rv_fleet.specs.declared_row.Row.{Row}
 use Rattle.rv_stream.specs.Seen.{text_by_index}
 use Rattle.rv_stream.specs.Texts.{IsSent, IsWriteInProgress}
 use Rattle.rv_stream.specs.ReportedRows.{texts_of_reported}

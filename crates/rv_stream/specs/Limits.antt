@@ -2,7 +2,7 @@
 use Rattle.std.specs.Prelude.{ℕ, zero, suc, Bool, List, [], ◌∷◌, Option, Some, None, if◌then◌else◌}
 use Rattle.rv_expect.specs.Judgement.{fails, judging_of}
 use Rattle.rv_stream.specs.declared.failure_limit.FailureLimit.{FailureLimit}
-use Rattle.rv_rows.specs.declared_row.Row.{Row}
+use Rattle.rv_fleet.specs.declared_row.Row.{Row}
 
 -- the rows up to and including the nth failure; all rows if there are fewer failures
 abbrev pub rows_until : (Row → Bool) → ℕ → List Row → List Row

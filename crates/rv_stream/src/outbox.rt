@@ -2,15 +2,14 @@
 
 ghost use Rattle.std.specs.Prelude.{◌≡◌, ◌++◌, [], ℕ, List, None, OnErr, OnOk, is_some, true};
 ghost use Rattle.std.specs.Io.KnownBytes.{Appends};
-ghost use Rattle.rv_engine.specs.declared.listener.Flow.TheVariants.{GoOn, Stop};
-ghost use Rattle.rv_rows.specs.Sinks.{AppendsBeginning};
+ghost use Rattle.rv_fleet.specs.declared_listener.Flow.TheVariants.{GoOn, Stop};
+ghost use Rattle.rv_base.specs.Sinks.{AppendsBeginning};
 ghost use Rattle.rv_stream.specs.Texts.{IsSent};
 
 use crate::reported_row::ReportedRow;
 use crate::streamed::StreamSpec;
-use rv_engine::Flow;
-use rv_fleet::{Sink, put_all};
-use rv_rows::{RowReporter, WriteError};
+use rv_base::{Sink, put_all};
+use rv_fleet::{Flow, RowReporter, WriteError};
 use std::alloc::Global;
 use std::marker::PhantomData;
 

@@ -2,9 +2,7 @@
 
 ghost use Rattle.std.specs.Prelude.{◌≡◌};
 
-use rv_engine::{Work, WorkerState};
-use rv_fleet::Batch;
-use rv_rows::{Row, RowReporter, row_at_with_recent};
+use rv_fleet::{Batch, Row, RowReporter, Work, WorkerState, row_at_with_recent};
 use std::alloc::{AllocError, Global};
 
 /// The row of a job, with the text that a reporter makes of it.
@@ -25,7 +23,7 @@ pub(crate) struct ReportedRowWork<'b, 't, T: RowReporter> {
 
 impl<T: RowReporter> Work<ReportedRow> for ReportedRowWork<'_, '_, T> {
     ghost use Rattle.std.specs.Prelude.{length};
-    ghost use Rattle.rv_rows.specs.Recent.{AreOutcomes};
+    ghost use Rattle.rv_fleet.specs.Recent.{AreOutcomes};
     ghost use Rattle.rv_stream.specs.ReportedRows.{IsReportedRow};
 
     ghost jobs = { λ s. length s.batch.now.places.now };

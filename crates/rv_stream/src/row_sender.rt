@@ -2,15 +2,14 @@
 
 ghost use Rattle.std.specs.Prelude.{◌≡◌, [], ℕ, List, None, IfSome, OnErr, OnOk, is_some, true};
 ghost use Rattle.std.specs.Io.KnownBytes.{Appends};
-ghost use Rattle.rv_rows.specs.Sinks.{AppendsBeginning};
+ghost use Rattle.rv_base.specs.Sinks.{AppendsBeginning};
 ghost use Rattle.rv_stream.specs.Texts.{IsSent};
 
 use crate::outbox::Outbox;
 use crate::reported_row::ReportedRow;
 use crate::streamed::StreamSpec;
-use rv_engine::{Flow, Observer};
-use rv_fleet::Sink;
-use rv_rows::{RowReporter, WriteError};
+use rv_base::Sink;
+use rv_fleet::{Flow, Observer, RowReporter, WriteError};
 use std::alloc::Global;
 
 /// Sends the text that a reporter of its own gives of each row to a sink. Rows that arrive together are written at once. Without a sink it

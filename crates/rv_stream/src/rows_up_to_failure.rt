@@ -7,9 +7,8 @@ ghost use Rattle.rv_stream.specs.ReportedRows.{AreRowsUpToFailure};
 use crate::failure_limit::FailureLimit;
 use crate::reported_row::ReportedRow;
 use crate::streamed::StreamSpec;
-use rv_engine::{Flow, Listener};
 use rv_expect::Judge;
-use rv_rows::Row;
+use rv_fleet::{Flow, Listener, Row};
 use std::alloc::Global;
 use std::marker::PhantomData;
 

@@ -2,10 +2,10 @@
 
 ghost use Rattle.std.specs.Prelude.{◌≡◌, ◌≤◌, [], IfErr, IfOk, Ok, OnErr, OnOk, Some, false, is_ok, length, true};
 ghost use Rattle.std.specs.Io.KnownBytes.{Appends};
-ghost use Rattle.rv_engine.specs.declared.listener.Flow.TheVariants.{Stop};
+ghost use Rattle.rv_fleet.specs.declared_listener.Flow.TheVariants.{Stop};
 ghost use Rattle.rv_expect.specs.Judgement.{fails, judging_of};
 ghost use Rattle.rv_fleet.specs.Batches.{batch_rows};
-ghost use Rattle.rv_rows.specs.Sinks.{AppendsBeginning};
+ghost use Rattle.rv_base.specs.Sinks.{AppendsBeginning};
 ghost use Rattle.rv_stream.specs.Limits.{rows_up_to, rows_within};
 ghost use Rattle.rv_stream.specs.Seen.{HasSeenRows, HasSeenSomeRows};
 ghost use Rattle.rv_stream.specs.Streams.{joined_row_texts};
@@ -17,9 +17,8 @@ use crate::reported_row::{ReportedRow, ReportedRowWork};
 use crate::rows_up_to_failure::RowsUpToFailure;
 use crate::streamed::StreamSpec;
 use crate::text_sender::TextSender;
-use rv_engine::{Both, Crew, Flow, Observer, RunError, run_jobs};
-use rv_fleet::{Batch, Rows, Sink};
-use rv_rows::RowReporter;
+use rv_base::Sink;
+use rv_fleet::{Batch, Both, Crew, Flow, Observer, RowReporter, Rows, RunError, run_jobs};
 use std::marker::Brand;
 use std::sync::Wait;
 use std::thread::Threads;

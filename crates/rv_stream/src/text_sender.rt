@@ -6,9 +6,8 @@ ghost use Rattle.rv_stream.specs.Texts.{IsSent};
 use crate::outbox::Outbox;
 use crate::reported_row::ReportedRow;
 use crate::streamed::StreamSpec;
-use rv_engine::{Flow, Observer};
-use rv_fleet::Sink;
-use rv_rows::WriteError;
+use rv_base::Sink;
+use rv_fleet::{Flow, Observer, WriteError};
 use std::alloc::Global;
 
 /// An observer that writes the texts that the workers made of the rows. Rows that arrive together are written at once.

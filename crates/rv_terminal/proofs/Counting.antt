@@ -1,7 +1,7 @@
 -- How often sinks failed.
 use Rattle.std.proofs.Common.{◌≡◌, ◌==◌, ◌≤◌, ap, arith, refl, ℕ, List, Option, false}
 use Rattle.std.proofs.lemmas.Bool.{ne_eqb}
-use Rattle.rv_base.specs.Counts.{one_more}
+use Rattle.rv_rows.specs.Counts.{one_more}
 use Rattle.rv_terminal.specs.ColorSinks.{IsCounted, IsPutBy, failures_below, first_state}
 use Rattle.rv_terminal.specs.declared.colors.Colors.{Colors}
 use Rattle.rv_terminal.specs.declared.colors.Colors.TheVariants as colors

@@ -5,7 +5,7 @@ ghost use Rattle.rv_terminal.specs.ColorSinks.{IsOut, IsOutInPart, first_state, 
 
 use crate::colors::Colors;
 use crate::output_state::{OutputState, put_in_state};
-use rv_base::{Sink, SinkFailed};
+use rv_rows::{Sink, SinkFailed};
 use std::marker::{Brand, Model, PhantomData};
 
 /// Whether results are coloured, and what the sink had received before them. Each command has its own implementation.

@@ -2,15 +2,15 @@
 
 ghost use Rattle.std.specs.Prelude.{◌≡◌, ◌≤◌, ◌<◌, ◌++◌, ℕ, IfErr, IfOk, length, slice_index, take};
 ghost use Rattle.std.specs.Io.KnownBytes.{Appends};
-ghost use Rattle.rv_base.specs.Counts.{one_more};
-ghost use Rattle.rv_base.specs.Sinks.{AppendsBeginning};
+ghost use Rattle.rv_rows.specs.Counts.{one_more};
+ghost use Rattle.rv_rows.specs.Sinks.{AppendsBeginning};
 ghost use Rattle.rv_terminal.specs.Colors.{colored, mark_before, mark_text};
 ghost use Rattle.rv_terminal.specs.ColorSinks.{IsPutBy, IsPutFrom, failures_below, first_state, is_cut_off};
 ghost use Rattle.rv_terminal.specs.declared.output_state.OutputState.TheVariants as state;
 
 use crate::colors::Colors;
 use crate::place::Place;
-use rv_base::{Sink, SinkFailed, put_all};
+use rv_rows::{Sink, SinkFailed, put_all};
 
 /// How the output continues.
 #[derive(Clone, Copy)]

@@ -5,8 +5,7 @@ ghost use Rattle.std.specs.Io.KnownBytes.{Appends};
 ghost use Rattle.rv_terminal.specs.ProgressLine.{counts_text, erasing_text, is_mid_line, last_byte, text_unless_held};
 
 use crate::tally_value::Tally;
-use rv_rows::WriteError;
-use rv_text::{Span, push_spans};
+use rv_rows::{Span, WriteError, push_spans};
 use std::alloc::{AllocError, Global};
 use std::io::Write;
 

@@ -3,13 +3,13 @@ use Rattle.std.proofs.Common.{◌≡◌, ◌∙◌, ◌+◌, ◌*◌, ◌==◌, 
 use Rattle.std.proofs.Common.{Option, Some, None, Result, Ok, Err, option_map}
 use Rattle.std.specs.Prelude.{option_and_then}
 use Rattle.std.specs.Result.{result_ok}
-use Rattle.rv_isa.specs.Bits.{field}
-use Rattle.rv_isa.specs.declared.instruction.Instr.{Instr}
-use Rattle.rv_isa.specs.Halfwords.{meaning16}
-use Rattle.rv_isa.specs.Words.{meaning32}
-use Rattle.rv_isa.proofs.Public.{meaning16_wider, meaning32_wider}
-use Rattle.rv_memory.specs.Bus.{fetch_half_from}
-use Rattle.rv_memory.specs.declared.faults.FetchFault.{FetchFault}
+use Rattle.rv_machine.specs.Bits.{field}
+use Rattle.rv_machine.specs.declared_instruction.Instr.{Instr}
+use Rattle.rv_machine.specs.Halfwords.{meaning16}
+use Rattle.rv_machine.specs.IsaWords.{meaning32}
+use Rattle.rv_machine.proofs.Public.{meaning16_wider, meaning32_wider}
+use Rattle.rv_machine.specs.Bus.{fetch_half_from}
+use Rattle.rv_machine.specs.declared_faults.FetchFault.{FetchFault}
 use Rattle.rv_machine.specs.Fetch.{fetch, or_illegal, second_half, with_half}
 use Rattle.rv_machine.specs.State.{State}
 use Rattle.rv_trace.specs.declared.code.Code.{Code}

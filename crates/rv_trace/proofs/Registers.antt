@@ -2,7 +2,7 @@
 use Rattle.std.proofs.Common.{◌≡◌, ◌∙◌, ◌<◌, ◌≤◌, ◌+◌, ◌++◌, [], ℕ, List, sym, ap, add-one, append_assoc, get_or}
 use Rattle.std.proofs.Common.{length, drop, drop-cons}
 use Rattle.std.proofs.lemmas.List.{append-nil, drop_all}
-use Rattle.rv_elf.specs.declared.image.Image.{Image}
+use Rattle.rv_rows.specs.declared_image.Image.{Image}
 use Rattle.rv_trace.specs.Text.{register_line, register_lines}
 
 module _ (image : Image) (file : List ℕ) where

@@ -5,16 +5,16 @@ use Rattle.std.proofs.lemmas.Bool.{eq-eqb, ne_eqb}
 use Rattle.std.specs.Cmp.{nat_cmp_total, unsigned_tied}
 use Rattle.std.specs.Ordering.{nat_cmp}
 use Rattle.std.specs.FinMap as fin
-use Rattle.rv_isa.specs.declared.instruction.Instr.{Instr}
-use Rattle.rv_isa.specs.declared.instruction.Op.{Op}
-use Rattle.rv_isa.specs.declared.instruction.Op.TheVariants as op
-use Rattle.rv_memory.specs.Bus.{Contents, byte_at, console_store, put, refuses, size_of, store_to, touches_console}
-use Rattle.rv_memory.specs.Bus.{value_at}
-use Rattle.rv_memory.specs.Regions.{is_in_writable_region}
-use Rattle.rv_memory.specs.declared.access.Width.{Width}
-use Rattle.rv_memory.specs.declared.access.Width.TheVariants.{Byte, Half, Word}
-use Rattle.rv_memory.specs.declared.faults.BusFault.{BusFault}
-use Rattle.rv_memory.specs.declared.faults.BusFault.TheVariants as bus
+use Rattle.rv_machine.specs.declared_instruction.Instr.{Instr}
+use Rattle.rv_machine.specs.declared_instruction.Op.{Op}
+use Rattle.rv_machine.specs.declared_instruction.Op.TheVariants as op
+use Rattle.rv_machine.specs.Bus.{Contents, byte_at, console_store, put, refuses, size_of, store_to, touches_console}
+use Rattle.rv_machine.specs.Bus.{value_at}
+use Rattle.rv_machine.specs.Regions.{is_in_writable_region}
+use Rattle.rv_machine.specs.declared_access.Width.{Width}
+use Rattle.rv_machine.specs.declared_access.Width.TheVariants.{Byte, Half, Word}
+use Rattle.rv_machine.specs.declared_faults.BusFault.{BusFault}
+use Rattle.rv_machine.specs.declared_faults.BusFault.TheVariants as bus
 use Rattle.rv_machine.specs.Effect.{address, after_store, effect, effect_of, next_pc, rs2_value, store}
 use Rattle.rv_machine.specs.Fetch.{Fetched, fetch}
 use Rattle.rv_machine.specs.Run.{after_fetch, step_of}

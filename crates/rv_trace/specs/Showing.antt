@@ -1,6 +1,6 @@
 -- The part of a run that a trace shows.
 use Rattle.std.specs.Prelude.{◌≡◌, ℕ, ◌+◌, ◌-◌, ◌<◌, ◌⊎◌, length, min, slice_index, slice_index_or, Some, Ok, Err}
-use Rattle.rv_isa.specs.declared.instruction.Instr.{Instr}
+use Rattle.rv_machine.specs.declared_instruction.Instr.{Instr}
 use Rattle.rv_machine.specs.declared.ending.Ending.TheVariants.{Budget}
 use Rattle.rv_machine.specs.Run.{Ran, step_of}
 use Rattle.rv_machine.specs.State.{State, register}

@@ -1,11 +1,11 @@
 -- What is shown of a completed instruction: its pc, its encoding, and what it wrote.
 use Rattle.std.specs.Prelude.{ℕ, ◌<◌, ◌%◌, ◌^◌, ◌*◌, ◌==◌, if◌then◌else◌, List, [], ◌∷◌, Option, Some, None}
 use Rattle.std.specs.Prelude.{zero, suc, Result, Ok, Err, option_and_then}
-use Rattle.rv_isa.specs.declared.instruction.Instr.{Instr}
-use Rattle.rv_isa.specs.declared.instruction.Op.{Op}
-use Rattle.rv_isa.specs.declared.instruction.Op.TheVariants as op
-use Rattle.rv_memory.specs.Bus.{size_of}
-use Rattle.rv_memory.specs.declared.access.Width.TheVariants as width
+use Rattle.rv_machine.specs.declared_instruction.Instr.{Instr}
+use Rattle.rv_machine.specs.declared_instruction.Op.{Op}
+use Rattle.rv_machine.specs.declared_instruction.Op.TheVariants as op
+use Rattle.rv_machine.specs.Bus.{size_of}
+use Rattle.rv_machine.specs.declared_access.Width.TheVariants as width
 use Rattle.rv_machine.specs.declared.ending.Ending.{Ending}
 use Rattle.rv_machine.specs.Effect.{address, rs2_value}
 use Rattle.rv_machine.specs.Run.{step_of}

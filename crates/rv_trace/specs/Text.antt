@@ -5,14 +5,14 @@ use Rattle.std.specs.List.{flat_map}
 use Rattle.rv_disasm.specs.Assembly.{assembly16, assembly32}
 use Rattle.rv_disasm.specs.Illegal.{illegal_text16, illegal_text32}
 use Rattle.rv_disasm.specs.Operands.{register_name}
-use Rattle.rv_elf.specs.declared.image.Image.{Image}
-use Rattle.rv_elf.specs.SymbolSearch.{symbol_at, symbol_of_value}
+use Rattle.rv_rows.specs.declared_image.Image.{Image}
+use Rattle.rv_rows.specs.SymbolSearch.{symbol_at, symbol_of_value}
 use Rattle.rv_text.specs.Symbol.{symbol_in_brackets, symbol_text}
 use Rattle.rv_machine.specs.declared.ending.FaultKind.{FaultKind}
 use Rattle.rv_machine.specs.declared.ending.FaultKind.TheVariants as fault
 use Rattle.rv_machine.specs.Faults.{fault_name}
-use Rattle.rv_memory.specs.declared.access.Width.{Width}
-use Rattle.rv_memory.specs.declared.access.Width.TheVariants as width
+use Rattle.rv_machine.specs.declared_access.Width.{Width}
+use Rattle.rv_machine.specs.declared_access.Width.TheVariants as width
 use Rattle.rv_rows.specs.declared_row.RowEnd.{RowEnd}
 use Rattle.rv_rows.specs.declared_row.RowEnd.TheVariants as ending
 use Rattle.rv_rows.specs.Report.{line, refusal_name}

@@ -1,11 +1,10 @@
 //! The encoding that is fetched at an address.
 
 ghost use Rattle.std.specs.Prelude.{◌≡◌, IfSome};
-ghost use Rattle.rv_isa.specs.Words.{IsWellFormed};
+ghost use Rattle.rv_machine.specs.IsaWords.{IsWellFormed};
 ghost use Rattle.rv_trace.specs.Code.{code_at, instr_of, size_of_code};
 
-use rv_isa::{Instr, Isa, decode16, decode32, is_long};
-use rv_memory::Bus;
+use rv_machine::{Bus, Instr, Isa, decode16, decode32, is_long};
 
 /// An encoding of an instruction: a halfword or a word.
 #[derive(Clone, Copy)]

@@ -5,7 +5,7 @@ ghost use Rattle.rv_text.specs.Words.{word_digits};
 ghost use Rattle.rv_trace.specs.Text.{code_text, code_columns, instruction_line, padded_text, symbol_or_none, text_columns};
 
 use crate::code::Code;
-use rv_elf::SymbolAt;
+use rv_rows::SymbolAt;
 use rv_text::{Span, push_spans, push_symbol, push_text, push_word_digits, tail_from};
 use std::alloc::{AllocError, Global};
 

@@ -1,11 +1,11 @@
 //! The bytes of an image's file, with the image that was read from them.
 
 ghost use Rattle.std.specs.Prelude.{◌≡◌, Ok, option_map};
-ghost use Rattle.rv_elf.specs.Image.{image_of};
-ghost use Rattle.rv_elf.specs.SymbolSearch.{symbol_at, symbol_of_value};
+ghost use Rattle.rv_rows.specs.Image.{image_of};
+ghost use Rattle.rv_rows.specs.SymbolSearch.{symbol_at, symbol_of_value};
 
-use rv_elf::{Image, SymbolAt};
-use rv_isa::Isa;
+use rv_machine::Isa;
+use rv_rows::{Image, SymbolAt};
 
 /// The bytes of an image's file, with the image that was read from them.
 #[derive(Clone, Copy)]
@@ -23,7 +23,7 @@ impl<'a> ElfFile<'a> {
         ensures { option_map (λ s. (s.name.now, s.offset)) result
             ≡ symbol_at self.now.image.now self.now.bytes.now address }
     {
-        rv_elf::symbol_at(self.image, self.bytes, address)
+        rv_rows::symbol_at(self.image, self.bytes, address)
     }
 
     /// Returns the symbol whose address is `value`, or to which `value` points; `None` if there is none.
@@ -31,6 +31,6 @@ impl<'a> ElfFile<'a> {
         ensures { option_map (λ s. (s.name.now, s.offset)) result
             ≡ symbol_of_value self.now.image.now self.now.bytes.now value }
     {
-        rv_elf::symbol_of_value(self.image, self.bytes, value)
+        rv_rows::symbol_of_value(self.image, self.bytes, value)
     }
 }

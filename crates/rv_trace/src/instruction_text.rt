@@ -11,10 +11,8 @@ use crate::columns::push_digits_after_first;
 use crate::elf_file::ElfFile;
 use crate::step::WriteEffect;
 use rv_disasm::{push_assembly16, push_assembly32, push_illegal16, push_illegal32};
-use rv_elf::SymbolAt;
-use rv_machine::FaultKind;
-use rv_memory::Width;
-use rv_rows::RowEnd;
+use rv_machine::{FaultKind, Width};
+use rv_rows::{RowEnd, SymbolAt};
 use rv_text::{Span, push_spans, push_symbol, push_text, push_word_digits};
 use std::alloc::{AllocError, Global};
 

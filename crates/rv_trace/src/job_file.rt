@@ -1,14 +1,13 @@
 //! The file of a job's image.
 
 ghost use Rattle.std.specs.Prelude.{◌≡◌, ◌<◌, IfOk, IfSome, Ok, Some, length, option_map};
-ghost use Rattle.rv_elf.specs.Image.{image_of};
-ghost use Rattle.rv_jobs.specs.declared_job.Job.{Job as AJob};
+ghost use Rattle.rv_rows.specs.Image.{image_of};
+ghost use Rattle.rv_rows.specs.declared_job.Job.{Job as AJob};
 ghost use Rattle.rv_rows.specs.Rows.{image_if_read};
 ghost use Rattle.rv_trace.specs.Trace.{image_bytes, job_at};
 
-use rv_elf::{Image, ImageError, read_image};
-use rv_isa::Isa;
-use rv_jobs::{Kept, Plan};
+use rv_machine::Isa;
+use rv_rows::{Image, ImageError, Kept, Plan, read_image};
 use std::alloc::{AllocError, Global};
 
 /// Returns the bytes of the image of the job at an index, or `None` if they were not read.

@@ -1,11 +1,10 @@
 //! The image of a plan's job.
 
 ghost use Rattle.std.specs.Prelude.{◌≡◌, ◌<◌, Some, length, slice_index_or};
-ghost use Rattle.rv_jobs.specs.declared_job.Job.{Job as AJob};
+ghost use Rattle.rv_rows.specs.declared_job.Job.{Job as AJob};
 ghost use Rattle.rv_rows.specs.Rows.{image_in};
 
-use rv_elf::Image;
-use rv_jobs::Plan;
+use rv_rows::{Image, Plan};
 
 /// The job at an index of a plan, with the image that was read from its file.
 #[derive(Clone, Copy)]

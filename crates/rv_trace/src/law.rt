@@ -1,16 +1,16 @@
 //! Laws on traces, with no code to run.
 
 ghost use Rattle.std.specs.Prelude.{◌≡◌, ℕ, Ok, false};
-ghost use Rattle.rv_isa.specs.declared.instruction.Instr.{Instr};
-ghost use Rattle.rv_jobs.specs.declared_job.Job.{Job};
-ghost use Rattle.rv_jobs.specs.Plans.{Planned};
+ghost use Rattle.rv_machine.specs.declared_instruction.Instr.{Instr};
+ghost use Rattle.rv_rows.specs.declared_job.Job.{Job};
+ghost use Rattle.rv_rows.specs.Plans.{Planned};
 ghost use Rattle.rv_machine.specs.Fetch.{fetch};
 ghost use Rattle.rv_machine.specs.Run.{run_of, step_of};
 ghost use Rattle.rv_machine.specs.State.{State};
 ghost use Rattle.rv_rows.specs.Outcome.{row_end};
 ghost use Rattle.rv_rows.specs.Rows.{row_of, start_in};
-ghost use Rattle.rv_memory.specs.Bus.{size_of, touches_console, value_at};
-ghost use Rattle.rv_memory.specs.declared.access.Width.{Width};
+ghost use Rattle.rv_machine.specs.Bus.{size_of, touches_console, value_at};
+ghost use Rattle.rv_machine.specs.declared_access.Width.{Width};
 ghost use Rattle.rv_trace.specs.declared.code.Code.{Code};
 ghost use Rattle.rv_trace.specs.declared.step.WriteEffect.TheVariants.{Stored};
 ghost use Rattle.rv_trace.specs.Steps.{traced_step};

@@ -7,9 +7,8 @@ ghost use Rattle.rv_trace.specs.Steps.{traced_step};
 
 use crate::code::{Code, code_at};
 use crate::write_targets::write_target;
-use rv_base::Sequence;
-use rv_machine::Machine;
-use rv_memory::Width;
+use rv_machine::{Machine, Width};
+use rv_rows::Sequence;
 
 /// What an instruction wrote.
 #[derive(Clone, Copy)]

@@ -1,7 +1,7 @@
 //! The last instructions of a run, and where it ended.
 
 ghost use Rattle.std.specs.Prelude.{◌≡◌, IfOk, OnOk};
-ghost use Rattle.rv_jobs.specs.declared_job.Job.{Job as AJob};
+ghost use Rattle.rv_rows.specs.declared_job.Job.{Job as AJob};
 ghost use Rattle.rv_machine.specs.Machine.{state_of};
 ghost use Rattle.rv_trace.specs.Steps.{steps_from};
 ghost use Rattle.rv_trace.specs.Trace.{state_after, job_at, registers_of, trace_in, trace_of};

@@ -2,7 +2,7 @@
 
 ghost use Rattle.std.specs.Prelude.{◌≡◌, ◌++◌, OnOk, option_map};
 ghost use Rattle.std.specs.List.{flat_map};
-ghost use Rattle.rv_elf.specs.SymbolSearch.{symbol_at, symbol_of_value};
+ghost use Rattle.rv_rows.specs.SymbolSearch.{symbol_at, symbol_of_value};
 ghost use Rattle.rv_trace.specs.Text.{symbol_after_value, end_instruction_line, ended_at_line, register_line, register_lines, step_line};
 ghost use Rattle.rv_text.specs.Symbol.{symbol_in_brackets};
 ghost use Rattle.rv_trace.specs.Text.{trace_text};
@@ -14,8 +14,7 @@ use crate::instruction_text::{
 };
 use crate::step::TracedStep;
 use crate::trace::Trace;
-use rv_elf::SymbolAt;
-use rv_rows::RowEnd;
+use rv_rows::{RowEnd, SymbolAt};
 use rv_text::{Span, push_spans, push_symbol, push_symbol_in_brackets, push_text};
 use std::alloc::{AllocError, Global};
 

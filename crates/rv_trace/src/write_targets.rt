@@ -1,18 +1,16 @@
 //! The targets of instructions' writes, before they are executed.
 
 ghost use Rattle.std.specs.Prelude.{◌≡◌, ◌%◌, ◌^◌, ◌*◌};
-ghost use Rattle.rv_isa.specs.Words.{IsWellFormed};
+ghost use Rattle.rv_machine.specs.IsaWords.{IsWellFormed};
 ghost use Rattle.rv_machine.specs.Effect.{address};
 ghost use Rattle.rv_machine.specs.Machine.{state_of};
-ghost use Rattle.rv_memory.specs.Bus.{size_of};
+ghost use Rattle.rv_machine.specs.Bus.{size_of};
 ghost use Rattle.rv_trace.specs.Code.{code_at};
 ghost use Rattle.rv_trace.specs.Steps.{access_of, instruction_write_target, write_target, instr_at, completed_write, HasRegister};
 
 use crate::code::{Code, instr_of};
 use crate::step::WriteEffect;
-use rv_isa::{Instr, Op};
-use rv_machine::Machine;
-use rv_memory::Width;
+use rv_machine::{Instr, Machine, Op, Width};
 
 /// How an instruction accesses memory.
 #[derive(Clone, Copy)]

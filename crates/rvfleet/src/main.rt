@@ -1,9 +1,7 @@
 //! The program `rvfleet`: passes the process's own arguments, files and streams to the library, and exits with its status.
 #![tactic(auto)]
 
-use rv_files::{FileStore, StreamSink};
-use rv_fleet::FreeGate;
-use rvfleet_app::{refuse_unreadable_words, run_words};
+use rvfleet_app::{FileStore, FreeGate, StreamSink, refuse_unreadable_words, run_words};
 use std::env::Env;
 use std::process::ExitCode;
 use std::{env, io};

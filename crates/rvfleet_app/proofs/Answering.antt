@@ -7,8 +7,8 @@ use Rattle.rv_fleet.specs.declared_row.Row.{Row}
 use Rattle.rv_fleet.specs.Flat.{flat_row_of}
 use Rattle.rv_fleet.specs.Report.{report_text}
 use Rattle.rv_fleet.specs.Rows.{rows_of}
-use Rattle.rv_jobs.specs.declared_job.Job.{Job}
-use Rattle.rv_jobs.specs.Plans.{Planned}
+use Rattle.rv_fleet.specs.declared_job.Job.{Job}
+use Rattle.rv_fleet.specs.Plans.{Planned}
 use Rattle.rvfleet_app.specs.Answers.{Answers, IsReportPrefixWritten, IsReportSent, verdicts_status}
 use Rattle.rv_cli.specs.RvfleetCommand.{Request, raw}
 use Rattle.rvfleet_app.specs.declared.error.Failure.{Failure}

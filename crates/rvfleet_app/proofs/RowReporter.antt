@@ -5,7 +5,7 @@ use Rattle.std.proofs.Common.{arith}
 use Rattle.clap.specs.Words.{IsAmong, Kinds, Text, fault_of}
 use Rattle.clap.specs.declared.error.kind.ErrorKind.{ErrorKind}
 use Rattle.clap.specs.declared.error.kind.ErrorKind.TheVariants.{OutOfMemory}
-use Rattle.rv_jobs.specs.Files.{FileContents}
+use Rattle.rv_files.specs.Files.{FileContents}
 use Rattle.rvfleet_app.proofs.Failing.{any_why}
 use Rattle.rvfleet_app.specs.Answers.{IsQuiet, ReportsReason, ReportsFailure, is_request_refused}
 use Rattle.rv_cli.specs.RvfleetCommand.{IsToAnswer, Request, faultless_request, fleet_app, are_arguments_accepted, request_unless_faults, request_of}

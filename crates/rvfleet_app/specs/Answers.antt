@@ -7,10 +7,10 @@ use Rattle.rv_fleet.specs.declared_row.Row.{Row}
 use Rattle.rv_fleet.specs.declared_row.Verdict.{Verdict}
 use Rattle.rv_fleet.specs.declared_row.Verdict.TheVariants as verdict
 use Rattle.rv_fleet.specs.Report.{report_text}
-use Rattle.rv_jobs.specs.Sinks.{AppendsBeginning}
-use Rattle.rv_jobs.specs.declared_error.JobError.{JobError}
-use Rattle.rv_jobs.specs.declared_job.Job.{Job}
-use Rattle.rv_jobs.specs.Files.{FileContents}
+use Rattle.rv_files.specs.Sinks.{AppendsBeginning}
+use Rattle.rv_fleet.specs.declared_lists_error.JobError.{JobError}
+use Rattle.rv_fleet.specs.declared_job.Job.{Job}
+use Rattle.rv_files.specs.Files.{FileContents}
 use Rattle.rv_cli.specs.RvfleetCommand.{Request, one, raw, run}
 use Rattle.rvfleet_app.specs.declared.error.Failure.{Failure}
 use Rattle.rvfleet_app.specs.Failures.{is_failure_of_list, is_failure_of_raw, is_failure_of_sending}

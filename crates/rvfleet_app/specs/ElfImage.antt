@@ -3,9 +3,9 @@ use Rattle.std.specs.Prelude.{◌==◌, ◌||◌, ℕ, Bool, true, List, [], ◌
 use Rattle.std.specs.Prelude.{Some, None, Result, Ok, Err}
 use Rattle.hex.specs.Hex.{decode_of}
 use Rattle.hex.specs.declared.error.FromHexError.{FromHexError}
-use Rattle.rv_jobs.specs.declared_job.Job.{Job}
-use Rattle.rv_jobs.specs.Limits.{most_path, most_script}
-use Rattle.rv_jobs.specs.Jobs.{single_job}
+use Rattle.rv_fleet.specs.declared_job.Job.{Job}
+use Rattle.rv_files.specs.Limits.{most_path, most_script}
+use Rattle.rv_fleet.specs.Jobs.{single_job}
 
 -- whether the path is invalid: it is empty, or longer than `most_path` bytes
 abbrev pub is_bad_path : List ℕ → Bool

@@ -1,9 +1,9 @@
 -- What the program reports for an error of a lower layer.
 use Rattle.std.specs.Prelude.{◌≡◌, Bool, true, false}
-use Rattle.rv_jobs.specs.declared_error.JobError.{JobError}
+use Rattle.rv_fleet.specs.declared_lists_error.JobError.{JobError}
 use Rattle.rvfleet_app.specs.declared.error.ListError.{ListError}
 use Rattle.rvfleet_app.specs.declared.error.ListError.TheVariants.{Failed, Refused}
-use Rattle.rv_jobs.specs.declared_error.What.TheVariants as what
+use Rattle.rv_fleet.specs.declared_lists_error.What.TheVariants as what
 use Rattle.rv_fleet.specs.declared.fleet.FleetError.{FleetError}
 use Rattle.rv_fleet.specs.declared.fleet.FleetError.TheVariants as fleet
 use Rattle.rv_fleet.specs.declared_report.WriteError.{WriteError}

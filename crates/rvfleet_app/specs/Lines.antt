@@ -3,10 +3,10 @@ use Rattle.std.specs.Prelude.{◌≡◌, ◌⊎◌, ℕ, List, ◌++◌, Option,
 use Rattle.std.specs.Fmt.{decimal}
 use Rattle.std.specs.Io.KnownBytes.{Appends}
 use Rattle.rv_fleet.specs.Report.{line}
-use Rattle.rv_jobs.specs.Sinks.{AppendsBeginning}
-use Rattle.rv_jobs.specs.Counts.{one_more}
-use Rattle.rv_jobs.specs.Faults.{what_name}
-use Rattle.rv_jobs.specs.declared_error.JobError.{JobError}
+use Rattle.rv_files.specs.Sinks.{AppendsBeginning}
+use Rattle.rv_files.specs.Counts.{one_more}
+use Rattle.rv_fleet.specs.ListsFaults.{what_name}
+use Rattle.rv_fleet.specs.declared_lists_error.JobError.{JobError}
 use Rattle.rvfleet_app.specs.declared.error.Failure.{Failure}
 use Rattle.rvfleet_app.specs.declared.error.Failure.TheVariants as failure
 

@@ -2,13 +2,13 @@
 use Rattle.std.specs.Prelude.{◌≡◌, ℕ, List, Option, Ok, Err}
 use Rattle.rv_fleet.specs.declared_row.Row.{Row}
 use Rattle.rv_fleet.specs.Rows.{rows_of}
-use Rattle.rv_jobs.specs.declared_error.JobError.{JobError}
-use Rattle.rv_jobs.specs.declared_job.Job.{Job}
-use Rattle.rv_jobs.specs.declared.kept.Kept.TheVariants.{Content}
-use Rattle.rv_jobs.specs.JobList.{job_list_of}
-use Rattle.rv_jobs.specs.Plans.{AgreeWithContents, Planned, one_more_times, paths_of, paths_used, unreadable_count}
-use Rattle.rv_jobs.specs.Files.{FileContents}
-use Rattle.rv_jobs.specs.Kept.{IsKeptOf}
+use Rattle.rv_fleet.specs.declared_lists_error.JobError.{JobError}
+use Rattle.rv_fleet.specs.declared_job.Job.{Job}
+use Rattle.rv_fleet.specs.declared_kept.Kept.TheVariants.{Content}
+use Rattle.rv_fleet.specs.JobList.{job_list_of}
+use Rattle.rv_fleet.specs.Plans.{AgreeWithContents, Planned, one_more_times, paths_of, paths_used, unreadable_count}
+use Rattle.rv_files.specs.Files.{FileContents}
+use Rattle.rv_fleet.specs.Kept.{IsKeptOf}
 use Rattle.rvfleet_app.specs.declared.error.ListError.{ListError}
 use Rattle.rvfleet_app.specs.declared.error.ListError.TheVariants.{Failed, Refused}
 

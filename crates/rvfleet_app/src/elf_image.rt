@@ -1,12 +1,12 @@
 //! Running one ELF image of a store.
 
-ghost use Rattle.rv_jobs.specs.Limits.{most_budget};
+ghost use Rattle.rv_files.specs.Limits.{most_budget};
 ghost use Rattle.std.specs.Prelude.{List, ◌≡◌, ◌≢◌, ◌<◌, ◌≤◌, ◌⊎◌, Ok, IfErr, IfOk, OnErr, OnOk};
 ghost use Rattle.std.specs.Prelude.{length, option_map, true, vec_len};
 ghost use Rattle.std.specs.Io.KnownBytes.{Keeps};
 ghost use Rattle.rv_fleet.specs.declared_row.Row.{Row as ARow};
-ghost use Rattle.rv_jobs.specs.Counts.{HasIncreased};
-ghost use Rattle.rv_jobs.specs.Limits.{most_path, most_script};
+ghost use Rattle.rv_files.specs.Counts.{HasIncreased};
+ghost use Rattle.rv_files.specs.Limits.{most_path, most_script};
 ghost use Rattle.rvfleet_app.specs.Answers.{IsReportPrefixWritten, IsReportSent};
 ghost use Rattle.rvfleet_app.specs.Failures.{is_failure_of_sending};
 ghost use Rattle.rvfleet_app.specs.ElfImage.{script_bytes, is_bad_path, is_bad_script, single_image_jobs};
@@ -15,9 +15,9 @@ ghost use Rattle.rvfleet_app.specs.Plans.{AreJobRows, stored_contents};
 use crate::error::Failure;
 use crate::report_output::send_report;
 use hex::FromHexError;
-use rv_fleet::{Sink, run_one};
-use rv_jobs::limits::{MOST_PATH, MOST_SCRIPT};
-use rv_jobs::{JobList, Store, gather};
+use rv_files::{Sink, Store};
+use rv_files::limits::{MOST_PATH, MOST_SCRIPT};
+use rv_fleet::{JobList, gather, run_one};
 use std::alloc::Global;
 
 /// Why digits do not represent a console input.

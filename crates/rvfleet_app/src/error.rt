@@ -3,8 +3,7 @@
 ghost use Rattle.std.specs.Prelude.{◌≡◌};
 
 use rv_files::InputError;
-use rv_fleet::{FleetError, WriteError};
-use rv_jobs::JobError;
+use rv_fleet::{FleetError, JobError, WriteError};
 use std::alloc::AllocError;
 use thiserror::Error;
 

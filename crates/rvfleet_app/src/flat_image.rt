@@ -5,14 +5,14 @@ ghost use Rattle.std.specs.Io.KnownBytes.{Appends, Keeps};
 ghost use Rattle.rv_fleet.specs.declared_row.Row.{Row as ARow};
 ghost use Rattle.rv_fleet.specs.Flat.{flat_row_of};
 ghost use Rattle.rv_fleet.specs.Report.{report_text};
-ghost use Rattle.rv_jobs.specs.Counts.{HasIncreased};
+ghost use Rattle.rv_files.specs.Counts.{HasIncreased};
 ghost use Rattle.rv_files.specs.Input.{TookFirstBytes};
 ghost use Rattle.rvfleet_app.specs.Answers.{IsReportPrefixWritten};
 ghost use Rattle.rvfleet_app.specs.FlatImage.{AreRawRows, IsInputBeginning, most_read};
 
 use crate::error::RunError;
-use rv_files::{InputError, read_at_most};
-use rv_fleet::{Report, Rows, Sink, flat_row, write_report};
+use rv_files::{InputError, Sink, read_at_most};
+use rv_fleet::{Report, Rows, flat_row, write_report};
 use std::alloc::{AllocError, Global};
 use std::io::Read;
 

@@ -19,7 +19,11 @@ pub use flat_image::run_raw;
 pub use list::{read_list, run_jobs};
 pub use program::run_words;
 pub use report_output::send_report;
-pub use rv_cli::rvfleet::{Request, read_words};
 pub use status::{
     BAD_WORDS, DONE, FAILED, SOME_FAIL, put_failure, refuse_unreadable_words, refuse_words,
 };
+
+// From the crates below: what this interface names, and what its callers need with it.
+pub use rv_cli::rvfleet::{Request, read_words};
+pub use rv_files::{FileStore, ReadError, Sink, SinkFailed, Store, StreamSink, Text, put_all};
+pub use rv_fleet::FreeGate;

@@ -3,15 +3,15 @@
 ghost use Rattle.std.specs.Prelude.{true, List, ◌≡◌, ◌≤◌, ◌⊎◌, IfErr, IfOk, OnErr, OnOk};
 ghost use Rattle.std.specs.Io.KnownBytes.{Keeps};
 ghost use Rattle.rv_fleet.specs.declared_row.Row.{Row as ARow};
-ghost use Rattle.rv_jobs.specs.Counts.{HasIncreased};
+ghost use Rattle.rv_files.specs.Counts.{HasIncreased};
 ghost use Rattle.rvfleet_app.specs.Answers.{IsReportPrefixWritten, IsReportSent};
 ghost use Rattle.rvfleet_app.specs.Failures.{IsListError, IsListFailure, is_failure_of_list};
 ghost use Rattle.rvfleet_app.specs.Plans.{AreJobRows, IsPossibleList, IsListFault, stored_contents};
 
 use crate::error::{Failure, ListError};
 use crate::report_output::send_report;
-use rv_fleet::{Crew, Gate, Sink, run_fleet};
-use rv_jobs::{JobError, JobList, ReadError, Store, What, gather, read_jobs};
+use rv_files::{ReadError, Sink, Store};
+use rv_fleet::{Crew, Gate, JobError, JobList, What, gather, read_jobs, run_fleet};
 use std::alloc::Global;
 use std::sync::Wait;
 use std::thread::Threads;

@@ -1,6 +1,6 @@
 //! The whole program, given a store, a reader and sinks.
 
-ghost use Rattle.rv_jobs.specs.Limits.{most_budget, most_group, most_workers};
+ghost use Rattle.rv_files.specs.Limits.{most_budget, most_group, most_workers};
 ghost use Rattle.std.specs.Prelude.{◌≡◌, ◌⊎◌, ◌≤◌, List, Some, None, is_some, map, option_map};
 ghost use Rattle.std.specs.Prelude.{true, false};
 ghost use Rattle.std.specs.Io.KnownBytes.{Keeps};
@@ -23,8 +23,8 @@ use crate::status::{BAD_WORDS, DONE, FAILED, put_failure, refuse_list, refuse_wo
 use clap::Error;
 use clap::error::ErrorKind;
 use rv_cli::rvfleet::{Request, read_words};
-use rv_fleet::{Crew, Gate, Sink, put_all};
-use rv_jobs::Store;
+use rv_files::{Sink, Store, put_all};
+use rv_fleet::{Crew, Gate};
 use std::alloc::Global;
 use std::convert::AsStr;
 use std::io::Read;

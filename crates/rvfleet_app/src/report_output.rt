@@ -1,13 +1,14 @@
 //! A report and its status.
 
 ghost use Rattle.std.specs.Prelude.{true, ◌≡◌, ◌≤◌, IfErr, IfOk, OnErr, OnOk};
-ghost use Rattle.rv_jobs.specs.Counts.{HasIncreased};
+ghost use Rattle.rv_files.specs.Counts.{HasIncreased};
 ghost use Rattle.rvfleet_app.specs.Answers.{IsReportPrefixWritten, IsReportSent, has_failed_row, is_fail_verdict, verdicts_status};
 ghost use Rattle.rvfleet_app.specs.Failures.{is_failure_of_sending};
 
 use crate::error::Failure;
 use crate::status::{DONE, SOME_FAIL};
-use rv_fleet::{Report, Row, Sink, Verdict, write_report};
+use rv_files::Sink;
+use rv_fleet::{Report, Row, Verdict, write_report};
 use std::alloc::Global;
 
 /// Writes a report to the sink, and returns its exit status.

@@ -4,8 +4,8 @@ ghost use Rattle.std.specs.Prelude.{◌≡◌, ◌⊎◌};
 ghost use Rattle.rvfleet_app.specs.Lines.{IsLinePut, bad_words_line, failure_line, fault_line};
 
 use crate::error::Failure;
-use rv_fleet::{Sink, put_all};
-use rv_jobs::JobError;
+use rv_files::{Sink, put_all};
+use rv_fleet::JobError;
 use std::alloc::Global;
 use std::io::{self, ErrorKind};
 

@@ -1,8 +1,7 @@
 //! The store over files.
 
 use crate::testing::output_with_store;
-use rv_files::FileStore;
-use rv_jobs::{ReadError, Store};
+use rvfleet_app::{FileStore, ReadError, Store};
 use samples::{agree, cell_of, numbers, sample_file};
 use std::fs;
 use std::test::Fail;

@@ -3,7 +3,7 @@
 ghost use Rattle.std.specs.Prelude.{Some};
 
 use crate::testing::output_with_store;
-use rv_jobs::{ReadError, Store};
+use rvfleet_app::{ReadError, Store};
 use samples::{ONE_SEGMENT, agree};
 use std::alloc::Global;
 use std::sync::Wait;

@@ -1,6 +1,6 @@
 //! The text of a row, moved out of it.
 
-use rv_jobs::Text;
+use rvfleet_app::Text;
 use std::alloc::{AllocError, Global};
 use std::test::Fail;
 

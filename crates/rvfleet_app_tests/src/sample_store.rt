@@ -4,7 +4,7 @@ ghost use Rattle.std.specs.Prelude.{None};
 
 use crate::forms::part;
 use crate::testing::number;
-use rv_jobs::{ReadError, Store};
+use rvfleet_app::{ReadError, Store};
 use samples::{CHECKSUM, SampleError, UPPER, file_bytes, numbers, sample_file};
 use std::alloc::Global;
 

@@ -1,7 +1,6 @@
 //! Streams as sinks, with a writer that fails.
 
-use rv_files::StreamSink;
-use rv_fleet::{Sink, put_all};
+use rvfleet_app::{Sink, StreamSink, put_all};
 use std::io::{self, Write};
 
 // A writer that accepts at most four bytes per write, counts its calls, and fails at one write or at each flush.

@@ -2,9 +2,7 @@
 
 ghost use Rattle.std.specs.Prelude.{Some};
 
-use rv_fleet::{FreeGate, Sink, SinkFailed};
-use rv_jobs::Store;
-use rvfleet_app::run_words;
+use rvfleet_app::{FreeGate, Sink, SinkFailed, Store, run_words};
 use std::alloc::{AllocError, Global};
 use std::io::{self, Read};
 use std::sync::Wait;

@@ -1,8 +1,7 @@
 //! The program `rvtest`: passes the process's own arguments, files and streams to the library, and exits with its status.
 #![tactic(auto)]
 
-use rv_files::{PipeSink, StreamSink, SystemInputs, SystemOutputs};
-use rvtest_app::{Destinations, Host, Terminals, refuse_unreadable_words, run_rvtest};
+use rvtest_app::{Destinations, Host, PipeSink, StreamSink, SystemInputs, SystemOutputs, Terminals, refuse_unreadable_words, run_rvtest};
 use std::env::{Env, VarError};
 use std::io::IsTerminal;
 use std::process::ExitCode;

@@ -3,7 +3,7 @@ use Rattle.std.proofs.Common.{◌≡◌, ◌∙◌, ◌||◌, ◌∷◌, [], ℕ
 use Rattle.std.specs.List.{list_any}
 use Rattle.rv_command.specs.Texts.{optional_text}
 use Rattle.rv_files.specs.CommittedFiles.{CommittedFile}
-use Rattle.rv_lists.specs.declared.job.Job.{Job}
+use Rattle.rv_rows.specs.declared_job.Job.{Job}
 use Rattle.rvtest_cli.specs.declared.accept.AcceptArgs.{AcceptArgs}
 use Rattle.rvtest_app.specs.Overwrites.{AreAcceptFilesApart, IsUnread, golden_paths_of_selected, inputs_of_accept, is_golden_read, is_read, read_paths}
 use Rattle.rvtest_app.specs.declared.read_files.ReadPath.{ReadPath}

@@ -10,12 +10,12 @@ use Rattle.rv_accept.specs.declared.golden_texts.GoldenText.{GoldenText}
 use Rattle.rv_accept.specs.declared.runs.JobRun.{JobRun}
 use Rattle.rv_accept.specs.declared.targets.Target.{Target}
 use Rattle.rv_accept_text.specs.declared.golden_file.GoldenFile.{GoldenFile}
-use Rattle.rv_base.specs.Files.{FileContents}
+use Rattle.rv_files.specs.Files.{FileContents}
 use Rattle.rvtest_cli.specs.declared.accept.AcceptArgs.{AcceptArgs}
 use Rattle.rv_command.specs.Texts.{optional_text}
 use Rattle.rv_command.specs.declared.stop.Stop.{Stop}
 use Rattle.rv_files.specs.UnreadPaths.{resolved_path}
-use Rattle.rv_lists.specs.declared.job.Job.{Job}
+use Rattle.rv_rows.specs.declared_job.Job.{Job}
 use Rattle.rvtest_app.specs.AcceptStops.{AreTargetsUnread, IsAcceptingStop, IsFileOfList, IsGoldenPath, IsGoldenUnreadStop, IsAcceptanceWriteStop, IsStopOfFiles, IsFileNotWrittenStop}
 use Rattle.rvtest_app.specs.Accepts.{AreGoldenFiles}
 

@@ -26,19 +26,19 @@ use Rattle.rv_accept_text.proofs.Public.{accepted_from_the_first, list_is_no_ima
 use Rattle.rv_accept_text.specs.GoldenFiles.{elf_magic, is_kept, is_left, is_left_of}
 use Rattle.rv_accept_text.specs.declared.accepting.AcceptSummary.{AcceptSummary}
 use Rattle.rv_accept_text.specs.declared.golden_file.GoldenFile.{GoldenFile}
-use Rattle.rv_base.specs.Files.{FileContents}
+use Rattle.rv_files.specs.Files.{FileContents}
 use Rattle.rvtest_cli.specs.declared.accept.AcceptArgs.{AcceptArgs}
 use Rattle.rv_command.specs.Texts.{IsTextAt, optional_text}
 use Rattle.rv_files.specs.UnreadPaths.{contents_below, resolved_path}
-use Rattle.rv_jobs.specs.Jobs.{console_path, single_job, without_expectations}
-use Rattle.rv_jobs.specs.Kept.{IsKeptOf}
-use Rattle.rv_jobs.specs.Plans.{AgreeWithContents, Planned, result_for_path}
-use Rattle.rv_jobs.specs.declared.answers.Answer.{Answer}
-use Rattle.rv_jobs.specs.declared.kept.Kept.{Kept}
-use Rattle.rv_jobs.specs.declared.kept.Kept.TheVariants as kept
-use Rattle.rv_lists.specs.JobList.{job_list_of}
-use Rattle.rv_lists.specs.declared.job.Job.{Job}
-use Rattle.rv_report.specs.declared.row.Row.{Row}
+use Rattle.rv_rows.specs.Jobs.{console_path, single_job, without_expectations}
+use Rattle.rv_rows.specs.Kept.{IsKeptOf}
+use Rattle.rv_rows.specs.Plans.{AgreeWithContents, Planned, result_for_path}
+use Rattle.rv_rows.specs.declared_answers.Answer.{Answer}
+use Rattle.rv_rows.specs.declared_kept.Kept.{Kept}
+use Rattle.rv_rows.specs.declared_kept.Kept.TheVariants as kept
+use Rattle.rv_rows.specs.JobList.{job_list_of}
+use Rattle.rv_rows.specs.declared_job.Job.{Job}
+use Rattle.rv_rows.specs.declared_row.Row.{Row}
 use Rattle.rv_rows.specs.Rows.{outcome_in, row_of}
 use Rattle.rv_rows.specs.Verdict.{did_run, lines_of_signature}
 use Rattle.rv_rows.specs.declared.outcome.Outcome.{Outcome}

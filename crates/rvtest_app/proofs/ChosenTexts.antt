@@ -5,12 +5,12 @@ use Rattle.std.proofs.lemmas.Bool.{eqb-true}
 use Rattle.std.specs.List.{All, concat}
 use Rattle.std.specs.List.Sorted.{IsStrictlyIncreasing}
 use Rattle.std.specs.Prelude.{if◌then◌else◌}
-use Rattle.rv_report.specs.Report.{done_line, report_text, row_text, rows_text}
-use Rattle.rv_report.specs.Saved.{extent_line, numbered_text, saved_text}
-use Rattle.rv_report.specs.declared.row.Row.{Row}
-use Rattle.rv_report.specs.declared.saved.Extent.{Extent}
-use Rattle.rv_report.specs.declared.saved.Extent.TheVariants as extent
-use Rattle.rv_report.specs.declared.saved.Shard.{Shard}
+use Rattle.rv_rows.specs.Report.{done_line, report_text, row_text, rows_text}
+use Rattle.rv_rows.specs.Saved.{extent_line, numbered_text, saved_text}
+use Rattle.rv_rows.specs.declared_row.Row.{Row}
+use Rattle.rv_rows.specs.declared_saved.Extent.{Extent}
+use Rattle.rv_rows.specs.declared_saved.Extent.TheVariants as extent
+use Rattle.rv_rows.specs.declared_saved.Shard.{Shard}
 use Rattle.rv_stream.specs.Streams.{joined_row_texts, row_text_list}
 use Rattle.rvtest_app.specs.IntoReports.{streamed_rows, run_report_rest, run_report_text}
 use Rattle.rvtest_app.specs.RunOutput.{chosen_last_line, chosen_report_text, job_numbers, part_text}

@@ -7,9 +7,9 @@ use Rattle.rv_command.specs.Texts.{optional_text}
 use Rattle.rv_command.specs.declared.stop.Stop.{Stop}
 use Rattle.rv_files.specs.CommittedFiles.{CommittedFile}
 use Rattle.rv_job_text.specs.RowReporter.{RowReporter}
-use Rattle.rv_jobs.specs.Plans.{Planned}
-use Rattle.rv_report.specs.declared.row.Row.{Row}
-use Rattle.rv_report.specs.declared.saved.Shard.{Shard}
+use Rattle.rv_rows.specs.Plans.{Planned}
+use Rattle.rv_rows.specs.declared_row.Row.{Row}
+use Rattle.rv_rows.specs.declared_saved.Shard.{Shard}
 use Rattle.rvtest_app.proofs.WriteStops.{unopened}
 use Rattle.rvtest_app.specs.Outlets.{AreFilesCommitted, AreFilesPartlyCommitted, HasTaken, file_path_at}
 use Rattle.rvtest_app.specs.WriteStops.{IsUnopenedStop}

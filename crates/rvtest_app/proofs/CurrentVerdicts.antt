@@ -6,17 +6,17 @@ use Rattle.std.specs.List.{list_any}
 use Rattle.rv_accept.specs.Passing.{EndedWell}
 use Rattle.rv_accept.specs.declared.current_verdict.Candidate.{Candidate}
 use Rattle.rv_accept.specs.declared.current_verdict.CurrentVerdict.TheVariants as standing
-use Rattle.rv_base.specs.Files.{FileContents}
+use Rattle.rv_files.specs.Files.{FileContents}
 use Rattle.rv_expect.specs.Comparisons.{Sides}
 use Rattle.rv_expect.specs.Reference.{signature_difference}
 use Rattle.rv_expect.specs.UnmetExpectations.{is_same}
 use Rattle.rv_expect.specs.Unmet.{unmet_console, unmet_default_exit, unmet_end, unmet_exit, unmet_of, unmet_of_expecting_job, unmet_same_as, unmet_signature}
 use Rattle.rv_expect.specs.declared.unmet.Unmet.{Unmet}
 use Rattle.rv_expect.specs.declared.unmet.Unmet.TheVariants as unmet
-use Rattle.rv_jobs.specs.declared_job.ExpectedEnd.{ExpectedEnd}
-use Rattle.rv_lists.specs.declared.job.Job.{Job}
-use Rattle.rv_report.specs.declared.row.Row.{Row}
-use Rattle.rv_report.specs.declared.row.RowEnd.{RowEnd}
+use Rattle.rv_rows.specs.declared_job.ExpectedEnd.{ExpectedEnd}
+use Rattle.rv_rows.specs.declared_job.Job.{Job}
+use Rattle.rv_rows.specs.declared_row.Row.{Row}
+use Rattle.rv_rows.specs.declared_row.RowEnd.{RowEnd}
 use Rattle.rv_rows.specs.Verdict.{did_run, expects_anything, has_expected_end, has_expected_exit}
 use Rattle.rvtest_app.specs.CurrentVerdicts.{AreCandidates, IsCandidateAt, IsStanding, verdict_by, verdict_of_sides}
 

@@ -4,14 +4,14 @@ use Rattle.std.proofs.lemmas.Option.{slice_get-get_or}
 use Rattle.std.specs.Prelude.{is_ok, option_and_then}
 use Rattle.std.specs.Result.{result_ok}
 use Rattle.rv_gdb.specs.JobSessions.{IsSessionOf}
-use Rattle.rv_history.specs.Starts.{start_of}
-use Rattle.rv_jobs.specs.Plans.{Planned}
-use Rattle.rv_lists.specs.declared.job.Job.{Job}
-use Rattle.rv_machine.specs.State.{State}
-use Rattle.rv_report.specs.declared.row.Refusal.{Refusal}
+use Rattle.rv_gdb.specs.Starts.{start_of}
+use Rattle.rv_rows.specs.Plans.{Planned}
+use Rattle.rv_rows.specs.declared_job.Job.{Job}
+use Rattle.rv_rows.specs.State.{State}
+use Rattle.rv_rows.specs.declared_row.Refusal.{Refusal}
 use Rattle.rv_rows.specs.Flat.{flat_state}
 use Rattle.rv_rows.specs.Rows.{start_in}
-use Rattle.rv_session.specs.declared.session.Session.{Session}
+use Rattle.rv_gdb.specs.declared_session.Session.{Session}
 use Rattle.rvtest_app.specs.Debugging.{job_start}
 
 pub start_is : (plan : Planned) (place : ℕ) (d : Job) (first : State) → place < length plan.jobs

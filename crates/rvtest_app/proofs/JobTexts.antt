@@ -2,8 +2,8 @@
 use Rattle.std.proofs.Common.{◌≡◌, ◌∙◌, ◌+◌, ◌<◌, ◌≤◌, ◌++◌, ℕ, List, ap, get_or, length, sym, take, zero-add}
 use Rattle.std.specs.List.{enumerate_from, flat_map}
 use Rattle.std.proofs.lemmas.List.FromFn.{get_or-enumerate_from, length-enumerate_from}
-use Rattle.rv_lists.specs.declared.job.Job.{Job}
-use Rattle.rv_text.proofs.Public.{all_told, one_more}
+use Rattle.rv_rows.specs.declared_job.Job.{Job}
+use Rattle.rv_job_text.proofs.Public.{all_told, one_more}
 use Rattle.rvtest_app.specs.CheckText.{texts_of_jobs}
 
 -- those of the jobs before a place

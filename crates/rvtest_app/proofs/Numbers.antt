@@ -5,8 +5,8 @@ use Rattle.std.proofs.lemmas.Bool.{and_from}
 use Rattle.std.proofs.lemmas.Bool.Decides.{nat_tests}
 use Rattle.std.specs.List.{All}
 use Rattle.std.specs.List.Sorted.{IsStrictlyIncreasing}
-use Rattle.rv_lists.specs.Limits.{most_jobs}
-use Rattle.rv_report.specs.Saved.{are_rising}
+use Rattle.rv_files.specs.Limits.{most_jobs}
+use Rattle.rv_rows.specs.Saved.{are_rising}
 use Rattle.rvtest_app.specs.RunOutput.{job_numbers}
 
 pub behind : (p : ℕ) (ps : List ℕ) → IsStrictlyIncreasing (p ∷ ps) → IsStrictlyIncreasing ps

@@ -5,7 +5,7 @@ use Rattle.std.proofs.lemmas.List.{map-append, take-append-drop}
 use Rattle.std.specs.Borrow.{Bor}
 use Rattle.std.specs.Prelude.{Vec}
 use Rattle.std.specs.declared.alloc.Global.{Global}
-use Rattle.rv_base.specs.Files.{FileContents}
+use Rattle.rv_files.specs.Files.{FileContents}
 use Rattle.rv_command.specs.Stops.{IsResultUnreadStop}
 use Rattle.rv_command.specs.Texts.{IsTextAt}
 use Rattle.rv_command.specs.declared.stop.Stop.{Stop}

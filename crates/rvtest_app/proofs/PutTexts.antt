@@ -3,11 +3,11 @@ use Rattle.std.proofs.Common.{◌≡◌, ◌∙◌, ◌++◌, ◌∷◌, ℕ, Li
 use Rattle.std.proofs.Common.{append-nil, arith, inr, length, map}
 use Rattle.std.proofs.lemmas.Grind.{common_steps}
 use Rattle.std.specs.Io.KnownBytes.{Appends}
-use Rattle.rv_base.specs.Sinks.{AppendsBeginning}
+use Rattle.rv_files.specs.Sinks.{AppendsBeginning}
 use Rattle.rv_files.specs.CommittedFiles.{CommittedFile}
 use Rattle.rvtest_app.specs.Outlets.{AreFilesCommitted, AreFilesPartlyCommitted, HasTaken, IsPutInto, both_files, file_at, files_of, has_no_failure, is_out, is_stdout_at}
 use Rattle.rvtest_app.specs.Outlets.{file_path_at, outlet_path, stdout_at, stdout_part}
-use Rattle.rv_report.specs.declared.row.Row.{Row}
+use Rattle.rv_rows.specs.declared_row.Row.{Row}
 use Rattle.rv_expect.specs.Judgement.{Judging}
 use Rattle.rv_junit.specs.Junit.{junit_text}
 use Rattle.rv_stream.specs.Streams.{row_text_list}

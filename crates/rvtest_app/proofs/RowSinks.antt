@@ -7,7 +7,7 @@ use Rattle.std.specs.Io.KnownBytes.{Appends}
 use Rattle.std.proofs.KnownBytes.{Appends-trans}
 use Rattle.std.specs.declared.alloc.Global.{Global}
 use Rattle.rv_junit.specs.KnownLines.{AreLinesOf}
-use Rattle.rv_report.specs.declared.row.Row.{Row}
+use Rattle.rv_rows.specs.declared_row.Row.{Row}
 use Rattle.rv_stream.specs.Streams.{joined_row_texts}
 use Rattle.rv_stream.specs.declared.error.StreamError.{StreamError}
 use Rattle.rv_stream.specs.declared.error.StreamError.TheVariants.{ObserverStopped}

@@ -9,10 +9,10 @@ use Rattle.rv_files.specs.CommittedFiles.{CommittedFile}
 use Rattle.rv_files.specs.declared.recording_store.UnreadablePath.{UnreadablePath}
 use Rattle.rv_job_text.specs.RowReporter.{RowReporter}
 use Rattle.rv_job_text.specs.declared.verbosity.Verbosity.{Verbosity}
-use Rattle.rv_jobs.specs.Plans.{Planned}
+use Rattle.rv_rows.specs.Plans.{Planned}
 use Rattle.rv_expect.specs.declared.known_jobs.KnownJobs.{KnownJobs}
-use Rattle.rv_report.specs.declared.row.Row.{Row}
-use Rattle.rv_report.specs.declared.saved.Shard.{Shard}
+use Rattle.rv_rows.specs.declared_row.Row.{Row}
+use Rattle.rv_rows.specs.declared_saved.Shard.{Shard}
 use Rattle.rvtest_app.specs.Commands.{failure_rule, requested_verbosity}
 use Rattle.rvtest_app.specs.Runs.{AreRunFilesPlacedInPart, run_rows, run_reporter}
 

@@ -4,7 +4,7 @@ use Rattle.std.proofs.Common.{Bool, true, false, cond, take, drop, map, arith}
 use Rattle.std.specs.Prelude.{insert, nat_lt}
 use Rattle.std.specs.List.{prefix_len}
 use denote.Ref.{Bor}
-use Rattle.rv_report.specs.declared.row.Row.{Row}
+use Rattle.rv_rows.specs.declared_row.Row.{Row}
 use Rattle.rv_diff.proofs.Public.{now}
 use Rattle.rvtest_app.specs.ReportSummary.{rows_by_steps, inserted_by_steps}
 

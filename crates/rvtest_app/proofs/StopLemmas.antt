@@ -1,7 +1,7 @@
 -- Stops that are handed on.
 use Rattle.std.proofs.Common.{◌≡◌, ◌⊎◌, ℕ, Bool, true, List, Option, Result, Ok, Err, Vec, Global, IfOk, IfErr, inl, inr, refl, subst, sym, ⊎_elim}
 use Rattle.std.specs.Prelude.{MatchResult, ⊤}
-use Rattle.rv_base.specs.Files.{FileContents}
+use Rattle.rv_files.specs.Files.{FileContents}
 use Rattle.rvtest_cli.specs.declared.accept.AcceptArgs.{AcceptArgs}
 use Rattle.rvtest_cli.specs.declared.counts.CountsArgs.{CountsArgs}
 use Rattle.rvtest_cli.specs.declared.diff.DiffArgs.{DiffArgs}

@@ -14,7 +14,7 @@ use Rattle.rv_accept_text.specs.GoldenFiles.{another_text, elf_magic, is_image_p
 use Rattle.rv_accept_text.specs.declared.accepting.AcceptSummary.{AcceptSummary}
 use Rattle.rv_accept_text.specs.declared.golden_file.GoldenFile.{GoldenFile}
 use Rattle.rv_accept_text.specs.declared.golden_file.ListFile.{ListFile}
-use Rattle.rv_base.specs.Files.{FileContents}
+use Rattle.rv_files.specs.Files.{FileContents}
 use Rattle.rv_files.specs.CommittedFiles.{CommittedFile, committed_file}
 use Rattle.rvtest_app.specs.AcceptLaw.{HaveOneTextEach, IsStoreAfter}
 use Rattle.rvtest_app.specs.Accepts.{AreGoldenFiles, file_if, new_list_text, written_files}

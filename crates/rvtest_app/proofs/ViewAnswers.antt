@@ -6,20 +6,20 @@ use Rattle.std.specs.Str.{bytes_eq}
 use Rattle.std.proofs.lemmas.Grind.{flat_map-append}
 use Rattle.std.proofs.lemmas.List.{map-append, take_more}
 use Rattle.std.proofs.lemmas.List.Elements.{All-head, All-tail}
-use Rattle.rv_base.specs.Files.{FileContents}
-use Rattle.rv_base.specs.Limits.{most_bytes}
+use Rattle.rv_files.specs.Files.{FileContents}
+use Rattle.rv_files.specs.Limits.{most_bytes}
 use Rattle.rv_count_tables.specs.Table.{IsTable}
 use Rattle.rv_count_tables.specs.declared.table.CountTable.{CountTable}
-use Rattle.rv_cover_view.specs.JobImages.{AreSmall}
-use Rattle.rv_counting.specs.JobTables.{jobs_at}
+use Rattle.rv_profile.specs.JobImages.{AreSmall}
+use Rattle.rv_stacks.specs.JobTables.{jobs_at}
 use Rattle.rv_expect.specs.Judgement.{Judging}
 use Rattle.rv_files.specs.declared.recording_store.UnreadablePath.{UnreadablePath}
-use Rattle.rv_jobs.specs.Jobs.{single_job}
-use Rattle.rv_jobs.specs.Kept.{IsKeptOf}
-use Rattle.rv_jobs.specs.Plans.{AgreeWithContents, Planned, result_for_path}
-use Rattle.rv_jobs.specs.declared.answers.Answer.{Answer}
-use Rattle.rv_jobs.specs.declared.kept.Kept.{Kept}
-use Rattle.rv_jobs.specs.declared.kept.Kept.TheVariants as kept
+use Rattle.rv_rows.specs.Jobs.{single_job}
+use Rattle.rv_rows.specs.Kept.{IsKeptOf}
+use Rattle.rv_rows.specs.Plans.{AgreeWithContents, Planned, result_for_path}
+use Rattle.rv_rows.specs.declared_answers.Answer.{Answer}
+use Rattle.rv_rows.specs.declared_kept.Kept.{Kept}
+use Rattle.rv_rows.specs.declared_kept.Kept.TheVariants as kept
 use Rattle.rv_rows.specs.Rows.{content_if_read}
 use Rattle.rvtest_app.specs.RefusedNotes.{refused_line, refused_lines}
 use Rattle.rvtest_app.specs.Views.{IsCountedFor, IsTableFor}

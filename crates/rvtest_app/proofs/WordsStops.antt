@@ -3,7 +3,7 @@ use Rattle.std.proofs.Common.{◌≡◌, ◌⊎◌, ◌∙◌, ℕ, Bool, List, 
 use Rattle.std.specs.Prelude.{IfOk}
 use Rattle.clap.specs.Kinds.{IsAmong}
 use Rattle.clap.specs.declared.error.kind.ErrorKind.{ErrorKind}
-use Rattle.rv_base.specs.Files.{FileContents}
+use Rattle.rv_files.specs.Files.{FileContents}
 use Rattle.rvtest_cli.specs.RvtestWords.{IsMisuseReported, misuse_text, words_fault_kinds, words_faults, words_misuse}
 use Rattle.rvtest_cli.specs.WordsErrors.{IsErrorOfKinds}
 use Rattle.rvtest_cli.specs.declared.words_error.WordsError.{WordsError}

@@ -8,8 +8,8 @@ use Rattle.rv_command.specs.declared.stop.Stop.{Stop}
 use Rattle.rv_files.specs.declared.file_error.FileError.{FileError}
 use Rattle.rv_files.specs.declared.file_error.FileError.TheVariants as file
 use Rattle.rv_files.specs.CommittedFiles.{CommittedFile}
-use Rattle.rv_report.specs.declared.report.WriteError.{WriteError}
-use Rattle.rv_report.specs.declared.report.WriteError.TheVariants as write
+use Rattle.rv_rows.specs.declared_report.WriteError.{WriteError}
+use Rattle.rv_rows.specs.declared_report.WriteError.TheVariants as write
 use Rattle.rvtest_app.specs.Outlets.{HasTaken, file_path_at, outlet_path}
 use Rattle.rvtest_app.specs.WriteStops.{IsFileStop, IsOutputStop, IsOutputWriteStop, IsTextStop, IsUnopenedStop, IsUnplacedStop, IsUnwrittenStop, IsWriteErrorStop, stop_of_write_error}
 use Rattle.rvtest_app.specs.IntoReports.{run_report_path}

@@ -2,7 +2,7 @@
 use Rattle.std.specs.Prelude.{◌≡◌, ◌⊎◌, ℕ, Bool, List, Option, Some, None}
 use Rattle.clap.specs.Kinds.{IsAmong}
 use Rattle.clap.specs.declared.error.kind.ErrorKind.TheVariants.{DisplayHelp, DisplayVersion}
-use Rattle.rv_base.specs.Files.{FileContents}
+use Rattle.rv_files.specs.Files.{FileContents}
 use Rattle.rvtest_cli.specs.RvtestWords.{value_of_request, words_fault_kinds, request_of_args}
 use Rattle.rvtest_cli.specs.declared.requests.Request.{Request}
 use Rattle.rvtest_cli.specs.declared.requests.Request.TheVariants as request

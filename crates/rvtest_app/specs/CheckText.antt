@@ -11,21 +11,21 @@ use Rattle.rv_job_text.specs.RefusalReasons.{refusal_reason}
 use Rattle.rv_job_text.specs.ResultLine.{optional_reason_text}
 use Rattle.rv_job_text.specs.TotalsLine.{job_word}
 use Rattle.rv_job_text.specs.UnreadFiles.{too_long_file_text, unread_file_text}
-use Rattle.rv_jobs.specs.Jobs.{console_path}
-use Rattle.rv_jobs.specs.Plans.{Planned, result_for_path}
-use Rattle.rv_jobs.specs.declared.kept.Kept.{Kept}
-use Rattle.rv_jobs.specs.declared.kept.Kept.TheVariants as kept
-use Rattle.rv_list_errors.specs.JobLocations.{job_lines}
-use Rattle.rv_lists.specs.declared.job.ExpectedEnd.{ExpectedEnd}
-use Rattle.rv_lists.specs.declared.job.ExpectedEnd.TheVariants as expected
-use Rattle.rv_lists.specs.declared.job.Job.{Job}
+use Rattle.rv_rows.specs.Jobs.{console_path}
+use Rattle.rv_rows.specs.Plans.{Planned, result_for_path}
+use Rattle.rv_rows.specs.declared_kept.Kept.{Kept}
+use Rattle.rv_rows.specs.declared_kept.Kept.TheVariants as kept
+use Rattle.rv_accept_text.specs.JobLocations.{job_lines}
+use Rattle.rv_rows.specs.declared_job.ExpectedEnd.{ExpectedEnd}
+use Rattle.rv_rows.specs.declared_job.ExpectedEnd.TheVariants as expected
+use Rattle.rv_rows.specs.declared_job.Job.{Job}
 use Rattle.rv_rows.specs.Faults.{fault_name}
-use Rattle.rv_report.specs.Report.{line, refusal_name}
-use Rattle.rv_report.specs.declared.row.Refusal.{Refusal}
-use Rattle.rv_report.specs.declared.row.Refusal.TheVariants as refusal
+use Rattle.rv_rows.specs.Report.{line, refusal_name}
+use Rattle.rv_rows.specs.declared_row.Refusal.{Refusal}
+use Rattle.rv_rows.specs.declared_row.Refusal.TheVariants as refusal
 use Rattle.rv_rows.specs.ImageRefusals.{image_refusal_in}
-use Rattle.rv_text.specs.Printable.{printable_text}
-use Rattle.rv_text.specs.Words.{count_text}
+use Rattle.rv_job_text.specs.Printable.{printable_text}
+use Rattle.rv_job_text.specs.TextWords.{count_text}
 use Rattle.rvtest_app.specs.Commands.{is_job_refused, refused_job_count, warned_job_count}
 use Rattle.rvtest_app.specs.MissingImages.{missing_images_line}
 

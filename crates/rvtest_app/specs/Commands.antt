@@ -6,8 +6,8 @@ use Rattle.rv_expect.specs.declared.passing.Rule.{Rule}
 use Rattle.rv_expect.specs.declared.passing.Rule.TheVariants.{Strict, Lenient}
 use Rattle.rv_expect.specs.Judgement.{Judging, judging_by_rule}
 use Rattle.rv_expect.specs.TwoEnds.{expects_two_ends}
-use Rattle.rv_jobs.specs.Plans.{Planned}
-use Rattle.rv_lists.specs.declared.job.Job.{Job}
+use Rattle.rv_rows.specs.Plans.{Planned}
+use Rattle.rv_rows.specs.declared_job.Job.{Job}
 use Rattle.rv_rows.specs.Outcome.{refusal_in}
 use Rattle.rv_rows.specs.Rows.{outcome_in}
 use Rattle.rv_job_text.specs.declared.verbosity.Verbosity.{Verbosity}

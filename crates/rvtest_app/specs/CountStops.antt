@@ -1,7 +1,7 @@
 -- Why `counts` stops early.
 use Rattle.std.specs.Prelude.{◌≡◌, ◌⊎◌, ◌++◌, ◌∷◌, ℕ, List, Option, codes}
 use Rattle.std.specs.Borrow.{Bor}
-use Rattle.rv_base.specs.Files.{FileContents}
+use Rattle.rv_files.specs.Files.{FileContents}
 use Rattle.rvtest_cli.specs.declared.counts.CountsArgs.{CountsArgs}
 use Rattle.rv_command.specs.Messages.{path_message, path_number_message}
 use Rattle.rv_command.specs.Stops.{IsStop, IsResultUnreadStop}
@@ -17,8 +17,8 @@ use Rattle.rv_count_tables.specs.declared.read.ReadError.TheVariants as read
 use Rattle.rv_count_tables.specs.declared.sum.SumError.{SumError}
 use Rattle.rv_count_tables.specs.declared.sum.SumError.TheVariants as sum
 use Rattle.rv_count_tables.specs.declared.table.CountTable.{CountTable}
-use Rattle.rv_text.specs.Printable.{printable_text}
-use Rattle.rv_text.specs.Words.{word_digits}
+use Rattle.rv_job_text.specs.Printable.{printable_text}
+use Rattle.rv_job_text.specs.TextWords.{word_digits}
 use Rattle.rvtest_app.specs.CountSums.{AreAdded, IsTableAt}
 use Rattle.rvtest_app.specs.Overwrites.{IsSumOverwriteStop}
 use Rattle.rvtest_app.specs.WrittenTexts.{IsUnwrittenAtStop, written_path}

@@ -1,6 +1,6 @@
 -- What `cover` writes: the coverage of the images of the requested jobs.
 use Rattle.std.specs.Prelude.{ℕ, Option}
-use Rattle.rv_base.specs.Files.{FileContents}
+use Rattle.rv_files.specs.Files.{FileContents}
 use Rattle.rvtest_cli.specs.declared.cover.CoverArgs.{CoverArgs}
 use Rattle.rvtest_app.specs.CommandOutputs.{CommandOutputs}
 use Rattle.rvtest_app.specs.Views.{IsViewWritten}

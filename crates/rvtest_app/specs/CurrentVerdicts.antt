@@ -8,16 +8,16 @@ use Rattle.rv_accept.specs.declared.ends.Acceptance.TheVariants as acceptance
 use Rattle.rv_accept.specs.declared.current_verdict.Candidate.{Candidate}
 use Rattle.rv_accept.specs.declared.current_verdict.CurrentVerdict.{CurrentVerdict}
 use Rattle.rv_accept.specs.declared.current_verdict.CurrentVerdict.TheVariants as standing
-use Rattle.rv_base.specs.Files.{FileContents}
-use Rattle.rv_base.specs.Limits.{most_bytes}
+use Rattle.rv_files.specs.Files.{FileContents}
+use Rattle.rv_files.specs.Limits.{most_bytes}
 use Rattle.rv_expect.specs.Comparisons.{Sides}
 use Rattle.rv_expect.specs.UnmetExpectations.{is_same}
 use Rattle.rv_expect.specs.Unmet.{unmet_of}
 use Rattle.rv_expect.specs.declared.unmet.Unmet.{Unmet}
 use Rattle.rv_files.specs.UnreadPaths.{resolved_path}
-use Rattle.rv_jobs.specs.Jobs.{console_path}
-use Rattle.rv_lists.specs.declared.job.Job.{Job}
-use Rattle.rv_report.specs.declared.row.Row.{Row}
+use Rattle.rv_rows.specs.Jobs.{console_path}
+use Rattle.rv_rows.specs.declared_job.Job.{Job}
+use Rattle.rv_rows.specs.declared_row.Row.{Row}
 use Rattle.rv_rows.specs.Verdict.{did_run}
 
 -- ---- golden files

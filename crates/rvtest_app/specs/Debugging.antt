@@ -2,8 +2,8 @@
 use Rattle.std.specs.Prelude.{◌≡◌, ◌≢◌, ◌⊎◌, ℕ, Bool, List, [], ◌∷◌, Option, Some, None, Ok, codes, false, is_ok, option_and_then, slice_get, slice_index_or, true, unwrap_or}
 use Rattle.std.specs.Io.KnownBytes.{Consumes, IsAtEnd}
 use Rattle.std.specs.Result.{result_ok}
-use Rattle.rv_base.specs.Counts.{one_more}
-use Rattle.rv_base.specs.Files.{FileContents}
+use Rattle.rv_files.specs.Counts.{one_more}
+use Rattle.rv_files.specs.Files.{FileContents}
 use Rattle.rvtest_cli.specs.declared.gdb.GdbArgs.{GdbArgs}
 use Rattle.rv_command.specs.Messages.{path_message}
 use Rattle.rv_command.specs.Stops.{IsStop, IsSystemStop}
@@ -19,14 +19,14 @@ use Rattle.rv_gdb.specs.declared.conversation.SessionError.{SessionError}
 use Rattle.rv_gdb.specs.declared.conversation.SessionError.TheVariants as broken
 use Rattle.rv_gdb.specs.JobSessions.{IsSessionOf}
 use Rattle.rv_job_text.specs.RowReporter.{outcome_text, row_line}
-use Rattle.rv_jobs.specs.Plans.{AgreeWithContents, Planned, jobs_needed_for, paths_of, paths_used}
-use Rattle.rv_lists.specs.JobList.{job_list_of}
-use Rattle.rv_lists.specs.declared.job.Job.{Job}
-use Rattle.rv_machine.specs.State.{State}
+use Rattle.rv_rows.specs.Plans.{AgreeWithContents, Planned, jobs_needed_for, paths_of, paths_used}
+use Rattle.rv_rows.specs.JobList.{job_list_of}
+use Rattle.rv_rows.specs.declared_job.Job.{Job}
+use Rattle.rv_rows.specs.State.{State}
 use Rattle.rv_rows.specs.Flat.{flat_state}
 use Rattle.rv_rows.specs.Rows.{row_of, start_in}
-use Rattle.rv_session.specs.Incoming.{IsReceived}
-use Rattle.rv_session.specs.declared.session.Session.{Session}
+use Rattle.rv_gdb.specs.Incoming.{IsReceived}
+use Rattle.rv_gdb.specs.declared_session.Session.{Session}
 use Rattle.rvtest_app.specs.Reports.{AreNotesOf, IsFirstNamed}
 use Rattle.rvtest_app.specs.CommandOutputs.{IsOnlyStandardOutput, CommandOutputs}
 

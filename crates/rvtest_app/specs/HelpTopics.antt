@@ -3,7 +3,7 @@ use Rattle.std.specs.Prelude.{◌≡◌, ◌⊎◌, ◌++◌, ℕ, List, codes}
 use Rattle.rv_command.specs.Stops.{IsStop}
 use Rattle.rv_command.specs.declared.stop.Stop.{Stop}
 use Rattle.rv_command.specs.declared.stop.Stop.TheVariants as stop
-use Rattle.rv_text.specs.Printable.{printable_value}
+use Rattle.rv_job_text.specs.Printable.{printable_value}
 use Rattle.rvtest_app.specs.declared.list_keys.TheConstants.{LIST_KEYS}
 
 -- the topic that describes the keys of a job list

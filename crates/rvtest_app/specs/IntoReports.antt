@@ -1,16 +1,16 @@
 -- Updating the report of the whole list with the rows of a run (`--into`).
 use Rattle.std.specs.Prelude.{◌≡◌, ◌||◌, ℕ, Bool, List, [], ◌∷◌, IsSomeAnd, MatchOption, Option, Some, None, if◌then◌else◌, map, slice_set}
 use Rattle.std.specs.Option.{option_or}
-use Rattle.rv_base.specs.Files.{FileContents}
+use Rattle.rv_files.specs.Files.{FileContents}
 use Rattle.rvtest_cli.specs.declared.run.RunArgs.{RunArgs}
 use Rattle.rv_command.specs.Texts.{IsReportAt, optional_text}
-use Rattle.rv_lists.specs.declared.job.Job.{Job}
-use Rattle.rv_report.specs.Report.{report_text, row_text}
-use Rattle.rv_report.specs.Saved.{row_names}
-use Rattle.rv_report.specs.declared.row.Row.{Row}
-use Rattle.rv_report.specs.declared.saved.Extent.TheVariants as extent
-use Rattle.rv_report.specs.declared.saved.SavedReport.{SavedReport}
-use Rattle.rv_report.specs.declared.saved.Shard.{Shard}
+use Rattle.rv_rows.specs.declared_job.Job.{Job}
+use Rattle.rv_rows.specs.Report.{report_text, row_text}
+use Rattle.rv_rows.specs.Saved.{row_names}
+use Rattle.rv_rows.specs.declared_row.Row.{Row}
+use Rattle.rv_rows.specs.declared_saved.Extent.TheVariants as extent
+use Rattle.rv_rows.specs.declared_saved.SavedReport.{SavedReport}
+use Rattle.rv_rows.specs.declared_saved.Shard.{Shard}
 use Rattle.rv_stream.specs.Streams.{joined_row_texts}
 use Rattle.rvtest_app.specs.Outlets.{is_stdout_at}
 use Rattle.rvtest_app.specs.RunOutput.{chosen_last_line, chosen_report_text}

@@ -3,7 +3,7 @@ use Rattle.std.specs.Prelude.{ℕ, List, Option, Some, None, map, unwrap_or}
 use Rattle.std.specs.Path.{path_file_stem}
 use Rattle.rv_expect.specs.Judgement.{Judging}
 use Rattle.rv_junit.specs.Junit.{junit_text}
-use Rattle.rv_report.specs.declared.row.Row.{Row}
+use Rattle.rv_rows.specs.declared_row.Row.{Row}
 use Rattle.rvtest_app.specs.ReportSummary.{failed_line}
 
 -- the class of a list's jobs in JUnit XML: the last component of the list's path, without the extension

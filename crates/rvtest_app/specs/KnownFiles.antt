@@ -1,16 +1,16 @@
 -- The file of known failures.
 use Rattle.std.specs.Prelude.{◌≡◌, ◌++◌, ℕ, IsSomeAnd, List, Ok, Option, Some, None, codes}
 use Rattle.std.specs.Fmt.{decimal}
-use Rattle.rv_base.specs.Files.{FileContents}
+use Rattle.rv_files.specs.Files.{FileContents}
 use Rattle.rv_command.specs.Texts.{IsTextAt}
 use Rattle.rv_expect.specs.declared.known_jobs.KnownFault.{KnownFault}
 use Rattle.rv_expect.specs.declared.known_jobs.KnownFaultKind.{KnownFaultKind}
 use Rattle.rv_expect.specs.declared.known_jobs.KnownFaultKind.TheVariants as kind
 use Rattle.rv_expect.specs.declared.known_jobs.KnownJobs.{KnownJobs}
 use Rattle.rv_expect.specs.KnownJobs.{known_jobs_of}
-use Rattle.rv_lists.specs.JobList.{names_of_jobs}
-use Rattle.rv_lists.specs.declared.job.Job.{Job}
-use Rattle.rv_text.specs.Printable.{printable_text, printable_value}
+use Rattle.rv_rows.specs.JobList.{names_of_jobs}
+use Rattle.rv_rows.specs.declared_job.Job.{Job}
+use Rattle.rv_job_text.specs.Printable.{printable_text, printable_value}
 
 -- `known` has the path of a file of known failures, and which of the jobs this file lists
 pub record IsKnownFile (files : Option FileContents) (path : List ℕ) (jobs : List Job) (known : KnownJobs) : Type 0 where

@@ -1,6 +1,6 @@
 -- Why the known failures could not be read.
 use Rattle.std.specs.Prelude.{◌≡◌, ◌⊎◌, ℕ, List, IsSomeAnd, Option, Err}
-use Rattle.rv_base.specs.Files.{FileContents}
+use Rattle.rv_files.specs.Files.{FileContents}
 use Rattle.rvtest_cli.specs.declared.run.RunArgs.{RunArgs}
 use Rattle.rv_command.specs.Stops.{IsStop, IsListUnreadStop}
 use Rattle.rv_command.specs.Texts.{IsTextAt}
@@ -8,8 +8,8 @@ use Rattle.rv_command.specs.declared.stop.Stop.{Stop}
 use Rattle.rv_command.specs.declared.stop.Stop.TheVariants as stop
 use Rattle.rv_expect.specs.KnownJobs.{known_jobs_of}
 use Rattle.rv_expect.specs.declared.known_jobs.KnownFault.{KnownFault}
-use Rattle.rv_lists.specs.JobList.{names_of_jobs}
-use Rattle.rv_lists.specs.declared.job.Job.{Job}
+use Rattle.rv_rows.specs.JobList.{names_of_jobs}
+use Rattle.rv_rows.specs.declared_job.Job.{Job}
 use Rattle.rvtest_app.specs.KnownFiles.{known_fault_message}
 
 -- why a command stopped: memory ran out, or the file of known failures at `path`, which has the text `bytes`, has an error

@@ -15,7 +15,7 @@ use Rattle.rv_merge.specs.declared.error.Flaw.{Flaw}
 use Rattle.rv_merge.specs.declared.error.Flaw.TheVariants as flaw
 use Rattle.rv_merge.specs.declared.error.MergeError.{MergeError}
 use Rattle.rv_merge.specs.declared.error.MergeError.TheVariants as error
-use Rattle.rv_text.specs.Printable.{printable_text}
+use Rattle.rv_job_text.specs.Printable.{printable_text}
 
 -- the path of the part at index `place`; "a part" if there is no such index
 abbrev pub part_path : List (Bor (List ℕ)) → ℕ → List ℕ

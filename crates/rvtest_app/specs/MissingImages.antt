@@ -7,9 +7,9 @@ use Rattle.std.specs.declared.io.ErrorKind.{ErrorKind}
 use Rattle.std.specs.declared.io.ErrorKind.TheVariants as kind
 use Rattle.rv_files.specs.declared.recording_store.UnreadablePath.{UnreadablePath}
 use Rattle.rv_job_text.specs.UnreadFiles.{unread_note}
-use Rattle.rv_lists.specs.declared.job.Job.{Job}
-use Rattle.rv_report.specs.Report.{line}
-use Rattle.rv_text.specs.Printable.{printable_text}
+use Rattle.rv_rows.specs.declared_job.Job.{Job}
+use Rattle.rv_rows.specs.Report.{line}
+use Rattle.rv_job_text.specs.Printable.{printable_text}
 
 -- whether the reason of a read error is that there is no file at the path
 abbrev pub is_not_found : ErrorKind → Bool

@@ -3,7 +3,7 @@ use Rattle.std.specs.Prelude.{◌≡◌, ◌||◌, ◌++◌, ℕ, Bool, true, fa
 use Rattle.std.specs.Io.KnownBytes.{Appends}
 use Rattle.rv_expect.specs.Judgement.{judging_of}
 use Rattle.rv_junit.specs.Junit.{junit_text}
-use Rattle.rv_report.specs.declared.row.Row.{Row}
+use Rattle.rv_rows.specs.declared_row.Row.{Row}
 use Rattle.rv_stream.specs.Streams.{row_text_list}
 use Rattle.rvtest_app.specs.declared.file_texts.FileTexts.{FileTexts}
 use Rattle.rvtest_app.specs.Outlets.{AreFilesCommitted, file_at, is_stdout_at, stdout_at}

@@ -4,7 +4,7 @@ use Rattle.std.specs.Borrow.{Bor}
 use Rattle.std.specs.List.{flat_map, list_any}
 use Rattle.std.specs.Path.{path_buf_bytes}
 use Rattle.std.specs.Str.{bytes_eq}
-use Rattle.rv_base.specs.Files.{FileContents}
+use Rattle.rv_files.specs.Files.{FileContents}
 use Rattle.rv_accept.specs.Sharing.{jobs_to_run}
 use Rattle.rvtest_cli.specs.declared.accept.AcceptArgs.{AcceptArgs}
 use Rattle.rvtest_cli.specs.declared.counts.CountsArgs.{CountsArgs}
@@ -17,10 +17,10 @@ use Rattle.rv_command.specs.declared.stop.Stop.{Stop}
 use Rattle.rv_command.specs.declared.stop.Stop.TheVariants as stop
 use Rattle.rv_files.specs.CommittedFiles.{CommittedFile}
 use Rattle.rv_files.specs.UnreadPaths.{resolved_path}
-use Rattle.rv_lists.specs.JobList.{job_list_of}
-use Rattle.rv_lists.specs.Jobs.{console_path}
-use Rattle.rv_lists.specs.declared.job.Job.{Job}
-use Rattle.rv_text.specs.Printable.{printable_text}
+use Rattle.rv_rows.specs.JobList.{job_list_of}
+use Rattle.rv_rows.specs.Jobs.{console_path}
+use Rattle.rv_rows.specs.declared_job.Job.{Job}
+use Rattle.rv_job_text.specs.Printable.{printable_text}
 use Rattle.rvtest_app.specs.declared.read_files.ReadFiles.{ReadFiles}
 use Rattle.rvtest_app.specs.declared.read_files.ReadPath.{ReadPath}
 use Rattle.rvtest_app.specs.declared.read_files.ReadRole.{ReadRole}

@@ -1,6 +1,6 @@
 -- Why `profile` stops early.
 use Rattle.std.specs.Prelude.{Option}
-use Rattle.rv_base.specs.Files.{FileContents}
+use Rattle.rv_files.specs.Files.{FileContents}
 use Rattle.rvtest_cli.specs.declared.profile.ProfileArgs.{ProfileArgs}
 use Rattle.rv_command.specs.declared.stop.Stop.{Stop}
 use Rattle.rvtest_app.specs.Profiles.{profile_format}

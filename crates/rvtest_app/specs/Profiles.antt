@@ -1,6 +1,6 @@
 -- What `profile` writes: in which functions the requested jobs spent their steps.
 use Rattle.std.specs.Prelude.{ℕ, Option}
-use Rattle.rv_base.specs.Files.{FileContents}
+use Rattle.rv_files.specs.Files.{FileContents}
 use Rattle.rvtest_cli.specs.declared.profile.ProfileArgs.{ProfileArgs}
 use Rattle.rv_profile.specs.declared.format.ProfileFormat.{ProfileFormat}
 use Rattle.rvtest_app.specs.CommandOutputs.{CommandOutputs}

@@ -3,12 +3,12 @@ use Rattle.std.specs.Prelude.{◌++◌, ℕ, if◌then◌else◌, List, [], leng
 use Rattle.std.specs.List.{flat_map}
 use Rattle.rvtest_cli.specs.declared.run.RunArgs.{RunArgs}
 use Rattle.rv_command.specs.Texts.{optional_text}
-use Rattle.rv_counting.specs.JobTables.{jobs_at}
+use Rattle.rv_stacks.specs.JobTables.{jobs_at}
 use Rattle.rv_expect.specs.Judgement.{Judging}
 use Rattle.rv_files.specs.declared.recording_store.UnreadablePath.{UnreadablePath}
 use Rattle.rv_job_text.specs.RowReporter.{row_line}
-use Rattle.rv_jobs.specs.Plans.{Planned}
-use Rattle.rv_lists.specs.declared.job.Job.{Job}
+use Rattle.rv_rows.specs.Plans.{Planned}
+use Rattle.rv_rows.specs.declared_job.Job.{Job}
 use Rattle.rv_rows.specs.Rows.{row_of}
 use Rattle.rvtest_app.specs.Commands.{is_job_refused, report_judging}
 use Rattle.rvtest_app.specs.MissingImages.{missing_images_note}

@@ -3,8 +3,8 @@ use Rattle.std.specs.Prelude.{◌≡◌, ◌==◌, ◌≤◌, ℕ, List, [], ◌
 use Rattle.std.specs.Fmt.{decimal}
 use Rattle.std.specs.List.{AllPairs, flat_map}
 use Rattle.std.specs.List.Sorted.{IsPermutation}
-use Rattle.rv_report.specs.declared.row.Row.{Row}
-use Rattle.rv_report.specs.Report.{line}
+use Rattle.rv_rows.specs.declared_row.Row.{Row}
+use Rattle.rv_rows.specs.Report.{line}
 use Rattle.rv_job_text.specs.TotalsLine.{totals_line}
 use Rattle.rv_expect.specs.Judgement.{Judging, fails, judgement}
 use Rattle.rv_job_text.specs.ResultLine.{result_line}

@@ -1,7 +1,7 @@
 -- The texts of reports.
 use Rattle.std.specs.Prelude.{ℕ, List}
-use Rattle.rv_report.specs.Report.{report_text}
-use Rattle.rv_report.specs.declared.row.Row.{Row}
+use Rattle.rv_rows.specs.Report.{report_text}
+use Rattle.rv_rows.specs.declared_row.Row.{Row}
 use Rattle.rvtest_app.specs.IntoReports.{merged_rows}
 use Rattle.rvtest_app.specs.RunOutput.{chosen_last_line, chosen_report_text}
 use Rattle.rvtest_app.specs.declared.report_texts.ReportText.{ReportText}

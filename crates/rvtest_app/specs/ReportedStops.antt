@@ -6,7 +6,7 @@ use Rattle.std.specs.declared.io.ErrorKind.{ErrorKind}
 use Rattle.std.specs.declared.io.ErrorKind.TheVariants as io
 use Rattle.clap.specs.declared.error.kind.ErrorKind.{ErrorKind as WordsFault}
 use Rattle.clap.specs.declared.error.kind.ErrorKind.TheVariants as words
-use Rattle.rv_base.specs.Counts.{one_more}
+use Rattle.rv_files.specs.Counts.{one_more}
 use Rattle.rvtest_cli.specs.declared.diff.DiffArgs.{DiffArgs}
 use Rattle.rv_command.specs.Messages.{end_message}
 use Rattle.rvtest_cli.specs.declared.words_error.WordsError.{WordsError}
@@ -15,7 +15,7 @@ use Rattle.rv_command.specs.Stops.{IsRefusedAs, IsRequestedFaultStop, end_status
 use Rattle.rv_command.specs.Texts.{IsReportRead}
 use Rattle.rv_command.specs.declared.stop.Stop.{Stop}
 use Rattle.rv_command.specs.declared.stop.Stop.TheVariants as stop
-use Rattle.rv_report.specs.declared.partial.PartialReport.{PartialReport}
+use Rattle.rv_rows.specs.declared_partial.PartialReport.{PartialReport}
 use Rattle.rvtest_app.specs.CommandOutputs.{IsOnlyErrorOutput, CommandOutputs}
 
 -- ---- the program

@@ -2,7 +2,7 @@
 use Rattle.std.specs.Prelude.{◌≡◌, ◌+◌, ◌++◌, ◌-◌, if◌then◌else◌, ℕ, Bool, true, false, List, [], ◌∷◌, length, None, Option, Some, Ok, position}
 use Rattle.std.specs.Prelude.{slice_index_or}
 use Rattle.std.specs.Str.{bytes_eq}
-use Rattle.rv_base.specs.Files.{FileContents}
+use Rattle.rv_files.specs.Files.{FileContents}
 use Rattle.rvtest_cli.specs.declared.check.CheckArgs.{CheckArgs}
 use Rattle.rvtest_cli.specs.declared.diff.DiffArgs.{DiffArgs}
 use Rattle.rvtest_cli.specs.declared.explain.ExplainArgs.{ExplainArgs}
@@ -16,23 +16,23 @@ use Rattle.rv_expect.specs.Passing.{has_passed}
 use Rattle.rv_expect.specs.declared.passing.Rule.TheVariants.{Strict}
 use Rattle.rv_files.specs.UnreadPaths.{contents_below}
 use Rattle.rv_files.specs.declared.recording_store.UnreadablePath.{UnreadablePath}
-use Rattle.rv_hang.specs.declared.budget_use.BudgetUse.{BudgetUse}
+use Rattle.rv_job_text.specs.declared_budget_use.BudgetUse.{BudgetUse}
 use Rattle.rv_job_text.specs.BudgetUseLine.{IsUseOfRow}
 use Rattle.rv_job_text.specs.RowReporter.{explanation_text}
-use Rattle.rv_jobs.specs.Plans.{AgreeWithContents, Planned, jobs_needed_for, one_more_times, paths_of, paths_used}
-use Rattle.rv_jobs.specs.Plans.{unreadable_count}
-use Rattle.rv_jobs.specs.declared.answers.Answer.{Answer}
-use Rattle.rv_list_errors.specs.PlacedFaults.{IsToldFault, AppendsEachFault}
-use Rattle.rv_lists.specs.JobList.{job_list_of}
-use Rattle.rv_lists.specs.Jobs.{with_budget}
-use Rattle.rv_lists.specs.ListFaults.{list_faults}
-use Rattle.rv_lists.specs.declared.error.JobError.{JobError}
-use Rattle.rv_lists.specs.declared.job.Job.{Job}
-use Rattle.rv_report.specs.declared.partial.PartialReport.{PartialReport}
-use Rattle.rv_report.specs.declared.row.Row.{Row}
-use Rattle.rv_report.specs.declared.saved.Extent.{Extent}
-use Rattle.rv_report.specs.declared.saved.Extent.TheVariants as extent
-use Rattle.rv_report.specs.declared.saved.SavedReport.{SavedReport}
+use Rattle.rv_rows.specs.Plans.{AgreeWithContents, Planned, jobs_needed_for, one_more_times, paths_of, paths_used}
+use Rattle.rv_rows.specs.Plans.{unreadable_count}
+use Rattle.rv_rows.specs.declared_answers.Answer.{Answer}
+use Rattle.rv_command.specs.PlacedFaults.{IsToldFault, AppendsEachFault}
+use Rattle.rv_rows.specs.JobList.{job_list_of}
+use Rattle.rv_rows.specs.Jobs.{with_budget}
+use Rattle.rv_rows.specs.ListFaults.{list_faults}
+use Rattle.rv_rows.specs.declared_lists_error.JobError.{JobError}
+use Rattle.rv_rows.specs.declared_job.Job.{Job}
+use Rattle.rv_rows.specs.declared_partial.PartialReport.{PartialReport}
+use Rattle.rv_rows.specs.declared_row.Row.{Row}
+use Rattle.rv_rows.specs.declared_saved.Extent.{Extent}
+use Rattle.rv_rows.specs.declared_saved.Extent.TheVariants as extent
+use Rattle.rv_rows.specs.declared_saved.SavedReport.{SavedReport}
 use Rattle.rv_rows.specs.Rows.{row_of}
 use Rattle.rvtest_app.specs.CheckText.{check_text}
 use Rattle.rvtest_app.specs.CommandOutputs.{IsOnlyStandardOutput, IsOnlyErrorOutput, CommandOutputs}

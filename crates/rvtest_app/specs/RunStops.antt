@@ -1,6 +1,6 @@
 -- Why `run` stops early.
 use Rattle.std.specs.Prelude.{◌≡◌, ◌⊎◌, ℕ, Bool, List, IsSomeAnd, Option, Ok, false, is_some}
-use Rattle.rv_base.specs.Files.{FileContents}
+use Rattle.rv_files.specs.Files.{FileContents}
 use Rattle.rv_choice.specs.ChoiceStops.{IsChoiceStop}
 use Rattle.rv_choice.specs.Shard.{IsShardStop}
 use Rattle.rvtest_cli.specs.declared.run.RunArgs.{RunArgs}
@@ -8,10 +8,10 @@ use Rattle.rv_command.specs.Stops.{IsListFaultStop, IsListUnreadStop}
 use Rattle.rv_command.specs.Texts.{IsTextAt, optional_text}
 use Rattle.rv_command.specs.declared.stop.Stop.{Stop}
 use Rattle.rv_command.specs.declared.stop.Stop.TheVariants as stop
-use Rattle.rv_lists.specs.JobList.{job_list_of}
-use Rattle.rv_lists.specs.declared.job.Job.{Job}
-use Rattle.rv_report.specs.declared.row.Row.{Row}
-use Rattle.rv_report.specs.declared.saved.Shard.{Shard}
+use Rattle.rv_rows.specs.JobList.{job_list_of}
+use Rattle.rv_rows.specs.declared_job.Job.{Job}
+use Rattle.rv_rows.specs.declared_row.Row.{Row}
+use Rattle.rv_rows.specs.declared_saved.Shard.{Shard}
 use Rattle.rvtest_app.specs.Commands.{failure_rule}
 use Rattle.rvtest_app.specs.IntoReports.{run_report_path}
 use Rattle.rvtest_app.specs.IntoStops.{IsIntoStop}

@@ -1,6 +1,6 @@
 -- The rows of a run of some jobs of a list, and its status.
 use Rattle.std.specs.Prelude.{◌≡◌, ◌⊎◌, ◌++◌, ℕ, Bool, true, false, List, [], Ok, Option, Some, None, IfSome, is_some, length, take}
-use Rattle.rv_base.specs.Files.{FileContents}
+use Rattle.rv_files.specs.Files.{FileContents}
 use Rattle.rv_choice.specs.Chosen.{IsChoice}
 use Rattle.rv_choice.specs.Shard.{IsShardOf, stamp_for}
 use Rattle.rvtest_cli.specs.declared.run.RunArgs.{RunArgs}
@@ -11,19 +11,19 @@ use Rattle.rv_files.specs.declared.recording_store.UnreadablePath.{UnreadablePat
 use Rattle.rv_job_text.specs.RowReporter.{RowReporter, row_lines_at}
 use Rattle.rv_job_text.specs.declared.verbosity.Verbosity.TheVariants.{Failures}
 use Rattle.rv_junit.specs.Junit.{junit_text}
-use Rattle.rv_jobs.specs.Choices.{selected_indices}
-use Rattle.rv_jobs.specs.Plans.{AgreeWithContents, Planned, jobs_needed_for, one_more_times, paths_of, paths_used, unreadable_count}
-use Rattle.rv_lists.specs.JobList.{job_list_of}
-use Rattle.rv_lists.specs.Jobs.{with_budget}
-use Rattle.rv_lists.specs.declared.job.Job.{Job}
+use Rattle.rv_rows.specs.Choices.{selected_indices}
+use Rattle.rv_rows.specs.Plans.{AgreeWithContents, Planned, jobs_needed_for, one_more_times, paths_of, paths_used, unreadable_count}
+use Rattle.rv_rows.specs.JobList.{job_list_of}
+use Rattle.rv_rows.specs.Jobs.{with_budget}
+use Rattle.rv_rows.specs.declared_job.Job.{Job}
 use Rattle.rv_merge.specs.Shards.{shard_selection}
-use Rattle.rv_report.specs.declared.saved.Shard.{Shard}
-use Rattle.rv_report.specs.declared.row.Row.{Row}
+use Rattle.rv_rows.specs.declared_saved.Shard.{Shard}
+use Rattle.rv_rows.specs.declared_row.Row.{Row}
 use Rattle.rv_rows.specs.Rows.{rows_at}
 use Rattle.rv_stream.specs.Streams.{row_text_list}
 use Rattle.rv_count_tables.specs.Text.{table_text}
 use Rattle.rv_count_tables.specs.declared.table.CountTable.{CountTable}
-use Rattle.rv_counting.specs.JobTables.{IsTableOfPlaces}
+use Rattle.rv_stacks.specs.JobTables.{IsTableOfPlaces}
 use Rattle.rv_stacks.specs.StackTables.{IsTableWithStacks}
 use Rattle.rv_expect.specs.Judgement.{Judging, fails}
 use Rattle.rv_stream.specs.Limits.{rows_up_to}

@@ -1,13 +1,13 @@
 -- What `show` prints for a report.
 use Rattle.std.specs.Prelude.{◌≡◌, ◌⊎◌, ℕ, List, Option, None, Some}
-use Rattle.rv_base.specs.Files.{FileContents}
+use Rattle.rv_files.specs.Files.{FileContents}
 use Rattle.rvtest_cli.specs.declared.show.ShowArgs.{ShowArgs}
 use Rattle.rv_command.specs.Messages.{cut_off_note}
 use Rattle.rv_command.specs.Texts.{IsReportReadAt, optional_text}
 use Rattle.rv_files.specs.CommittedFiles.{CommittedFile}
-use Rattle.rv_report.specs.Report.{report_text}
-use Rattle.rv_report.specs.declared.partial.PartialReport.{PartialReport}
-use Rattle.rv_report.specs.declared.row.Row.{Row}
+use Rattle.rv_rows.specs.Report.{report_text}
+use Rattle.rv_rows.specs.declared_partial.PartialReport.{PartialReport}
+use Rattle.rv_rows.specs.declared_row.Row.{Row}
 use Rattle.rvtest_app.specs.Commands.{report_judging}
 use Rattle.rvtest_app.specs.Outlets.{AreFilesCommitted, file_at}
 use Rattle.rvtest_app.specs.OutputWrites.{IsOutputWritten}

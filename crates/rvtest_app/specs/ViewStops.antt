@@ -1,6 +1,6 @@
 -- Why `cover` or `profile` stops early.
 use Rattle.std.specs.Prelude.{◌≡◌, ◌⊎◌, ◌++◌, ℕ, Bool, false, List, Option, Some, None, codes, unwrap_or}
-use Rattle.rv_base.specs.Files.{FileContents}
+use Rattle.rv_files.specs.Files.{FileContents}
 use Rattle.rvtest_cli.specs.declared.run.RunArgs.{RunArgs}
 use Rattle.rv_command.specs.Messages.{path_message}
 use Rattle.rv_command.specs.Stops.{IsStop, IsResultUnreadStop}
@@ -9,18 +9,18 @@ use Rattle.rv_command.specs.declared.stop.Stop.{Stop}
 use Rattle.rv_command.specs.declared.stop.Stop.TheVariants as stop
 use Rattle.rv_count_tables.specs.declared.sum.SumError.{SumError}
 use Rattle.rv_count_tables.specs.declared.table.CountTable.{CountTable}
-use Rattle.rv_cover_view.specs.ImageCounts.{other_image}
-use Rattle.rv_cover_view.specs.JobImages.{FileImage, images_of}
-use Rattle.rv_counting.specs.JobTables.{jobs_at}
+use Rattle.rv_profile.specs.ImageCounts.{other_image}
+use Rattle.rv_profile.specs.JobImages.{FileImage, images_of}
+use Rattle.rv_stacks.specs.JobTables.{jobs_at}
 use Rattle.rv_files.specs.UnreadPaths.{contents_below}
 use Rattle.rv_files.specs.declared.recording_store.UnreadablePath.{UnreadablePath}
-use Rattle.rv_jobs.specs.Plans.{Planned}
-use Rattle.rv_lists.specs.declared.job.Job.{Job}
+use Rattle.rv_rows.specs.Plans.{Planned}
+use Rattle.rv_rows.specs.declared_job.Job.{Job}
 use Rattle.rv_profile.specs.ImageStacks.{image_past_64_bits}
-use Rattle.rv_report.specs.declared.row.Row.{Row}
-use Rattle.rv_report.specs.declared.saved.Shard.{Shard}
+use Rattle.rv_rows.specs.declared_row.Row.{Row}
+use Rattle.rv_rows.specs.declared_saved.Shard.{Shard}
 use Rattle.rv_stacks.specs.StackTables.{HaveNoTableWithStacks}
-use Rattle.rv_text.specs.Printable.{printable_text}
+use Rattle.rv_job_text.specs.Printable.{printable_text}
 use Rattle.rvtest_app.specs.CountStops.{IsSumErrorStop, IsTableFaultStop}
 use Rattle.rvtest_app.specs.CountSums.{IsTableAt}
 use Rattle.rvtest_app.specs.RunStops.{IsUnrequestedStop}

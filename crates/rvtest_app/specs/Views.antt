@@ -1,21 +1,21 @@
 -- What `cover` and `profile` write: a view of the images of the requested jobs, from a run of these jobs or from a table of counts.
 use Rattle.std.specs.Prelude.{◌≡◌, ℕ, Bool, true, List, None, Option, Some}
-use Rattle.rv_base.specs.Files.{FileContents}
+use Rattle.rv_files.specs.Files.{FileContents}
 use Rattle.rvtest_cli.specs.declared.run.RunArgs.{RunArgs}
 use Rattle.rv_command.specs.Texts.{optional_text}
 use Rattle.rv_count_tables.specs.declared.table.CountTable.{CountTable}
-use Rattle.rv_cover_view.specs.ImageCounts.{other_image}
-use Rattle.rv_cover_view.specs.ImagesText.{IsCoverText}
-use Rattle.rv_cover_view.specs.JobImages.{FileImage, images_of}
-use Rattle.rv_counting.specs.JobTables.{IsTableOfPlaces, jobs_at}
+use Rattle.rv_profile.specs.ImageCounts.{other_image}
+use Rattle.rv_profile.specs.ImagesText.{IsCoverText}
+use Rattle.rv_profile.specs.JobImages.{FileImage, images_of}
+use Rattle.rv_stacks.specs.JobTables.{IsTableOfPlaces, jobs_at}
 use Rattle.rv_files.specs.UnreadPaths.{contents_below}
 use Rattle.rv_files.specs.declared.recording_store.UnreadablePath.{UnreadablePath}
-use Rattle.rv_jobs.specs.Plans.{Planned}
-use Rattle.rv_lists.specs.declared.job.Job.{Job}
+use Rattle.rv_rows.specs.Plans.{Planned}
+use Rattle.rv_rows.specs.declared_job.Job.{Job}
 use Rattle.rv_profile.specs.ImageStacks.{has_stacks}
 use Rattle.rv_profile.specs.ProfileText.{IsProfileText}
-use Rattle.rv_report.specs.declared.row.Row.{Row}
-use Rattle.rv_report.specs.declared.saved.Shard.{Shard}
+use Rattle.rv_rows.specs.declared_row.Row.{Row}
+use Rattle.rv_rows.specs.declared_saved.Shard.{Shard}
 use Rattle.rv_stacks.specs.StackTables.{IsTableWithStacks}
 use Rattle.rvtest_app.specs.CountSums.{IsTableAt}
 use Rattle.rvtest_app.specs.RefusedNotes.{refused_note}

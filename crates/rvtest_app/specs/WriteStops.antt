@@ -7,8 +7,8 @@ use Rattle.rv_command.specs.declared.stop.Stop.{Stop}
 use Rattle.rv_command.specs.declared.stop.Stop.TheVariants as stop
 use Rattle.rv_files.specs.IoErrors.{write_error_text}
 use Rattle.rv_files.specs.declared.file_error.FileError.{FileError}
-use Rattle.rv_report.specs.declared.report.WriteError.{WriteError}
-use Rattle.rv_report.specs.declared.report.WriteError.TheVariants as write
+use Rattle.rv_rows.specs.declared_report.WriteError.{WriteError}
+use Rattle.rv_rows.specs.declared_report.WriteError.TheVariants as write
 use Rattle.rvtest_app.specs.Outlets.{file_path_at}
 
 -- ---- texts

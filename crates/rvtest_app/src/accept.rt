@@ -13,8 +13,8 @@ ghost use Rattle.rv_accept_text.specs.NewLists.{AreLeftFrom};
 ghost use Rattle.rv_accept_text.specs.AcceptLines.{changed_count, count_line, skipped_count, accept_lines};
 ghost use Rattle.rv_choice.specs.Chosen.{IsChoice};
 ghost use Rattle.rv_command.specs.Texts.{IsTextAt, optional_text};
-ghost use Rattle.rv_lists.specs.JobList.{job_list_of};
-ghost use Rattle.rv_lists.specs.Jobs.{without_expectations};
+ghost use Rattle.rv_rows.specs.JobList.{job_list_of};
+ghost use Rattle.rv_rows.specs.Jobs.{without_expectations};
 ghost use Rattle.rvtest_app.specs.AcceptStops.{IsAcceptChosenStop, IsGoldenUnreadStop, IsAcceptanceWriteStop};
 ghost use Rattle.rvtest_app.specs.Accepts.{AreGoldenFiles, AreJudged, AreRowsMade, IsAcceptedAt, IsAcceptOfSelected, IsOutcomeWritten, AreOutsideFilesReported, accept_status};
 ghost use Rattle.rvtest_app.specs.Accepts.{acceptance_of};
@@ -34,18 +34,13 @@ use crate::host::Host;
 use crate::missing_images::missing_images_note;
 use crate::rules::failure_rule;
 use crate::run::gather_jobs_at;
-use rv_accept::{
-    Acceptance, GoldenText, JobRun, golden_texts_of_runs, indexed_rows, jobs_to_run, judged_runs,
-    targets_of,
-};
+use rv_accept::{Acceptance, GoldenText, JobRun, golden_texts_of_runs, indexed_rows, jobs_to_run, judged_runs, targets_of};
 use rv_accept_text::{AcceptSummary, GoldenFile, ListFile, NewList, Writing, accept_values};
 use rv_choice::{Choice, Chooser};
 use rv_command::{DONE, SOME_FAIL, Stop, parse_list, put_message, put_results, read_list_text};
-use rv_engine::RunError;
-use rv_files::{Inputs, Outputs, RecordingStore};
-use rv_fleet::{Batch, Row, run_batch};
-use rv_jobs::{Job, JobList, selected_indices};
-use rv_rows::Sink;
+use rv_files::{Inputs, Outputs, RecordingStore, Sink};
+use rv_rows::{Job, JobList, Row, selected_indices};
+use rv_stream::{Batch, RunError, run_batch};
 use rvtest_cli::{AcceptArgs, ChoosingCommand};
 use std::alloc::{AllocError, Global};
 use std::sync::Wait;

@@ -13,11 +13,10 @@ use crate::overwrites::{
 };
 use crate::read_files::{ReadFiles, ReadPath, ReadRole};
 use crate::run_inputs::{failed_of_run, push_golden_paths, push_image_path};
-use rv_base::Text;
 use rv_command::{Stop, file_error_stop};
-use rv_files::Outputs;
-use rv_jobs::Job;
-use rv_text::{Span, push_spans, push_text};
+use rv_files::{Outputs, Text};
+use rv_job_text::{Span, push_spans, push_text};
+use rv_rows::Job;
 use rvtest_cli::AcceptArgs;
 use std::alloc::{AllocError, Global};
 use std::path::Path;

@@ -2,12 +2,12 @@
 
 ghost use Rattle.std.specs.Prelude.{◌≡◌, ℕ, Bool, IsTrue, List, Ok, Some};
 ghost use Rattle.rv_accept.specs.Passing.{is_pass_or_none};
-ghost use Rattle.rv_base.specs.Files.{FileContents};
+ghost use Rattle.rv_files.specs.Files.{FileContents};
 ghost use Rattle.rvtest_cli.specs.declared.accept.AcceptArgs.{AcceptArgs as Words};
 ghost use Rattle.rv_command.specs.Texts.{IsTextAt};
-ghost use Rattle.rv_lists.specs.JobList.{job_list_of};
-ghost use Rattle.rv_lists.specs.declared.job.Job.{Job};
-ghost use Rattle.rv_report.specs.declared.row.Row.{Row};
+ghost use Rattle.rv_rows.specs.JobList.{job_list_of};
+ghost use Rattle.rv_rows.specs.declared_job.Job.{Job};
+ghost use Rattle.rv_rows.specs.declared_row.Row.{Row};
 ghost use Rattle.rvtest_app.specs.AcceptLaw.{HaveOneTextEach, IsRowIn, IsStoreAfter, IsFullyAccepted};
 ghost use Rattle.rvtest_app.specs.Accepts.{IsAcceptOfSelected, written_files};
 ghost use Rattle.rvtest_app.specs.CommandOutputs.{CommandOutputs};

@@ -1,7 +1,7 @@
 //! The command `check`.
 
 ghost use Rattle.std.specs.Prelude.{◌≡◌, ◌≤◌, IfErr, IfOk};
-ghost use Rattle.rv_lists.specs.ListFaults.{list_faults};
+ghost use Rattle.rv_rows.specs.ListFaults.{list_faults};
 ghost use Rattle.rvtest_app.specs.CheckText.{check_text, job_begin_lines};
 ghost use Rattle.rvtest_app.specs.Commands.{check_status, refused_job_count};
 ghost use Rattle.rv_files.specs.UnreadPaths.{contents_below};
@@ -13,11 +13,10 @@ ghost use Rattle.rvtest_app.specs.CommandStops.{IsCheckStop};
 use crate::check_text::{CheckedList, push_job_counts_line};
 use crate::command_output::Found;
 use crate::missing_images::push_missing_images_line;
+use rv_accept_text::job_line_numbers;
 use rv_command::{DONE, REFUSED, Stop, all_faults_text, parse_list, read_list_text};
 use rv_files::{Inputs, RecordingStore, UnreadablePath};
-use rv_jobs::{Plan, gather};
-use rv_list_locations::job_line_numbers;
-use rv_lists::read_faults;
+use rv_rows::{Plan, gather, read_faults};
 use rvtest_cli::CheckArgs;
 use std::alloc::{AllocError, Global};
 

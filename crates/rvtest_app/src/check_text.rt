@@ -2,8 +2,8 @@
 
 ghost use Rattle.std.specs.Prelude.{◌≡◌, ◌≤◌, ◌<◌, ◌++◌, IfOk, OnOk, length, option_map, slice_get, slice_index_or};
 ghost use Rattle.rv_expect.specs.TwoEnds.{expects_two_ends};
-ghost use Rattle.rv_jobs.specs.Limits.{most_jobs};
-ghost use Rattle.rv_lists.specs.declared.job.Job.{Job as AJob};
+ghost use Rattle.rv_files.specs.Limits.{most_jobs};
+ghost use Rattle.rv_rows.specs.declared_job.Job.{Job as AJob};
 ghost use Rattle.rvtest_app.specs.CheckText.{expected_end_name, job_counts_line, job_prefix, path_and_line};
 ghost use Rattle.rvtest_app.specs.CheckText.{refusal_text, refused_count_text, refused_file_line, refused_files_text};
 ghost use Rattle.rvtest_app.specs.CheckText.{refused_image_text, refused_job_text, unread_reference_text};
@@ -13,12 +13,8 @@ ghost use Rattle.rvtest_app.specs.Commands.{is_job_refused, refused_job_count, w
 
 use rv_expect::expects_two_ends;
 use rv_files::UnreadablePath;
-use rv_job_text::{
-    console_path, ending_reason, job_word, reference_path, too_long_file_text, unread_file_text,
-};
-use rv_jobs::{ExpectedEnd, Job, Kept, Plan};
-use rv_rows::{Refusal, RowEnd, image_refusal_at, refusal_at};
-use rv_text::{Span, push_spans, push_text};
+use rv_job_text::{Span, console_path, ending_reason, job_word, push_spans, push_text, reference_path, too_long_file_text, unread_file_text};
+use rv_rows::{ExpectedEnd, Job, Kept, Plan, Refusal, RowEnd, image_refusal_at, refusal_at};
 use std::alloc::{AllocError, Global};
 
 /// A list whose files were read, with the line on which each job begins.

@@ -3,9 +3,9 @@
 ghost use Rattle.std.specs.Prelude.{◌≡◌, ◌<◌, ◌≤◌, length};
 ghost use Rattle.std.specs.List.{All};
 ghost use Rattle.std.specs.List.Sorted.{IsStrictlyIncreasing};
-ghost use Rattle.rv_lists.specs.Limits.{most_jobs};
+ghost use Rattle.rv_files.specs.Limits.{most_jobs};
 
-use rv_fleet::Rows;
+use rv_rows::Rows;
 
 /// The rows of chosen jobs, with the jobs' indices in the list.
 #[derive(Drop)]

@@ -2,11 +2,11 @@
 
 ghost use Rattle.std.specs.Prelude.{◌≡◌, IfErr, IfOk, MatchResult, OnErr, OnOk};
 ghost use Rattle.std.specs.Io.KnownBytes.{Appends};
-ghost use Rattle.rv_base.specs.Counts.{one_more};
-ghost use Rattle.rv_base.specs.Sinks.{AppendsBeginning};
+ghost use Rattle.rv_files.specs.Counts.{one_more};
+ghost use Rattle.rv_files.specs.Sinks.{AppendsBeginning};
 
 use rv_command::{Stop, put_results};
-use rv_rows::Sink;
+use rv_files::Sink;
 
 /// The output of a command for standard output, and its exit status.
 #[derive(Drop)]

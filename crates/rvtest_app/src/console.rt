@@ -2,7 +2,7 @@
 
 ghost use Rattle.std.specs.Prelude.{◌≡◌, ◌⊎◌, ◌≤◌, ◌<◌, IfErr, IfOk, length, slice_index_or};
 ghost use Rattle.rv_expect.specs.Judgement.{judging_by_rule};
-ghost use Rattle.rv_lists.specs.declared.job.Job.{Job as AJob};
+ghost use Rattle.rv_rows.specs.declared_job.Job.{Job as AJob};
 ghost use Rattle.rv_command.specs.Texts.{optional_text};
 ghost use Rattle.rv_expect.specs.Passing.{has_passed};
 ghost use Rattle.rv_expect.specs.declared.passing.Rule.TheVariants.{Strict};
@@ -19,10 +19,9 @@ use crate::named_job::{NamedJob, find_named_job};
 use crate::rules::passing_status;
 use rv_command::{Stop, put_message, put_results, read_list_text};
 use rv_expect::{Judge, Rule, has_passed};
-use rv_files::{Inputs, Outputs, RecordingStore, UnreadablePath};
+use rv_files::{Inputs, Outputs, RecordingStore, Sink, UnreadablePath};
 use rv_job_text::{TextReporter, Verbosity};
-use rv_jobs::{JobList, Plan, gather_jobs};
-use rv_rows::{Row, Sink, row_at};
+use rv_rows::{JobList, Plan, Row, gather_jobs, row_at};
 use rvtest_cli::ConsoleArgs;
 use std::alloc::Global;
 

@@ -4,7 +4,7 @@ ghost use Rattle.std.specs.Prelude.{◌≡◌, ◌+◌, IfOk};
 ghost use Rattle.rvtest_app.specs.CountSums.{executed_at_addresses, executed_in_images, image_word, instruction_word, number_head, run_word, shown_number, sum_note};
 
 use rv_count_tables::{AddressCounts, CountTable, ImageCounts};
-use rv_text::{Span, text_of_spans};
+use rv_job_text::{Span, text_of_spans};
 use std::alloc::{AllocError, Global};
 
 /// Returns the line that summarizes a table of counts: its number of runs, of images and of executed instructions.

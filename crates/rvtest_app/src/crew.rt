@@ -3,8 +3,8 @@
 ghost use Rattle.std.specs.Prelude.{◌≡◌};
 ghost use Rattle.rvtest_app.specs.Crews.{AreRequestedWorkers, requested_group};
 
-use rv_fleet::Crew;
-use rv_jobs::limits::{MOST_GROUP, MOST_WORKERS};
+use rv_files::limits::{MOST_GROUP, MOST_WORKERS};
+use rv_stream::Crew;
 use rvtest_cli::RunArgs;
 use std::alloc::Global;
 use std::thread::{self, Threads};

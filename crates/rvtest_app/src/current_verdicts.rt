@@ -15,9 +15,8 @@ use crate::accepted_files::golden_file_path;
 use rv_accept::{Acceptance, Candidate, CurrentVerdict, console_path, is_accepted_end};
 use rv_expect::{Comparison, Unmet, unmet_expectations};
 use rv_files::{InputError, Inputs, read_whole_up_to};
-use rv_jobs::Job;
-use rv_jobs::limits::MOST_BYTES;
-use rv_rows::{Row, did_run};
+use rv_files::limits::MOST_BYTES;
+use rv_rows::{Job, Row, did_run};
 use std::alloc::{AllocError, Global};
 
 /// What the runs without expectations are compared with: the golden files as they are now, and the rows of other jobs.

@@ -1,8 +1,8 @@
 //! The command `explain`.
 
 ghost use Rattle.std.specs.Prelude.{◌≡◌, ◌≤◌, ◌<◌, IfErr, IfOk, length, slice_index_or};
-ghost use Rattle.rv_lists.specs.Jobs.{with_budget};
-ghost use Rattle.rv_lists.specs.declared.job.Job.{Job as AJob};
+ghost use Rattle.rv_rows.specs.Jobs.{with_budget};
+ghost use Rattle.rv_rows.specs.declared_job.Job.{Job as AJob};
 ghost use Rattle.rv_expect.specs.declared.passing.Rule.TheVariants.{Strict};
 ghost use Rattle.rv_expect.specs.Passing.{has_passed};
 ghost use Rattle.rv_rows.specs.Rows.{row_of};
@@ -19,8 +19,7 @@ use rv_command::{Stop, read_list_text};
 use rv_expect::{Judge, Rule, has_passed};
 use rv_files::{Inputs, RecordingStore, UnreadablePath};
 use rv_job_text::{TextReporter, TraceOptions, Verbosity, budget_use_at};
-use rv_jobs::{JobList, Plan, gather_jobs};
-use rv_rows::row_at;
+use rv_rows::{JobList, Plan, gather_jobs, row_at};
 use rvtest_cli::ExplainArgs;
 use std::alloc::Global;
 

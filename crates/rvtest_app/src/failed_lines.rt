@@ -6,8 +6,7 @@ ghost use Rattle.rvtest_app.specs.ReportSummary.{failed_line};
 
 use rv_expect::Judge;
 use rv_job_text::{EndDetail, push_result_line};
-use rv_rows::Row;
-use rv_stream::RowReporter;
+use rv_rows::{Row, RowReporter};
 use std::alloc::{AllocError, Global};
 
 /// Reports a line for each row that is a failure, without symbols or reasons, and nothing for other rows.

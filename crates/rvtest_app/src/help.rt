@@ -2,12 +2,12 @@
 
 ghost use Rattle.std.specs.Prelude.{◌≡◌, IfErr, IfOk, OnErr, OnOk};
 ghost use Rattle.std.specs.Io.KnownBytes.{Appends};
-ghost use Rattle.rv_base.specs.Sinks.{AppendsBeginning};
+ghost use Rattle.rv_files.specs.Sinks.{AppendsBeginning};
 ghost use Rattle.rvtest_app.specs.ReportedStops.{IsHelpWritten, IsHelpStop, IsWordsErrorStop};
 
 use clap::error::ErrorKind;
 use rv_command::{DONE, Stop, put_results};
-use rv_rows::Sink;
+use rv_files::Sink;
 use rvtest_cli::WordsError;
 
 /// Writes the help or the version to standard output if the arguments request it, and returns status 0. Otherwise returns the error of the

@@ -7,7 +7,7 @@ ghost use Rattle.rvtest_app.specs.HelpTopics.{IsNoTopicStop, IsTopicPrinted, no_
 use crate::command_output::Found;
 use crate::list_keys::LIST_KEYS;
 use rv_command::{DONE, Stop};
-use rv_text::{Span, push_text, text_of_spans};
+use rv_job_text::{Span, push_text, text_of_spans};
 use rvtest_cli::HelpArgs;
 use std::alloc::{AllocError, Global};
 

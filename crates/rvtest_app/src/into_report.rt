@@ -7,9 +7,7 @@ ghost use Rattle.rvtest_app.specs.IntoReports.{merged_rows, run_report_path, use
 
 use crate::chosen_rows::ChosenRows;
 use crate::outlets::is_stdout_at;
-use rv_fleet::Rows;
-use rv_report::Shard;
-use rv_rows::Row;
+use rv_rows::{Row, Rows, Shard};
 use rvtest_cli::RunArgs;
 
 /// What the report of a run has in addition to the run's rows.

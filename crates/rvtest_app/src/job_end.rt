@@ -1,19 +1,17 @@
 //! What gdb is shown of a job at the end of its run.
 
 ghost use Rattle.std.specs.Prelude.{◌≡◌, ◌<◌, IfOk, is_ok, length, slice_index_or, true};
-ghost use Rattle.rv_history.specs.Places.{IsReached};
-ghost use Rattle.rv_lists.specs.declared.job.Job.{Job as AJob};
-ghost use Rattle.rv_machine.specs.Machine.{state_of};
+ghost use Rattle.rv_gdb.specs.Places.{IsReached};
+ghost use Rattle.rv_rows.specs.declared_job.Job.{Job as AJob};
+ghost use Rattle.rv_rows.specs.Machine.{state_of};
 ghost use Rattle.rv_rows.specs.Rows.{row_of, start_in};
 ghost use Rattle.rvtest_app.specs.Debugging.{job_start};
 
 use rv_expect::{Judge, Rule};
 use rv_files::UnreadablePath;
+use rv_gdb::EndText;
 use rv_job_text::{TextReporter, Verbosity};
-use rv_jobs::Plan;
-use rv_machine::Machine;
-use rv_rows::{Row, row_at, row_from};
-use rv_session::EndText;
+use rv_rows::{Machine, Plan, Row, row_at, row_from};
 use std::alloc::{AllocError, Global};
 
 /// The job at an index of a plan, which is not refused, and the paths that could not be read.

@@ -3,15 +3,15 @@
 ghost use Rattle.std.specs.Prelude.{◌≡◌, ◌++◌, IfErr, IfOk, OnOk};
 ghost use Rattle.rv_command.specs.Texts.{optional_text};
 ghost use Rattle.rv_expect.specs.KnownJobs.{job_names};
-ghost use Rattle.rv_lists.specs.JobList.{names_of_jobs};
+ghost use Rattle.rv_rows.specs.JobList.{names_of_jobs};
 ghost use Rattle.rvtest_app.specs.KnownFiles.{IsKnownAt, IsKnownFile, known_fault_message, known_fault_text};
 ghost use Rattle.rvtest_app.specs.KnownStops.{IsKnownStop, IsNoKnownFileStop};
 
 use rv_command::{Stop, read_list_text};
 use rv_expect::{KnownFault, KnownFaultKind, KnownJobs, read_known_jobs};
-use rv_files::Inputs;
-use rv_jobs::{Job, Text};
-use rv_text::{Span, push_spans, push_text};
+use rv_files::{Inputs, Text};
+use rv_job_text::{Span, push_spans, push_text};
+use rv_rows::Job;
 use rvtest_cli::RunArgs;
 use std::alloc::{AllocError, Global};
 

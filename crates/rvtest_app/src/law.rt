@@ -3,7 +3,7 @@
 ghost use Rattle.std.specs.Prelude.{◌≡◌, [], List};
 ghost use Rattle.rv_accept_text.specs.AcceptLines.{changed_count};
 ghost use Rattle.rv_accept_text.specs.declared.accepting.AcceptSummary.{AcceptSummary};
-ghost use Rattle.rv_report.specs.declared.row.Row.{Row};
+ghost use Rattle.rv_rows.specs.declared_row.Row.{Row};
 ghost use Rattle.rvtest_app.specs.Accepts.{written_files};
 ghost use Rattle.rvtest_app.specs.ReportSummary.{AreSortedBySteps, rows_by_steps};
 

@@ -77,3 +77,6 @@ pub use host::Host;
 pub use law::{nothing_is_written_where_nothing_changes, rows_by_steps_are_sorted};
 pub use program::{refuse_unreadable_words, run_rvtest};
 pub use terminals::Terminals;
+
+// From the crates below: what this interface names, and what its callers need with it.
+pub use rv_files::{PipeSink, StreamSink, SystemInputs, SystemOutputs};

@@ -12,10 +12,9 @@ use crate::destinations::Destinations;
 use crate::rules::failure_rule;
 use rv_choice::{Choice, Chooser};
 use rv_command::{DONE, Stop, parse_list, put_message, put_results, read_list_text};
-use rv_files::{Inputs, Outputs};
-use rv_jobs::{Job, selected_indices};
-use rv_rows::Sink;
-use rv_text::push_text;
+use rv_files::{Inputs, Outputs, Sink};
+use rv_job_text::push_text;
+use rv_rows::{Job, selected_indices};
 use rvtest_cli::{ChoosingCommand, RunArgs};
 use std::alloc::{AllocError, Global};
 

@@ -3,10 +3,10 @@
 ghost use Rattle.std.specs.Prelude.{◌≡◌, ◌≤◌, ◌++◌, ◌∷◌, [], IfErr, IfOk, IfSome, OnErr, OnOk, Some, codes, length, map};
 ghost use Rattle.std.specs.Fmt.{decimal};
 ghost use Rattle.rv_job_text.specs.TotalsLine.{totals_line};
-ghost use Rattle.rv_lists.specs.Limits.{most_jobs};
+ghost use Rattle.rv_files.specs.Limits.{most_jobs};
 ghost use Rattle.rv_merge.specs.Parts.{AreParts, bytes_of_texts, nth_text};
 ghost use Rattle.rvtest_app.specs.Commands.{report_judging};
-ghost use Rattle.rv_report.specs.Report.{report_text};
+ghost use Rattle.rv_rows.specs.Report.{report_text};
 ghost use Rattle.rvtest_app.specs.MergeRefusals.{ArePartsRefused, IsMergeErrorStop, flaw_message, other_run_message};
 ghost use Rattle.rvtest_app.specs.MergeRefusals.{part_path, two_parts_message};
 ghost use Rattle.rvtest_app.specs.MergeStops.{ArePartsUnread, IsMergeStop, IsMergeWriteStop};
@@ -25,16 +25,12 @@ use crate::output_writes::put_shown;
 use crate::overwrites::{look_up_files, read_paths_of_words, refuse_overwrite};
 use crate::rules::{report_judge, rows_status};
 use crate::whole_files::put_whole_files;
-use rv_command::{
-    ResultKind, Stop, path_message, path_number_message, read_result_file, refused_line_message,
-};
-use rv_files::{Inputs, Outputs};
-use rv_fleet::Rows;
-use rv_job_text::push_totals_line;
+use rv_command::{ResultKind, Stop, path_message, path_number_message, read_result_file, refused_line_message};
+use rv_files::{Inputs, Outputs, Sink};
+use rv_job_text::{Span, push_totals_line, text_of_spans};
 use rv_junit::Suite;
 use rv_merge::{Flaw, MergeError, merge_parts};
-use rv_rows::Sink;
-use rv_text::{Span, text_of_spans};
+use rv_rows::Rows;
 use rvtest_cli::MergeArgs;
 use std::alloc::{AllocError, Global};
 

@@ -3,13 +3,13 @@
 ghost use Rattle.std.specs.Prelude.{◌≡◌, ◌++◌, IfOk, OnOk, option_map};
 ghost use Rattle.rv_command.specs.Texts.{optional_text};
 ghost use Rattle.rv_job_text.specs.UnreadFiles.{unread_note};
-ghost use Rattle.rv_report.specs.Report.{line};
+ghost use Rattle.rv_rows.specs.Report.{line};
 ghost use Rattle.rvtest_app.specs.MissingImages.{are_images_missing, is_image_missing, is_not_found};
 ghost use Rattle.rvtest_app.specs.MissingImages.{is_reported_missing, missing_images_line, missing_images_note, paths_text};
 
 use rv_files::UnreadablePath;
-use rv_jobs::{Job, Plan};
-use rv_text::{Span, push_spans, push_text};
+use rv_job_text::{Span, push_spans, push_text};
+use rv_rows::{Job, Plan};
 use std::alloc::{AllocError, Global};
 use std::io::ErrorKind;
 

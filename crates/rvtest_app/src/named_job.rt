@@ -2,13 +2,13 @@
 
 ghost use Rattle.std.specs.Prelude.{◌≡◌, ◌<◌, IfErr, IfOk, IfSome, Ok, length, position};
 ghost use Rattle.std.specs.Str.{bytes_eq};
-ghost use Rattle.rv_lists.specs.JobList.{job_list_of};
+ghost use Rattle.rv_rows.specs.JobList.{job_list_of};
 ghost use Rattle.rvtest_app.specs.CommandStops.{IsNoJobStop};
 ghost use Rattle.rvtest_app.specs.Reports.{IsFirstNamed};
 
 use rv_choice::unknown_name_stop;
 use rv_command::{Stop, parse_list};
-use rv_jobs::{Job, JobList};
+use rv_rows::{Job, JobList};
 use std::alloc::Global;
 
 /// The jobs of a list, and the index of the named one.

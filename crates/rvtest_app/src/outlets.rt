@@ -2,7 +2,7 @@
 
 ghost use Rattle.std.specs.Prelude.{◌≡◌, [], Some, false, IfErr, IfOk, IsErr, IsOk, IsSomeAnd, MatchResult, OnErr, OnOk, is_some};
 ghost use Rattle.std.specs.Io.KnownBytes.{Appends};
-ghost use Rattle.rv_base.specs.Sinks.{AppendsBeginning};
+ghost use Rattle.rv_files.specs.Sinks.{AppendsBeginning};
 ghost use Rattle.rv_command.specs.Texts.{optional_text};
 ghost use Rattle.rv_expect.specs.Judgement.{judging_of};
 ghost use Rattle.rvtest_app.specs.Outlets.{HasTaken, IsPutInto, file_path_at, has_no_failure, is_out, is_stdout, is_stdout_at};
@@ -17,9 +17,9 @@ ghost use Rattle.rvtest_app.specs.ReportTexts.{report_rest_of, report_text_of};
 
 use crate::report_texts::ReportText;
 use rv_command::{Stop, file_error_stop, path_message};
-use rv_files::{LastError, Outputs, write_error_text};
+use rv_files::{LastError, Outputs, Sink, write_error_text};
 use rv_junit::{Cases, Suite, write_junit};
-use rv_rows::{RowReporter, Sink, WriteError};
+use rv_rows::{RowReporter, WriteError};
 use std::alloc::Global;
 use std::io::ErrorKind;
 

@@ -15,9 +15,9 @@ use crate::destinations::Destinations;
 use crate::file_texts::FileTexts;
 use crate::outlets::{Outlets, abandon_outlets};
 use rv_command::{Stop, put_message, put_results};
-use rv_files::{LastError, Outputs};
+use rv_files::{LastError, Outputs, Sink};
 use rv_junit::Cases;
-use rv_rows::{RowReporter, Sink};
+use rv_rows::RowReporter;
 use std::alloc::Global;
 
 /// Writes the output of a command to standard error if `is_beside` is true, and otherwise to standard output.

@@ -10,10 +10,9 @@ ghost use Rattle.rvtest_app.specs.Outlets.{is_stdout};
 
 use crate::outlets::is_stdout;
 use crate::read_files::{ReadFiles, ReadPath, ReadRole};
-use rv_base::Text;
 use rv_command::{Stop, file_error_stop};
-use rv_files::{Outputs, resolved_path};
-use rv_text::{Span, push_spans, push_text, text_of_spans};
+use rv_files::{Outputs, Text, resolved_path};
+use rv_job_text::{Span, push_spans, push_text, text_of_spans};
 use std::alloc::{AllocError, Global};
 
 /// Returns the input files at these paths with their identities.

@@ -3,12 +3,12 @@
 ghost use Rattle.std.specs.Prelude.{◌≡◌, ◌≤◌, length, take};
 ghost use Rattle.std.specs.Option.{ForSome};
 ghost use Rattle.std.specs.List.Sorted.{IsStrictlyIncreasing};
-ghost use Rattle.rv_fleet.specs.Choices.{AreJobIndices};
+ghost use Rattle.rv_stream.specs.Choices.{AreJobIndices};
 
 use crate::into_report::ReportFrame;
 use rv_expect::KnownJobs;
 use rv_job_text::TextReporter;
-use rv_jobs::JobList;
+use rv_rows::JobList;
 
 /// The jobs of a list, and the selection of those that are requested.
 #[derive(Drop)]

@@ -2,15 +2,14 @@
 
 ghost use Rattle.std.specs.Prelude.{◌≡◌, ◌⊎◌, IfErr, IfOk};
 ghost use Rattle.rv_count_tables.specs.Table.{IsTable};
-ghost use Rattle.rv_cover_view.specs.JobImages.{images_of_files};
+ghost use Rattle.rv_profile.specs.JobImages.{images_of_files};
 ghost use Rattle.rv_profile.specs.ProfileText.{IsProfileText};
 ghost use Rattle.rvtest_app.specs.ViewStops.{IsPast64BitsStop, past_64_bits_message};
 
 use rv_command::Stop;
 use rv_count_tables::CountTable;
-use rv_cover_view::ImageFile;
-use rv_profile::{ProfileFormat, image_past_64_bits, profile_text};
-use rv_text::{Span, text_of_spans};
+use rv_job_text::{Span, text_of_spans};
+use rv_profile::{ImageFile, ProfileFormat, image_past_64_bits, profile_text};
 use std::alloc::{AllocError, Global};
 
 /// Returns the profile of the images, computed from the call stacks of a table. The error that a sum does not fit in 64 bits names

@@ -2,7 +2,7 @@
 
 ghost use Rattle.std.specs.Prelude.{◌≡◌, length};
 
-use rv_base::Text;
+use rv_files::Text;
 use std::path::PathBuf;
 
 /// The path of a file that a command reads, and how messages call the file.

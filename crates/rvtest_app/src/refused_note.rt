@@ -1,9 +1,9 @@
 //! What `cover` and `profile` report about refused jobs.
 
 ghost use Rattle.std.specs.Prelude.{◌≡◌, ◌<◌, ◌++◌, IfOk, OnOk, length, slice_index_or};
-ghost use Rattle.rv_fleet.specs.Choices.{AreJobIndices};
+ghost use Rattle.rv_stream.specs.Choices.{AreJobIndices};
 ghost use Rattle.rv_expect.specs.Judgement.{judging_of};
-ghost use Rattle.rv_lists.specs.declared.job.Job.{Job as AJob};
+ghost use Rattle.rv_rows.specs.declared_job.Job.{Job as AJob};
 ghost use Rattle.rvtest_app.specs.RefusedNotes.{refused_line, refused_lines, refused_note};
 
 use crate::missing_images::missing_images_note;
@@ -11,8 +11,7 @@ use crate::rules::failure_rule;
 use rv_expect::Judge;
 use rv_files::UnreadablePath;
 use rv_job_text::{TextReporter, Verbosity};
-use rv_jobs::Plan;
-use rv_rows::{refusal_at, row_at};
+use rv_rows::{Plan, refusal_at, row_at};
 use rvtest_cli::RunArgs;
 use std::alloc::{AllocError, Global};
 

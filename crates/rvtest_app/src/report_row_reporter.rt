@@ -2,8 +2,7 @@
 
 ghost use Rattle.rvtest_app.specs.IntoReports.{report_row_text};
 
-use rv_report::push_row;
-use rv_rows::{Row, RowReporter};
+use rv_rows::{Row, RowReporter, push_row};
 use std::alloc::{AllocError, Global};
 
 /// Reports each row as it is written in a report.

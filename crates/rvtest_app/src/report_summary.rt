@@ -8,9 +8,8 @@ ghost use Rattle.rvtest_app.specs.ReportSummary.{failed_line, most_steps_text, s
 use crate::failed_lines::push_failed_line;
 use crate::rows_with_most_steps::rows_with_most_steps;
 use rv_expect::Judge;
-use rv_job_text::push_totals_line;
+use rv_job_text::{Span, push_spans, push_text, push_totals_line};
 use rv_rows::Row;
-use rv_text::{Span, push_spans, push_text};
 use std::alloc::{AllocError, Global};
 
 /// Appends what `show` prints about the rows of a report: a line for each failure, the totals, and the rows with the most steps.

@@ -3,18 +3,17 @@
 ghost use Rattle.std.specs.Prelude.{◌≡◌, IfErr, OnErr, OnOk, length};
 ghost use Rattle.std.specs.Option.{ForSome};
 ghost use Rattle.std.specs.Io.KnownBytes.{Appends};
-ghost use Rattle.rv_lists.specs.Counts.{HasIncreased};
-ghost use Rattle.rv_lists.specs.Sinks.{AppendsBeginning};
-ghost use Rattle.rv_report.specs.Report.{report_text};
+ghost use Rattle.rv_files.specs.Counts.{HasIncreased};
+ghost use Rattle.rv_files.specs.Sinks.{AppendsBeginning};
+ghost use Rattle.rv_rows.specs.Report.{report_text};
 ghost use Rattle.rvtest_app.specs.IntoReports.{merged_rows, run_report_rest, run_report_text};
 ghost use Rattle.rvtest_app.specs.ReportTexts.{report_rest_of, report_rows, report_text_of};
 
 use crate::chosen_rows::ChosenRows;
 use crate::into_report::{IntoRows, ReportFrame};
 use crate::rows_report::{write_chosen_report, write_last_line};
-use rv_fleet::{Report, Rows, write_report};
-use rv_report::Shard;
-use rv_rows::{Row, Sink, WriteError};
+use rv_files::Sink;
+use rv_rows::{Report, Row, Rows, Shard, WriteError, write_report};
 use std::alloc::Global;
 
 /// The contents of a report.

@@ -19,10 +19,8 @@ use crate::whole_report::read_whole_report;
 use rv_choice::{Choice, Chooser, requested_shard};
 use rv_command::{Stop, parse_list, read_list_text};
 use rv_files::Inputs;
-use rv_fleet::Rows;
-use rv_jobs::{Job, JobList};
 use rv_merge::shard_selection;
-use rv_report::Shard;
+use rv_rows::{Job, JobList, Rows, Shard};
 use rvtest_cli::ChoosingCommand;
 
 impl<'x, R, D: Inputs> ListRun<'x, R, D> {

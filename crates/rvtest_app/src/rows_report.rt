@@ -3,14 +3,14 @@
 ghost use Rattle.std.specs.Prelude.{◌≡◌, ◌<◌, IfErr, IfOk, OnErr, OnOk};
 ghost use Rattle.std.specs.Io.KnownBytes.{Appends};
 ghost use Rattle.std.specs.List.{All};
-ghost use Rattle.rv_lists.specs.Limits.{most_jobs};
-ghost use Rattle.rv_lists.specs.Sinks.{AppendsBeginning};
-ghost use Rattle.rv_lists.specs.Counts.{HasIncreased};
+ghost use Rattle.rv_files.specs.Limits.{most_jobs};
+ghost use Rattle.rv_files.specs.Sinks.{AppendsBeginning};
+ghost use Rattle.rv_files.specs.Counts.{HasIncreased};
 ghost use Rattle.rvtest_app.specs.RunOutput.{chosen_last_line, chosen_report_text, job_numbers, part_text};
 
 use crate::chosen_rows::ChosenRows;
-use rv_fleet::{Report, Sink, WriteError, put_all, write_report};
-use rv_report::{Extent, Numbers, SavedReport, Shard, push_extent_line, write_saved_report};
+use rv_files::{Sink, put_all};
+use rv_rows::{Extent, Numbers, Report, SavedReport, Shard, WriteError, push_extent_line, write_report, write_saved_report};
 use std::alloc::{AllocError, Global};
 
 /// Writes the report of these rows: of a shard if one is given, else of the whole list if all its jobs are chosen, else of chosen jobs.

@@ -2,7 +2,7 @@
 
 ghost use Rattle.std.specs.Prelude.{◌≡◌, ◌⊎◌, ◌≤◌, ◌<◌, None, Some, IfErr, IfOk, OnErr, true, length};
 ghost use Rattle.std.specs.List.{All};
-ghost use Rattle.rv_jobs.specs.Plans.{AgreeWithContents, jobs_needed_for, one_more_times, paths_of, paths_used, unreadable_count};
+ghost use Rattle.rv_rows.specs.Plans.{AgreeWithContents, jobs_needed_for, one_more_times, paths_of, paths_used, unreadable_count};
 ghost use Rattle.rvtest_app.specs.Commands.{failure_rule, requested_verbosity};
 ghost use Rattle.rvtest_app.specs.Overwrites.{AreRunInputsKept};
 ghost use Rattle.rvtest_app.specs.RunStops.{IsRunWriteStop, IsRunStop};
@@ -20,10 +20,9 @@ use crate::run_inputs::refuse_run_overwrites;
 use crate::terminals::Terminals;
 use rv_command::{DONE, Stop, put_message};
 use rv_expect::{Judge, Rule};
-use rv_files::{Inputs, Outputs, RecordingStore};
+use rv_files::{Inputs, Outputs, RecordingStore, Sink, Store};
 use rv_job_text::{TextReporter, Verbosity};
-use rv_jobs::{JobList, Plan, Store, gather_jobs, selected_indices};
-use rv_rows::Sink;
+use rv_rows::{JobList, Plan, gather_jobs, selected_indices};
 use rvtest_cli::{ChoosingCommand, RunArgs};
 use std::alloc::{AllocError, Global};
 use std::io::Write;

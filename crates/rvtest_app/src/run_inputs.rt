@@ -3,14 +3,14 @@
 ghost use Rattle.std.specs.Prelude.{◌≡◌, ◌++◌, ◌∷◌, [], IfErr, IfOk, IfSome, OnOk};
 ghost use Rattle.rv_command.specs.Texts.{optional_text};
 ghost use Rattle.rv_files.specs.UnreadPaths.{resolved_path};
-ghost use Rattle.rv_lists.specs.Jobs.{console_path};
+ghost use Rattle.rv_rows.specs.Jobs.{console_path};
 ghost use Rattle.rvtest_app.specs.Overwrites.{AreReportsKept, AreRunFilesApart, IsRunOverwriteStop, failed_of_run, golden_paths_of_job, inputs_of_run, paths_of_job, read_paths, reports_of_run};
 
 use crate::overwrites::{look_up_files, push_read, refuse_overwrite};
 use crate::read_files::{ReadPath, ReadRole};
 use rv_command::Stop;
 use rv_files::Outputs;
-use rv_jobs::Job;
+use rv_rows::Job;
 use rvtest_cli::RunArgs;
 use std::alloc::{AllocError, Global};
 

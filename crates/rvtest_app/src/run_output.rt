@@ -12,11 +12,10 @@ ghost use Rattle.rvtest_app.specs.declared.run_output.ShowError.TheVariants.{Out
 use crate::outlets::{Outlet, unwritten_stop};
 use rv_command::Stop;
 use rv_expect::Judge;
-use rv_files::LastError;
-use rv_fleet::{Batch, Rows, Sink, put_all};
+use rv_files::{LastError, Sink, put_all};
 use rv_job_text::{RunRows, push_run_totals_line};
-use rv_rows::WriteError;
-use rv_stream::StreamError;
+use rv_rows::{Rows, WriteError};
+use rv_stream::{Batch, StreamError};
 use std::alloc::{AllocError, Global};
 
 /// Why not all rows of a run were shown and written.

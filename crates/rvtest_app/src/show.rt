@@ -3,7 +3,7 @@
 ghost use Rattle.std.specs.Prelude.{◌≡◌, ◌≤◌, ◌<◌, ◌^◌, None, IfErr, IfOk, IfSome, OnErr, OnOk, Some, length};
 ghost use Rattle.rv_expect.specs.Judgement.{judging_of};
 ghost use Rattle.rv_command.specs.Texts.{optional_text};
-ghost use Rattle.rv_report.specs.Report.{report_text};
+ghost use Rattle.rv_rows.specs.Report.{report_text};
 ghost use Rattle.rvtest_app.specs.CommandStops.{IsShowStop};
 ghost use Rattle.rvtest_app.specs.OutputWrites.{IsOutputWritten};
 ghost use Rattle.rvtest_app.specs.WriteStops.{IsOutputStop};
@@ -25,10 +25,9 @@ use crate::rules::{report_judge, rows_status};
 use crate::whole_files::put_whole_files;
 use rv_command::{RequestedReport, Stop, cut_off_note, put_message, read_requested_report};
 use rv_expect::Judge;
-use rv_files::{Inputs, Outputs};
+use rv_files::{Inputs, Outputs, Sink};
 use rv_junit::Suite;
-use rv_report::SavedReport;
-use rv_rows::{Row, Sink};
+use rv_rows::{Row, SavedReport};
 use rvtest_cli::ShowArgs;
 use std::alloc::{AllocError, Global};
 

@@ -3,7 +3,7 @@
 ghost use Rattle.std.specs.Prelude.{◌≡◌, ◌++◌, [], ℕ, List, Option, IfErr, OnErr, OnOk, Some};
 ghost use Rattle.std.specs.Io.KnownBytes.{Appends};
 ghost use Rattle.rv_expect.specs.Judgement.{judging_of};
-ghost use Rattle.rv_report.specs.Report.{report_text};
+ghost use Rattle.rv_rows.specs.Report.{report_text};
 ghost use Rattle.rvtest_app.specs.Outlets.{AreFilesCommitted, AreFilesPartlyCommitted, HasTaken, file_at, has_no_failure, outlet_path, stdout_at};
 ghost use Rattle.rvtest_app.specs.WriteStops.{IsOutputWriteStop};
 ghost use Rattle.rvtest_app.specs.JunitTexts.{failures_junit};
@@ -15,10 +15,9 @@ use crate::outlets::{Outlets, abandon_outlets};
 use crate::output_writes::put_files;
 use crate::report_texts::ReportText;
 use rv_command::Stop;
-use rv_files::Outputs;
-use rv_fleet::Rows;
+use rv_files::{Outputs, Sink};
 use rv_junit::Suite;
-use rv_rows::Sink;
+use rv_rows::Rows;
 use std::alloc::Global;
 
 /// Writes the report of all rows and their JUnit XML to their outlets, and then moves the files to their paths.

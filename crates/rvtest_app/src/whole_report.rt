@@ -1,19 +1,16 @@
 //! The whole report of a list into which a run merges its rows.
 
 ghost use Rattle.std.specs.Prelude.{◌≡◌, ◌≤◌, IfErr, IfOk, IfSome, None, length};
-ghost use Rattle.rv_lists.specs.Limits.{most_jobs};
-ghost use Rattle.rv_report.specs.Saved.{row_names};
+ghost use Rattle.rv_files.specs.Limits.{most_jobs};
+ghost use Rattle.rv_rows.specs.Saved.{row_names};
 ghost use Rattle.rvtest_app.specs.IntoReports.{IsWholeReport, IsWholeReportAt, job_names};
 ghost use Rattle.rvtest_app.specs.IntoStops.{IsFirstOtherName, IsNotWholeReportStop, IsNotWhole, count_refusal};
 ghost use Rattle.rvtest_app.specs.IntoStops.{jobs_of_partial_report, name_refusal, not_whole_refusal, part_refusal};
 
 use rv_command::{Stop, read_report_file};
 use rv_files::Inputs;
-use rv_fleet::Rows;
-use rv_jobs::Job;
-use rv_report::{Extent, SavedReport};
-use rv_rows::Row;
-use rv_text::{Span, text_of_spans};
+use rv_job_text::{Span, text_of_spans};
+use rv_rows::{Extent, Job, Row, Rows, SavedReport};
 use std::alloc::{AllocError, Global};
 
 /// Why a report is not a report of all jobs of a list.

@@ -12,8 +12,7 @@ ghost use Rattle.rvtest_app.specs.WrittenTexts.{IsUnwrittenAtStop, IsWrittenAt, 
 use crate::destinations::Destinations;
 use crate::outlets::{OpenFile, Outlet, is_stdout, unwritten_stop};
 use rv_command::{Stop, file_error_stop, put_results};
-use rv_files::{LastError, Outputs};
-use rv_rows::{Sink, put_all};
+use rv_files::{LastError, Outputs, Sink, put_all};
 use std::alloc::Global;
 
 /// Writes a text to the file at a path, or to standard output if there is no path or it is `-`.

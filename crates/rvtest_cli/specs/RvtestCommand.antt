@@ -4,7 +4,7 @@ use Rattle.std.specs.Borrow.{Bor}
 use Rattle.clap.specs.Words.{App, Rule, Text, new_app, new_rule, with_rule, with_subcommand}
 use Rattle.clap.specs.declared.builder.action.ArgAction.TheVariants.{Append, SetTrue}
 use Rattle.clap.specs.declared.builder.value_parser.ValueParser.TheVariants as value_parser
-use Rattle.rv_base.specs.Limits.{most_budget, most_jobs, most_workers}
+use Rattle.rv_cli.specs.Limits.{most_budget, most_jobs, most_workers}
 use Rattle.rvtest_cli.specs.declared.arguments.Argument.{Argument}
 use Rattle.rvtest_cli.specs.declared.arguments.Argument.TheVariants as argument
 use Rattle.rvtest_cli.specs.declared.command.ChoosingCommand.{ChoosingCommand}

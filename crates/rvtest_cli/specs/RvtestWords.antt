@@ -8,7 +8,7 @@ use Rattle.std.specs.Str.{bytes_eq}
 use Rattle.clap.specs.Kinds.{or_else}
 use Rattle.clap.specs.Words.{Kinds, Row, Text, fault_of, first_of, subcommand_of}
 use Rattle.clap.specs.declared.error.kind.ErrorKind.TheVariants as kind
-use Rattle.rv_base.specs.Limits.{most_budget, most_group, most_jobs, most_workers}
+use Rattle.rv_cli.specs.Limits.{most_budget, most_group, most_jobs, most_workers}
 use Rattle.rvtest_cli.specs.RvtestCommand.{most_functions, most_last_instructions, most_slower, test_app}
 use Rattle.rvtest_cli.specs.declared.refusals.Misuse.{Misuse}
 use Rattle.rvtest_cli.specs.declared.refusals.Misuse.TheVariants as misuse

@@ -10,7 +10,7 @@ use crate::requests::Request;
 use crate::run::{RunArgs, is_choice_given, run_args};
 use crate::words_error::WordsError;
 use clap::ArgMatches;
-use rv_base::limits::MOST_GROUP;
+use rv_cli::limits::MOST_GROUP;
 use rv_cli::values::{is_flag_set, is_option_given, number_value, text_value};
 use std::alloc::Global;
 

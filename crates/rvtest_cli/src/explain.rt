@@ -8,7 +8,7 @@ use crate::refusals::color_misuse;
 use crate::requests::Request;
 use crate::words_error::WordsError;
 use clap::ArgMatches;
-use rv_base::limits::MOST_BUDGET;
+use rv_cli::limits::MOST_BUDGET;
 use rv_cli::values::{number_value, text_value};
 use std::alloc::Global;
 

@@ -2,7 +2,7 @@
 
 ghost use Rattle.std.specs.Prelude.{◌≡◌, ◌≤◌, IfOk, None, map};
 ghost use Rattle.clap.specs.Words.{found_of, rows_of};
-ghost use Rattle.rv_base.specs.Limits.{most_group};
+ghost use Rattle.rv_cli.specs.Limits.{most_group};
 ghost use Rattle.rvtest_cli.specs.RvtestWords.{AreRunArgsInRange, ReadsRequest, is_name_combined_with_choice, chosen_names, named_run_words};
 ghost use Rattle.rvtest_cli.specs.RvtestWords.{profile_misuse, profile_request, run_options_of_args};
 
@@ -13,7 +13,7 @@ use crate::requests::Request;
 use crate::run::{RunArgs, is_choice_given, run_args};
 use crate::words_error::WordsError;
 use clap::ArgMatches;
-use rv_base::limits::MOST_GROUP;
+use rv_cli::limits::MOST_GROUP;
 use rv_cli::values::{argument_values, is_flag_set, is_option_given, number_value, text_value};
 use std::alloc::{AllocError, Global};
 

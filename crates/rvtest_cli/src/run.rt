@@ -2,7 +2,7 @@
 
 ghost use Rattle.std.specs.Prelude.{◌≡◌, ◌≤◌, IfOk, None};
 ghost use Rattle.clap.specs.Words.{found_of, rows_of};
-ghost use Rattle.rv_base.specs.Limits.{most_group};
+ghost use Rattle.rv_cli.specs.Limits.{most_group};
 ghost use Rattle.rvtest_cli.specs.RvtestWords.{AreRunArgsInRange, ReadsRequest, are_counts_overwriting, are_rows_saved, are_rows_written_twice, are_stacks_alone, is_choice_given, is_failed_report_overwritten, is_report_given, is_into_stdout, run_options_of_args};
 ghost use Rattle.rvtest_cli.specs.RvtestWords.{run_misuse, test_run_request, run_words};
 
@@ -14,7 +14,7 @@ use crate::refusals::{
 use crate::requests::Request;
 use crate::words_error::WordsError;
 use clap::ArgMatches;
-use rv_base::limits::{MOST_BUDGET, MOST_GROUP, MOST_JOBS, MOST_WORKERS};
+use rv_cli::limits::{MOST_BUDGET, MOST_GROUP, MOST_JOBS, MOST_WORKERS};
 use rv_cli::values::{argument_values, is_flag_set, is_option_given, number_value, text_value};
 use std::alloc::{AllocError, Global};
 

@@ -4,7 +4,7 @@ use crate::arguments::{Argument, Bounds};
 use crate::command::Subcommand;
 use crate::examples;
 use crate::profile::MOST_FUNCTIONS;
-use rv_base::limits::{MOST_BUDGET, MOST_GROUP, MOST_JOBS, MOST_WORKERS};
+use rv_cli::limits::{MOST_BUDGET, MOST_GROUP, MOST_JOBS, MOST_WORKERS};
 
 /// The commands of `rvtest`, in the order in which the help lists them.
 pub(crate) const COMMANDS: [Subcommand<'static>; 14] = [

@@ -6,7 +6,7 @@
 use crate::arguments::Bounds;
 use crate::table::number_bounds;
 use clap::Error;
-use rv_base::is_name;
+use rv_cli::is_name;
 use rv_text::{Span, push_spans};
 use std::alloc::{AllocError, Global};
 use strsim::levenshtein;

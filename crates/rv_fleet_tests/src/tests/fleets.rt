@@ -4,8 +4,7 @@ ghost use Rattle.rv_fleet.specs.Choices.{AreJobIndices};
 
 use super::gate::NotingGate;
 use super::{chosen, crew_of, push_rows};
-use rv_fleet::{Batch, Crew, Rows, run_batch, run_fleet};
-use rv_jobs::Plan;
+use rv_fleet::{Batch, Crew, Plan, Rows, run_batch, run_fleet};
 use samples::cell_of;
 use std::alloc::Global;
 use std::sync::Wait;

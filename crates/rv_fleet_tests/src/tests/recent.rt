@@ -2,9 +2,8 @@
 ghost use Rattle.std.specs.Prelude.{◌<◌, length};
 
 use super::{number_in, plan_in};
-use rv_fleet::{Outcome, RowEnd, Words};
-use rv_jobs::{Bytes, Plan};
-use rv_rows::{Recent, Spare, row_at_with_recent};
+use rv_fleet::{Outcome, Plan, Recent, RowEnd, Spare, Words, row_at_with_recent};
+use rv_stream::Bytes;
 use samples::cell_of;
 use std::alloc::{AllocError, Global};
 use std::test::Fail;

@@ -1,6 +1,6 @@
 use Rattle.std.proofs.Common.{◌≡◌, ◌∙◌, ◌++◌, ℕ, List, subst}
 use Rattle.std.specs.Prelude.{OnOk, codes}
-use Rattle.rv_text.specs.Printable.{printable_text}
+use Rattle.rv_rows.specs.Printable.{printable_text}
 use Rattle.rv_accept_text.proofs.job_lines.push_difference.Goals as goal
 
 pub returns : goal.returns

@@ -1,7 +1,7 @@
 use Rattle.std.proofs.Common.{get_or, sym, ap}
 use Rattle.std.proofs.lemmas.List.{get_or_read}
-use Rattle.rv_jobs.specs.declared_job.Job.{Job}
-use Rattle.rv_machine.specs.Machine.{state_of}
+use Rattle.rv_trace.specs.declared_job.Job.{Job}
+use Rattle.rv_trace.specs.Machine.{state_of}
 use Rattle.rv_calls.proofs.Jobs.{calls_found, no_calls}
 use Rattle.rv_calls.proofs.run.calls_at_end.Goals as goal
 

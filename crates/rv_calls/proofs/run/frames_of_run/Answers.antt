@@ -1,6 +1,6 @@
 -- From transfer to transfer.
 use Rattle.std.proofs.Common.{◌≡◌, ◌∙◌, ◌-◌, ◌+◌, List, sym, ap, subst, arith, inl, inr}
-use Rattle.rv_machine.specs.Machine.{state_of}
+use Rattle.rv_trace.specs.Machine.{state_of}
 use Rattle.rv_calls.specs.declared.frames.Frame.{Frame}
 use Rattle.rv_calls.specs.Calls.{frames_of_run}
 use Rattle.rv_calls.specs.Stack.{after_transfer}

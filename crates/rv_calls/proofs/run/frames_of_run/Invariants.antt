@@ -1,5 +1,5 @@
 use Rattle.std.proofs.Common.{◌≡◌, ◌-◌}
-use Rattle.rv_machine.specs.Machine.{state_of}
+use Rattle.rv_trace.specs.Machine.{state_of}
 use Rattle.rv_trace.specs.Trace.{state_after}
 use Rattle.rv_calls.specs.Calls.{frames_of_run}
 use Rattle.rv_calls.proofs.Runs.{LeadsTo}

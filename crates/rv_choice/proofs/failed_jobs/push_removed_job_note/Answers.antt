@@ -1,6 +1,6 @@
 use Rattle.std.proofs.Common.{◌≡◌, ◌∙◌, ◌++◌, ℕ, List, OnOk, append_assoc, subst, sym}
 use Rattle.std.specs.Prelude.{codes}
-use Rattle.rv_text.specs.Printable.{printable_text}
+use Rattle.rv_command.specs.Printable.{printable_text}
 use Rattle.rv_choice.proofs.failed_jobs.push_removed_job_note.Goals as goal
 
 four : (a b c d : List ℕ) → a ++ (b ++ (c ++ d)) ≡ a ++ b ++ c ++ d

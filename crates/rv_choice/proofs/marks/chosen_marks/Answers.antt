@@ -1,7 +1,7 @@
 use Rattle.std.proofs.Common.{◌∙◌, ◌∷◌, ◌++◌, Bool, [], List, map, take, sym, ap, arith, ℕ}
 use Rattle.std.proofs.lemmas.List.{map_more, take_all}
 use Rattle.rv_choice.specs.Choice.{is_chosen_name, chosen_marks, pattern_of, optional_names}
-use Rattle.rv_lists.specs.declared.job.Job.{Job}
+use Rattle.rv_expect.specs.declared_job.Job.{Job}
 use Rattle.rv_choice.proofs.marks.chosen_marks.Goals as goal
 
 pub loop-place-init : goal.loop-place-init

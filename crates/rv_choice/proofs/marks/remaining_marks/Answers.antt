@@ -4,7 +4,7 @@ use Rattle.regex.specs.Patterns.{Re, find_str}
 use Rattle.regex.specs.Strings.{regex_pattern}
 use Rattle.rv_choice.specs.Choice.{stays_selected, remaining_marks}
 use Rattle.rv_choice.proofs.Names.{left_more}
-use Rattle.rv_lists.specs.declared.job.Job.{Job}
+use Rattle.rv_expect.specs.declared_job.Job.{Job}
 use Rattle.rv_choice.proofs.marks.remaining_marks.Goals as goal
 
 pub loop-place-init : goal.loop-place-init

@@ -1,5 +1,5 @@
 use Rattle.std.proofs.Common.{◌∙◌, ap, sym}
-use Rattle.rv_base.specs.Names.{is_name}
+use Rattle.rv_command.specs.Names.{is_name}
 use Rattle.rv_choice.proofs.shard.requested_shard.Goals as goal
 use Rattle.rv_choice.proofs.shard.requested_shard.Goals.{in-Some-stamp+in_ok-stamp-in-Some-stamp, in-None+in_ok-stamp-in-None}
 

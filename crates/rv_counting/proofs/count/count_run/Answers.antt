@@ -1,5 +1,5 @@
 -- A new counter counts the run alone.
-use Rattle.rv_machine.specs.Machine.{state_of}
+use Rattle.rv_trace.specs.Machine.{state_of}
 use Rattle.rv_counting.proofs.count.count_run.Goals as goal
 
 pub follow_run-requires-clause-right : goal.follow_run-requires-clause-right

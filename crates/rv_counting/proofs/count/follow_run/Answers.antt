@@ -1,6 +1,6 @@
 -- From block to block.
 use Rattle.std.proofs.Common.{◌≡◌, ◌+◌, ◌-◌, sym, subst, arith}
-use Rattle.rv_machine.specs.Machine.{state_of}
+use Rattle.rv_trace.specs.Machine.{state_of}
 use Rattle.rv_counting.specs.Counters.{counts_of, IsCountingOn}
 use Rattle.rv_counting.proofs.Counted.{none_so_far}
 use Rattle.rv_counting.proofs.Counters.{counted_all_on, equal_tests, ready_on, unequal_tests}

@@ -1,6 +1,6 @@
 -- What is counted so far, in addition to what was counted before.
 use Rattle.std.proofs.Common.{◌-◌, ◌≤◌}
-use Rattle.rv_machine.specs.Machine.{state_of}
+use Rattle.rv_trace.specs.Machine.{state_of}
 use Rattle.rv_counting.specs.Counters.{counts_of, IsCountingOn}
 use Rattle.rv_counting.proofs.count.follow_run.Given as goal
 

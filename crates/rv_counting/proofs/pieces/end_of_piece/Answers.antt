@@ -3,7 +3,7 @@ use Rattle.std.proofs.Common.{◌∙◌, ◌<◌, ℕ, get_or, length, sym, ap, 
 use Rattle.std.proofs.lemmas.List.{get_or_read}
 use Rattle.std.proofs.lemmas.List.Elements.{All-get_or}
 use Rattle.std.specs.Cmp.Lexicographic.{bytes_decides}
-use Rattle.rv_jobs.specs.declared_job.Job.{Job}
+use Rattle.rv_trace.specs.declared_job.Job.{Job}
 use Rattle.rv_counting.proofs.ImagePieces.{first_image, is_piece, next_image}
 use Rattle.rv_counting.proofs.pieces.end_of_piece.Goals as goal
 

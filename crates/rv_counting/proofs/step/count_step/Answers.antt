@@ -1,8 +1,8 @@
 -- A run of one step tells what came of it.
 use Rattle.std.proofs.Common.{◌∙◌, Result, sym, ap, subst, refl}
-use Rattle.rv_machine.specs.declared.ending.Ending.{Ending}
-use Rattle.rv_machine.specs.Machine.{state_of}
-use Rattle.rv_machine.specs.State.{State}
+use Rattle.rv_trace.specs.declared_ending.Ending.{Ending}
+use Rattle.rv_trace.specs.Machine.{state_of}
+use Rattle.rv_trace.specs.State.{State}
 use Rattle.rv_counting.specs.Coverage.{completes, takes, IsStateAfter, is_taken_code}
 use Rattle.rv_counting.proofs.Ends.{ended_of, completed_of, ended_begins, completed_begins, taken_is}
 use Rattle.rv_counting.proofs.step.count_step.Goals as goal

@@ -4,7 +4,7 @@ use Rattle.std.proofs.lemmas.Bool.{false≢true}
 use Rattle.std.specs.Prelude.{is_ok}
 use Rattle.std.specs.Str.{IsUtf8}
 use Rattle.rv_count_tables.specs.Lines.{lacks}
-use Rattle.rv_text.specs.Printable.{printable_text}
+use Rattle.rv_count_tables.specs.Printable.{printable_text}
 use Rattle.rv_counting.proofs.Lines.{one_line}
 use Rattle.rv_counting.proofs.table_of_job.shown_text.Goals as goal
 

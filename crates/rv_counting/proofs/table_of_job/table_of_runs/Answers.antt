@@ -1,10 +1,10 @@
 -- The one image can stand in a table.
 use Rattle.std.proofs.Common.{◌≡◌, ◌∙◌, ◌∷◌, List, [], ap, subst, sym, arith}
 use Rattle.sha2.specs.Sha256.{sha256}
-use Rattle.rv_call_tree.specs.declared.spot.Spot.{Spot}
+use Rattle.rv_count_tables.specs.declared_spot.Spot.{Spot}
 use Rattle.rv_count_tables.specs.declared.table.FunctionName.{FunctionName}
 use Rattle.rv_count_tables.specs.Table.{AreNames, AreNamesOf, AreSpots}
-use Rattle.rv_text.specs.Printable.{printable_text}
+use Rattle.rv_count_tables.specs.Printable.{printable_text}
 use Rattle.rv_counting.proofs.Evens.{all_even}
 use Rattle.rv_counting.proofs.OfJobs.{no_names, no_owners, no_spots, one_image_is_table}
 use Rattle.rv_counting.proofs.table_of_job.table_of_runs.Goals as goal

@@ -1,7 +1,7 @@
 -- One code more is counted, and the codes behind it are the rest.
 use Rattle.std.proofs.Common.{◌∙◌, ◌^◌, ◌<◌, ap, arith, length, sym}
 use Rattle.std.proofs.lemmas.List.{length-drop}
-use Rattle.rv_trace.specs.Code.{size_of_code}
+use Rattle.rv_counting.specs.Code.{size_of_code}
 use Rattle.rv_cover_view.specs.Cover.{amounts_of_codes}
 use Rattle.rv_cover_view.specs.Steps.{plus}
 use Rattle.rv_cover_view.proofs.Codes.{code_in_front, no_codes}

@@ -1,7 +1,7 @@
 use Rattle.std.proofs.Common.{◌∙◌, [], ap, get_or, sym}
 use Rattle.std.proofs.lemmas.List.{get_or_default}
-use Rattle.rv_jobs.specs.Jobs.{single_job}
-use Rattle.rv_trace.specs.Trace.{job_at}
+use Rattle.rv_counting.specs.Jobs.{single_job}
+use Rattle.rv_counting.specs.Trace.{job_at}
 use Rattle.rv_cover_view.specs.JobImages.{with_image_of}
 use Rattle.rv_cover_view.proofs.JobImages.{images_more}
 use Rattle.rv_cover_view.proofs.job_images.images_of_jobs.Goals as goal

@@ -1,6 +1,6 @@
 use Rattle.std.proofs.Common.{◌∙◌}
 use Rattle.rv_cover_view.specs.JobImages.{images_of_files}
-use Rattle.rv_trace.specs.Trace.{job_at}
+use Rattle.rv_counting.specs.Trace.{job_at}
 use Rattle.rv_cover_view.proofs.JobImages.{found_here, on_ok}
 use Rattle.rv_cover_view.proofs.job_images.push_image_at.Goals as goal
 

@@ -1,7 +1,7 @@
 use Rattle.std.proofs.Common.{◌≡◌, ◌∙◌, ap, codes, drop, false, sym, Some}
 use Rattle.std.specs.Fmt.{decimal}
 use Rattle.rv_diff.specs.Change.{have_same_console}
-use Rattle.rv_text.specs.Printable.{printable_value}
+use Rattle.rv_rows.specs.Printable.{printable_value}
 use Rattle.rv_diff.specs.Differences.{console_words, first_differing_index}
 use Rattle.rv_diff.proofs.Told.{byte_told, told}
 use Rattle.rv_diff.proofs.differences.push_console_change.Goals as goal

@@ -1,5 +1,5 @@
 use Rattle.std.proofs.Common.{codes, length}
-use Rattle.rv_text.specs.Words.{count_text}
+use Rattle.rv_rows.specs.Words.{count_text}
 use Rattle.rv_diff.specs.Differences.{signature_words}
 use Rattle.rv_diff.proofs.Told.{gone_told, new_told, none_told, told}
 use Rattle.rv_diff.proofs.signature_line.push_signature_line.Goals as goal

@@ -1,6 +1,6 @@
 use Rattle.std.proofs.Common.{◌∙◌, codes, length, sym}
 use Rattle.std.specs.Fmt.{decimal}
-use Rattle.rv_text.specs.Words.{count_text, word_digits}
+use Rattle.rv_rows.specs.Words.{count_text, word_digits}
 use Rattle.rv_diff.proofs.Told.{counts_told, told, word_told}
 use Rattle.rv_diff.proofs.signature_line.push_words_change.Goals as goal
 

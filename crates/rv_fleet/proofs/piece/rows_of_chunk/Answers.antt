@@ -1,6 +1,6 @@
 use Rattle.std.proofs.Common.{◌≡◌, ◌∙◌, ◌+◌, ◌-◌, ◌*◌, ◌<◌, ℕ, [], arith, length, min}
 use Rattle.std.specs.Prelude.{slice_index_or}
-use Rattle.rv_jobs.specs.Jobs.{single_job}
+use Rattle.rv_rows.specs.Jobs.{single_job}
 use Rattle.rv_rows.specs.declared_row.Row.{Row}
 use Rattle.rv_rows.specs.Rows.{row_of, rows_at}
 use Rattle.rv_fleet.specs.Batches.{batch_rows}

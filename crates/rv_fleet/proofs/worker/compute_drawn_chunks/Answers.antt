@@ -1,7 +1,7 @@
 use Rattle.std.proofs.Common.{◌∙◌, sym, ap, subst}
-use Rattle.rv_claims.specs.NewPieces.{HasDrawnMore}
-use Rattle.rv_claims.specs.Passes.{SharedDraw, PassView}
-use Rattle.rv_claims.proofs.Public.{took_some, made_one, made_all, falls, grew_more}
+use Rattle.rv_engine.specs.NewPieces.{HasDrawnMore}
+use Rattle.rv_engine.specs.Passes.{SharedDraw, PassView}
+use Rattle.rv_engine.proofs.Public.{took_some, made_one, made_all, falls, grew_more}
 use Rattle.rv_fleet.specs.Pieces.{numbered_piece}
 use Rattle.rv_fleet.proofs.worker.compute_drawn_chunks.Goals as goal
 

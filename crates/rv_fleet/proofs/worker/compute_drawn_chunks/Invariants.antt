@@ -1,6 +1,6 @@
 use Rattle.std.proofs.Common.{◌≡◌, ◌-◌, map}
-use Rattle.rv_claims.specs.NewPieces.{HasDrawnMore, new_pieces}
-use Rattle.rv_claims.proofs.Public.{above}
+use Rattle.rv_engine.specs.NewPieces.{HasDrawnMore, new_pieces}
+use Rattle.rv_engine.proofs.Public.{above}
 use Rattle.rv_rows.specs.Recent.{AreOutcomes}
 use Rattle.rv_fleet.specs.Pieces.{numbered_piece}
 use Rattle.rv_fleet.proofs.worker.compute_drawn_chunks.Given as goal

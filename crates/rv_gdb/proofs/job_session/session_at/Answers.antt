@@ -2,8 +2,8 @@
 use Rattle.std.proofs.Common.{◌∙◌, sym, ap}
 use Rattle.std.proofs.lemmas.List.{get_or_read}
 use Rattle.std.specs.Result.{result_ok}
-use Rattle.rv_elf.specs.Image.{image_of}
-use Rattle.rv_jobs.specs.declared_job.Job.{Job}
+use Rattle.rv_trace.specs.Image.{image_of}
+use Rattle.rv_trace.specs.declared_job.Job.{Job}
 use Rattle.rv_trace.specs.Trace.{job_at}
 use Rattle.rv_gdb.proofs.Starting.{no_bytes, no_image}
 use Rattle.rv_gdb.proofs.job_session.session_at.Goals as goal

@@ -2,9 +2,9 @@
 use Rattle.std.proofs.Common.{refl, ap}
 use Rattle.std.proofs.lemmas.List.{get_or_read}
 use Rattle.std.specs.Prelude.{is_ok}
-use Rattle.rv_history.specs.declared.start.Start.{Start}
-use Rattle.rv_jobs.specs.declared_job.Job.{Job}
-use Rattle.rv_machine.specs.Machine.{state_of}
+use Rattle.rv_session.specs.declared_start.Start.{Start}
+use Rattle.rv_trace.specs.declared_job.Job.{Job}
+use Rattle.rv_trace.specs.Machine.{state_of}
 use Rattle.rv_trace.specs.Trace.{job_at}
 use Rattle.rv_gdb.proofs.Starting.{aligned_of, even_of, opened}
 use Rattle.rv_gdb.proofs.job_session.session_over_image.Goals as goal

@@ -1,8 +1,8 @@
 use Rattle.std.proofs.Common.{◌≡◌, [], subst, true}
-use Rattle.rv_jobs.specs.Jobs.{single_job}
-use Rattle.rv_machine.specs.Machine.{state_of}
-use Rattle.rv_machine.specs.Run.{run_of}
-use Rattle.rv_machine.specs.State.{State}
+use Rattle.rv_trace.specs.Jobs.{single_job}
+use Rattle.rv_trace.specs.Machine.{state_of}
+use Rattle.rv_trace.specs.Run.{run_of}
+use Rattle.rv_trace.specs.State.{State}
 use Rattle.rv_trace.specs.Trace.{state_after}
 use Rattle.rv_hang.specs.Repetition.{has_values}
 use Rattle.rv_hang.proofs.Starts.{no_start, one_start}

@@ -1,6 +1,6 @@
 use Rattle.std.proofs.Common.{◌∙◌, ◌+◌, ◌≤◌, arith, refl, subst, sym}
-use Rattle.rv_machine.specs.Machine.{state_of}
-use Rattle.rv_machine.specs.State.{State}
+use Rattle.rv_trace.specs.Machine.{state_of}
+use Rattle.rv_trace.specs.State.{State}
 use Rattle.rv_history.specs.Kept.{IsAt}
 use Rattle.rv_history.proofs.Between.{quiet_run}
 use Rattle.rv_history.proofs.Forward.{quiet_more}

@@ -1,7 +1,7 @@
 use Rattle.std.proofs.Common.{◌∙◌, ap, sym}
-use Rattle.rv_machine.specs.Machine.{state_of}
-use Rattle.rv_machine.specs.Run.{run_of}
-use Rattle.rv_machine.specs.State.{State}
+use Rattle.rv_trace.specs.Machine.{state_of}
+use Rattle.rv_trace.specs.Run.{run_of}
+use Rattle.rv_trace.specs.State.{State}
 use Rattle.rv_history.specs.Stops.{is_break}
 use Rattle.rv_history.proofs.Between.{begins_at_none}
 use Rattle.rv_history.proofs.breaks.run_between.Goals as goal

@@ -1,5 +1,5 @@
 use Rattle.std.proofs.Common.{◌-◌, ◌≤◌, ℕ}
-use Rattle.rv_machine.specs.Machine.{state_of}
+use Rattle.rv_trace.specs.Machine.{state_of}
 use Rattle.rv_history.specs.LastStop.{IsLastOn}
 use Rattle.rv_history.specs.Places.{IsReached}
 use Rattle.rv_history.proofs.breaks.search_breaks.Given as goal

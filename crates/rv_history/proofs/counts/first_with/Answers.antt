@@ -1,6 +1,6 @@
 use Rattle.std.proofs.Common.{◌≡◌, ◌∙◌, Ok, Err, arith, length, sym}
-use Rattle.rv_machine.specs.Machine.{state_of}
-use Rattle.rv_machine.specs.Run.{step_of}
+use Rattle.rv_trace.specs.Machine.{state_of}
+use Rattle.rv_trace.specs.Run.{step_of}
 use Rattle.rv_history.specs.Starts.{start_of}
 use Rattle.rv_history.proofs.Counting.{found_at_budget, found_here, lacks_more, none_at_budget, none_at_end, step_ended, step_went, told_here}
 use Rattle.rv_history.proofs.Reaching.{at_start, next_place}

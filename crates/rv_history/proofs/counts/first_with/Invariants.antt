@@ -1,4 +1,4 @@
-use Rattle.rv_machine.specs.Machine.{state_of}
+use Rattle.rv_trace.specs.Machine.{state_of}
 use Rattle.rv_history.specs.Places.{IsReached}
 use Rattle.rv_history.specs.Starts.{start_of}
 use Rattle.rv_history.proofs.Counting.{LacksUpTo}

@@ -1,5 +1,5 @@
 use Rattle.std.proofs.Common.{◌≡◌, ◌-◌}
-use Rattle.rv_machine.specs.Machine.{state_of}
+use Rattle.rv_trace.specs.Machine.{state_of}
 use Rattle.rv_history.specs.ForwardMoves.{IsMoveInProgress}
 use Rattle.rv_history.specs.Stops.{watched_bytes}
 use Rattle.rv_history.proofs.search.next_watched.Given as goal

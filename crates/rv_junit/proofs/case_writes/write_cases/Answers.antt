@@ -2,12 +2,12 @@ use Rattle.std.proofs.Common.{◌∙◌, ◌+◌, ◌<◌, ◌++◌, ◌∷◌, 
 use Rattle.std.proofs.lemmas.List.{get_or_default, take_all}
 use Rattle.std.proofs.lemmas.Result.{err_from_is_err_and}
 use Rattle.std.specs.List.{concat}
-use Rattle.rv_base.proofs.Public.{beginning_of_longer, failed_under_way, more_under_way, nothing_under_way}
-use Rattle.rv_base.proofs.Public.{stopped_under_way}
-use Rattle.rv_expect.specs.Judgement.{judging_of}
+use Rattle.rv_stream.proofs.Public.{beginning_of_longer, failed_under_way, more_under_way, nothing_under_way}
+use Rattle.rv_stream.proofs.Public.{stopped_under_way}
+use Rattle.rv_job_text.specs.Judgement.{judging_of}
 use Rattle.rv_junit.specs.Junit.{case_text}
-use Rattle.rv_rows.specs.Sinks.{IsPartlySent}
-use Rattle.rv_rows.specs.declared_row.Row.{Row}
+use Rattle.rv_stream.specs.Sinks.{IsPartlySent}
+use Rattle.rv_stream.specs.declared_row.Row.{Row}
 use Rattle.rv_stream.proofs.Public.{told_behind, told_none, told_rest}
 use Rattle.rv_stream.specs.Streams.{row_text_list, joined_row_texts}
 use Rattle.rv_junit.proofs.case_writes.write_cases.Goals as goal

@@ -1,6 +1,6 @@
 use Rattle.std.proofs.Common.{◌≡◌, ◌++◌, take}
-use Rattle.rv_rows.specs.Sinks.{IsPartlySent}
-use Rattle.rv_expect.specs.Judgement.{judging_of}
+use Rattle.rv_stream.specs.Sinks.{IsPartlySent}
+use Rattle.rv_job_text.specs.Judgement.{judging_of}
 use Rattle.rv_junit.specs.Junit.{case_text}
 use Rattle.rv_stream.specs.Streams.{joined_row_texts}
 use Rattle.rv_junit.proofs.case_writes.write_cases.Given as goal

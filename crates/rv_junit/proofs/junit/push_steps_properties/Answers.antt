@@ -2,7 +2,7 @@ use Rattle.std.proofs.Common.{◌++◌, List, ℕ, append_assoc, codes, string_b
 use Rattle.std.specs.List.{flat_map}
 use Rattle.rv_junit.specs.Junit.{steps_properties, steps_property}
 use Rattle.rv_junit.proofs.CaseTexts.{written}
-use Rattle.rv_text.proofs.Public.{ended, more, told}
+use Rattle.rv_job_text.proofs.Public.{ended, more, told}
 use Rattle.rv_junit.proofs.junit.push_steps_properties.Goals as goal
 
 pub returns : goal.returns

@@ -1,7 +1,7 @@
 use Rattle.std.proofs.Common.{codes, string_bytes}
 use Rattle.rv_junit.proofs.CaseTexts.{suite_whole}
-use Rattle.rv_text.proofs.Public.{ended, more, told}
-use Rattle.rv_expect.specs.Judgement.{judging_of}
+use Rattle.rv_job_text.proofs.Public.{ended, more, told}
+use Rattle.rv_job_text.specs.Judgement.{judging_of}
 use Rattle.rv_job_text.specs.TotalsLine.{known_count}
 use Rattle.rv_junit.specs.Junit.{skipped_attribute}
 use Rattle.rv_junit.proofs.junit.push_suite_begin.Goals as goal

@@ -1,12 +1,12 @@
 use Rattle.std.proofs.Common.{◌++◌, ℕ, List, [], codes, string_bytes}
-use Rattle.rv_text.specs.declared.xml.Within.TheVariants.{Element}
-use Rattle.rv_text.specs.Words.{count_text}
-use Rattle.rv_text.specs.Xml.{xml_text}
-use Rattle.rv_expect.specs.Judgement.{judgement, judging_of}
+use Rattle.rv_job_text.specs.declared_xml.Within.TheVariants.{Element}
+use Rattle.rv_job_text.specs.TextWords.{count_text}
+use Rattle.rv_job_text.specs.Xml.{xml_text}
+use Rattle.rv_job_text.specs.Judgement.{judgement, judging_of}
 use Rattle.rv_junit.specs.Junit.{judged_text}
 use Rattle.rv_junit.specs.Pieces.{attribute}
 use Rattle.rv_junit.proofs.CaseTexts.{case_whole}
-use Rattle.rv_text.proofs.Public.{ended, more, told}
+use Rattle.rv_job_text.proofs.Public.{ended, more, told}
 use Rattle.rv_junit.proofs.junit.push_test_case.Goals as goal
 
 pub returns : goal.returns

@@ -1,7 +1,7 @@
 use Rattle.std.proofs.Common.{◌∙◌, ◌++◌, ap}
 use Rattle.std.proofs.lemmas.Result.{err_from_is_err_and}
-use Rattle.rv_base.proofs.Public.{beginning_of_longer, ended_under_way, failed_under_way, stopped_under_way}
-use Rattle.rv_expect.specs.Judgement.{judging_of}
+use Rattle.rv_stream.proofs.Public.{beginning_of_longer, ended_under_way, failed_under_way, stopped_under_way}
+use Rattle.rv_job_text.specs.Judgement.{judging_of}
 use Rattle.rv_junit.specs.Junit.{suite_begin_text, suite_end_text}
 use Rattle.rv_junit.proofs.CaseTexts.{junit_begun, nothing_out}
 use Rattle.rv_junit.proofs.junit_writer.write_junit.Goals as goal

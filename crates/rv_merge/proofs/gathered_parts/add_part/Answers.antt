@@ -2,7 +2,7 @@ use Rattle.std.proofs.Common.{◌∙◌, ◌+◌, ◌-◌, ◌<◌, ◌≤◌, �
 use Rattle.std.specs.Prelude.{slice_set, vec_len}
 use Rattle.std.proofs.lemmas.Bool.{false≢true}
 use Rattle.std.proofs.lemmas.Option.{same_Some}
-use Rattle.rv_report.specs.declared.row.Row.{Row}
+use Rattle.rv_rows.specs.declared_row.Row.{Row}
 use Rattle.rv_merge.specs.GatheredParts.{Holds, filled_slots, report_of_part}
 use Rattle.rv_merge.specs.Parts.{bytes_of_texts, nth_text}
 use Rattle.rv_merge.proofs.Gathering.{are_two, has_other_run, holds_again, holds_more, number_within, read_none}

@@ -1,6 +1,6 @@
 use Rattle.std.proofs.Common.{ℕ, ◌<◌}
 use Rattle.std.specs.Prelude.{slice_index_or}
-use Rattle.rv_report.specs.declared.row.Row.{Row}
+use Rattle.rv_rows.specs.declared_row.Row.{Row}
 use Rattle.rv_merge.specs.Numbers.{HasNumbers}
 use Rattle.rv_merge.proofs.list_rows_law.rows_have_word_numbers.Given as goal
 

@@ -7,10 +7,10 @@ use Rattle.std.specs.Ordering.{nat_cmp}
 use Rattle.std.proofs.lemmas.List.{length-map, length-take-le}
 use Rattle.std.proofs.lemmas.Map.Text.{btree_map_updates_str}
 use Rattle.std.proofs.lemmas.Option.{slice_get_read}
-use Rattle.rv_jobs.specs.Names.{index_in}
-use Rattle.rv_base.proofs.Public.{places_more}
-use Rattle.rv_report.specs.declared.row.Row.{Row}
-use Rattle.rv_report.specs.Saved.{are_new, row_names}
+use Rattle.rv_rows.specs.Names.{index_in}
+use Rattle.rv_rows.proofs.Public.{places_more}
+use Rattle.rv_rows.specs.declared_row.Row.{Row}
+use Rattle.rv_rows.specs.Saved.{are_new, row_names}
 use Rattle.rv_merge.proofs.Named.{fresh_end, fresh_later, names_on, nowhere}
 use Rattle.rv_merge.proofs.names.first_repeated_name.Goals as goal
 

@@ -2,8 +2,8 @@ use Rattle.std.proofs.Common.{◌≡◌, ℕ, List, [], take, drop}
 use Rattle.std.specs.BTreeMap.{get_by}
 use Rattle.std.specs.Cmp.Lexicographic.{slice_cmp}
 use Rattle.std.specs.Ordering.{nat_cmp}
-use Rattle.rv_jobs.specs.Names.{index_in}
-use Rattle.rv_report.specs.Saved.{are_new, row_names}
+use Rattle.rv_rows.specs.Names.{index_in}
+use Rattle.rv_rows.specs.Saved.{are_new, row_names}
 use Rattle.rv_merge.proofs.names.first_repeated_name.Given as goal
 
 abbrev pub invariant-loop-at : goal.invariant-loop-at

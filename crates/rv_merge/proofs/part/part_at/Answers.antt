@@ -1,5 +1,5 @@
 use Rattle.std.proofs.Common.{[], ℕ, List, Bor}
-use Rattle.rv_report.specs.declared.read.ReadError.TheVariants as read
+use Rattle.rv_rows.specs.declared_read.ReadError.TheVariants as read
 use Rattle.rv_merge.proofs.Texts.{other_at, unread_at}
 use Rattle.rv_merge.proofs.part.part_at.Goals as goal
 

@@ -2,7 +2,7 @@ use Rattle.std.proofs.Common.{◌≡◌, ◌∙◌, ◌+◌, ◌∷◌, ◌++◌
 use Rattle.std.specs.List.{range_with_len}
 use Rattle.std.proofs.lemmas.List.{length-map}
 use Rattle.std.proofs.lemmas.List.FromFn.{length-range_with_len, map-range_with_len_more}
-use Rattle.rv_jobs.specs.Choices.{selected_indices}
+use Rattle.rv_rows.specs.Choices.{selected_indices}
 use Rattle.rv_merge.specs.Shards.{is_in_shard, shard_selection}
 use Rattle.rv_merge.proofs.Sharded.{marked_by}
 use Rattle.rv_merge.proofs.shards.shard_selection.Goals as goal

@@ -6,7 +6,7 @@ use Rattle.rv_count_tables.specs.declared.table.CountTable.{CountTable}
 use Rattle.rv_count_tables.specs.declared.table.FunctionName.{FunctionName}
 use Rattle.rv_count_tables.specs.declared.table.ImageCounts.{ImageCounts}
 use Rattle.rv_cover_view.specs.ImageCounts.{counted_image, is_of_digest}
-use Rattle.rv_call_tree.specs.declared.spot.Spot.{Spot}
+use Rattle.rv_count_tables.specs.declared_spot.Spot.{Spot}
 use Rattle.rv_profile.specs.ImageStacks.{names_of, spots_of}
 use Rattle.rv_profile.proofs.Found.{found_is}
 use Rattle.rv_profile.proofs.Owned.{are_functions, function_of, own_of_profile}

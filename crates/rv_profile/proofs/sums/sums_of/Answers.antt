@@ -1,5 +1,5 @@
 use Rattle.std.proofs.Common.{◌∙◌, arith, sym}
-use Rattle.rv_call_tree.specs.declared.spot.Spot.{Spot}
+use Rattle.rv_count_tables.specs.declared_spot.Spot.{Spot}
 use Rattle.rv_profile.proofs.SpotSums.{all_fit, none_of_all, one_more}
 use Rattle.rv_profile.proofs.sums.sums_of.Goals as goal
 

@@ -1,8 +1,8 @@
 use Rattle.std.proofs.Common.{◌≡◌, IfSome, List, ap, subst, sym}
 use Rattle.rv_elf.specs.Rows.{accepted}
 use Rattle.rv_elf.specs.Symbols.{signature_check}
-use Rattle.rv_memory.specs.declared.map.Region.{Region}
-use Rattle.rv_memory.specs.Bus.{Contents}
+use Rattle.rv_machine.specs.declared_map.Region.{Region}
+use Rattle.rv_machine.specs.Bus.{Contents}
 use Rattle.rv_rows.proofs.attempt.ended_run.Goals as goal
 
 pub returns-clause-readable : goal.returns-clause-readable

@@ -1,6 +1,6 @@
 use Rattle.std.proofs.Common.{◌≡◌, ◌∙◌, [], ap}
-use Rattle.rv_memory.specs.declared.access.Misaligned.TheVariants.{Fault}
-use Rattle.rv_memory.specs.Bus.{byte_at, new_bus, with_bytes}
+use Rattle.rv_machine.specs.declared_access.Misaligned.TheVariants.{Fault}
+use Rattle.rv_machine.specs.Bus.{byte_at, new_bus, with_bytes}
 use Rattle.rv_jobs.specs.Jobs.{default_regions}
 use Rattle.rv_rows.proofs.FlatImages.{flat_memory, image_fits}
 use Rattle.rv_rows.proofs.flat.flat_bus.Goals as goal

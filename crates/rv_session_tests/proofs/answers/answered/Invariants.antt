@@ -1,4 +1,4 @@
-use Rattle.rv_history.specs.Starts.{start_of}
+use Rattle.rv_session.specs.Starts.{start_of}
 use Rattle.rv_session_tests.specs.Talks.{IsReady}
 use Rattle.rv_session_tests.proofs.answers.answered.Given as goal
 

@@ -1,6 +1,6 @@
 use Rattle.std.proofs.Common.{◌∙◌, List, sym, ap, subst}
 use Rattle.std.specs.List.{list_all}
-use Rattle.rv_call_tree.specs.declared.spot.Spot.{Spot}
+use Rattle.rv_count_tables.specs.declared_spot.Spot.{Spot}
 use Rattle.rv_stacks.specs.Nodes.{is_empty}
 use Rattle.rv_stacks.specs.Walks.{AreSpotsOf}
 use Rattle.rv_stacks.proofs.Flattened.{all_moved, none_moved, one_moved}

@@ -1,6 +1,6 @@
 -- It is the symbol's value, where the address has a symbol.
 use Rattle.std.proofs.Common.{◌∙◌, sym}
-use Rattle.rv_elf.specs.SymbolSearch.{symbol_at}
+use Rattle.rv_counting.specs.SymbolSearch.{symbol_at}
 use Rattle.rv_stacks.specs.Stacks.{function_at, no_function}
 use Rattle.rv_stacks.proofs.SymbolValues.{starts_nowhere, starts_there}
 use Rattle.rv_stacks.proofs.functions.function_of.Goals as goal

@@ -1,5 +1,5 @@
 -- The last address, where 0 has a symbol.
-use Rattle.rv_elf.specs.SymbolSearch.{symbol_at}
+use Rattle.rv_counting.specs.SymbolSearch.{symbol_at}
 use Rattle.rv_stacks.proofs.SymbolValues.{none_there, some_function}
 use Rattle.rv_stacks.proofs.functions.no_function.Goals as goal
 

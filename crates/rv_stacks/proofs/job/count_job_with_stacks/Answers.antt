@@ -3,10 +3,10 @@ use Rattle.std.proofs.Common.{◌∙◌, Some, None, Result, get_or, sym, ap, su
 use Rattle.std.proofs.lemmas.List.{get_or_read}
 use Rattle.rv_counting.proofs.Public.{counts_even, start_even}
 use Rattle.rv_counting.specs.Coverage.{AreCountsOf}
-use Rattle.rv_jobs.specs.declared_job.Job.{Job}
-use Rattle.rv_machine.specs.Machine.{state_of}
-use Rattle.rv_machine.specs.State.{State}
-use Rattle.rv_report.specs.declared.row.Refusal.{Refusal}
+use Rattle.rv_counting.specs.declared_job.Job.{Job}
+use Rattle.rv_counting.specs.Machine.{state_of}
+use Rattle.rv_counting.specs.State.{State}
+use Rattle.rv_counting.specs.declared_row.Refusal.{Refusal}
 use Rattle.rv_stacks.specs.Stacks.{function_at, AreCountsAndStacksOfJob, AreStacksOf}
 use Rattle.rv_stacks.proofs.job.count_job_with_stacks.Goals as goal
 

@@ -3,8 +3,8 @@ use Rattle.std.proofs.Common.{◌≡◌, ◌+◌, ◌++◌, ◌∷◌, List, [],
 use Rattle.std.proofs.lemmas.List.{take_more}
 use Rattle.std.specs.List.{AllByRecursion}
 use Rattle.rv_count_tables.specs.declared.table.FunctionName.{FunctionName}
-use Rattle.rv_call_tree.specs.declared.spot.Spot.{Spot}
-use Rattle.rv_call_tree.specs.Sums.{FitsSpot}
+use Rattle.rv_count_tables.specs.declared_spot.Spot.{Spot}
+use Rattle.rv_count_tables.specs.Sums.{FitsSpot}
 use Rattle.rv_stacks.specs.StackTables.{name_of_function, AreNamedUpTo, AreNamesBy}
 use Rattle.rv_stacks.proofs.NamedSpots.{each_push, none_named}
 use Rattle.rv_stacks.proofs.RisingNames.{none_named_yet}

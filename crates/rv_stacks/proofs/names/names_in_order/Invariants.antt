@@ -1,7 +1,7 @@
 -- The names so far are those of the functions of the spots so far, and no later one is lower.
 use Rattle.std.proofs.Common.{ℕ, ◌+◌, ◌<◌, ◌≤◌, get_or, length, take}
 use Rattle.std.specs.List.{AllByRecursion}
-use Rattle.rv_call_tree.specs.Sums.{FitsSpot}
+use Rattle.rv_count_tables.specs.Sums.{FitsSpot}
 use Rattle.rv_stacks.specs.StackTables.{name_of_function, AreNamedUpTo, AreNamesBy}
 use Rattle.rv_stacks.proofs.names.names_in_order.Given as goal
 

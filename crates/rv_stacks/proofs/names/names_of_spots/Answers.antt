@@ -2,7 +2,7 @@
 use Rattle.std.proofs.lemmas.Result.{IfOk-weaker}
 use Rattle.std.proofs.Common.{List, sym, subst}
 use Rattle.std.specs.List.Sorted.{IsNonDecreasingBy, IsPermutation}
-use Rattle.rv_call_tree.specs.declared.spot.Spot.{Spot}
+use Rattle.rv_count_tables.specs.declared_spot.Spot.{Spot}
 use Rattle.rv_stacks.specs.StackTables.{name_of_function}
 use Rattle.rv_stacks.proofs.RisingNames.{fit_in_order, named_in_order}
 use Rattle.rv_stacks.proofs.names.names_of_spots.Goals as goal

@@ -1,5 +1,5 @@
 -- The counts sorted, and the nodes as spots.
-use Rattle.rv_machine.specs.Machine.{state_of}
+use Rattle.rv_counting.specs.Machine.{state_of}
 use Rattle.rv_stacks.specs.Stacks.{function_at}
 use Rattle.rv_stacks.proofs.Counting.{stacks_of_nodes}
 use Rattle.rv_stacks.proofs.run.count_with_stacks.Goals as goal

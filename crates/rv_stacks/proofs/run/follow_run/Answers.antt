@@ -3,7 +3,7 @@ use Rattle.std.proofs.Common.{◌≡◌, ◌+◌, ◌-◌, ℕ, List, [], sym, s
 use Rattle.rv_calls.specs.declared.frames.Frame.{Frame}
 use Rattle.rv_counting.proofs.Public.{counted_all}
 use Rattle.rv_counting.specs.Counters.{IsCounting}
-use Rattle.rv_machine.specs.Machine.{state_of}
+use Rattle.rv_counting.specs.Machine.{state_of}
 use Rattle.rv_stacks.specs.Stacks.{function_at}
 use Rattle.rv_stacks.specs.StackSteps.{BeginsAt, SoFar}
 use Rattle.rv_stacks.proofs.Advancing.{ready_so_far, still_so_far}

@@ -1,7 +1,7 @@
 -- What is counted so far, and what there is to count ahead, is that of the run.
 use Rattle.std.proofs.Common.{◌-◌, ◌≤◌}
 use Rattle.rv_counting.specs.Counters.{IsCounting}
-use Rattle.rv_machine.specs.Machine.{state_of}
+use Rattle.rv_counting.specs.Machine.{state_of}
 use Rattle.rv_stacks.specs.Stacks.{function_at}
 use Rattle.rv_stacks.specs.StackSteps.{IsFunctionCache, SoFar}
 use Rattle.rv_stacks.proofs.run.follow_run.Given as goal

@@ -5,18 +5,18 @@ use Rattle.std.proofs.lemmas.Result.{IfOk-weaker}
 use Rattle.std.specs.Result.{result_ok}
 use Rattle.rv_count_tables.specs.declared.table.AddressCounts.{AddressCounts}
 use Rattle.rv_counting.proofs.Public.{no_bytes, no_image}
-use Rattle.rv_elf.specs.Image.{image_of}
-use Rattle.rv_elf.specs.declared.error.ImageError.{ImageError}
-use Rattle.rv_elf.specs.declared.image.Image.{Image}
-use Rattle.rv_jobs.specs.declared_job.Job.{Job}
-use Rattle.rv_jobs.specs.Jobs.{single_job}
-use Rattle.rv_rows.specs.Rows.{image_if_read, start_in}
-use Rattle.rv_call_tree.specs.declared.spot.Spot.{Spot}
+use Rattle.rv_counting.specs.Image.{image_of}
+use Rattle.rv_counting.specs.declared_elf_error.ImageError.{ImageError}
+use Rattle.rv_counting.specs.declared_image.Image.{Image}
+use Rattle.rv_counting.specs.declared_job.Job.{Job}
+use Rattle.rv_counting.specs.Jobs.{single_job}
+use Rattle.rv_calls.specs.Rows.{image_if_read, start_in}
+use Rattle.rv_count_tables.specs.declared_spot.Spot.{Spot}
 use Rattle.rv_stacks.specs.Stacks.{function_at, AreCountsAndStacksOfJob}
 use Rattle.rv_stacks.specs.StackTables.{name_of_function, IsTableOfRun, IsTableWithStacks}
 use Rattle.rv_stacks.proofs.Apart.{counts_and_stacks}
 use Rattle.rv_stacks.proofs.OfRun.{none_if_unstacked, ran, refused}
-use Rattle.rv_trace.specs.Trace.{job_at}
+use Rattle.rv_counting.specs.Trace.{job_at}
 use Rattle.rv_stacks.proofs.table.stack_table_of_job.Goals as goal
 
 pub returns-in_default : goal.returns-in_default

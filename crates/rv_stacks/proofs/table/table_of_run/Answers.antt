@@ -1,6 +1,6 @@
 -- The one image can stand in a table.
 use Rattle.std.proofs.Common.{◌∙◌, ap}
-use Rattle.rv_text.specs.Printable.{printable_text}
+use Rattle.rv_count_tables.specs.Printable.{printable_text}
 use Rattle.rv_stacks.proofs.Tables.{run_table}
 use Rattle.rv_stacks.proofs.table.table_of_run.Goals as goal
 

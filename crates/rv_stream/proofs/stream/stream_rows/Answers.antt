@@ -5,11 +5,11 @@ use Rattle.std.proofs.lemmas.List.{length-map}
 use Rattle.std.specs.Prelude.{is_ok, is_some}
 use Rattle.std.specs.Io.KnownBytes.{Appends}
 use Rattle.std.specs.List.{concat}
-use Rattle.rv_engine.specs.declared.listener.Flow.TheVariants.{Stop}
+use Rattle.rv_fleet.specs.declared_listener.Flow.TheVariants.{Stop}
 use Rattle.rv_expect.specs.Judgement.{fails, judging_of}
 use Rattle.rv_fleet.specs.Batches.{batch_rows}
-use Rattle.rv_rows.specs.declared_report.WriteError.{WriteError}
-use Rattle.rv_rows.specs.Sinks.{AppendsBeginning}
+use Rattle.rv_fleet.specs.declared_report.WriteError.{WriteError}
+use Rattle.rv_base.specs.Sinks.{AppendsBeginning}
 use Rattle.rv_stream.specs.declared.reported_row.ReportedRow.{ReportedRow}
 use Rattle.rv_stream.specs.Limits.{rows_up_to, rows_within}
 use Rattle.rv_stream.specs.Seen.{HasSeenRows, HasSeenSomeRows}

@@ -1,6 +1,6 @@
 use Rattle.std.proofs.Common.{ap, arith, length-drop, length-take, refl, ℕ, ◌∙◌, ◌≤◌}
 use Rattle.std.proofs.KnownBytes.{Appends-nil}
-use Rattle.rv_base.specs.Counts.{one_more}
+use Rattle.rv_rows.specs.Counts.{one_more}
 use Rattle.rv_terminal.specs.Colors.{colored}
 use Rattle.rv_terminal.proofs.Counting.{some_put}
 use Rattle.rv_terminal.proofs.Pieces.{next_piece, next_place}

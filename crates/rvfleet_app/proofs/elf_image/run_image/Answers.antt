@@ -1,5 +1,5 @@
 use Rattle.std.proofs.Common.{◌∙◌, ap, rules}
-use Rattle.rv_jobs.specs.Plans.{paths_used}
+use Rattle.rv_fleet.specs.Plans.{paths_used}
 use Rattle.rvfleet_app.proofs.Answering.{jobs_reported}
 use Rattle.rvfleet_app.specs.ElfImage.{single_image_jobs}
 use Rattle.rvfleet_app.proofs.elf_image.run_image.Goals as goal

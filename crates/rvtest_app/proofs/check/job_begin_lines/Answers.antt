@@ -1,7 +1,7 @@
 use Rattle.std.proofs.Common.{◌≡◌, ◌∙◌, ℕ, Bool, true, false, List, [], ap, cond, refl, sym}
 use Rattle.std.proofs.lemmas.Str.{IsUtf8-from_is_utf8, is_utf8-from_IsUtf8}
 use Rattle.std.specs.Str.{IsUtf8, is_utf8}
-use Rattle.rv_list_errors.specs.JobLocations.{job_lines}
+use Rattle.rv_accept_text.specs.JobLocations.{job_lines}
 use Rattle.rvtest_app.specs.CheckText.{job_begin_lines}
 use Rattle.rvtest_app.proofs.Results.{IfOk-map}
 use Rattle.rvtest_app.proofs.check.job_begin_lines.Goals as goal

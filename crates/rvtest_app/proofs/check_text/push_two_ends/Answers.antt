@@ -1,7 +1,7 @@
 use Rattle.std.proofs.Common.{◌≡◌, ◌++◌, ℕ, List, [], append-nil, append_assoc}
 use Rattle.std.specs.Fmt.{decimal}
 use Rattle.std.specs.Prelude.{codes, unwrap_or}
-use Rattle.rv_text.proofs.Public.{told}
+use Rattle.rv_job_text.proofs.Public.{told}
 use Rattle.rvtest_app.specs.CheckText.{expected_end_name}
 use Rattle.rvtest_app.proofs.check_text.push_two_ends.Goals as goal
 

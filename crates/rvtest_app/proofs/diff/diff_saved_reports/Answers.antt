@@ -2,8 +2,8 @@ use Rattle.std.proofs.Common.{◌≡◌, ◌≤◌, ◌∙◌, ◌+◌, ◌-◌,
 use Rattle.std.proofs.lemmas.List.Sums.{count_by-le-length, length-filter}
 use Rattle.std.specs.Prelude.{if◌then◌else◌, not}
 use Rattle.rv_diff.specs.Diff.{is_alone_in, rows_in_both}
-use Rattle.rv_report.specs.declared.row.Row.{Row}
-use Rattle.rv_report.specs.declared.saved.SavedReport.{SavedReport}
+use Rattle.rv_rows.specs.declared_row.Row.{Row}
+use Rattle.rv_rows.specs.declared_saved.SavedReport.{SavedReport}
 use Rattle.rvtest_app.specs.Reports.{compared_rows, leaves_out}
 use Rattle.rvtest_app.proofs.diff.diff_saved_reports.Goals as goal
 

@@ -1,6 +1,6 @@
 use Rattle.std.proofs.Common.{◌∙◌, ◌<◌, [], List, ap, inr, length, refl, rules, subst, sym}
-use Rattle.rv_lists.specs.Jobs.{single_job}
-use Rattle.rv_lists.specs.declared.job.Job.{Job}
+use Rattle.rv_rows.specs.Jobs.{single_job}
+use Rattle.rv_rows.specs.declared_job.Job.{Job}
 use Rattle.rvtest_app.proofs.JobStarts.{session_starts_there}
 use Rattle.rvtest_app.proofs.gdb.session_of_job.Goals as goal
 

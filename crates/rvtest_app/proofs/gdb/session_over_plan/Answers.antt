@@ -4,7 +4,7 @@ use Rattle.std.specs.Prelude.{MatchOption, is_ok}
 use Rattle.rv_command.specs.Texts.{optional_text}
 use Rattle.rv_files.specs.UnreadPaths.{resolved_path}
 use Rattle.rv_gdb.specs.JobSessions.{IsSessionOf}
-use Rattle.rv_lists.specs.declared.job.Job.{Job}
+use Rattle.rv_rows.specs.declared_job.Job.{Job}
 use Rattle.rv_rows.specs.Rows.{start_in}
 use Rattle.rvtest_app.proofs.Results.{IfOk-map}
 use Rattle.rvtest_app.proofs.gdb.session_over_plan.Goals as goal

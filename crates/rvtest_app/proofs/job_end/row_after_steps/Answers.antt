@@ -1,6 +1,6 @@
 use Rattle.std.proofs.Common.{◌∙◌, ◌≤◌, arith, subst}
 use Rattle.std.proofs.lemmas.List.{get_or_read}
-use Rattle.rv_lists.specs.declared.job.Job.{Job}
+use Rattle.rv_rows.specs.declared_job.Job.{Job}
 use Rattle.rvtest_app.specs.Debugging.{job_start}
 use Rattle.rvtest_app.proofs.JobStarts.{starts_there}
 use Rattle.rvtest_app.proofs.job_end.row_after_steps.Goals as goal

@@ -1,6 +1,6 @@
 use Rattle.std.proofs.Common.{◌≡◌, take}
 use Rattle.rv_expect.specs.KnownJobs.{job_names}
-use Rattle.rv_lists.specs.JobList.{names_of_jobs}
+use Rattle.rv_rows.specs.JobList.{names_of_jobs}
 use Rattle.rvtest_app.proofs.known_file.job_names.Given as goal
 
 abbrev pub invariant-loop-job : goal.invariant-loop-job

@@ -1,6 +1,6 @@
 use Rattle.std.proofs.Common.{◌≡◌, ◌++◌, ℕ, List, [], append-nil, append_assoc, codes}
-use Rattle.rv_text.specs.Printable.{printable_text, printable_value}
-use Rattle.rv_text.proofs.Public.{told}
+use Rattle.rv_job_text.specs.Printable.{printable_text, printable_value}
+use Rattle.rv_job_text.proofs.Public.{told}
 use Rattle.rvtest_app.proofs.known_file.push_known_fault.Goals as goal
 
 four_told : (a b c d : List ℕ) → a ++ (b ++ (c ++ (d ++ []))) ≡ ((a ++ b) ++ c) ++ d

@@ -1,7 +1,7 @@
 use Rattle.std.proofs.Common.{◌∙◌, ◌++◌, [], ap, append_assoc, get_or, slice_index_or, sym, take}
 use Rattle.std.proofs.lemmas.List.{get_or_default}
 use Rattle.rv_expect.specs.Judgement.{judging_of}
-use Rattle.rv_jobs.specs.Jobs.{single_job}
+use Rattle.rv_rows.specs.Jobs.{single_job}
 use Rattle.rvtest_app.specs.RefusedNotes.{refused_line, refused_lines}
 use Rattle.rvtest_app.proofs.ViewAnswers.{refused_more}
 use Rattle.rvtest_app.proofs.refused_note.push_refused_lines.Goals as goal

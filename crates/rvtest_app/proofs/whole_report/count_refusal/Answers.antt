@@ -1,7 +1,7 @@
 use Rattle.std.proofs.Common.{◌≡◌, ◌∙◌, ◌++◌, ℕ, List, [], append-nil, append_assoc}
 use Rattle.std.specs.Prelude.{codes}
-use Rattle.rv_text.specs.Printable.{printable_text}
-use Rattle.rv_text.specs.Words.{count_text}
+use Rattle.rv_job_text.specs.Printable.{printable_text}
+use Rattle.rv_job_text.specs.TextWords.{count_text}
 use Rattle.rvtest_app.specs.IntoStops.{expected_whole_report}
 use Rattle.rvtest_app.proofs.Results.{IfOk-map}
 use Rattle.rvtest_app.proofs.whole_report.count_refusal.Goals as goal

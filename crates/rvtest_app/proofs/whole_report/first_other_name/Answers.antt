@@ -3,9 +3,9 @@ use Rattle.std.proofs.Math.Seq.{take-suc}
 use Rattle.std.proofs.lemmas.List.{get_or-map, length-map}
 use Rattle.std.proofs.lemmas.Slice.Eq.{bytes_eq-Decides}
 use Rattle.std.specs.Str.{bytes_eq}
-use Rattle.rv_lists.specs.declared.job.Job.{Job}
-use Rattle.rv_report.specs.Saved.{row_names}
-use Rattle.rv_report.specs.declared.row.Row.{Row}
+use Rattle.rv_rows.specs.declared_job.Job.{Job}
+use Rattle.rv_rows.specs.Saved.{row_names}
+use Rattle.rv_rows.specs.declared_row.Row.{Row}
 use Rattle.rvtest_app.specs.IntoReports.{job_names}
 use Rattle.rvtest_app.proofs.whole_report.first_other_name.Goals as goal
 

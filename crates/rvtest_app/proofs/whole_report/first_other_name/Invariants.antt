@@ -1,5 +1,5 @@
 use Rattle.std.proofs.Common.{◌≡◌, take}
-use Rattle.rv_report.specs.Saved.{row_names}
+use Rattle.rv_rows.specs.Saved.{row_names}
 use Rattle.rvtest_app.specs.IntoReports.{job_names}
 use Rattle.rvtest_app.proofs.whole_report.first_other_name.Given as goal
 

@@ -1,8 +1,8 @@
 -- A refused job has no run.
 use Rattle.std.proofs.Common.{Some, subst}
 use Rattle.std.proofs.lemmas.List.{get_or_read}
-use Rattle.rv_jobs.specs.declared_job.Job.{Job}
-use Rattle.rv_machine.specs.Machine.{state_of}
+use Rattle.rv_trace.specs.declared_job.Job.{Job}
+use Rattle.rv_trace.specs.Machine.{state_of}
 use Rattle.rv_trace.specs.Trace.{job_at}
 use Rattle.rv_counting.specs.RunCounts.{AddsRun}
 use Rattle.rv_counting.proofs.RunCounts.{ran_job, refused_as}

@@ -1,6 +1,6 @@
 -- The run is counted in addition to the others.
 use Rattle.std.proofs.Common.{refl, sym}
-use Rattle.rv_machine.specs.Machine.{state_of}
+use Rattle.rv_trace.specs.Machine.{state_of}
 use Rattle.rv_counting.specs.Counters.{counts_of}
 use Rattle.rv_counting.proofs.RunCounts.{adds_run}
 use Rattle.rv_counting.proofs.runs_counter.RunsCounter.count_run.Goals as goal

@@ -1,5 +1,5 @@
 use Rattle.std.proofs.Common.{[], None, false}
-use Rattle.rv_expect.specs.Judgement.{judging_of}
+use Rattle.rv_stream.specs.Judgement.{judging_of}
 use Rattle.rv_fleet_tests.proofs.tests.streams.told.Given as goal
 
 abbrev pub ghosts-stream_rows : goal.ghosts-stream_rows

@@ -1,5 +1,5 @@
 use Rattle.std.proofs.Common.{◌∙◌, ap, arith}
-use Rattle.rv_machine.specs.Machine.{state_of}
+use Rattle.rv_trace.specs.Machine.{state_of}
 use Rattle.rv_history.specs.Kept.{IsAt}
 use Rattle.rv_history.proofs.Reaching.{ran_to, within_budget}
 use Rattle.rv_history.proofs.checkpoints.Checkpoints.reach.Goals as goal

@@ -1,5 +1,5 @@
 use Rattle.std.proofs.Common.{ℕ, arith, subst}
-use Rattle.rv_machine.specs.Machine.{state_of}
+use Rattle.rv_trace.specs.Machine.{state_of}
 use Rattle.rv_history.specs.Places.{IsReached}
 use Rattle.rv_history.proofs.Reaching.{comes, within_budget}
 use Rattle.rv_history.proofs.history.History.arrive.Goals as goal

@@ -1,5 +1,5 @@
 use Rattle.std.proofs.Common.{arith}
-use Rattle.rv_machine.specs.Machine.{state_of}
+use Rattle.rv_trace.specs.Machine.{state_of}
 use Rattle.rv_history.specs.Starts.{start_of}
 use Rattle.rv_history.proofs.Reaching.{at_start}
 use Rattle.rv_history.proofs.history.History.new.Goals as goal

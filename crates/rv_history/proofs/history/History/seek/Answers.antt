@@ -1,7 +1,7 @@
 use Rattle.std.proofs.Common.{ap, arith, refl}
 use Rattle.std.proofs.lemmas.Bool.{false≢true}
-use Rattle.rv_machine.specs.Machine.{state_of}
-use Rattle.rv_machine.specs.Run.{Ran}
+use Rattle.rv_trace.specs.Machine.{state_of}
+use Rattle.rv_trace.specs.Run.{Ran}
 use Rattle.rv_history.proofs.Reaching.{comes, comes_within, ran_there, within_budget}
 use Rattle.rv_history.proofs.history.History.seek.Goals as goal
 

@@ -1,5 +1,5 @@
 use Rattle.std.proofs.Common.{◌≡◌, ◌∙◌, ◌+◌, ℕ, ap, arith}
-use Rattle.rv_machine.specs.Machine.{state_of}
+use Rattle.rv_trace.specs.Machine.{state_of}
 use Rattle.rv_trace.specs.Trace.{state_after}
 use Rattle.rv_history.proofs.Differing.{set_off_in}
 use Rattle.rv_history.proofs.Reaching.{within_budget}

@@ -1,5 +1,5 @@
 use Rattle.std.proofs.Common.{◌-◌, ap, arith}
-use Rattle.rv_machine.specs.Machine.{state_of}
+use Rattle.rv_trace.specs.Machine.{state_of}
 use Rattle.rv_history.proofs.Reaching.{run_from, within_budget}
 use Rattle.rv_history.proofs.machine_at.MachineAt.go_to.Goals as goal
 

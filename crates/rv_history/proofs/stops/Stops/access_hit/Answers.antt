@@ -1,5 +1,5 @@
 use Rattle.std.proofs.Common.{sym}
-use Rattle.rv_machine.specs.Machine.{state_of}
+use Rattle.rv_trace.specs.Machine.{state_of}
 use Rattle.rv_history.specs.Accesses.{access_at}
 use Rattle.rv_history.proofs.Unstopped.{nothing_touched}
 use Rattle.rv_history.proofs.stops.Stops.access_hit.Goals as goal

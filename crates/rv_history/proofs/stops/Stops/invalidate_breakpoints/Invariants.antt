@@ -1,8 +1,8 @@
 use Rattle.std.proofs.Common.{◌≡◌, ℕ, true, take}
 use Rattle.std.specs.List.{list_any}
 use Rattle.std.specs.Prelude.{◌==◌}
-use Rattle.rv_machine.specs.Machine.{state_of}
-use Rattle.rv_machine.specs.ValidEntries.{IsCached}
+use Rattle.rv_trace.specs.Machine.{state_of}
+use Rattle.rv_trace.specs.ValidEntries.{IsCached}
 use Rattle.rv_history.proofs.stops.Stops.invalidate_breakpoints.Given as goal
 
 abbrev pub invariant-loop-address : goal.invariant-loop-address

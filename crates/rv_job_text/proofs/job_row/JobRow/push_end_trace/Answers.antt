@@ -1,7 +1,7 @@
 use Rattle.std.proofs.Common.{◌∙◌, ◌++◌, ap, append-nil, sym}
-use Rattle.rv_jobs.specs.declared_job.Job.{Job}
-use Rattle.rv_trace.specs.Text.{trace_text}
-use Rattle.rv_trace.specs.Trace.{image_bytes, job_at}
+use Rattle.rv_rows.specs.declared_job.Job.{Job}
+use Rattle.rv_calls.specs.Text.{trace_text}
+use Rattle.rv_calls.specs.Trace.{image_bytes, job_at}
 use Rattle.rv_job_text.specs.RowReporter.{end_trace_lines}
 use Rattle.rv_job_text.specs.TraceOptions.{optional_trace_text}
 use Rattle.rv_job_text.proofs.Chains.{told_of_each}

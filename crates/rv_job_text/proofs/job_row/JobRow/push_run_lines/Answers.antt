@@ -3,7 +3,7 @@ use Rattle.rv_job_text.specs.ConsoleTail.{console_tail}
 use Rattle.rv_text.proofs.Public.{more}
 use Rattle.rv_job_text.specs.declared.verbosity.Detail.TheVariants as detail
 use Rattle.rv_job_text.specs.RowReporter.{expectation_lines, run_lines, end_trace_lines}
-use Rattle.rv_trace.specs.Trace.{job_at}
+use Rattle.rv_calls.specs.Trace.{job_at}
 use Rattle.rv_job_text.proofs.Chains.{ended}
 use Rattle.rv_job_text.proofs.job_row.JobRow.push_run_lines.Goals as goal
 

@@ -1,4 +1,4 @@
-use Rattle.rv_trace.specs.Trace.{job_at}
+use Rattle.rv_calls.specs.Trace.{job_at}
 use Rattle.rv_job_text.proofs.NoStarts.{no_start}
 use Rattle.rv_job_text.proofs.job_row.JobRow.used_budget.Goals as goal
 

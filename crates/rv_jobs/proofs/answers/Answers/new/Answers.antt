@@ -1,7 +1,7 @@
 use Rattle.std.proofs.Common.{◌∙◌, ap, map, length, sym, List, ℕ}
 use denote.Ref.{Bor}
 use Rattle.rv_jobs.specs.declared.kept.Kept.{Kept}
-use Rattle.rv_base.proofs.Public.{no_places}
+use Rattle.rv_lists.proofs.Public.{no_places}
 use Rattle.rv_jobs.proofs.answers.Answers.new.Goals as goal
 
 pub invariant_of-result : goal.invariant_of-result

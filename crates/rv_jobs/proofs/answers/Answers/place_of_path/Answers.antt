@@ -1,6 +1,6 @@
 use Rattle.std.proofs.Common.{◌∙◌, ap, sym}
 use Rattle.rv_jobs.specs.AnswersInside.{paths_in}
-use Rattle.rv_base.specs.Names.{index_in}
+use Rattle.rv_lists.specs.Names.{index_in}
 use Rattle.rv_jobs.specs.Plans.{paths_of}
 use Rattle.rv_jobs.proofs.Answering.{paths-with}
 use Rattle.rv_jobs.proofs.answers.Answers.place_of_path.Goals as goal

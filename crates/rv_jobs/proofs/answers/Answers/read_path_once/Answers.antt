@@ -5,10 +5,10 @@ use Rattle.std.specs.HashMap.{get_by}
 use Rattle.std.specs.Str.{bytes_eq}
 use denote.Ref.{Bor}
 use Rattle.rv_jobs.specs.declared.answers.Answer.{Answer}
-use Rattle.rv_base.specs.Names.{index_in}
+use Rattle.rv_lists.specs.Names.{index_in}
 use Rattle.rv_jobs.specs.Plans.{paths_of, with_path, answers_with}
 use Rattle.rv_jobs.specs.AnswersInside.{paths_in}
-use Rattle.rv_base.proofs.Public.{places_more, places_back}
+use Rattle.rv_lists.proofs.Public.{places_more, places_back}
 use Rattle.rv_jobs.proofs.Answering.{with_path-old, not_placed, paths-with, still_even, asked_paths, asked_place}
 use Rattle.rv_jobs.proofs.Answering.{asked_kept, asked_faults}
 use Rattle.rv_jobs.proofs.answers.Answers.read_path_once.Goals as goal

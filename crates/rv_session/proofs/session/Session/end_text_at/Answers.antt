@@ -1,4 +1,4 @@
-use Rattle.rv_machine.specs.Machine.{state_of}
+use Rattle.rv_history.specs.Machine.{state_of}
 use Rattle.rv_session.proofs.Gone.{stands}
 use Rattle.rv_session.proofs.session.Session.end_text_at.Goals as goal
 

@@ -1,7 +1,7 @@
 use Rattle.std.proofs.Common.{◌∙◌, ◌+◌, ◌<◌, [], ap, arith, cond, length, sym, take}
 use Rattle.std.specs.List.{filter}
 use Rattle.std.proofs.lemmas.List.Filters.{length-filter_more}
-use Rattle.rv_lists.specs.Jobs.{single_job}
+use Rattle.rv_rows.specs.Jobs.{single_job}
 use Rattle.rvtest_app.specs.CheckText.{refused_job_text}
 use Rattle.rvtest_app.specs.Commands.{is_job_refused}
 use Rattle.rvtest_app.proofs.JobTexts.{texts_before-all, texts_before-more}

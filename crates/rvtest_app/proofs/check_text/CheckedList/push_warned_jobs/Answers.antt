@@ -2,7 +2,7 @@ use Rattle.std.proofs.Common.{◌∙◌, ◌+◌, ◌<◌, ◌++◌, ap, arith, 
 use Rattle.std.specs.List.{filter}
 use Rattle.std.proofs.lemmas.List.Filters.{length-filter_more}
 use Rattle.rv_expect.specs.TwoEnds.{expects_two_ends}
-use Rattle.rv_lists.specs.declared.job.Job.{Job}
+use Rattle.rv_rows.specs.declared_job.Job.{Job}
 use Rattle.rvtest_app.specs.CheckText.{warned_job_text}
 use Rattle.rvtest_app.proofs.JobTexts.{texts_before-all, texts_before-more}
 use Rattle.rvtest_app.proofs.check_text.CheckedList.push_warned_jobs.Goals.{else-expects_two_ends, then-expects_two_ends}

@@ -1,7 +1,7 @@
 use Rattle.std.proofs.Common.{◌∙◌, List, ap, inl, inr, subst}
 use Rattle.std.proofs.lemmas.Result.{err_from_is_err_and}
 use Rattle.rv_command.specs.Texts.{optional_text}
-use Rattle.rv_cover_view.specs.JobImages.{FileImage, images_of_files}
+use Rattle.rv_profile.specs.JobImages.{FileImage, images_of_files}
 use Rattle.rvtest_app.specs.ViewStops.{IsTableTextStop, counts_source}
 use Rattle.rvtest_app.specs.Views.{IsViewText}
 use Rattle.rvtest_app.proofs.Results.{IfOk-map}
