@@ -4,7 +4,9 @@ ghost use Rattle.std.specs.Prelude.{◌≡◌, ◌++◌, OnOk};
 ghost use Rattle.rv_accept.specs.Values.{has_text, is_value_changed, new_value_text, value_key_name};
 
 use crate::basic_string::push_basic_string;
-use rv_rows::{ExpectedConsole, Job, Row, RowEnd, has_expected_end, has_expected_exit, push_number};
+use rv_rows::{
+    ExpectedConsole, Job, Row, RowEnd, has_expected_end, has_expected_exit, push_number,
+};
 use std::alloc::{AllocError, Global};
 
 /// A key of a job whose value is taken from its run.

@@ -8,7 +8,9 @@ ghost use Rattle.rv_accept_text.specs.FileLines.{file_skip_reason, written_file_
 use crate::changed_text::{push_byte_difference, push_text_change, push_word_change};
 use crate::golden_file::{GoldenFile, ListFile};
 use crate::job_lines::job_name;
-use rv_accept::{GoldenFileOutcome, GoldenText, Part, Target, first_of_another_text, first_on_file};
+use rv_accept::{
+    GoldenFileOutcome, GoldenText, Part, Target, first_of_another_text, first_on_file,
+};
 use rv_rows::{Bytes, Job, Span, push_spans, push_text};
 use std::alloc::AllocError;
 

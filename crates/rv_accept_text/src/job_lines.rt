@@ -10,7 +10,9 @@ use crate::changed_text::push_text_change;
 use crate::file_lines::push_skipped_head;
 use crate::new_list::ChangedValue;
 use rv_accept::{JobRun, SkipReason, ValueKey, push_new_value};
-use rv_rows::{ExpectedConsole, ExpectedEnd, Job, Row, RowEnd, Span, has_expected_exit, push_spans, push_text};
+use rv_rows::{
+    ExpectedConsole, ExpectedEnd, Job, Row, RowEnd, Span, has_expected_exit, push_spans, push_text,
+};
 use std::alloc::{AllocError, Global};
 
 /// Returns the name of the job at the index `place`, or an empty text if there is no such job.

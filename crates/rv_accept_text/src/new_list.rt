@@ -9,7 +9,10 @@ ghost use Rattle.rv_accept.specs.declared.edits.Edit.{Edit as AnEdit};
 ghost use Rattle.rv_accept.specs.declared.runs.SkipReason.{SkipReason as AWhyLeft};
 ghost use Rattle.rv_accept_text.specs.NewLists.{AreLeftFrom, skipped_run, skipped_runs, run_or_none, why_changed, why_changed_if_run, whys_changed};
 
-use rv_accept::{Edit, JobRun, SkipReason, ValueKey, are_intended_jobs, edited_text, is_value_changed, push_new_value};
+use rv_accept::{
+    Edit, JobRun, SkipReason, ValueKey, are_intended_jobs, edited_text, is_value_changed,
+    push_new_value,
+};
 use rv_list_locations::{ValueSpan, line_and_column, value_spans};
 use rv_rows::{Bytes, Job, Row, What, read_jobs};
 use std::alloc::{AllocError, Global};

@@ -8,7 +8,9 @@ ghost use Rattle.rv_calls.specs.CallsLine.{places_text, rest_text, symbol_or_add
 
 use crate::frames::{Frame, Frames};
 use crate::run::Calls;
-use rv_trace::{ElfFile, Span, SymbolAt, push_spans, push_symbol, push_text, push_word_digits, symbol_at};
+use rv_trace::{
+    ElfFile, Span, SymbolAt, push_spans, push_symbol, push_text, push_word_digits, symbol_at,
+};
 use std::alloc::{AllocError, Global};
 
 /// The maximum number of calls shown; with the final pc there are 32 addresses.

@@ -20,4 +20,7 @@ pub use run::{Calls, calls_at_end, calls_of_run};
 pub use transfer::{Transfer, next_transfer, transfer_by};
 
 // From the crates below: what this interface names, and what its callers need with it.
-pub use rv_trace::{Bus, ElfFile, Isa, JobImage, Machine, Map, Misaligned, Region, image_bytes, machine_at, push_trace, trace_job};
+pub use rv_trace::{
+    Bus, ElfFile, Isa, JobImage, Machine, Map, Misaligned, Region, image_bytes, machine_at,
+    push_trace, trace_job,
+};

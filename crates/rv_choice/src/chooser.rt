@@ -20,7 +20,10 @@ use crate::failed_jobs::{failed_job_names, failed_job_notes, jobs_without_row};
 use crate::marks::{Criteria, chosen_marks, first_unknown_name, remaining_marks};
 use crate::unknown_name::unknown_name_stop;
 use regex::Regex;
-use rv_command::{ChoosingCommand, Inputs, RequestedReport, RunArgs, Span, Stop, cut_off_note, read_requested_report, text_of_spans};
+use rv_command::{
+    ChoosingCommand, Inputs, RequestedReport, RunArgs, Span, Stop, cut_off_note,
+    read_requested_report, text_of_spans,
+};
 use rv_expect::{Job, Row, Rule};
 use std::alloc::{AllocError, Global};
 

@@ -12,8 +12,8 @@ ghost use Rattle.rv_command.specs.Stops.{IsUsageStop};
 ghost use Rattle.rv_command.specs.Names.{is_name};
 
 use crate::bad_value::{bad_value_stop, bad_value_text};
-use rv_command::{ChoosingCommand, RunArgs, Stop, Text, is_name};
 use rv_command::limits::MOST_JOBS;
+use rv_command::{ChoosingCommand, RunArgs, Stop, Text, is_name};
 use rv_expect::Shard;
 use sha2::{Digest, Sha256};
 use std::alloc::{AllocError, Global};

@@ -41,5 +41,11 @@ pub use table::{
 pub use text::table_text;
 
 // From the crates below: what this interface names, and what its callers need with it.
-pub use rv_call_tree::{Bytes, FunctionSteps, Spot, SpotIndex, Spots, Text, one_tree_has_these_counts, own_steps_sum_to_all};
-pub use rv_text::{Span, printable_text_is_utf8_without_controls, push_number, push_printable_text, push_spans, push_text};
+pub use rv_call_tree::{
+    Bytes, FunctionSteps, Spot, SpotIndex, Spots, Text, one_tree_has_these_counts,
+    own_steps_sum_to_all,
+};
+pub use rv_text::{
+    Span, printable_text_is_utf8_without_controls, push_number, push_printable_text, push_spans,
+    push_text,
+};

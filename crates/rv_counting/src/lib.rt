@@ -38,4 +38,7 @@ pub use table_sum::{HasTable, TableSum};
 // From the crates below: what this interface names, and what its callers need with it.
 pub use rv_count_tables::table_text;
 pub use rv_fleet::{Batch, Crew, Flow, Work, WorkerState, run_jobs};
-pub use rv_trace::{Bus, Code, CodeSymbols, Ending, Isa, JobImage, Machine, Map, Misaligned, Plan, Region, code_length, image_bytes, image_of_bytes, instr_of, is_long, read_image};
+pub use rv_trace::{
+    Bus, Code, CodeSymbols, Ending, Isa, JobImage, Machine, Map, Misaligned, Plan, Region,
+    code_length, image_bytes, image_of_bytes, instr_of, is_long, read_image,
+};

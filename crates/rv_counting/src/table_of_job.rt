@@ -20,7 +20,10 @@ ghost use Rattle.rv_counting.specs.RunCounts.{AddsJob, CanCountRuns};
 ghost use Rattle.rv_counting.specs.Tallies.{IsSorted};
 
 use crate::runs_counter::RunsCounter;
-use rv_count_tables::{Bytes, CountTable, FunctionNames, ImageCounts, Images, Spots, Text, printable_text_is_utf8_without_controls, push_printable_text};
+use rv_count_tables::{
+    Bytes, CountTable, FunctionNames, ImageCounts, Images, Spots, Text,
+    printable_text_is_utf8_without_controls, push_printable_text,
+};
 use rv_trace::{JobImage, Plan, Spare, image_bytes, image_of_bytes};
 use sha2::{Digest, Sha256};
 use std::alloc::{AllocError, Global};

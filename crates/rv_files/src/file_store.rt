@@ -6,8 +6,8 @@ ghost use Rattle.rv_base.specs.Limits.{most_bytes};
 ghost use Rattle.rv_base.specs.Counts.{one_more};
 
 use crate::input::{InputError, read_at_most};
-use rv_base::{ReadError, Store};
 use rv_base::limits::MOST_BYTES;
+use rv_base::{ReadError, Store};
 use std::alloc::{AllocError, Global};
 use std::fs;
 use std::io::{ErrorKind, Read};

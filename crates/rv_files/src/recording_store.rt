@@ -9,8 +9,8 @@ ghost use Rattle.rv_files.specs.UnreadPaths.{HasNoContentsIfUnreadable, contents
 use crate::file_store::WholeError;
 use crate::inputs::{Inputs, read_whole_up_to};
 use crate::roots::resolved_path;
-use rv_base::{ReadError, Store, Text};
 use rv_base::limits::MOST_BYTES;
+use rv_base::{ReadError, Store, Text};
 use std::alloc::{AllocError, Global};
 use std::io::ErrorKind;
 

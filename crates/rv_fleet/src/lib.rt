@@ -25,5 +25,13 @@ pub use piece::Piece;
 pub use worker::work;
 
 // From the crates below: what this interface names, and what its callers need with it.
-pub use rv_engine::{Both, Claims, Crew, Flow, Listener, Observer, Pass, RunError, SplitError, Work, WorkerState, run_jobs};
-pub use rv_rows::{JobError, JobList, Kept, Loadable, Outcome, Plan, Recent, Refusal, Report, Row, RowEnd, RowReporter, Rows, SignatureRange, Sink, SinkFailed, Spare, Verdict, What, Words, WriteError, flat_row, gather, gather_jobs, narrower_sets_only_refuse, parts_have_the_rows_of_the_whole, put_all, read_jobs, row_at, row_at_with_recent, run_one, selected_indices, write_report};
+pub use rv_engine::{
+    Both, Claims, Crew, Flow, Listener, Observer, Pass, RunError, SplitError, Work, WorkerState,
+    run_jobs,
+};
+pub use rv_rows::{
+    JobError, JobList, Kept, Loadable, Outcome, Plan, Recent, Refusal, Report, Row, RowEnd,
+    RowReporter, Rows, SignatureRange, Sink, SinkFailed, Spare, Verdict, What, Words, WriteError,
+    flat_row, gather, gather_jobs, narrower_sets_only_refuse, parts_have_the_rows_of_the_whole,
+    put_all, read_jobs, row_at, row_at_with_recent, run_one, selected_indices, write_report,
+};

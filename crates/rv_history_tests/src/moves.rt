@@ -1,6 +1,9 @@
 //! Moves among the steps of a run, by the lines of a table.
 use crate::alarm::Alarm;
-use rv_history::{Bounds, Bus, Ending, Found, History, Isa, Map, Misaligned, Region, Sequence, Start, Stops, Watch};
+use rv_history::{
+    Bounds, Bus, Ending, Found, History, Isa, Map, Misaligned, Region, Sequence, Start, Stops,
+    Watch,
+};
 use samples::{agree, cell_of, has_lines, hex_of, numbers};
 use std::alloc::{AllocError, Global};
 use std::test::Fail;

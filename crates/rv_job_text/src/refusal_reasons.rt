@@ -12,7 +12,9 @@ use crate::paths::{console_path, reference_path};
 use crate::unread_files::{too_long_file_text, unread_file_text};
 use rv_calls::image_bytes;
 use rv_files::UnreadablePath;
-use rv_rows::{ImageError, Plan, Refusal, RowEnd, expected_console_bytes, signature_reference_bytes};
+use rv_rows::{
+    ImageError, Plan, Refusal, RowEnd, expected_console_bytes, signature_reference_bytes,
+};
 use std::alloc::{AllocError, Global};
 
 /// Returns the reason why the job at index `place` is refused, or `None` if it is not refused.

@@ -22,7 +22,10 @@ use crate::unmet_line::push_unmet_lines;
 use crate::verbosity::{Detail, Verbosity};
 use rv_expect::{Comparison, Judge, Unmet, row_of_same_as_job, unmet_expectations};
 use rv_files::UnreadablePath;
-use rv_rows::{Plan, Row, RowEnd, RowReporter, SymbolAt, did_run, expected_console_bytes, signature_reference_bytes};
+use rv_rows::{
+    Plan, Row, RowEnd, RowReporter, SymbolAt, did_run, expected_console_bytes,
+    signature_reference_bytes,
+};
 use std::alloc::{AllocError, Global};
 
 /// Reports the rows of a plan as text.

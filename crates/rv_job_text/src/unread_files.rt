@@ -3,8 +3,8 @@
 ghost use Rattle.std.specs.Prelude.{◌≡◌, IfOk, option_map};
 ghost use Rattle.rv_job_text.specs.UnreadFiles.{too_long_file_text, unread_note, unread_note_text, unread_file_text};
 
-use rv_files::{UnreadablePath, io_error_text};
 use rv_files::limits::MOST_BYTES;
+use rv_files::{UnreadablePath, io_error_text};
 use rv_text::{Span, text_of_spans};
 use std::alloc::{AllocError, Global};
 

@@ -19,4 +19,7 @@ pub use law::used_paths_have_answers;
 pub use plan::{Plan, gather, gather_jobs};
 
 // From the crates below: what this interface names, and what its callers need with it.
-pub use rv_lists::{Bytes, ExpectedConsole, ExpectedEnd, Job, JobError, JobList, ReadError, Store, Symbols, Text, What, limits, read_faults, read_jobs};
+pub use rv_lists::{
+    Bytes, ExpectedConsole, ExpectedEnd, Job, JobError, JobList, ReadError, Store, Symbols, Text,
+    What, limits, read_faults, read_jobs,
+};

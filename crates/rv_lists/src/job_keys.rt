@@ -18,8 +18,8 @@ use crate::results::{Results, results_from_table};
 use crate::run_keys::{RunOptions, run_options_from_table};
 use crate::setup::{Setup, setup_from_table};
 use crate::texts::is_path;
-use rv_base::{Text, is_name};
 use rv_base::limits::MOST_BUDGET;
+use rv_base::{Text, is_name};
 use std::alloc::Global;
 use toml::{Table, Value};
 

@@ -14,8 +14,8 @@ use crate::lines::{
 };
 use crate::row::{Row, RowEnd, Verdict, Words};
 use crate::saved::Extent;
-use rv_base::{Bytes, Text};
 use rv_base::limits::MOST_JOBS;
+use rv_base::{Bytes, Text};
 use rv_text::{byte_at, tail_from};
 use std::alloc::{AllocError, Global};
 use std::mem;

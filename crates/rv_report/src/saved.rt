@@ -5,8 +5,8 @@ ghost use Rattle.rv_base.specs.Limits.{most_jobs};
 ghost use Rattle.rv_report.specs.Saved.{are_rising, are_evenly_spaced, is_valid_shard, matches_job_numbers};
 
 use crate::report::Rows;
-use rv_base::{Sequence, Text, is_name};
 use rv_base::limits::MOST_JOBS;
+use rv_base::{Sequence, Text, is_name};
 
 /// Job numbers, seen by contracts as a list.
 pub type Numbers = Sequence<u32>;

@@ -35,7 +35,18 @@ pub use verdict::{
 };
 
 // From the crates below: what this interface names, and what its callers need with it.
-pub use rv_elf::{CodeSymbols, Image, ImageError, LoadAt, Segment, SymbolAt, find_symbol, read_image, segments_overlap, symbol_at, symbol_of_value, unfit_segment};
-pub use rv_jobs::{ExpectedConsole, ExpectedEnd, Job, JobError, JobList, Kept, Plan, Symbols, What, gather, gather_jobs, read_faults, read_jobs, selected_indices};
+pub use rv_elf::{
+    CodeSymbols, Image, ImageError, LoadAt, Segment, SymbolAt, find_symbol, read_image,
+    segments_overlap, symbol_at, symbol_of_value, unfit_segment,
+};
+pub use rv_jobs::{
+    ExpectedConsole, ExpectedEnd, Job, JobError, JobList, Kept, Plan, Symbols, What, gather,
+    gather_jobs, read_faults, read_jobs, selected_indices,
+};
 pub use rv_machine::{FaultKind, Isa, Machine, Region};
-pub use rv_report::{Bytes, Extent, LINE, Numbers, PartialReport, ReadError, Refusal, Report, Row, RowEnd, Rows, SavedReport, Sequence, Shard, Sink, SinkFailed, Span, Text, Verdict, Words, WriteError, is_name, is_utf8, push_extent_line, push_number, push_row, push_spans, push_text, put_all, read_partial_report, read_report, tail_from, word_line, write_report, write_saved_report};
+pub use rv_report::{
+    Bytes, Extent, LINE, Numbers, PartialReport, ReadError, Refusal, Report, Row, RowEnd, Rows,
+    SavedReport, Sequence, Shard, Sink, SinkFailed, Span, Text, Verdict, Words, WriteError,
+    is_name, is_utf8, push_extent_line, push_number, push_row, push_spans, push_text, put_all,
+    read_partial_report, read_report, tail_from, word_line, write_report, write_saved_report,
+};

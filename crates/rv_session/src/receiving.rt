@@ -9,7 +9,9 @@ ghost use Rattle.rv_gdb_protocol.specs.declared.request.Refusal.TheVariants as r
 
 use crate::reply::Reply;
 use crate::session::Session;
-use rv_gdb_protocol::{Bytes, Checksum, Incoming, Refusal, parse_request, push_frame, push_printed};
+use rv_gdb_protocol::{
+    Bytes, Checksum, Incoming, Refusal, parse_request, push_frame, push_printed,
+};
 use std::alloc::{AllocError, Global};
 
 /// The maximum number of console bytes in a packet, which has two digits for each.

@@ -12,7 +12,9 @@ ghost use Rattle.rv_session.specs.Stoppoints.{without_stoppoint};
 use crate::reply::Reply;
 use crate::session::Session;
 use crate::stoppoints::{with_stoppoint, without_stoppoint};
-use rv_gdb_protocol::{Move, Part, Request, Stop, Stoppoint, TARGET, fixed_reply, push_part, push_stop};
+use rv_gdb_protocol::{
+    Move, Part, Request, Stop, Stoppoint, TARGET, fixed_reply, push_part, push_stop,
+};
 use std::alloc::{AllocError, Global};
 
 impl Session {

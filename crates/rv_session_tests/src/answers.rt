@@ -6,7 +6,10 @@ ghost use Rattle.rv_session.specs.Starts.{start_of};
 ghost use Rattle.rv_session.proofs.Public.{state_code};
 ghost use Rattle.rv_session_tests.specs.Talks.{IsReady};
 
-use rv_session::{Bus, Bytes, EndText, Interrupt, Isa, Machine, Map, Misaligned, Program, Region, Session, Start, push_frame};
+use rv_session::{
+    Bus, Bytes, EndText, Interrupt, Isa, Machine, Map, Misaligned, Program, Region, Session, Start,
+    push_frame,
+};
 use samples::{agree, cell_of, has_lines, numbers};
 use std::alloc::{AllocError, Global};
 use std::test::Fail;

@@ -39,4 +39,6 @@ pub use stacks::Stacks;
 pub use walk::Walk;
 
 // From the crates below: what this interface names, and what its callers need with it.
-pub use rv_counting::{Bus, CodeSymbols, Isa, Machine, Map, Misaligned, Region, count_batch, read_image};
+pub use rv_counting::{
+    Bus, CodeSymbols, Isa, Machine, Map, Misaligned, Region, count_batch, read_image,
+};

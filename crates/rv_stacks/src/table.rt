@@ -8,7 +8,10 @@ ghost use Rattle.rv_stacks.specs.StackTables.{name_of_function, IsTableOfRun, Is
 use crate::job::count_job_with_stacks;
 use crate::names::names_of_spots;
 use rv_count_tables::{Addresses, CountTable, ImageCounts, Spots};
-use rv_counting::{CodeSymbols, JobImage, Plan, digest_of, empty_table, image_bytes, image_of_bytes, images_of_one, shown_text};
+use rv_counting::{
+    CodeSymbols, JobImage, Plan, digest_of, empty_table, image_bytes, image_of_bytes,
+    images_of_one, shown_text,
+};
 use std::alloc::{AllocError, Global};
 
 /// Runs the job at an index once more, and returns its table: the counts and the call tree of its run. The table of a refused job has no

@@ -1,5 +1,7 @@
 //! Call-tree nodes of runs, by the lines of a table: a program, the addresses of its functions, its budget and its nodes.
-use rv_stacks::{Bus, CodeSymbols, Isa, Machine, Map, Misaligned, Region, count_with_stacks, read_image};
+use rv_stacks::{
+    Bus, CodeSymbols, Isa, Machine, Map, Misaligned, Region, count_with_stacks, read_image,
+};
 use samples::{agree, cell_of, file_bytes, has_lines, hex_of, numbers};
 use std::alloc::Global;
 use std::test::Fail;

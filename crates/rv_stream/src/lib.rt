@@ -26,4 +26,6 @@ pub use streamed::StreamSpec;
 // From the crates below: what this interface names, and what its callers need with it.
 pub use rv_base::{Bytes, ReadError, Sink, SinkFailed, Store, put_all};
 pub use rv_expect::{Judge, Rule};
-pub use rv_fleet::{Batch, Both, Crew, Flow, Observer, Row, RowReporter, RunError, WriteError, run_batch};
+pub use rv_fleet::{
+    Batch, Both, Crew, Flow, Observer, Row, RowReporter, RunError, WriteError, run_batch,
+};

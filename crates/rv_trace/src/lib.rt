@@ -28,6 +28,12 @@ pub use trace_lines::push_trace;
 pub use write_targets::accessed_address;
 
 // From the crates below: what this interface names, and what its callers need with it.
-pub use rv_machine::{Bus, Ending, FaultKind, Instr, Isa, Machine, Map, Misaligned, Op, Outcome, Region, Width, is_long};
-pub use rv_rows::{Bytes, CodeSymbols, Image, Plan, Sequence, Sink, Spare, SymbolAt, machine_at, machine_at_reusing, put_all, read_image, symbol_at};
+pub use rv_machine::{
+    Bus, Ending, FaultKind, Instr, Isa, Machine, Map, Misaligned, Op, Outcome, Region, Width,
+    is_long,
+};
+pub use rv_rows::{
+    Bytes, CodeSymbols, Image, Plan, Sequence, Sink, Spare, SymbolAt, machine_at,
+    machine_at_reusing, put_all, read_image, symbol_at,
+};
 pub use rv_text::{Span, push_spans, push_symbol, push_text, push_word_digits};

@@ -15,8 +15,8 @@ ghost use Rattle.rvfleet_app.specs.Plans.{AreJobRows, stored_contents};
 use crate::error::Failure;
 use crate::report_output::send_report;
 use hex::FromHexError;
-use rv_files::{Sink, Store};
 use rv_files::limits::{MOST_PATH, MOST_SCRIPT};
+use rv_files::{Sink, Store};
 use rv_fleet::{JobList, gather, run_one};
 use std::alloc::Global;
 

@@ -1,7 +1,10 @@
 //! The program `rvtest`: passes the process's own arguments, files and streams to the library, and exits with its status.
 #![tactic(auto)]
 
-use rvtest_app::{Destinations, Host, PipeSink, StreamSink, SystemInputs, SystemOutputs, Terminals, refuse_unreadable_words, run_rvtest};
+use rvtest_app::{
+    Destinations, Host, PipeSink, StreamSink, SystemInputs, SystemOutputs, Terminals,
+    refuse_unreadable_words, run_rvtest,
+};
 use std::env::{Env, VarError};
 use std::io::IsTerminal;
 use std::process::ExitCode;

@@ -34,7 +34,10 @@ use crate::host::Host;
 use crate::missing_images::missing_images_note;
 use crate::rules::failure_rule;
 use crate::run::gather_jobs_at;
-use rv_accept::{Acceptance, GoldenText, JobRun, golden_texts_of_runs, indexed_rows, jobs_to_run, judged_runs, targets_of};
+use rv_accept::{
+    Acceptance, GoldenText, JobRun, golden_texts_of_runs, indexed_rows, jobs_to_run, judged_runs,
+    targets_of,
+};
 use rv_accept_text::{AcceptSummary, GoldenFile, ListFile, NewList, Writing, accept_values};
 use rv_choice::{Choice, Chooser};
 use rv_command::{DONE, SOME_FAIL, Stop, parse_list, put_message, put_results, read_list_text};

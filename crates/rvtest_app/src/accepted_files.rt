@@ -12,8 +12,10 @@ use crate::written_text::write_file;
 use rv_accept::Target;
 use rv_accept_text::{AcceptSummary, GoldenFile};
 use rv_command::{Stop, path_message, read_file};
-use rv_files::{Bytes, InputError, Inputs, Outputs, Text, io_error_text, read_whole_up_to, resolved_path};
 use rv_files::limits::MOST_BYTES;
+use rv_files::{
+    Bytes, InputError, Inputs, Outputs, Text, io_error_text, read_whole_up_to, resolved_path,
+};
 use std::alloc::{AllocError, Global};
 use std::io::ErrorKind;
 

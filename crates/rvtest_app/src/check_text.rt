@@ -13,7 +13,10 @@ ghost use Rattle.rvtest_app.specs.Commands.{is_job_refused, refused_job_count, w
 
 use rv_expect::expects_two_ends;
 use rv_files::UnreadablePath;
-use rv_job_text::{Span, console_path, ending_reason, job_word, push_spans, push_text, reference_path, too_long_file_text, unread_file_text};
+use rv_job_text::{
+    Span, console_path, ending_reason, job_word, push_spans, push_text, reference_path,
+    too_long_file_text, unread_file_text,
+};
 use rv_rows::{ExpectedEnd, Job, Kept, Plan, Refusal, RowEnd, image_refusal_at, refusal_at};
 use std::alloc::{AllocError, Global};
 

@@ -17,7 +17,9 @@ use crate::destinations::Destinations;
 use crate::overwrites::{look_up_files, read_paths_of_words, refuse_overwrite};
 use crate::written_text::write_text;
 use rv_command::{DONE, Stop, path_message, path_number_message, put_message, read_result_file};
-use rv_count_tables::{CountTable, Images, ReadError, SumError, read_table, sum_of_tables, table_text};
+use rv_count_tables::{
+    CountTable, Images, ReadError, SumError, read_table, sum_of_tables, table_text,
+};
 use rv_files::{Inputs, Outputs, Sink};
 use rv_job_text::{Span, text_of_spans};
 use rvtest_cli::CountsArgs;

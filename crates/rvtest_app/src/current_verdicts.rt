@@ -14,8 +14,8 @@ ghost use Rattle.rvtest_app.specs.CurrentVerdicts.{sides_over, verdict_by, verdi
 use crate::accepted_files::golden_file_path;
 use rv_accept::{Acceptance, Candidate, CurrentVerdict, console_path, is_accepted_end};
 use rv_expect::{Comparison, Unmet, unmet_expectations};
-use rv_files::{InputError, Inputs, read_whole_up_to};
 use rv_files::limits::MOST_BYTES;
+use rv_files::{InputError, Inputs, read_whole_up_to};
 use rv_rows::{Job, Row, did_run};
 use std::alloc::{AllocError, Global};
 

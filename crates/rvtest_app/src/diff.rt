@@ -13,7 +13,10 @@ ghost use Rattle.rv_diff.specs.Diff.{diff_text, counts_of_differing};
 
 use crate::command_output::Found;
 use crate::destinations::Destinations;
-use rv_command::{DONE, RequestedReport, SOME_FAIL, Stop, cut_off_note, parse_requested_report, put_message, put_results, read_result_file};
+use rv_command::{
+    DONE, RequestedReport, SOME_FAIL, Stop, cut_off_note, parse_requested_report, put_message,
+    put_results, read_result_file,
+};
 use rv_diff::{Compare, Compared, Differing, push_diff, rows_in_both};
 use rv_files::{Inputs, Outputs, Sink};
 use rv_rows::{Extent, PartialReport, Row, SavedReport};

@@ -22,7 +22,9 @@ use crate::job_end::JobEnd;
 use crate::named_job::{NamedJob, find_named_job};
 use rv_command::{DONE, Stop, file_error_stop, path_message, read_list_text};
 use rv_expect::{Judge, Rule};
-use rv_files::{Bytes, FileError, Inputs, Outputs, RecordingStore, Sink, UnreadablePath, resolved_path};
+use rv_files::{
+    Bytes, FileError, Inputs, Outputs, RecordingStore, Sink, UnreadablePath, resolved_path,
+};
 use rv_gdb::{Session, SessionContext, SessionError, serve, session_at};
 use rv_job_text::{TextReporter, Verbosity};
 use rv_rows::{Plan, gather_jobs, row_at};

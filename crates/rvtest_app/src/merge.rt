@@ -25,7 +25,9 @@ use crate::output_writes::put_shown;
 use crate::overwrites::{look_up_files, read_paths_of_words, refuse_overwrite};
 use crate::rules::{report_judge, rows_status};
 use crate::whole_files::put_whole_files;
-use rv_command::{ResultKind, Stop, path_message, path_number_message, read_result_file, refused_line_message};
+use rv_command::{
+    ResultKind, Stop, path_message, path_number_message, read_result_file, refused_line_message,
+};
 use rv_files::{Inputs, Outputs, Sink};
 use rv_job_text::{Span, push_totals_line, text_of_spans};
 use rv_junit::Suite;

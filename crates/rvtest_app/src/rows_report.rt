@@ -10,7 +10,10 @@ ghost use Rattle.rvtest_app.specs.RunOutput.{chosen_last_line, chosen_report_tex
 
 use crate::chosen_rows::ChosenRows;
 use rv_files::{Sink, put_all};
-use rv_rows::{Extent, Numbers, Report, SavedReport, Shard, WriteError, push_extent_line, write_report, write_saved_report};
+use rv_rows::{
+    Extent, Numbers, Report, SavedReport, Shard, WriteError, push_extent_line, write_report,
+    write_saved_report,
+};
 use std::alloc::{AllocError, Global};
 
 /// Writes the report of these rows: of a shard if one is given, else of the whole list if all its jobs are chosen, else of chosen jobs.

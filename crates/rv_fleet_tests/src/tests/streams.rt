@@ -3,7 +3,10 @@ ghost use Rattle.std.specs.Prelude.{None};
 
 use super::{chosen, crew_of, number_in};
 use rv_fleet::{Batch, Crew, Flow, Observer, Row, RowReporter, Rows};
-use rv_stream::{FailureLimit, Judge, ReportedRow, ReporterOutput, Rule, Sink, SinkFailed, StreamError, stream_rows};
+use rv_stream::{
+    FailureLimit, Judge, ReportedRow, ReporterOutput, Rule, Sink, SinkFailed, StreamError,
+    stream_rows,
+};
 use samples::{agree, cell_of, has_lines};
 use std::alloc::{AllocError, Global};
 use std::marker::Brand;
