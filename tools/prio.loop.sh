@@ -11,6 +11,7 @@ while sleep 4; do
       /work/s/gn|/work/s/gn/*) n=-6;;
       /work/s/edges/*) n=-8;;
       /work/fresh|/work/fresh/*|/work/land|/work/land/*) n=-16;;
+      /work/s/sd/*) n=-19;;
       /work/s/sa/*|/work/s/sb/*) n=-13;;
       /work/s/ed2/*) n=-11;;
       /work/b/*|/work/s/me/*) n=2;;
