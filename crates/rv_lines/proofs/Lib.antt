@@ -1,0 +1,3 @@
+pub mod Positions
+pub mod Leb
+pub mod Loops

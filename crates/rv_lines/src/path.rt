@@ -1,0 +1,70 @@
+//! The path of a source line's file (DWARF 5, section 6.2.4: `directories`, `file_names`).
+ghost use Rattle.std.specs.Prelude.{◌≡◌, ◌==◌, Some, None, MatchOption, option_map};
+ghost use Rattle.rv_lines.specs.EntriesInside.{view_texts};
+ghost use Rattle.rv_lines.specs.Paths.{is_absolute, path_of};
+ghost use Rattle.rv_lines.specs.PathsInside.{brief_of_unit, view_path};
+ghost use Rattle.rv_lines.specs.HeaderInside.{view_header};
+
+use crate::entries::Entry;
+use crate::header::{Header, Wanted, header_at};
+use crate::reading::bytes_from;
+use crate::tables::LineTables;
+use crate::units::unit_bytes;
+
+/// A path: NAME, or FOLDER, `/` and NAME.
+#[derive(Clone, Copy)]
+pub struct SourcePath<'a> {
+    /// The folder, if there is one.
+    pub folder: Option<&'a [u8]>,
+    /// The name.
+    pub name: &'a [u8],
+}
+
+/// Returns the path of a file of the unit at an offset of `.debug_line`, as [`SourceLine`](crate::SourceLine) has them, or `None` if the
+/// unit's header is rejected or has no such file. The path is NAME if that begins with `/`, if its folder is number 0, the compiler's own,
+/// or if no folder has its number; otherwise it is FOLDER/NAME. Reads the header again. Does not allocate.
+pub fn source_path<'a>(tables: &LineTables<'a>, unit: u32, file: u32) -> Option<SourcePath<'a>>
+    ensures { MatchOption result (path_of (view_texts tables.now.texts) tables.now.lines.now unit file ≡ None)
+        (λ p. path_of (view_texts tables.now.texts) tables.now.lines.now unit file ≡ Some (view_path p)) }
+{
+    let bytes = unit_bytes(bytes_from(tables.lines, unit as usize)).ok()?;
+    let wanted = Wanted { folder: 0, file: u64::from(file) };
+    let entry = header_of(tables, wanted, bytes)?.file?;
+    if is_absolute(entry.name) || entry.folder == 0 {
+        return Some(SourcePath { folder: None, name: entry.name });
+    }
+    let wanted = Wanted { folder: entry.folder, file: u64::from(file) };
+    let folder = header_of(tables, wanted, bytes)?.folder;
+    Some(SourcePath {
+        folder: name_of(folder),
+        name: entry.name,
+    })
+}
+
+// Returns a header, or `None` if it is rejected.
+fn header_of<'a>(tables: &LineTables<'a>, wanted: Wanted, bytes: &'a [u8]) -> Option<Header<'a>>
+    ensures { MatchOption result (brief_of_unit wanted (view_texts tables.now.texts) bytes.now ≡ None)
+        (λ h. brief_of_unit wanted (view_texts tables.now.texts) bytes.now ≡ Some (view_header h)) }
+{
+    match header_at(&tables.texts, wanted, bytes) {
+        Ok((header, _)) => Some(header),
+        Err(_) => None,
+    }
+}
+
+// Returns the name of an entry, if there is one.
+fn name_of(entry: Option<Entry<'_>>) -> Option<&[u8]>
+    ensures { MatchOption result (entry.entry ≡ None) (λ name. option_map (λ e. e.name.now) entry.entry ≡ Some name.now) }
+{
+    match entry {
+        Some(entry) => Some(entry.name),
+        None => None,
+    }
+}
+
+// Whether a path begins with `/`.
+fn is_absolute(path: &[u8]) -> bool
+    ensures { result ≡ is_absolute path.now }
+{
+    !path.is_empty() && path[0] == b'/'
+}
