@@ -1,5 +1,5 @@
 -- What the code keeps of folders and files: their number, and one of them.
-use Rattle.std.specs.Prelude.{ℕ, List, [], length, slice_get, Option, Some, None, option_map, option_and_then, Result, Ok, Err}
+use Rattle.std.specs.Prelude.{◌==◌, ℕ, Bool, false, List, [], length, slice_get, Option, Some, None, option_map, option_and_then, Result, Ok, Err}
 
 use Rattle.rv_lines.specs.declared.entries.Entries.{Entries}
 use Rattle.rv_lines.specs.declared.entries.Format.{Format}
@@ -24,6 +24,11 @@ Summary = ℕ × Option Entry
 
 abbrev pub view_entries : Entries → Summary
 view_entries e = (e.count, option_map view_entry e.found)
+
+-- whether an index is this one
+abbrev pub is_index : Option ℕ → ℕ → Bool
+is_index None k = false
+is_index (Some i) k = i == k
 
 -- the entry at an index, if there is one
 abbrev pub picked : Option ℕ → List Entry → Option Entry

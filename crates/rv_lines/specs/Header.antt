@@ -1,5 +1,5 @@
 -- The header of a unit's line number program (DWARF 5, section 6.2.4).
-use Rattle.std.specs.Prelude.{slice_get, ◌==◌, ◌&&◌, ◌+◌, ◌-◌, ◌^◌, ℕ, Bool, not, true, false, List, [], ◌∷◌, length, take, drop, nat_lt, nat_le, Option, Some, None, option_and_then, Result, Ok, Err, if◌then◌else◌}
+use Rattle.std.specs.Prelude.{slice_get, ◌==◌, ◌&&◌, ◌+◌, ◌-◌, ◌^◌, ℕ, Bool, not, true, false, List, [], ◌∷◌, length, min, take, drop, nat_lt, nat_le, Option, Some, None, option_and_then, Result, Ok, Err, if◌then◌else◌}
 
 use Rattle.std.specs.Str.{bytes_eq}
 use Rattle.rv_lines.specs.declared.error.UnitError.{UnitError}
@@ -36,7 +36,7 @@ standard_lengths = 0 ∷ 1 ∷ 1 ∷ 1 ∷ 1 ∷ 0 ∷ 0 ∷ 0 ∷ 1 ∷ 0 ∷ 0
 
 -- whether the lengths of the operations that the standard has are those of the standard
 abbrev pub are_standard : List ℕ → Bool
-are_standard lengths = bytes_eq (take 12 lengths) (take (length lengths) standard_lengths)
+are_standard lengths = let known = min (length lengths) 12 in bytes_eq (take known lengths) (take known standard_lengths)
 
 -- a signed byte, modulo 2^32
 abbrev pub sign_extended : ℕ → ℕ

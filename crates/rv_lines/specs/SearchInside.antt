@@ -16,9 +16,13 @@ use Rattle.rv_lines.specs.Rows.{program_rows}
 abbrev pub is_higher : SourceLine → Option SourceLine → Bool
 is_higher source found = option_map_or (λ f. nat_lt f.low source.low) found true
 
+-- the source that is chosen of a new one and what was found
+abbrev pub higher : SourceLine → Option SourceLine → Option SourceLine
+higher source found = if is_higher source found then Some source else found
+
 -- what is found for an address after one more span
 abbrev pub noted : Span → ℕ → Option SourceLine → Option SourceLine
-noted s a found = if covers a s && is_higher s.source found then Some s.source else found
+noted s a found = if covers a s then higher s.source found else found
 
 -- what is found for each address after one more span
 abbrev pub noted_each : Span → List ℕ → List (Option SourceLine) → List (Option SourceLine)
@@ -32,8 +36,12 @@ noted_all [] addresses found = found
 noted_all (s ∷ spans) addresses found = noted_all spans addresses (noted_each s addresses found)
 
 -- what is shown of what was found
-abbrev pub shown : List (Option SourceLine) → List (Option SourceLine)
-shown found = map (option_and_then with_line) found
+abbrev pub shown : Option SourceLine → Option SourceLine
+shown found = option_and_then with_line found
+
+-- nothing, whatever was found
+abbrev pub forgotten : Option SourceLine → Option SourceLine
+forgotten found = None
 
 -- a result without its value
 abbrev pub checked_only : {X : Type 0} → Result X UnitError → Result (Unit {0}) UnitError

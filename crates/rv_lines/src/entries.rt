@@ -1,9 +1,9 @@
 //! The folders and files of a unit's header (DWARF 4, section 6.2.4; DWARF 5, section 6.2.4.1). They are not kept: of each list, the number
 //! of its entries is counted, and one entry is picked.
-ghost use Rattle.std.specs.Prelude.{◌≡◌, ◌==◌, ◌<◌, ◌≤◌, ◌+◌, length, option_map, IfOk, is_ok, true};
+ghost use Rattle.std.specs.Prelude.{◌≡◌, if◌then◌else◌, Some, length, option_map, is_ok, true};
 ghost use Rattle.rv_lines.specs.Reading.{Gives};
 ghost use Rattle.rv_lines.specs.Entries.{empty_entry, numbers_at, list_at, parts_at, with_part, entry_at, entries_at, table_at};
-ghost use Rattle.rv_lines.specs.EntriesInside.{view_entry, view_entries, view_texts, summarised, rest_of, parts_of};
+ghost use Rattle.rv_lines.specs.EntriesInside.{is_index, view_entry, view_entries, view_texts, summarised, rest_of, parts_of};
 
 use crate::error::UnitError;
 use crate::forms::{
@@ -44,20 +44,32 @@ pub(crate) fn list_at<'a>(
     ensures { Gives (λ x. (view_entries x.0, x.1.now)) result
         (summarised index (list_at (length bytes.now) of_files bytes.now)) }
 {
-    let mut entries = Entries { count: 0, found: None };
+    let mut count = 0;
+    let mut found = None;
     let mut rest = bytes;
     loop {
         let (name, after) = text_at(UnitError::HeaderCutOff, rest)?;
         if name.is_empty() {
-            return Ok((entries, after));
+            return Ok((Entries { count, found }, after));
         }
         let (folder, after) = numbers_at(of_files, after)?;
-        if index == Some(entries.count) {
-            entries.found = Some(Entry { name, folder });
-        }
-        entries.count += 1;
+        found = pick(index, count, Entry { name, folder }, found);
+        count += 1;
         rest = after;
     }
+}
+
+// Returns the entry at index `k` if that is the one to be picked, and otherwise what was found before.
+fn pick<'a>(
+    index: Option<u64>,
+    k: u64,
+    entry: Entry<'a>,
+    found: Option<Entry<'a>>,
+) -> Option<Entry<'a>>
+    ensures { option_map view_entry result
+        ≡ (if is_index index k then Some (view_entry entry.entry) else option_map view_entry found.entry) }
+{
+    if index == Some(k) { Some(entry) } else { found }
 }
 
 // Reads the numbers after the name of a file: its folder, and its time and length, which are skipped. A folder has none.
@@ -122,9 +134,7 @@ fn entries_at<'a>(
     let mut rest = bytes;
     for k in 0..count {
         let (entry, after) = entry_at(texts, format, rest)?;
-        if index == Some(u64::from(k)) {
-            found = Some(entry);
-        }
+        found = pick(index, u64::from(k), entry, found);
         rest = after;
     }
     Ok((Entries { count: u64::from(count), found }, rest))

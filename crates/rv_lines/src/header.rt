@@ -1,5 +1,5 @@
 //! The header of a unit's line number program (DWARF 5, section 6.2.4).
-ghost use Rattle.std.specs.Prelude.{◌≡◌, ◌==◌, ◌-◌, length, take, true};
+ghost use Rattle.std.specs.Prelude.{◌≡◌, ◌<◌, IfOk};
 ghost use Rattle.rv_lines.specs.Reading.{Gives};
 ghost use Rattle.rv_lines.specs.Header.{are_standard, sign_extended, operations_check, lengths_at, parameters_at, entries_of_version};
 ghost use Rattle.rv_lines.specs.Header.{index_of, parts_of_header, addresses_check, version_at, frame_at, header_at};
@@ -66,8 +66,9 @@ pub(crate) fn header_at<'a>(
     wanted: Wanted,
     bytes: &'a [u8],
 ) -> Result<(Header<'a>, &'a [u8]), UnitError>
-    ensures { Gives (λ x. (view_header x.0, x.1.now)) result
+    ensures value { Gives (λ x. (view_header x.0, x.1.now)) result
         (brief_at wanted (header_at (view_texts texts.now) bytes.now)) }
+    ensures divides { IfOk result (λ x. 0 < x.0.parameters.line_range) }
 {
     let (version, parts, program) = frame_at(bytes)?;
     let header = parts_of_header(texts, wanted, version, parts)?;
@@ -129,7 +130,8 @@ fn parts_of_header<'a>(
     version: u16,
     bytes: &'a [u8],
 ) -> Result<Header<'a>, UnitError>
-    ensures { Gives view_header result (brief_of wanted (parts_of_header (view_texts texts.now) version bytes.now)) }
+    ensures value { Gives view_header result (brief_of wanted (parts_of_header (view_texts texts.now) version bytes.now)) }
+    ensures divides { IfOk result (λ header. 0 < header.parameters.line_range) }
 {
     let first = if version == 5 { 0 } else { 1 };
     let folder = index_of(first, wanted.folder);
@@ -179,7 +181,8 @@ fn entries_of_version<'a>(
 // Reads the parameters of the program, from `minimum_instruction_length` to `opcode_base`.
 #[tactic(auto, unfolding(crate::specs::Header::parameters_at))]
 fn parameters_at(version: u16, bytes: &[u8]) -> Result<(Parameters, &[u8]), UnitError>
-    ensures { Gives (λ x. (x.0, x.1.now)) result (parameters_at version bytes.now) }
+    ensures value { Gives (λ x. (x.0, x.1.now)) result (parameters_at version bytes.now) }
+    ensures divides { IfOk result (λ x. 0 < x.0.line_range) }
 {
     let (min_length, rest) = byte_at(UnitError::HeaderCutOff, bytes)?;
     let rest = operations_check(version, rest)?;

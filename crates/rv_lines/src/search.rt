@@ -1,9 +1,8 @@
 //! The lookup of addresses, in one pass over `.debug_line` that keeps no table.
-ghost use Rattle.std.specs.Prelude.{◌≡◌, ◌<◌, ◌≤◌, ◌^◌, ◌+◌, length, map, replicate, None};
-ghost use Rattle.rv_lines.specs.declared.error.UnitError.{UnitError};
+ghost use Rattle.std.specs.Prelude.{◌≡◌, ◌<◌, ◌≤◌, ◌^◌, length, map};
 ghost use Rattle.rv_lines.specs.EntriesInside.{view_texts};
 ghost use Rattle.rv_lines.specs.Lines.{line_at, units_of, rejected_units};
-ghost use Rattle.rv_lines.specs.SearchInside.{shown, IsRising, rejected_after};
+ghost use Rattle.rv_lines.specs.SearchInside.{shown, forgotten, IsRising, rejected_after};
 
 use crate::error::UnitError;
 use crate::tables::LineTables;
@@ -69,22 +68,28 @@ impl RejectedUnits {
 
 // Forgets what was found.
 fn forget_all(found: &mut [Option<SourceLine>])
-    ensures { found.new ≡ replicate (length found.old) None }
+    ensures { found.new ≡ map forgotten found.old }
 {
-    for place in found.iter_mut() {
-        *place = None;
+    for k in 0..found.len() {
+        found[k] = None;
     }
 }
 
 // Keeps what was found, but for line 0, which is no line.
 fn show_lines(found: &mut [Option<SourceLine>])
-    ensures { found.new ≡ shown found.old }
+    ensures { found.new ≡ map shown found.old }
 {
-    for place in found.iter_mut() {
-        if let Some(source) = *place
-            && source.line == 0
-        {
-            *place = None;
-        }
+    for k in 0..found.len() {
+        found[k] = shown(found[k]);
+    }
+}
+
+// Returns what was found, but for line 0.
+fn shown(found: Option<SourceLine>) -> Option<SourceLine>
+    ensures { result ≡ shown found }
+{
+    match found {
+        Some(source) if source.line != 0 => Some(source),
+        _ => None,
     }
 }

@@ -1,7 +1,7 @@
 //! The addresses that a row covers, and what is found for them.
 ghost use Rattle.std.specs.Prelude.{◌≡◌, length};
-ghost use Rattle.rv_lines.specs.Lines.{span, covers};
-ghost use Rattle.rv_lines.specs.SearchInside.{is_higher, noted_each, IsRising};
+ghost use Rattle.rv_lines.specs.Lines.{span};
+ghost use Rattle.rv_lines.specs.SearchInside.{higher, noted_each, IsRising};
 
 use crate::rows::Row;
 
@@ -52,19 +52,17 @@ pub(crate) fn note_span(span: &Span, addresses: &[u32], found: &mut [Option<Sour
 {
     let mut k = addresses.partition_point(|address| *address < span.from);
     while k < addresses.len() && addresses[k] < span.to {
-        if is_higher(&span.source, found[k]) {
-            found[k] = Some(span.source);
-        }
+        found[k] = higher(span.source, found[k]);
         k += 1;
     }
 }
 
-// Whether a source is chosen after what was found: nothing, or one with a smaller `low`.
-fn is_higher(source: &SourceLine, found: Option<SourceLine>) -> bool
-    ensures { result ≡ is_higher source.now found }
+// Returns a source, if nothing was found before or a source with a smaller `low`, and otherwise what was found.
+fn higher(source: SourceLine, found: Option<SourceLine>) -> Option<SourceLine>
+    ensures { result ≡ higher source found }
 {
     match found {
-        None => true,
-        Some(found) => found.low < source.low,
+        Some(before) if before.low >= source.low => found,
+        _ => Some(source),
     }
 }
