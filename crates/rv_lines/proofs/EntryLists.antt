@@ -147,7 +147,7 @@ record AfterName (most : ℕ) (of_files : Bool) (bytes name after : List ℕ) : 
   pub enough : length after ≤ fewer
   pub is : list_at most of_files bytes ≡ after_name fewer of_files name after
 
-fewer_after : (n : ℕ) (r : Read (List ℕ)) (name after : List ℕ) → Fewer n r → r ≡ Ok (name, after) → length after < n
+pub fewer_after : (n : ℕ) (r : Read (List ℕ)) (name after : List ℕ) → Fewer n r → r ≡ Ok (name, after) → length after < n
 fewer_after n r name after f h = subst (Fewer n) h f
 
 list_named : (most : ℕ) (of_files : Bool) (bytes name after : List ℕ) → length bytes ≤ most → text_at unit.HeaderCutOff bytes ≡ Ok (name, after)
@@ -157,6 +157,9 @@ list_named zero of_files (b ∷ bytes) name after le h = absurd (omega arith)
 list_named (suc most) of_files bytes name after le h =
     let l = fewer_after (length bytes) (text_at unit.HeaderCutOff bytes) name after (text_fewer unit.HeaderCutOff bytes) h in
     record { fewer = most; enough = omega arith; is = list_one most of_files bytes ∙ ap (λ r. r >>= λ n. after_name most of_files n.0 n.1) h }
+
+pub within_after : (n : ℕ) (r : Read ℕ) (folder : ℕ) (rest : List ℕ) → Within n r → r ≡ Ok (folder, rest) → length rest ≤ n
+within_after n r folder rest w e = subst (Within n) e w
 
 -- what is read in all, if k entries were read before; `most` is no less than the bytes that are left
 pub record ListLeft (of_files : Bool) (index : Option ℕ) (total : Read Summary) (k : ℕ) (found : Option Entry) (bytes : List ℕ) : Type 0 where
@@ -184,9 +187,6 @@ module _ (of_files : Bool) (index : Option ℕ) (total : Read Summary) (k : ℕ)
     pub list_numbers_fail : (e : UnitError) → 0 < length name → numbers_at of_files after ≡ Err e → total ≡ Err e
     list_numbers_fail e l n = sym so_far.is ∙ ap (resumed k index found) (longer l ∙ ap (λ r. r >>= λ folder.
         with_entry (record { name = name; folder = folder.0 }) (list_at named.fewer of_files folder.1)) n)
-
-    within_after : (n : ℕ) (r : Read ℕ) (folder : ℕ) (rest : List ℕ) → Within n r → r ≡ Ok (folder, rest) → length rest ≤ n
-    within_after n r folder rest w e = subst (Within n) e w
 
     pub list_on : (folder : ℕ) (rest : List ℕ) → 0 < length name → numbers_at of_files after ≡ Ok (folder, rest)
         → ListLeft of_files index total (k + 1) (cond (is_index index k) (Some (record { name = name; folder = folder })) found) rest

@@ -6,3 +6,6 @@ pub mod Shorter
 pub mod EntryLists
 pub mod Choosing
 pub mod Noting
+pub mod Folding
+pub mod Headers
+pub mod UnitLists

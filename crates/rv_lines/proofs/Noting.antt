@@ -96,9 +96,9 @@ pub noted_all_append : (xs ys : List Span) (addresses : List ℕ) (found : Found
 noted_all_append [] ys addresses found = refl
 noted_all_append (x ∷ xs) ys addresses found = noted_all_append xs ys addresses (noted_each x addresses found)
 
-noted_nil : (spans : List Span) (found : Found) → noted_all spans [] found ≡ found
-noted_nil [] found = refl
-noted_nil (s ∷ spans) found = noted_nil spans found
+noted_nil : (spans : List Span) → noted_all spans [] [] ≡ []
+noted_nil [] = refl
+noted_nil (s ∷ spans) = noted_nil spans
 
 noted_cons : (spans : List Span) (a : ℕ) (addresses : List ℕ) (f : Option SourceLine) (found : Found)
     → noted_all spans (a ∷ addresses) (f ∷ found) ≡ noted_by a f spans ∷ noted_all spans addresses found
@@ -110,7 +110,7 @@ nothing a = None
 
 -- from nothing, what is found in the end is the source at each address
 pub noted_sources : (spans : List Span) (addresses : List ℕ) → noted_all spans addresses (map nothing addresses) ≡ map (source_at spans) addresses
-noted_sources spans [] = noted_nil spans []
+noted_sources spans [] = noted_nil spans
 noted_sources spans (a ∷ addresses) = noted_cons spans a addresses None (map nothing addresses)
     ∙ ap (λ x. x ∷ noted_all spans addresses (map nothing addresses)) (noted_source spans a)
     ∙ ap (λ xs. source_at spans a ∷ xs) (noted_sources spans addresses)

@@ -22,6 +22,10 @@ pub record Header : Type 0 where
 abbrev pub file_numbers : Header → FileNumbers
 file_numbers h = record { first = h.first; count = length h.files }
 
+-- the number of the first file and of the first folder: 0 in DWARF 5, and 1 before
+abbrev pub first_number : ℕ → ℕ
+first_number version = if version == 5 then 0 else 1
+
 -- the index of a number that is counted from `first`
 abbrev pub index_of : ℕ → ℕ → Option ℕ
 index_of first number = if nat_lt number first then None else Some (number - first)
@@ -85,7 +89,7 @@ parts_of_header texts version bytes = do
   Ok (record {
     parameters = parameters.0;
     lengths = lengths.0;
-    first = if version == 5 then 0 else 1;
+    first = first_number version;
     folders = folders.0;
     files = files.0;
   })

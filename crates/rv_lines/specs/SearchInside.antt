@@ -3,6 +3,8 @@ use Rattle.std.specs.Prelude.{◌+◌, ◌&&◌, ℕ, Bool, true, List, [], ◌�
 use Rattle.std.specs.List.Sorted.{IsNonDecreasingBy}
 use Rattle.std.specs.Option.{option_map_or, option_or}
 use Rattle.rv_lines.specs.declared.error.UnitError.{UnitError}
+use Rattle.rv_lines.specs.declared.error.UnitError.TheVariants.{FileNumber}
+use Rattle.rv_lines.specs.declared.header.FileNumbers.{FileNumbers}
 use Rattle.rv_lines.specs.declared.search.RejectedUnits.{RejectedUnits}
 use Rattle.rv_lines.specs.declared.program.Program as declared
 use Rattle.rv_lines.specs.declared.rows.Row.{Row}
@@ -10,7 +12,7 @@ use Rattle.rv_lines.specs.declared.span.SourceLine.{SourceLine}
 use Rattle.rv_lines.specs.declared.span.Span.{Span}
 use Rattle.rv_lines.specs.Lines.{covers, with_line}
 use Rattle.rv_lines.specs.Reading.{◌>>=◌}
-use Rattle.rv_lines.specs.Rows.{program_rows}
+use Rattle.rv_lines.specs.Rows.{lacks_file, program_rows}
 
 -- whether a source is chosen after what was found: nothing, or one with a smaller `low`
 abbrev pub is_higher : SourceLine → Option SourceLine → Bool
@@ -42,6 +44,11 @@ shown found = option_and_then with_line found
 -- nothing, whatever was found
 abbrev pub forgotten : Option SourceLine → Option SourceLine
 forgotten found = None
+
+-- whether the file of a row that was added is there
+abbrev pub file_check : FileNumbers → Option Row → Result (Unit {0}) UnitError
+file_check files None = Ok tt
+file_check files (Some row) = if lacks_file files row then Err FileNumber else Ok tt
 
 -- a result without its value
 abbrev pub checked_only : {X : Type 0} → Result X UnitError → Result (Unit {0}) UnitError

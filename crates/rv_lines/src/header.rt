@@ -2,7 +2,7 @@
 ghost use Rattle.std.specs.Prelude.{◌≡◌, ◌<◌, IfOk};
 ghost use Rattle.rv_lines.specs.Reading.{Gives};
 ghost use Rattle.rv_lines.specs.Header.{are_standard, sign_extended, operations_check, lengths_at, parameters_at, entries_of_version};
-ghost use Rattle.rv_lines.specs.Header.{index_of, parts_of_header, addresses_check, version_at, frame_at, header_at};
+ghost use Rattle.rv_lines.specs.Header.{first_number, index_of, parts_of_header, addresses_check, version_at, frame_at, header_at};
 ghost use Rattle.rv_lines.specs.EntriesInside.{view_entries, view_texts, summarised};
 ghost use Rattle.rv_lines.specs.HeaderInside.{view_header, brief_of, brief_at};
 
@@ -133,7 +133,7 @@ fn parts_of_header<'a>(
     ensures value { Gives view_header result (brief_of wanted (parts_of_header (view_texts texts.now) version bytes.now)) }
     ensures divides { IfOk result (λ header. 0 < header.parameters.line_range) }
 {
-    let first = if version == 5 { 0 } else { 1 };
+    let first = first_number(version);
     let folder = index_of(first, wanted.folder);
     let file = index_of(first, wanted.file);
     let (parameters, rest) = parameters_at(version, bytes)?;
@@ -150,6 +150,13 @@ fn parts_of_header<'a>(
         folder: folders.found,
         file: files.found,
     })
+}
+
+// Returns the number of the first file and of the first folder.
+fn first_number(version: u16) -> u32
+    ensures { result ≡ first_number version }
+{
+    if version == 5 { 0 } else { 1 }
 }
 
 // Returns the index of a number that is counted from `first`.

@@ -1,7 +1,8 @@
 //! One pass over the program of a unit: it checks the program, and notes the span of each row.
-ghost use Rattle.std.specs.Prelude.{◌≡◌, ◌<◌, ◌∷◌, [], length, IfOk, None};
+ghost use Rattle.std.specs.Prelude.{◌≡◌, ◌<◌, [], length, IfOk, None};
 ghost use Rattle.rv_lines.specs.Lines.{spans_after};
-ghost use Rattle.rv_lines.specs.SearchInside.{noted_all, checked_only, rows_of_program, IsRising};
+ghost use Rattle.rv_lines.specs.SearchInside.{noted_all, checked_only, rows_of_program, file_check, IsRising};
+ghost use Rattle.rv_lines.specs.Rows.{in_front};
 
 use crate::error::UnitError;
 use crate::header::{FileNumbers, Parameters};
@@ -38,13 +39,10 @@ pub(crate) fn note_program(
     while !rest.is_empty() {
         let (operation, after) = operation_at(program.parameters.opcode_base, program.lengths, rest)?;
         let changed = state.changed(&program.parameters, operation);
-        if let Some(row) = changed.row_added(operation) {
-            if row.lacks_file(program.files) {
-                return Err(UnitError::FileNumber);
-            }
-            note_row(program.unit, before, row, addresses, found);
-            before = Some(row);
-        }
+        let added = changed.row_added(operation);
+        check_file(added, program.files)?;
+        note_row(program.unit, before, added, addresses, found);
+        before = added.or(before);
         state = changed.after(&program.parameters, operation);
         rest = after;
     }
@@ -54,21 +52,31 @@ pub(crate) fn note_program(
     }
 }
 
-// Notes the span of the row before a row, if there is one and it does not end a sequence.
+// Checks that the file of a row is there, if a row was added and does not end a sequence.
+fn check_file(added: Option<Row>, files: FileNumbers) -> Result<(), UnitError>
+    ensures { result ≡ file_check files added }
+{
+    match added {
+        Some(row) if row.lacks_file(files) => Err(UnitError::FileNumber),
+        _ => Ok(()),
+    }
+}
+
+// Notes the span of the row before, once a row was added after it. A row that ends a sequence has none.
 fn note_row(
     unit: u32,
     before: Option<Row>,
-    row: Row,
+    added: Option<Row>,
     addresses: &[u32],
     found: &mut [Option<SourceLine>],
 )
     requires rising { IsRising addresses.now }
     requires places { length found.old ≡ length addresses.now }
-    ensures { found.new ≡ noted_all (spans_after unit before (row ∷ [])) addresses.now found.old }
+    ensures { found.new ≡ noted_all (spans_after unit before (in_front added [])) addresses.now found.old }
 {
-    if let Some(before) = before
-        && !before.ends
+    if let (Some(row), Some(next)) = (before, added)
+        && !row.ends
     {
-        note_span(&Span::new(unit, &before, &row), addresses, found);
+        note_span(&Span::new(unit, &row, &next), addresses, found);
     }
 }

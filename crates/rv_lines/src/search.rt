@@ -6,8 +6,9 @@ ghost use Rattle.rv_lines.specs.SearchInside.{shown, forgotten, IsRising, reject
 
 use crate::error::UnitError;
 use crate::tables::LineTables;
+use crate::reading::bytes_from;
 use crate::span::SourceLine;
-use crate::units::{after_unit, note_unit};
+use crate::units::{note_unit, unit_size};
 
 /// How many units there are, how many of them are rejected, and the error and the offset of the first.
 #[derive(Clone, Copy, Debug, PartialEq, Eq)]
@@ -37,12 +38,11 @@ pub fn find_lines(
 {
     forget_all(found);
     let mut rejected = RejectedUnits { units: 0, rejected: 0, first: None };
-    let mut rest = tables.lines;
-    while !rest.is_empty() {
-        let offset = (tables.lines.len() - rest.len()) as u32;
-        let read = note_unit(tables, offset, addresses, found);
-        rejected = rejected.after(offset, read);
-        rest = after_unit(rest);
+    let mut offset = 0;
+    while offset < tables.lines.len() {
+        let read = note_unit(tables, offset as u32, addresses, found);
+        rejected = rejected.after(offset as u32, read);
+        offset += unit_size(bytes_from(tables.lines, offset));
     }
     show_lines(found);
     rejected

@@ -1,10 +1,10 @@
 //! The units of `.debug_line` (DWARF 5, section 7.4 for their lengths, section 6.2.4).
-ghost use Rattle.std.specs.Prelude.{◌≡◌, length, drop, min};
+ghost use Rattle.std.specs.Prelude.{◌≡◌, ◌<◌, length, drop, min, MatchResult, IfOk, Err};
 ghost use Rattle.rv_lines.specs.Reading.{Gives};
 ghost use Rattle.rv_lines.specs.EntriesInside.{view_texts};
 ghost use Rattle.rv_lines.specs.Units.{unit_bytes, unit_size, long_unit_size, rows_at};
 ghost use Rattle.rv_lines.specs.Lines.{spans_of_rows};
-ghost use Rattle.rv_lines.specs.SearchInside.{noted_all, checked_only, IsRising};
+ghost use Rattle.rv_lines.specs.SearchInside.{noted_all, checked_only, rows_of_program, IsRising};
 
 use byteorder::{ByteOrder, LittleEndian};
 
@@ -27,7 +27,6 @@ const DWARF_64: u32 = 0xffff_ffff;
 const RESERVED: u32 = 0xffff_fff0;
 
 /// Notes the spans of the unit at an offset, or returns its error, and then notes none.
-#[tactic(auto, unfolding(crate::specs::Units::unit_rows))]
 pub(crate) fn note_unit(
     tables: &LineTables,
     offset: u32,
@@ -40,18 +39,29 @@ pub(crate) fn note_unit(
     ensures found { found.new ≡ noted_all
         (spans_of_rows offset (rows_at (view_texts tables.now.texts) (drop offset tables.now.lines.now))) addresses.now found.old }
 {
+    let program = program_of(tables, offset)?;
+    // An error may follow rows, so the program is read once before its rows count.
+    note_program(&program, &[], &mut [])?;
+    note_program(&program, addresses, found)
+}
+
+// Returns the program of the unit at an offset, if its header can be read.
+fn program_of<'a>(tables: &LineTables<'a>, offset: u32) -> Result<Program<'a>, UnitError>
+    ensures value { MatchResult result
+        (λ p. rows_at (view_texts tables.now.texts) (drop offset tables.now.lines.now) ≡ rows_of_program p)
+        (λ e. rows_at (view_texts tables.now.texts) (drop offset tables.now.lines.now) ≡ Err e) }
+    ensures divides { IfOk result (λ p. 0 < p.parameters.line_range) }
+    ensures unit { IfOk result (λ p. p.unit ≡ offset) }
+{
     let bytes = unit_bytes(bytes_from(tables.lines, offset as usize))?;
     let (header, program) = header_at(&tables.texts, Wanted::NOTHING, bytes)?;
-    let program = Program {
+    Ok(Program {
         unit: offset,
         parameters: header.parameters,
         files: header.files,
         lengths: header.lengths,
         bytes: program,
-    };
-    // An error may follow rows, so the program is read once before its rows count.
-    note_program(&program, &[], &mut [])?;
-    note_program(&program, addresses, found)
+    })
 }
 
 /// Returns the bytes of the unit at the front, after `unit_length`.
@@ -76,16 +86,9 @@ pub(crate) fn unit_bytes(bytes: &[u8]) -> Result<&[u8], UnitError>
     Ok(&bytes[LENGTH_SIZE..end])
 }
 
-/// Returns the bytes after the unit at the front.
-pub(crate) fn after_unit(bytes: &[u8]) -> &[u8]
-    ensures { result.now ≡ drop (unit_size bytes.now) bytes.now }
-{
-    bytes_from(bytes, unit_size(bytes))
-}
-
-// Returns the number of bytes from the unit at the front to the next one, or that of all bytes if there is none.
+/// Returns the number of bytes from the unit at the front to the next one, or that of all bytes if there is none.
 #[tactic(auto, unfolding(crate::specs::Units::unit_size))]
-fn unit_size(bytes: &[u8]) -> usize
+pub(crate) fn unit_size(bytes: &[u8]) -> usize
     ensures { result ≡ min (unit_size bytes.now) (length bytes.now) }
 {
     if bytes.len() < LENGTH_SIZE {
