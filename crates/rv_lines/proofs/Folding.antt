@@ -1,5 +1,6 @@
 -- The rows of a program, operation after operation, as a loop folds them.
 use Rattle.std.proofs.Common.{◌≡◌, ◌∙◌, ◌<◌, ◌≤◌, ◌+◌, ◌||◌, ℕ, zero, suc, Bool, true, false, not, cond, List, [], ◌∷◌, ◌++◌, length, Option, Some, None, is_some, Result, Ok, Err, refl, sym, ap, subst, arith, append_assoc}
+use Rattle.std.specs.Prelude.{IfOk}
 use Rattle.std.specs.List.{list_any}
 use Rattle.std.specs.Option.{option_map_or, option_or}
 use Rattle.std.proofs.lemmas.List.{append-nil}
@@ -281,3 +282,47 @@ so_far_start p files lengths unit addresses old bytes = record {
   last = refl;
   noted = refl;
 }
+
+-- ---- as the code finds them
+
+module _ (p : Parameters) (files : FileNumbers) (lengths : List ℕ) (total : Rows) (unit : ℕ) (addresses : List ℕ) (old : List (Option SourceLine))
+    (s : State) (before : Option Row) (found : List (Option SourceLine)) (bytes rest : List ℕ) (op : Operation) (changing : State) (added : Option Row) where
+  pub step_lacks : (e : UnitError) → changing ≡ changed p op s → added ≡ row_added op changing → 0 < length bytes → operation_at p.opcode_base lengths bytes ≡ Ok (op, rest)
+      → file_check files added ≡ Err e → NotedSoFar p files lengths total unit addresses old s before bytes found → total ≡ Err e
+  step_lacks e c a lt h l so_far =
+      so_far_lacks p files lengths total unit addresses old s before found bytes rest op e lt h (sym (ap (file_check files) (a ∙ ap (row_added op) c)) ∙ l) so_far
+
+  pub step_on : (now : List (Option SourceLine)) (next : State) (last : Option Row) → changing ≡ changed p op s → added ≡ row_added op changing
+      → next ≡ after p op changing → last ≡ option_or added before → 0 < length bytes → operation_at p.opcode_base lengths bytes ≡ Ok (op, rest)
+      → file_check files added ≡ Ok tt → now ≡ noted_all (spans_after unit before (in_front added [])) addresses found
+      → NotedSoFar p files lengths total unit addresses old s before bytes found
+      → NotedSoFar p files lengths total unit addresses old next last rest now
+  step_on now next last c a n b lt h l w so_far =
+      let added_is : added ≡ row_added op (changed p op s) = a ∙ ap (row_added op) c in
+      let next_is : next ≡ after p op (changed p op s) = n ∙ ap (after p op) c in
+      let last_is : last ≡ option_or (row_added op (changed p op s)) before = b ∙ ap (λ x. option_or x before) added_is in
+      subst (λ (x : State). NotedSoFar p files lengths total unit addresses old x last rest now) (sym next_is)
+      (subst (λ (x : Option Row). NotedSoFar p files lengths total unit addresses old (after p op (changed p op s)) x rest now) (sym last_is)
+      (so_far_on p files lengths total unit addresses old s before found bytes rest op now lt h (sym (ap (file_check files) added_is) ∙ l)
+        (w ∙ ap (λ x. noted_all (spans_after unit before (in_front x [])) addresses found) added_is) so_far))
+
+-- what the function ensures of what it found
+abbrev pub NotedIfOk : Rows → ℕ → List ℕ → List (Option SourceLine) → List (Option SourceLine) → Type 0
+NotedIfOk total unit addresses old now = IfOk total (λ rows. now ≡ noted_all (spans_after unit None rows) addresses old)
+
+pub noted_if_err : (total : Rows) (unit : ℕ) (addresses : List ℕ) (old now : List (Option SourceLine)) (e : UnitError) → total ≡ Err e → NotedIfOk total unit addresses old now
+noted_if_err total unit addresses old now e h = subst (λ (r : Rows). NotedIfOk r unit addresses old now) (sym h) tt
+
+pub noted_if_ok : (total : Rows) (unit : ℕ) (addresses : List ℕ) (old now : List (Option SourceLine)) (rows : List Row) → total ≡ Ok rows
+    → now ≡ noted_all (spans_after unit None rows) addresses old → NotedIfOk total unit addresses old now
+noted_if_ok total unit addresses old now rows h n = subst (λ (r : Rows). NotedIfOk r unit addresses old now) (sym h) n
+
+rest_shorter : (n : ℕ) (r : Read Operation) (op : Operation) (rest : List ℕ) → Within n r → r ≡ Ok (op, rest) → length rest ≤ n
+rest_shorter n r op rest w e = subst (Within n) e w
+
+-- an operation takes a byte
+pub operation_shorter : (opcode_base : ℕ) (lengths bytes rest : List ℕ) (op : Operation) → 0 < length bytes → operation_at opcode_base lengths bytes ≡ Ok (op, rest)
+    → length rest < length bytes
+operation_shorter opcode_base lengths [] rest op lt h = absurd (omega arith)
+operation_shorter opcode_base lengths (b ∷ bytes) rest op lt h =
+    let w = rest_shorter (length bytes) (operation_at opcode_base lengths (b ∷ bytes)) op rest (operation_within opcode_base lengths b bytes) h in omega arith

@@ -27,3 +27,6 @@ pub use search::{RejectedUnits, find_lines};
 pub use sections::line_tables;
 pub use span::SourceLine;
 pub use tables::{LineTables, TextSections};
+
+#[cfg(test)]
+mod tests;

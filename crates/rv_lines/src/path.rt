@@ -27,25 +27,28 @@ pub fn source_path<'a>(tables: &LineTables<'a>, unit: u32, file: u32) -> Option<
     ensures { MatchOption result (path_of (view_texts tables.now.texts) tables.now.lines.now unit file ≡ None)
         (λ p. path_of (view_texts tables.now.texts) tables.now.lines.now unit file ≡ Some (view_path p)) }
 {
-    let bytes = unit_bytes(bytes_from(tables.lines, unit as usize)).ok()?;
-    let wanted = Wanted { folder: 0, file: u64::from(file) };
-    let entry = header_of(tables, wanted, bytes)?.file?;
+    let header = header_of(tables, unit, Wanted { folder: 0, file: u64::from(file) })?;
+    let entry = header.file?;
     if is_absolute(entry.name) || entry.folder == 0 {
         return Some(SourcePath { folder: None, name: entry.name });
     }
     let wanted = Wanted { folder: entry.folder, file: u64::from(file) };
-    let folder = header_of(tables, wanted, bytes)?.folder;
+    let header = header_of(tables, unit, wanted)?;
     Some(SourcePath {
-        folder: name_of(folder),
+        folder: name_of(header.folder),
         name: entry.name,
     })
 }
 
-// Returns a header, or `None` if it is rejected.
-fn header_of<'a>(tables: &LineTables<'a>, wanted: Wanted, bytes: &'a [u8]) -> Option<Header<'a>>
-    ensures { MatchOption result (brief_of_unit wanted (view_texts tables.now.texts) bytes.now ≡ None)
-        (λ h. brief_of_unit wanted (view_texts tables.now.texts) bytes.now ≡ Some (view_header h)) }
+// Returns the header of the unit at an offset, or `None` if it is rejected.
+fn header_of<'a>(tables: &LineTables<'a>, unit: u32, wanted: Wanted) -> Option<Header<'a>>
+    ensures { MatchOption result
+        (brief_of_unit wanted (view_texts tables.now.texts) tables.now.lines.now unit ≡ None)
+        (λ h. brief_of_unit wanted (view_texts tables.now.texts) tables.now.lines.now unit ≡ Some (view_header h)) }
 {
+    let Ok(bytes) = unit_bytes(bytes_from(tables.lines, unit as usize)) else {
+        return None;
+    };
     match header_at(&tables.texts, wanted, bytes) {
         Ok((header, _)) => Some(header),
         Err(_) => None,

@@ -36,7 +36,7 @@ pub(crate) fn note_program(
     let mut state = State::initial(&program.parameters);
     let mut before: Option<Row> = None;
     let mut rest = program.bytes;
-    while !rest.is_empty() {
+    while 0 < rest.len() {
         let (operation, after) = operation_at(program.parameters.opcode_base, program.lengths, rest)?;
         let changed = state.changed(&program.parameters, operation);
         let added = changed.row_added(operation);
