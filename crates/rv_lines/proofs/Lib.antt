@@ -9,3 +9,6 @@ pub mod Noting
 pub mod Folding
 pub mod Headers
 pub mod UnitLists
+pub mod PathTexts
+pub mod Searching
+pub mod LawsOfRows

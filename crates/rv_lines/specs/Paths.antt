@@ -11,9 +11,13 @@ abbrev pub is_absolute : List ℕ → Bool
 is_absolute [] = false
 is_absolute (b ∷ bytes) = b == 0x2f
 
--- the folder of a file: none if its name is absolute, its folder is number 0, the compiler's own, or no folder has its number
+-- whether a file has no folder: its name is absolute, or its folder is number 0, the compiler's own
+abbrev pub has_no_folder : Entry → Bool
+has_no_folder file = is_absolute file.name || (file.folder == 0)
+
+-- the folder of a file: none if it has none, or if no folder has its number
 abbrev pub folder_of : Header → Entry → Option (List ℕ)
-folder_of h file = if is_absolute file.name || (file.folder == 0) then None
+folder_of h file = if has_no_folder file then None
     else option_map (λ folder. folder.name) (numbered h.first h.folders file.folder)
 
 -- NAME, or FOLDER/NAME

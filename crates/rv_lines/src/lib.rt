@@ -9,6 +9,7 @@ mod entries;
 mod error;
 mod forms;
 mod header;
+mod law;
 mod numbers;
 mod operations;
 mod path;
@@ -22,6 +23,7 @@ mod tables;
 mod units;
 
 pub use error::{LinesError, UnitError};
+pub use law::{operation_takes_a_byte, operations_are_no_more_than_bytes, rows_are_of_operations};
 pub use path::{SourcePath, source_path};
 pub use search::{RejectedUnits, find_lines};
 pub use sections::line_tables;

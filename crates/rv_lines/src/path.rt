@@ -1,7 +1,7 @@
 //! The path of a source line's file (DWARF 5, section 6.2.4: `directories`, `file_names`).
 ghost use Rattle.std.specs.Prelude.{◌≡◌, ◌==◌, Some, None, MatchOption, option_map};
-ghost use Rattle.rv_lines.specs.EntriesInside.{view_texts};
-ghost use Rattle.rv_lines.specs.Paths.{is_absolute, path_of};
+ghost use Rattle.rv_lines.specs.EntriesInside.{view_entry, view_texts};
+ghost use Rattle.rv_lines.specs.Paths.{is_absolute, has_no_folder, path_of};
 ghost use Rattle.rv_lines.specs.PathsInside.{brief_of_unit, view_path};
 ghost use Rattle.rv_lines.specs.HeaderInside.{view_header};
 
@@ -27,15 +27,16 @@ pub fn source_path<'a>(tables: &LineTables<'a>, unit: u32, file: u32) -> Option<
     ensures { MatchOption result (path_of (view_texts tables.now.texts) tables.now.lines.now unit file ≡ None)
         (λ p. path_of (view_texts tables.now.texts) tables.now.lines.now unit file ≡ Some (view_path p)) }
 {
-    let header = header_of(tables, unit, Wanted { folder: 0, file: u64::from(file) })?;
+    let number = u64::from(file);
+    let header = header_of(tables, unit, Wanted { folder: 0, file: number })?;
     let entry = header.file?;
-    if is_absolute(entry.name) || entry.folder == 0 {
+    if has_no_folder(&entry) {
         return Some(SourcePath { folder: None, name: entry.name });
     }
-    let wanted = Wanted { folder: entry.folder, file: u64::from(file) };
-    let header = header_of(tables, unit, wanted)?;
+    let wanted = Wanted { folder: entry.folder, file: number };
+    let other = header_of(tables, unit, wanted)?;
     Some(SourcePath {
-        folder: name_of(header.folder),
+        folder: name_of(other.folder),
         name: entry.name,
     })
 }
@@ -57,12 +58,19 @@ fn header_of<'a>(tables: &LineTables<'a>, unit: u32, wanted: Wanted) -> Option<H
 
 // Returns the name of an entry, if there is one.
 fn name_of(entry: Option<Entry<'_>>) -> Option<&[u8]>
-    ensures { MatchOption result (entry.entry ≡ None) (λ name. option_map (λ e. e.name.now) entry.entry ≡ Some name.now) }
+    ensures { option_map (λ name. name.now) result ≡ option_map (λ e. e.name.now) entry.entry }
 {
     match entry {
         Some(entry) => Some(entry.name),
         None => None,
     }
+}
+
+// Whether a file has no folder: its name is absolute, or its folder is number 0.
+fn has_no_folder(file: &Entry<'_>) -> bool
+    ensures { result ≡ has_no_folder (view_entry file.now) }
+{
+    is_absolute(file.name) || file.folder == 0
 }
 
 // Whether a path begins with `/`.

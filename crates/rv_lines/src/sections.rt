@@ -149,7 +149,7 @@ fn named(file: &[u8], plain: &[u8], gnu: &[u8]) -> Option<Section>
     let names = names_of(file);
     for index in 0..half_field(file, E_SHNUM) {
         let section = section_of_index(file, index);
-        if section.is_named(names, plain) || section.is_named(names, gnu) {
+        if section.is_named_either(names, plain, gnu) {
             return Some(section);
         }
     }
@@ -170,6 +170,13 @@ impl Section {
         ensures { result ≡ is_named names.now text.now self.now }
     {
         begins_with_name(bytes_from(names, self.name as usize), text)
+    }
+
+    // Whether the section has one of two names.
+    fn is_named_either(&self, names: &[u8], plain: &[u8], gnu: &[u8]) -> bool
+        ensures { result ≡ is_named_either names.now plain.now gnu.now self.now }
+    {
+        self.is_named(names, plain) || self.is_named(names, gnu)
     }
 
     // Whether the section extends past the end of a file of `size` bytes.

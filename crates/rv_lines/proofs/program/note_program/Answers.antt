@@ -1,14 +1,17 @@
-use Rattle.std.proofs.Common.{◌≡◌, ◌∙◌, ◌+◌, ◌<◌, ◌≤◌, sym, ap, length, is_some, arith}
+use Rattle.std.proofs.Common.{◌≡◌, ◌∙◌, ◌+◌, ◌<◌, ◌≤◌, sym, ap, subst, length, is_some, None, arith}
 use Rattle.std.proofs.lemmas.Result.{err_from_is_err_and}
 use Rattle.rv_lines.specs.declared.error.UnitError.TheVariants.{OpenSequence}
+use Rattle.rv_lines.specs.declared.rows.State.{State}
 use Rattle.rv_lines.specs.SearchInside.{rows_of_program, checked_only}
-use Rattle.rv_lines.proofs.Folding.{so_far_start, so_far_fails, so_far_open, so_far_done, step_lacks, step_on, noted_if_err, noted_if_ok, operation_shorter}
+use Rattle.rv_lines.proofs.Folding.{NotedSoFar, so_far_start, so_far_fails, so_far_open, so_far_done, step_lacks, step_on, noted_if_err, noted_if_ok, operation_shorter}
 use Rattle.rv_lines.proofs.program.note_program.Goals as goal
 
 pub loop-rest-init : goal.loop-rest-init
 loop-rest-init c =
     let program = c.args.program.now in
-    so_far_start program.parameters program.files program.lengths.now program.unit c.args.addresses.now c.args.found.now program.bytes.now
+    subst (λ (s : State). NotedSoFar program.parameters program.files program.lengths.now (rows_of_program program) program.unit c.args.addresses.now c.args.found.now
+      s None program.bytes.now c.args.found.now) (sym c.initial-state.ensures)
+    (so_far_start program.parameters program.files program.lengths.now program.unit c.args.addresses.now c.args.found.now program.bytes.now)
 
 pub returns-in_err-operation-clause-value : goal.returns-in_err-operation-clause-value
 returns-in_err-operation-clause-value c =
