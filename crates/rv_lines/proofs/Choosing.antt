@@ -56,9 +56,9 @@ best_some b [] = refl
 best_some b (s ∷ spans) = elim (below b s) as (λ z. below b s ≡ z → best (cond z (Some s) (Some b)) spans ≡ cond (z || any_above b spans) (best (Some s) spans) (Some b)) [
   | true ↦ λ e. refl
   | false ↦ λ e. best_some b spans ∙ (elim (any_above b spans) as (λ y. any_above b spans ≡ y → cond y (best None spans) (Some b) ≡ cond y (best (Some s) spans) (Some b)) [
-      | true ↦ λ f. sym (best_some s spans ∙ ap (λ x. cond x (best None spans) (Some s)) (lower_any s b spans (not_below b s e) f))
-      | false ↦ λ f. refl
-    ] refl)
+    | true ↦ λ f. sym (best_some s spans ∙ ap (λ x. cond x (best None spans) (Some s)) (lower_any s b spans (not_below b s e) f))
+    | false ↦ λ f. refl
+  ] refl)
 ] refl
 
 -- ---- the first with none above it

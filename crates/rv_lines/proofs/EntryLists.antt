@@ -198,5 +198,5 @@ module _ (of_files : Bool) (index : Option ℕ) (total : Read Summary) (k : ℕ)
           enough = omega arith;
           is = sym (ap (resumed k index found) (longer l ∙ ap (λ r. r >>= λ folder.
               with_entry (record { name = name; folder = folder.0 }) (list_at named.fewer of_files folder.1)) n)
-            ∙ resumed_on k index found (record { name = name; folder = folder }) (list_at named.fewer of_files rest)) ∙ so_far.is;
+              ∙ resumed_on k index found (record { name = name; folder = folder }) (list_at named.fewer of_files rest)) ∙ so_far.is;
         }

@@ -78,7 +78,7 @@ module _ (p : Parameters) (files : FileNumbers) (lengths : List ℕ) where
 
   pub left_one : (most : ℕ) (s : State) (b : ℕ) (bytes rest : List ℕ) (op : Operation) → operation_at p.opcode_base lengths (b ∷ bytes) ≡ Ok (op, rest)
       → left (suc most) s (b ∷ bytes) ≡ checked_from (is_some s.low) (program most p.opcode_base lengths rest).1
-        (in_front (row_added op (changed p op s)) (rows_of p (after p op (changed p op s)) (program most p.opcode_base lengths rest).0))
+      (in_front (row_added op (changed p op s)) (rows_of p (after p op (changed p op s)) (program most p.opcode_base lengths rest).0))
   left_one most s b bytes rest op h =
       ap (λ (ops : Program). checked_from (is_some s.low) ops.1 (rows_of p s ops.0)) (read_one most b bytes ∙ ap (continued (program most p.opcode_base lengths)) h)
       ∙ ap (checked_from (is_some s.low) (program most p.opcode_base lengths rest).1) (one_row s op (program most p.opcode_base lengths rest).0)
@@ -102,7 +102,7 @@ module _ (p : Parameters) (files : FileNumbers) (lengths : List ℕ) where
       → file_check files (row_added op (changed p op s)) ≡ Err e → left (suc most) s (b ∷ bytes) ≡ Err e
   fold_lacks most s b bytes rest op e h l = left_one most s b bytes rest op h
       ∙ lacking (row_added op (changed p op s)) e (is_some s.low) (program most p.opcode_base lengths rest).1
-        (rows_of p (after p op (changed p op s)) (program most p.opcode_base lengths rest).0) l
+      (rows_of p (after p op (changed p op s)) (program most p.opcode_base lengths rest).0) l
 
   -- a row in front
   closed_with : (row : Row) (error : Option UnitError) (rows : List Row) (any : Bool)
@@ -177,9 +177,9 @@ spans_append unit before [] more = refl
 spans_append unit None (row ∷ rows) more = spans_append unit (Some row) rows more
 spans_append unit (Some b) (row ∷ rows) more = elim b.ends as (λ z. cond z (spans_after unit (Some row) (rows ++ more)) (span unit b row ∷ spans_after unit (Some row) (rows ++ more))
     ≡ cond z (spans_after unit (Some row) rows) (span unit b row ∷ spans_after unit (Some row) rows) ++ spans_after unit (last_after (Some row) rows) more) [
-  | true ↦ spans_append unit (Some row) rows more
-  | false ↦ ap (λ x. span unit b row ∷ x) (spans_append unit (Some row) rows more)
-]
+      | true ↦ spans_append unit (Some row) rows more
+      | false ↦ ap (λ x. span unit b row ∷ x) (spans_append unit (Some row) rows more)
+    ]
 
 -- what was noted so far, of a program with these rows in all
 pub record NotedSoFar (p : Parameters) (files : FileNumbers) (lengths : List ℕ) (total : Rows) (unit : ℕ) (addresses : List ℕ) (old : List (Option SourceLine))
@@ -247,8 +247,8 @@ module _ (p : Parameters) (files : FileNumbers) (lengths : List ℕ) (total : Ro
         is = so_far.is ∙ ap (with_rows front) one.is ∙ with_more front more (left p files lengths one.fewer (after p op (changed p op s)) rest);
         last = ap (option_or (row_added op (changed p op s))) so_far.last ∙ last_more None front (row_added op (changed p op s));
         noted = n ∙ ap (noted_all (spans_after unit before more) addresses) so_far.noted
-          ∙ ap (λ b. noted_all (spans_after unit b more) addresses (noted_all (spans_after unit None front) addresses old)) so_far.last
-          ∙ sym (ap (λ spans. noted_all spans addresses old) (spans_append unit None front more)
+            ∙ ap (λ b. noted_all (spans_after unit b more) addresses (noted_all (spans_after unit None front) addresses old)) so_far.last
+            ∙ sym (ap (λ spans. noted_all spans addresses old) (spans_append unit None front more)
             ∙ noted_all_append (spans_after unit None front) (spans_after unit (last_after None front) more) addresses old);
       }
 
@@ -266,7 +266,7 @@ module _ (p : Parameters) (files : FileNumbers) (lengths : List ℕ) (total : Ro
   so_far_done [] none low so_far = record {
     rows = so_far.front;
     is = so_far.is ∙ ap (with_rows so_far.front) (fold_end p files lengths so_far.most s ∙ ap (λ b. cond b (Err OpenSequence) (Ok [])) low)
-      ∙ ap Ok (append-nil so_far.front);
+        ∙ ap Ok (append-nil so_far.front);
     noted = so_far.noted;
   }
   so_far_done (b ∷ bytes) none low so_far = absurd (omega arith)
@@ -304,7 +304,7 @@ module _ (p : Parameters) (files : FileNumbers) (lengths : List ℕ) (total : Ro
       subst (λ (x : State). NotedSoFar p files lengths total unit addresses old x last rest now) (sym next_is)
       (subst (λ (x : Option Row). NotedSoFar p files lengths total unit addresses old (after p op (changed p op s)) x rest now) (sym last_is)
       (so_far_on p files lengths total unit addresses old s before found bytes rest op now lt h (sym (ap (file_check files) added_is) ∙ l)
-        (w ∙ ap (λ x. noted_all (spans_after unit before (in_front x [])) addresses found) added_is) so_far))
+      (w ∙ ap (λ x. noted_all (spans_after unit before (in_front x [])) addresses found) added_is) so_far))
 
 -- what the function ensures of what it found
 abbrev pub NotedIfOk : Rows → ℕ → List ℕ → List (Option SourceLine) → List (Option SourceLine) → Type 0

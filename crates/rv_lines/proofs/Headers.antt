@@ -80,9 +80,9 @@ module _ (texts : Texts) (version : ℕ) (parameters : Parameters) (lengths : Li
       files_done other second end first n i j g =
           let more = summarised_ok other (entries_of_version texts version true files) second end g in
           let a : summary (index_of (first_number version) wanted.folder) list.list ≡ folders =
-            ap (λ x. summary (index_of x wanted.folder) list.list) (sym n) ∙ ap (λ x. summary x list.list) (sym i) ∙ list.sums in
+          ap (λ x. summary (index_of x wanted.folder) list.list) (sym n) ∙ ap (λ x. summary x list.list) (sym i) ∙ list.sums in
           let b : summary (index_of (first_number version) wanted.file) more.list ≡ second =
-            ap (λ x. summary (index_of x wanted.file) more.list) (sym n) ∙ ap (λ x. summary x more.list) (sym j) ∙ more.sums in
+          ap (λ x. summary (index_of x wanted.file) more.list) (sym n) ∙ ap (λ x. summary x more.list) (sym j) ∙ more.sums in
           ap (brief_of wanted) (files_then ∙ ap (λ r. r >>= λ x. Ok (made list.list x.0)) more.is)
           ∙ ap (λ x. done (brief_with (first_number version) x (summary (index_of (first_number version) wanted.file) more.list))) a
           ∙ ap (λ x. done (brief_with (first_number version) folders x)) b

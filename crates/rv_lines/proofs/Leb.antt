@@ -28,7 +28,7 @@ unfolding unsigned_leb
 unsigned_by_position [] = refl
 unsigned_by_position (b ∷ bytes) = rw (position_cons ends b bytes)
     (elim (nat_lt b 128) as (λ z. nat_lt b 128 ≡ z → cond {A = Option (ℕ × List ℕ)} z (Some (b, bytes)) (option_map (λ n. (b % 128 + 128 * n.0, n.1)) (unsigned_leb bytes))
-      ≡ option_map (unsigned_to (b ∷ bytes)) (cond z (Some 0) (option_map suc (position ends bytes)))) [
+    ≡ option_map (unsigned_to (b ∷ bytes)) (cond z (Some 0) (option_map suc (position ends bytes)))) [
       | true ↦ λ e. ap (λ n. Some (n, bytes)) (last b (ltb-true b 128 e))
       | false ↦ λ e. ap (option_map (λ n. (b % 128 + 128 * n.0, n.1))) (unsigned_by_position bytes) ∙ more b bytes (position ends bytes)
     ] refl)
@@ -75,7 +75,7 @@ unfolding signed_leb
 signed_by_position [] = refl
 signed_by_position (b ∷ bytes) = rw (position_cons ends b bytes)
     (elim (nat_lt b 128) as (λ z. nat_lt b 128 ≡ z → cond {A = Option (ℤ × List ℕ)} (nat_lt b 64) (Some (pos b, bytes)) (cond {A = Option (ℤ × List ℕ)} z (Some (negsuc (127 - b), bytes)) (option_map (λ n. (pos (b % 128) +ℤ (pos 128 *ℤ n.0), n.1)) (signed_leb bytes)))
-      ≡ option_map (signed_to (b ∷ bytes)) (cond z (Some 0) (option_map suc (position ends bytes)))) [
+    ≡ option_map (signed_to (b ∷ bytes)) (cond z (Some 0) (option_map suc (position ends bytes)))) [
       | true ↦ λ e. last_signed b bytes e (nat_lt b 64) (nat_le 64 b) refl refl
       | false ↦ λ e. ap (λ c. cond {A = Option (ℤ × List ℕ)} c (Some (pos b, bytes)) (option_map (λ n. (pos (b % 128) +ℤ (pos 128 *ℤ n.0), n.1)) (signed_leb bytes))) (small b e)
           ∙ ap (option_map (λ n. (pos (b % 128) +ℤ (pos 128 *ℤ n.0), n.1))) (signed_by_position bytes) ∙ more_signed b bytes (position ends bytes)

@@ -12,3 +12,4 @@ pub mod UnitLists
 pub mod PathTexts
 pub mod Searching
 pub mod LawsOfRows
+pub mod SectionFacts

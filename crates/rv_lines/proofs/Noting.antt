@@ -52,7 +52,7 @@ pub noted_start : (s : Span) (addresses : List ℕ) (found : Found) (k : ℕ) �
 noted_start s addresses found k p = record {
   len = refl;
   before = λ j lt. sym (not_covered s (get_or addresses j 0) (get_or found j None) (under s (get_or addresses j 0)
-    (ltb-true (get_or addresses j 0) s.from (p.0 j 0 (omega arith) lt))));
+      (ltb-true (get_or addresses j 0) s.from (p.0 j 0 (omega arith) lt))));
   after = λ j le. refl;
 }
 
@@ -67,12 +67,12 @@ noted_on s addresses old new k lt le to h =
     let len = h.len in
     let there : k < length new = omega arith in
     let here : higher s.source (get_or new k None) ≡ noted s (get_or addresses k 0) (get_or old k None) =
-      ap (higher s.source) (h.after k (omega arith)) ∙ covered s (get_or addresses k 0) (get_or old k None) le to in
+    ap (higher s.source) (h.after k (omega arith)) ∙ covered s (get_or addresses k 0) (get_or old k None) le to in
     record {
       len = length-set new k (higher s.source (get_or new k None)) ∙ len;
       before = below_more (λ j. get_or (set new k (higher s.source (get_or new k None))) j None ≡ noted s (get_or addresses j 0) (get_or old j None)) k
-        (λ j l. let ne : j ≢ k = omega arith in get_or-set_other new k j (higher s.source (get_or new k None)) None ne ∙ h.before j l)
-        (get_or-set_same new k (higher s.source (get_or new k None)) None there ∙ here);
+          (λ j l. let ne : j ≢ k = omega arith in get_or-set_other new k j (higher s.source (get_or new k None)) None ne ∙ h.before j l)
+          (get_or-set_same new k (higher s.source (get_or new k None)) None there ∙ here);
       after = λ j l. (let ne : j ≢ k = omega arith in get_or-set_other new k j (higher s.source (get_or new k None)) None ne ∙ h.after j (omega arith));
     }
 
@@ -83,12 +83,12 @@ noted_done s addresses old new k same rising past h =
     let len = h.len in
     let sized = length_noted s addresses old same in
     ext_get_or None new (noted_each s addresses old) (omega arith) (λ j l.
-      (let there : j < length addresses = omega arith in
-      elim (cases_lt j k) as (λ _. get_or new j None ≡ get_or (noted_each s addresses old) j None) [
-        | inl lt ↦ h.before j lt ∙ sym (get_noted s addresses old j there same)
-        | inr le ↦ (let r = rising k j 0 le there in let q = past (omega arith) in
-            h.after j le ∙ sym (not_covered s (get_or addresses j 0) (get_or old j None) (over s (get_or addresses j 0) (omega arith))) ∙ sym (get_noted s addresses old j there same))
-      ]))
+    (let there : j < length addresses = omega arith in
+    elim (cases_lt j k) as (λ _. get_or new j None ≡ get_or (noted_each s addresses old) j None) [
+      | inl lt ↦ h.before j lt ∙ sym (get_noted s addresses old j there same)
+      | inr le ↦ (let r = rising k j 0 le there in let q = past (omega arith) in
+          h.after j le ∙ sym (not_covered s (get_or addresses j 0) (get_or old j None) (over s (get_or addresses j 0) (omega arith))) ∙ sym (get_noted s addresses old j there same))
+    ]))
 
 -- ---- all spans
 

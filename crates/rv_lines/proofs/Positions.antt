@@ -18,7 +18,7 @@ pub position_cons : {X : Type 0} (p : X → Bool) (x : X) (xs : List X) → posi
 position_cons p x xs =
     let n = position_or_len p xs in
     elim (p x) as (λ z. cond (ltb (cond (not z) (1 + n) 0) (length (x ∷ xs))) (Some (cond (not z) (1 + n) 0)) None
-      ≡ cond z (Some 0) (option_map suc (cond (ltb n (length xs)) (Some n) None))) [
+    ≡ cond z (Some 0) (option_map suc (cond (ltb n (length xs)) (Some n) None))) [
       | true ↦ ap (λ b. cond b (Some 0) None) (lt-ltb 0 (length (x ∷ xs)) (omega arith))
       | false ↦ later n (length xs) (ltb n (length xs)) (ltb (1 + n) (length (x ∷ xs))) (less_alike n (length xs))
     ]
@@ -32,7 +32,7 @@ pub text_by_position : (bytes : List ℕ) → text_before_zero bytes ≡ option_
 text_by_position [] = refl
 text_by_position (b ∷ bytes) = rw (position_cons (λ x. x == 0) b bytes)
     (elim (b == 0) as (λ z. cond z (Some []) (option_map (λ t. b ∷ t) (text_before_zero bytes))
-      ≡ option_map (λ n. take n (b ∷ bytes)) (cond z (Some 0) (option_map suc (position (λ x. x == 0) bytes)))) [
+    ≡ option_map (λ n. take n (b ∷ bytes)) (cond z (Some 0) (option_map suc (position (λ x. x == 0) bytes)))) [
       | true ↦ refl
       | false ↦ ap (option_map (λ t. b ∷ t)) (text_by_position bytes) ∙ text_later b bytes (position (λ x. x == 0) bytes)
     ])

@@ -64,8 +64,8 @@ one_at most texts section offset here [] e lt le h = absurd (omega arith)
 one_at most texts section offset here (b ∷ bytes) e lt le h =
     units_one most texts offset b bytes
     ∙ ap (λ us. record { offset = offset; rows = rows_at texts (b ∷ bytes) } ∷ us)
-      (ap (λ xs. units most texts (offset + unit_size (b ∷ bytes)) (drop (unit_size (b ∷ bytes)) xs)) e
-      ∙ units_from most texts section offset (unit_size (b ∷ bytes)) here (h ∙ ap (λ xs. min (unit_size (b ∷ bytes)) (length xs)) e) le)
+    (ap (λ xs. units most texts (offset + unit_size (b ∷ bytes)) (drop (unit_size (b ∷ bytes)) xs)) e
+    ∙ units_from most texts section offset (unit_size (b ∷ bytes)) here (h ∙ ap (λ xs. min (unit_size (b ∷ bytes)) (length xs)) e) le)
 
 left_one : (most : ℕ) (texts : Texts) (section : List ℕ) (offset here : ℕ) → offset < length section → here ≡ min (unit_size (drop offset section)) (length (drop offset section))
     → units_left (suc most) texts section offset ≡ unit_read texts section offset ∷ units_left most texts section (offset + here)
@@ -109,7 +109,7 @@ or_nothing (Some x) = refl
 after_case : (front : List UnitRead) (offset : ℕ) (rows : Result (List Row) UnitError)
     → rejected_after (rejected_units front) offset (checked_only rows)
     ≡ counts (length front + 1) (count_by is_rejected front + count_by is_rejected (record { offset = offset; rows = rows } ∷ []))
-      (option_or (first_error front) (first_error (record { offset = offset; rows = rows } ∷ [])))
+    (option_or (first_error front) (first_error (record { offset = offset; rows = rows } ∷ [])))
 after_case front offset (Ok rows) = let z : count_by is_rejected front ≡ count_by is_rejected front + 0 = omega arith in
     ap (λ n. counts (length front + 1) n (first_error front)) z ∙ ap (counts (length front + 1) (count_by is_rejected front + 0)) (or_nothing (first_error front))
 after_case front offset (Err e) = refl
@@ -141,7 +141,14 @@ pub record FoundSoFar (texts : Texts) (section addresses : List ℕ) (old : Foun
 
 pub found_start : (texts : Texts) (section addresses : List ℕ) (old : Found) → FoundSoFar texts section addresses old 0 old (record { units = 0; rejected = 0; first = None })
 found_start texts section addresses old = record {
-  most = length section; enough = omega arith; within = omega arith; front = []; few = omega arith; is = refl; noted = refl; counts = refl;
+  most = length section;
+  enough = omega arith;
+  within = omega arith;
+  front = [];
+  few = omega arith;
+  is = refl;
+  noted = refl;
+  counts = refl;
 }
 
 predecessor : (n : ℕ) → 0 < n → (m : ℕ) × (n ≡ suc m)
@@ -171,10 +178,10 @@ module _ (texts : Texts) (section addresses : List ℕ) (old : Found) (offset : 
         front = front ++ u ∷ [];
         few = omega (arith, length-append front (u ∷ []));
         is = so_far.is ∙ ap (λ k. front ++ units_left k texts section offset) m.1
-          ∙ ap (λ us. front ++ us) (left_one m.0 texts section offset here lt h)
-          ∙ sym (append_assoc front (u ∷ []) (units_left m.0 texts section (offset + here)));
+            ∙ ap (λ us. front ++ us) (left_one m.0 texts section offset here lt h)
+            ∙ sym (append_assoc front (u ∷ []) (units_left m.0 texts section (offset + here)));
         noted = n ∙ ap (noted_all (spans_of u) addresses) so_far.noted
-          ∙ sym (ap (λ spans. noted_all spans addresses old) (more_spans front u) ∙ noted_all_append (all_spans front) (spans_of u) addresses old);
+            ∙ sym (ap (λ spans. noted_all spans addresses old) (more_spans front u) ∙ noted_all_append (all_spans front) (spans_of u) addresses old);
         counts = ap (λ c. rejected_after c offset read) so_far.counts ∙ ap (rejected_after (rejected_units front) offset) r ∙ rejected_more front u;
       }
 
@@ -212,7 +219,7 @@ pub lines_found : (texts : Texts) (section addresses : List ℕ) (first old foun
     → found ≡ noted_all (all_spans (units_of texts section)) addresses old → map shown found ≡ map (line_at texts section) addresses
 lines_found texts section addresses first old found e f n =
     ap (map shown) (n ∙ ap (noted_all (all_spans (units_of texts section)) addresses) (f ∙ forgotten_nothing addresses first e)
-      ∙ noted_sources (all_spans (units_of texts section)) addresses)
+    ∙ noted_sources (all_spans (units_of texts section)) addresses)
     ∙ shown_lines texts section addresses
 
 -- ---- results without their values

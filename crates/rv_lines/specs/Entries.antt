@@ -77,7 +77,7 @@ part_at bytes = do
   content ← number_at HeaderCutOff bytes
   form ← number_at HeaderCutOff content.1
   let part : Part = record { content = content.0; form = form.0 } in
-    if is_good_part part then Ok (part, form.1) else Err EntryForm
+      if is_good_part part then Ok (part, form.1) else Err EntryForm
 
 -- `count` parts
 unfoldable pub parts_at : ℕ → List ℕ → Read (List Part)

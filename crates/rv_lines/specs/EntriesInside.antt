@@ -1,6 +1,5 @@
 -- What the code keeps of folders and files: their number, and one of them.
 use Rattle.std.specs.Prelude.{◌==◌, ℕ, Bool, false, List, [], length, slice_get, Option, Some, None, option_map, option_and_then, Result, Ok, Err}
-
 use Rattle.rv_lines.specs.declared.entries.Entries.{Entries}
 use Rattle.rv_lines.specs.declared.entries.Format.{Format}
 use Rattle.rv_lines.specs.declared.entries.Entry as declared

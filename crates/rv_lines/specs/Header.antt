@@ -1,6 +1,5 @@
 -- The header of a unit's line number program (DWARF 5, section 6.2.4).
 use Rattle.std.specs.Prelude.{slice_get, ◌==◌, ◌&&◌, ◌+◌, ◌-◌, ◌^◌, ℕ, Bool, not, true, false, List, [], ◌∷◌, length, min, take, drop, nat_lt, nat_le, Option, Some, None, option_and_then, Result, Ok, Err, if◌then◌else◌}
-
 use Rattle.std.specs.Str.{bytes_eq}
 use Rattle.rv_lines.specs.declared.error.UnitError.{UnitError}
 use Rattle.rv_lines.specs.declared.error.UnitError.TheVariants as unit
@@ -67,13 +66,16 @@ parameters_at version bytes = do
   line_range ← byte_at unit.HeaderCutOff line_base.1
   if line_range.0 == 0 then Err unit.LineRange else (do
     opcode_base ← byte_at unit.HeaderCutOff line_range.1
-    if opcode_base.0 == 0 then Err unit.OpcodeBase else Ok (record {
-      min_length = min_length.0;
-      is_stmt = not (is_stmt.0 == 0);
-      line_base = sign_extended line_base.0;
-      line_range = line_range.0;
-      opcode_base = opcode_base.0;
-    }, opcode_base.1))
+    if opcode_base.0 == 0 then Err unit.OpcodeBase else Ok (
+      record {
+        min_length = min_length.0;
+        is_stmt = not (is_stmt.0 == 0);
+        line_base = sign_extended line_base.0;
+        line_range = line_range.0;
+        opcode_base = opcode_base.0;
+      },
+      opcode_base.1,
+    ))
 
 -- the folders and then the files, in the form of the version
 unfoldable pub entries_of_version : Texts → ℕ → Bool → List ℕ → Read (List Entry)
@@ -97,8 +99,8 @@ parts_of_header texts version bytes = do
 -- address_size, which must be 4, and segment_selector_size, which must be 0; DWARF 2 to 4 do not have them
 unfoldable pub addresses_check : ℕ → List ℕ → Result (List ℕ) UnitError
 addresses_check version bytes = if version == 5 then (do
-    size ← byte_at unit.HeaderCutOff bytes
-    if size.0 == 4 then (byte_at unit.HeaderCutOff size.1 >>= λ selector.
+  size ← byte_at unit.HeaderCutOff bytes
+  if size.0 == 4 then (byte_at unit.HeaderCutOff size.1 >>= λ selector.
       if selector.0 == 0 then Ok selector.1 else Err unit.AddressSize) else Err unit.AddressSize)
     else Ok bytes
 
@@ -114,7 +116,7 @@ frame_at bytes = do
   rest ← addresses_check version.0 version.1
   size ← fixed_at unit.HeaderCutOff 4 rest
   if nat_lt (length size.1) size.0 then Err unit.HeaderCutOff
-    else Ok ((version.0, take size.0 size.1), drop size.0 size.1)
+      else Ok ((version.0, take size.0 size.1), drop size.0 size.1)
 
 -- the header of a unit, from the bytes after unit_length, and after it the program
 unfoldable pub header_at : Texts → List ℕ → Read Header

@@ -7,8 +7,7 @@ ghost use Rattle.rv_lines.specs.EntriesInside.{is_index, view_entry, view_entrie
 
 use crate::error::UnitError;
 use crate::forms::{
-    DW_LNCT_DIRECTORY_INDEX, DW_LNCT_PATH, Part, number_of_form, part_at, skip_form,
-    text_of_form,
+    DW_LNCT_DIRECTORY_INDEX, DW_LNCT_PATH, Part, number_of_form, part_at, skip_form, text_of_form,
 };
 use crate::numbers::{number_at, skip_number};
 use crate::reading::{byte_at, text_at};
@@ -137,7 +136,13 @@ fn entries_at<'a>(
         found = pick(index, u64::from(k), entry, found);
         rest = after;
     }
-    Ok((Entries { count: u64::from(count), found }, rest))
+    Ok((
+        Entries {
+            count: u64::from(count),
+            found,
+        },
+        rest,
+    ))
 }
 
 // Reads an entry of a format.
@@ -150,7 +155,10 @@ fn entry_at<'a>(
     ensures { Gives (λ x. (view_entry x.0, x.1.now)) result
         (entry_at (view_texts texts.now) (parts_of format.now) empty_entry bytes.now) }
 {
-    let mut entry = Entry { name: b"", folder: 0 };
+    let mut entry = Entry {
+        name: b"",
+        folder: 0,
+    };
     let mut described = format.bytes;
     let mut rest = bytes;
     for _ in 0..format.count {
@@ -177,11 +185,23 @@ fn with_part<'a>(
     match part.content {
         DW_LNCT_PATH => {
             let (name, rest) = text_of_form(texts, part.form, bytes)?;
-            Ok((Entry { name, folder: entry.folder }, rest))
+            Ok((
+                Entry {
+                    name,
+                    folder: entry.folder,
+                },
+                rest,
+            ))
         }
         DW_LNCT_DIRECTORY_INDEX => {
             let (folder, rest) = number_of_form(part.form, bytes)?;
-            Ok((Entry { name: entry.name, folder }, rest))
+            Ok((
+                Entry {
+                    name: entry.name,
+                    folder,
+                },
+                rest,
+            ))
         }
         _ => Ok((entry, skip_form(part.form, bytes)?)),
     }

@@ -91,10 +91,7 @@ fn is_number_form(form: u32) -> bool
 fn is_known_form(form: u32) -> bool
     ensures { result ≡ is_known_form form }
 {
-    is_text_form(form)
-        || is_number_form(form)
-        || form == DW_FORM_DATA16
-        || form == DW_FORM_BLOCK
+    is_text_form(form) || is_number_form(form) || form == DW_FORM_DATA16 || form == DW_FORM_BLOCK
 }
 
 // Returns the number of bytes of a number of a fixed size, or `None` for another form.
@@ -129,10 +126,7 @@ pub(crate) fn text_of_form<'a>(
 
 // Reads the offset of a text, and returns the text of the section there.
 #[tactic(auto, unfolding(crate::specs::Entries::offset_text_at))]
-fn offset_text_at<'a>(
-    section: &'a [u8],
-    bytes: &'a [u8],
-) -> Result<(&'a [u8], &'a [u8]), UnitError>
+fn offset_text_at<'a>(section: &'a [u8], bytes: &'a [u8]) -> Result<(&'a [u8], &'a [u8]), UnitError>
     ensures { Gives (λ x. (x.0.now, x.1.now)) result (offset_text_at section.now bytes.now) }
 {
     let (offset, rest) = word_at(UnitError::HeaderCutOff, bytes)?;

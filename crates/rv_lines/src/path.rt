@@ -28,12 +28,25 @@ pub fn source_path<'a>(tables: &LineTables<'a>, unit: u32, file: u32) -> Option<
         (λ p. path_of (view_texts tables.now.texts) tables.now.lines.now unit file ≡ Some (view_path p)) }
 {
     let number = u64::from(file);
-    let header = header_of(tables, unit, Wanted { folder: 0, file: number })?;
+    let header = header_of(
+        tables,
+        unit,
+        Wanted {
+            folder: 0,
+            file: number,
+        },
+    )?;
     let entry = header.file?;
     if has_no_folder(&entry) {
-        return Some(SourcePath { folder: None, name: entry.name });
+        return Some(SourcePath {
+            folder: None,
+            name: entry.name,
+        });
     }
-    let wanted = Wanted { folder: entry.folder, file: number };
+    let wanted = Wanted {
+        folder: entry.folder,
+        file: number,
+    };
     let other = header_of(tables, unit, wanted)?;
     Some(SourcePath {
         folder: name_of(other.folder),

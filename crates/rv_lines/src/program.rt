@@ -37,7 +37,11 @@ pub(crate) fn note_program(
     let mut before: Option<Row> = None;
     let mut rest = program.bytes;
     while 0 < rest.len() {
-        let (operation, after) = operation_at(program.parameters.opcode_base, program.lengths, rest)?;
+        let (operation, after) = operation_at(
+            program.parameters.opcode_base,
+            program.lengths,
+            rest,
+        )?;
         let changed = state.changed(&program.parameters, operation);
         let added = changed.row_added(operation);
         check_file(added, program.files)?;

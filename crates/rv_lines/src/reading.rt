@@ -3,9 +3,8 @@ ghost use Rattle.std.specs.Prelude.{◌≡◌, ◌==◌, ◌<◌, ◌+◌, posit
 ghost use Rattle.rv_elf.specs.Sections.{text_before_zero};
 ghost use Rattle.rv_lines.specs.Reading.{Gives, byte_at, fixed_at, skip_at, text_at};
 
-use byteorder::{ByteOrder, LittleEndian};
-
 use crate::error::UnitError;
+use byteorder::{ByteOrder, LittleEndian};
 
 /// Reads a byte.
 pub(crate) fn byte_at(cut: UnitError, bytes: &[u8]) -> Result<(u8, &[u8]), UnitError>

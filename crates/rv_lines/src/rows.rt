@@ -56,7 +56,10 @@ impl State {
             Operation::AdvancePc(instructions) => self.advanced(parameters, instructions),
             Operation::AdvanceLine(lines) => self.line_advanced(lines),
             Operation::SetFile(file) => State { file, ..self },
-            Operation::NegateStmt => State { is_stmt: !self.is_stmt, ..self },
+            Operation::NegateStmt => State {
+                is_stmt: !self.is_stmt,
+                ..self
+            },
             Operation::ConstAddPc => {
                 let code = u8::MAX - parameters.opcode_base;
                 self.advanced(parameters, u32::from(code / parameters.line_range))
@@ -75,14 +78,20 @@ impl State {
         ensures { result ≡ advanced parameters.now instructions self }
     {
         let bytes = u32::from(parameters.min_length).wrapping_mul(instructions);
-        State { address: self.address.wrapping_add(bytes), ..self }
+        State {
+            address: self.address.wrapping_add(bytes),
+            ..self
+        }
     }
 
     // Returns the state with its line advanced, modulo 2^32.
     fn line_advanced(self, lines: u32) -> State
         ensures { result ≡ line_advanced lines self }
     {
-        State { line: self.line.wrapping_add(lines), ..self }
+        State {
+            line: self.line.wrapping_add(lines),
+            ..self
+        }
     }
 
     /// Returns the row that an operation adds to the rows, given the state as it changed it.
@@ -123,7 +132,10 @@ impl State {
     {
         match operation {
             Operation::EndSequence => State::initial(parameters),
-            Operation::Special(_) | Operation::Copy => State { low: Some(self.low_of()), ..self },
+            Operation::Special(_) | Operation::Copy => State {
+                low: Some(self.low_of()),
+                ..self
+            },
             _ => self,
         }
     }

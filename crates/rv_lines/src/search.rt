@@ -5,9 +5,9 @@ ghost use Rattle.rv_lines.specs.Lines.{line_at, units_of, rejected_units};
 ghost use Rattle.rv_lines.specs.SearchInside.{shown, forgotten, IsRising, rejected_after};
 
 use crate::error::UnitError;
-use crate::tables::LineTables;
 use crate::reading::bytes_from;
 use crate::span::SourceLine;
+use crate::tables::LineTables;
 use crate::units::{note_unit, unit_size};
 
 /// How many units there are, how many of them are rejected, and the error and the offset of the first.
@@ -37,7 +37,11 @@ pub fn find_lines(
     ensures rejected { result ≡ rejected_units (units_of (view_texts tables.now.texts) tables.now.lines.now) }
 {
     forget_all(found);
-    let mut rejected = RejectedUnits { units: 0, rejected: 0, first: None };
+    let mut rejected = RejectedUnits {
+        units: 0,
+        rejected: 0,
+        first: None,
+    };
     let mut offset = 0;
     while offset < tables.lines.len() {
         let read = note_unit(tables, offset as u32, addresses, found);
@@ -56,7 +60,10 @@ impl RejectedUnits {
         ensures { result ≡ rejected_after self offset read }
     {
         match read {
-            Ok(()) => RejectedUnits { units: self.units + 1, ..self },
+            Ok(()) => RejectedUnits {
+                units: self.units + 1,
+                ..self
+            },
             Err(error) => RejectedUnits {
                 units: self.units + 1,
                 rejected: self.rejected + 1,

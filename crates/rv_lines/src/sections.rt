@@ -7,11 +7,10 @@ ghost use Rattle.rv_lines.specs.Sections.{is_named, is_named_either, named, is_c
 ghost use Rattle.rv_lines.specs.Sections.{line_tables, HasTable, HasNames};
 ghost use Rattle.rv_lines.specs.SectionsInside.{view_tables};
 
-use byteorder::{ByteOrder, LittleEndian};
-
 use crate::error::LinesError;
 use crate::reading::{bytes_from, text_before_zero};
 use crate::tables::{LineTables, TextSections};
+use byteorder::{ByteOrder, LittleEndian};
 
 /// The fields of a section header that are used (System V ABI, "Sections").
 #[derive(Clone, Copy)]
@@ -69,7 +68,8 @@ fn has_bad_table(file: &[u8]) -> bool
     let count = half_field(file, E_SHNUM);
     count != 0
         && (half_field(file, E_SHENTSIZE) != HEADER_SIZE
-            || file.len() < word_field(file, E_SHOFF) as usize + HEADER_SIZE as usize * count as usize)
+            || file.len()
+                < word_field(file, E_SHOFF) as usize + HEADER_SIZE as usize * count as usize)
 }
 
 // Whether the index of the section of names is not that of a string table within the file.
@@ -132,7 +132,8 @@ fn readable_bytes<'a>(file: &'a [u8], gnu: &[u8], section: &Section) -> Result<&
         (λ e. readable_bytes file.now gnu.now section.now ≡ Err e) }
     ensures short { IfOk result (λ bytes. length bytes.now < 2 ^ 32) }
 {
-    if section.flags & SHF_COMPRESSED != 0 || section.is_named(names_of(file), gnu) {
+    let (flags, _size) = (section.flags, section.size);
+    if flags & SHF_COMPRESSED != 0 || section.is_named(names_of(file), gnu) {
         return Err(LinesError::Compressed);
     }
     if section.is_past_file(file.len()) {

@@ -22,14 +22,13 @@ const UNIT_5: [u8; 65] = [
     4, 0, 0, 5, 2, 0, 0, 0, 0x80, 3, 4, 1, 9, 4, 0, 1, 2, 2, 0, 1, 1, // the program
 ];
 
-const NO_TEXTS: TextSections<'static> = TextSections { line_str: &[], str: &[] };
+const NO_TEXTS: TextSections<'static> = TextSections {
+    line_str: &[],
+    str: &[],
+};
 
 // Returns the name of the error of a unit with some bytes changed, or `none`.
-fn error_of(
-    alloc: Global,
-    unit: &[u8],
-    changes: &[(usize, u8)],
-) -> Result<&'static str, Fail> {
+fn error_of(alloc: Global, unit: &[u8], changes: &[(usize, u8)]) -> Result<&'static str, Fail> {
     let mut bytes = unit.to_vec(alloc)?;
     for (at, byte) in changes {
         if *at < bytes.len() {
@@ -48,7 +47,10 @@ fn tables_of(bytes: &[u8]) -> Option<LineTables<'_>> {
     if bytes.len() > u32::MAX as usize {
         return None;
     }
-    Some(LineTables { lines: bytes, texts: NO_TEXTS })
+    Some(LineTables {
+        lines: bytes,
+        texts: NO_TEXTS,
+    })
 }
 
 // Returns the line at an address.
@@ -72,8 +74,14 @@ fn rows_of_the_worked_program(rt: HostRuntime) -> Result<(), Fail> {
         (0x8000_0005, 5),
         (0x8000_0006, 0),
     ] {
-        assert_eq!(rt; line_of(&UNIT, address)?.map_or(0, |found| found.line), line);
-        assert_eq!(rt; line_of(&UNIT_5, address)?.map_or(0, |found| found.line), line);
+        assert_eq!(rt;
+            line_of(&UNIT, address)?.map_or(0, |found| found.line),
+            line
+        );
+        assert_eq!(rt;
+            line_of(&UNIT_5, address)?.map_or(0, |found| found.line),
+            line
+        );
     }
     Ok(())
 }
@@ -84,8 +92,14 @@ fn errors_of_dwarf_2(rt: HostRuntime) -> Result<(), Fail> {
     assert_eq!(rt; error_of(alloc, &UNIT, &[])?, "none");
     assert_eq!(rt; error_of(alloc, &UNIT[..3], &[])?, "unit-cut-off");
     assert_eq!(rt; error_of(alloc, &UNIT, &[(0, 0x31)])?, "unit-cut-off");
-    assert_eq!(rt; error_of(alloc, &UNIT, &[(0, 0xff), (1, 0xff), (2, 0xff), (3, 0xff)])?, "dwarf-64");
-    assert_eq!(rt; error_of(alloc, &UNIT, &[(0, 0xf0), (1, 0xff), (2, 0xff), (3, 0xff)])?, "reserved-length");
+    assert_eq!(rt;
+        error_of(alloc, &UNIT, &[(0, 0xff), (1, 0xff), (2, 0xff), (3, 0xff)])?,
+        "dwarf-64"
+    );
+    assert_eq!(rt;
+        error_of(alloc, &UNIT, &[(0, 0xf0), (1, 0xff), (2, 0xff), (3, 0xff)])?,
+        "reserved-length"
+    );
     assert_eq!(rt; error_of(alloc, &UNIT, &[(4, 6)])?, "version");
     assert_eq!(rt; error_of(alloc, &UNIT, &[(4, 1), (13, 0)])?, "version");
     assert_eq!(rt; error_of(alloc, &UNIT, &[(6, 0x40)])?, "header-cut-off");
@@ -95,11 +109,34 @@ fn errors_of_dwarf_2(rt: HostRuntime) -> Result<(), Fail> {
     assert_eq!(rt; error_of(alloc, &UNIT, &[(14, 0)])?, "opcode-base");
     assert_eq!(rt; error_of(alloc, &UNIT, &[(16, 2)])?, "opcode-lengths");
     assert_eq!(rt; error_of(alloc, &UNIT, &[(34, 4)])?, "operation-length");
-    assert_eq!(rt; error_of(alloc, &UNIT, &[(43, 4), (44, 2), (45, 1)])?, "file-number");
-    assert_eq!(rt; error_of(alloc, &UNIT, &[(43, 4), (44, 2), (45, 1), (49, 2)])?, "file-number");
+    assert_eq!(rt;
+        error_of(alloc, &UNIT, &[(43, 4), (44, 2), (45, 1)])?,
+        "file-number"
+    );
+    assert_eq!(rt;
+        error_of(alloc, &UNIT, &[(43, 4), (44, 2), (45, 1), (49, 2)])?,
+        "file-number"
+    );
     assert_eq!(rt; error_of(alloc, &UNIT, &[(49, 2)])?, "open-sequence");
-    assert_eq!(rt; error_of(alloc, &UNIT, &[(49, 2), (50, 0x80), (51, 0x80)])?, "operation-cut-off");
-    assert_eq!(rt; error_of(alloc, &UNIT, &[(46, 2), (47, 0x80), (48, 0x80), (49, 0x80), (50, 0x80), (51, 0x10)])?, "number");
+    assert_eq!(rt;
+        error_of(alloc, &UNIT, &[(49, 2), (50, 0x80), (51, 0x80)])?,
+        "operation-cut-off"
+    );
+    assert_eq!(rt;
+        error_of(
+            alloc,
+            &UNIT,
+            &[
+                (46, 2),
+                (47, 0x80),
+                (48, 0x80),
+                (49, 0x80),
+                (50, 0x80),
+                (51, 0x10)
+            ]
+        )?,
+        "number"
+    );
     Ok(())
 }
 
@@ -110,7 +147,10 @@ fn errors_of_dwarf_5(rt: HostRuntime) -> Result<(), Fail> {
     assert_eq!(rt; error_of(alloc, &UNIT_5, &[(6, 8)])?, "address-size");
     assert_eq!(rt; error_of(alloc, &UNIT_5, &[(7, 1)])?, "address-size");
     assert_eq!(rt; error_of(alloc, &UNIT_5, &[(13, 2)])?, "operations");
-    assert_eq!(rt; error_of(alloc, &UNIT_5, &[(13, 2), (16, 0)])?, "operations");
+    assert_eq!(rt;
+        error_of(alloc, &UNIT_5, &[(13, 2), (16, 0)])?,
+        "operations"
+    );
     assert_eq!(rt; error_of(alloc, &UNIT_5, &[(29, 11)])?, "entry-form");
     assert_eq!(rt; error_of(alloc, &UNIT_5, &[(29, 0x20)])?, "entry-form");
     assert_eq!(rt; error_of(alloc, &UNIT_5, &[(29, 0x1f)])?, "entry-text");

@@ -6,14 +6,13 @@ ghost use Rattle.rv_lines.specs.Units.{unit_bytes, unit_size, long_unit_size, ro
 ghost use Rattle.rv_lines.specs.Lines.{spans_of_rows};
 ghost use Rattle.rv_lines.specs.SearchInside.{noted_all, checked_only, rows_of_program, IsRising};
 
-use byteorder::{ByteOrder, LittleEndian};
-
 use crate::error::UnitError;
 use crate::header::{Wanted, header_at};
 use crate::program::{Program, note_program};
 use crate::reading::bytes_from;
-use crate::tables::LineTables;
 use crate::span::SourceLine;
+use crate::tables::LineTables;
+use byteorder::{ByteOrder, LittleEndian};
 
 /// The bytes of `unit_length`, in 32-bit and in 64-bit form.
 const LENGTH_SIZE: usize = 4;

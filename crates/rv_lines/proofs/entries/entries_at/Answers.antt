@@ -11,8 +11,8 @@ returns-in_err-entry c =
     let parts = parts_of c.args.format.now in
     let p = err_from_is_err_and c.from_residual.result c.from_residual.ensures.1 in
     rw (p.1, p.2) (entries_fail texts parts c.args.index (summarised c.args.index (entries_at texts parts c.args.count c.args.bytes.now))
-      c.in_err-entry.field-0.0 c.args.count c.loop-k.k (option_map view_entry c.loop-k.found) c.loop-k.rest.now c.loop-k-test.true
-      c.in_err-entry.ensures c.loop-k.invariant)
+    c.in_err-entry.field-0.0 c.args.count c.loop-k.k (option_map view_entry c.loop-k.found) c.loop-k.rest.now c.loop-k-test.true
+    c.in_err-entry.ensures c.loop-k.invariant)
 
 pub loop-k-preserved : goal.loop-k-preserved
 loop-k-preserved c =
@@ -20,13 +20,13 @@ loop-k-preserved c =
     let parts = parts_of c.args.format.now in
     let total = summarised c.args.index (entries_at texts parts c.args.count c.args.bytes.now) in
     let next = entries_on texts parts c.args.index total c.args.count c.loop-k.k (option_map view_entry c.loop-k.found) c.loop-k.rest.now
-      c.in_ok-entry.after.now (view_entry c.in_ok-entry.entry) c.loop-k-test.true c.in_ok-entry.ensures c.loop-k.invariant in
+    c.in_ok-entry.after.now (view_entry c.in_ok-entry.entry) c.loop-k-test.true c.in_ok-entry.ensures c.loop-k.invariant in
     let same : cond (is_index c.args.index c.loop-k.k) (Some (view_entry c.in_ok-entry.entry)) (option_map view_entry c.loop-k.found)
-        ≡ option_map view_entry c.pick-found.result =
-      ap (λ k. cond (is_index c.args.index k) (Some (view_entry c.in_ok-entry.entry)) (option_map view_entry c.loop-k.found)) (sym c.from.ensures)
-      ∙ sym c.pick-found.ensures in
+    ≡ option_map view_entry c.pick-found.result =
+    ap (λ k. cond (is_index c.args.index k) (Some (view_entry c.in_ok-entry.entry)) (option_map view_entry c.loop-k.found)) (sym c.from.ensures)
+    ∙ sym c.pick-found.ensures in
     subst (λ (found : Option Entry). resumed (c.loop-k.k + 1) c.args.index found
-      (entries_at texts parts (c.args.count - (c.loop-k.k + 1)) c.in_ok-entry.after.now) ≡ total) same next
+    (entries_at texts parts (c.args.count - (c.loop-k.k + 1)) c.in_ok-entry.after.now) ≡ total) same next
 
 pub returns : goal.returns
 returns c =
@@ -36,5 +36,5 @@ returns c =
     let le : c.loop-k.k ≤ c.args.count = omega arith in
     let same : c.loop-k.k ≡ c.args.count = omega arith in
     entries_done texts parts c.args.index total c.args.count c.loop-k.k (option_map view_entry c.loop-k.found) c.loop-k.rest.now
-      c.loop-k-test.false c.loop-k.invariant
+    c.loop-k-test.false c.loop-k.invariant
     ∙ ap (λ n. Ok ((n, option_map view_entry c.loop-k.found), c.loop-k.rest.now)) (same ∙ sym c.from-2.ensures)

@@ -16,7 +16,7 @@ returns-then-value c =
     let i = c.in-Some.last in
     ap (signed_or c.args.cut) (signed_some bytes _ i c.last_byte.ensures c.in-Some.is)
     ∙ signed_large (is_negative bytes i) (take (i + 1) bytes) c.digits_value-value.result (drop (i + 1) bytes)
-      c.digits_value-value.ensures (omega arith)
+    c.digits_value-value.ensures (omega arith)
 
 pub returns : goal.returns
 unfolding signed_at

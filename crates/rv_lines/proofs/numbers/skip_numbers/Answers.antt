@@ -8,7 +8,7 @@ pub returns-in_err-rest : goal.returns-in_err-rest
 returns-in_err-rest c =
     let p = err_from_is_err_and c.from_residual.result c.from_residual.ensures.1 in
     rw (p.1, p.2) (skip_ends c.args.cut c.in_err-rest.field-0.0 c.args.count c.loop.counter c.loop.rest.now
-      (skip_numbers c.args.cut c.args.count c.args.bytes.now) c.loop-test.true c.in_err-rest.ensures c.loop.invariant)
+    (skip_numbers c.args.cut c.args.count c.args.bytes.now) c.loop-test.true c.in_err-rest.ensures c.loop.invariant)
 
 pub loop-preserved : goal.loop-preserved
 loop-preserved c = skip_on c.args.cut c.args.count c.loop.counter c.loop.rest.now c.in_ok-rest.rest.now

@@ -24,8 +24,8 @@ unfolding path_of
 returns-in_err-entry c =
     let read = unit_bytes (drop c.args.unit c.args.tables.now.lines.now) >>= header_at (view_texts c.args.tables.now.texts) in
     rw c.from_residual-in_err-entry.ensures (ap (λ n. path_at n read) (sym c.from-number.ensures)
-      ∙ path_no_file (record { folder = 0; file = c.from-number.result }) read (view_header c.in_ok-header.header) c.in_ok-header.ensures
-        (ap (option_map view_entry) c.in_err-entry.was))
+    ∙ path_no_file (record { folder = 0; file = c.from-number.result }) read (view_header c.in_ok-header.header) c.in_ok-header.ensures
+    (ap (option_map view_entry) c.in_err-entry.was))
 
 pub returns-then-has_no_folder : goal.returns-then-has_no_folder
 unfolding path_of
@@ -33,7 +33,7 @@ returns-then-has_no_folder c =
     let read = unit_bytes (drop c.args.unit c.args.tables.now.lines.now) >>= header_at (view_texts c.args.tables.now.texts) in
     ap (λ n. path_at n read) (sym c.from-number.ensures)
     ∙ path_plain (record { folder = 0; file = c.from-number.result }) read (view_header c.in_ok-header.header) (view_entry c.in_ok-entry.entry) c.in_ok-header.ensures
-      (ap (option_map view_entry) c.in_ok-entry.was) (sym c.has_no_folder.ensures ∙ c.if-has_no_folder.true)
+    (ap (option_map view_entry) c.in_ok-entry.was) (sym c.has_no_folder.ensures ∙ c.if-has_no_folder.true)
 
 pub returns-in_err-other : goal.returns-in_err-other
 unfolding path_of
@@ -48,6 +48,6 @@ returns c =
     let name = c.in_ok-entry.entry.name.now in
     ap (λ n. path_at n read) (sym c.from-number.ensures)
     ∙ path_in_folder (record { folder = 0; file = c.from-number.result }) (record { folder = c.in_ok-entry.entry.folder; file = c.from-number.result }) read
-      (view_header c.in_ok-header.header) (view_header c.in_ok-other.other) (view_entry c.in_ok-entry.entry) c.in_ok-header.ensures
-      (ap (option_map view_entry) c.in_ok-entry.was) (sym c.has_no_folder.ensures ∙ c.if-has_no_folder.false) c.in_ok-other.ensures refl
+    (view_header c.in_ok-header.header) (view_header c.in_ok-other.other) (view_entry c.in_ok-entry.entry) c.in_ok-header.ensures
+    (ap (option_map view_entry) c.in_ok-entry.was) (sym c.has_no_folder.ensures ∙ c.if-has_no_folder.false) c.in_ok-other.ensures refl
     ∙ ap (λ o. Some (joined o name)) (names c.in_ok-other.other.folder ∙ sym c.name_of.ensures)

@@ -13,11 +13,11 @@ loop-offset-preserved c =
     let texts = view_texts c.args.tables.now.texts in
     let section = c.args.tables.now.lines.now in
     let here : c.unit_size-offset.result ≡ min (unit_size (drop c.loop-offset.offset section)) (length (drop c.loop-offset.offset section)) =
-      c.unit_size-offset.ensures ∙ ap (λ xs. min (unit_size xs) (length xs)) c.bytes_from.ensures in
+    c.unit_size-offset.ensures ∙ ap (λ xs. min (unit_size xs) (length xs)) c.bytes_from.ensures in
     subst (λ (r : RejectedUnits). FoundSoFar texts section c.args.addresses.now c.forget_all.new.found (c.loop-offset.offset + c.unit_size-offset.result) c.note_unit-read.new.found r)
-      (sym c.after-rejected.ensures)
-      (found_on texts section c.args.addresses.now c.forget_all.new.found c.loop-offset.offset c.loop-offset.found c.loop-offset.rejected c.loop-offset.invariant
-        c.unit_size-offset.result c.note_unit-read.result c.note_unit-read.new.found c.loop-offset-test.true here c.note_unit-read.ensures.value c.note_unit-read.ensures.found)
+    (sym c.after-rejected.ensures)
+    (found_on texts section c.args.addresses.now c.forget_all.new.found c.loop-offset.offset c.loop-offset.found c.loop-offset.rejected c.loop-offset.invariant
+    c.unit_size-offset.result c.note_unit-read.result c.note_unit-read.new.found c.loop-offset-test.true here c.note_unit-read.ensures.value c.note_unit-read.ensures.found)
 
 pub loop-offset-smaller : goal.loop-offset-smaller
 loop-offset-smaller c =
@@ -25,7 +25,7 @@ loop-offset-smaller c =
     let offset = c.loop-offset.offset in
     let lt : offset < length section = c.loop-offset-test.true in
     let here : c.unit_size-offset.result ≡ min (unit_size (drop offset section)) (length (drop offset section)) =
-      c.unit_size-offset.ensures ∙ ap (λ xs. min (unit_size xs) (length xs)) c.bytes_from.ensures in
+    c.unit_size-offset.ensures ∙ ap (λ xs. min (unit_size xs) (length xs)) c.bytes_from.ensures in
     let sized : 0 < length (drop offset section) = omega (arith, length-drop offset section) in
     let positive = size_positive (drop offset section) sized in
     omega arith
@@ -35,9 +35,9 @@ returns-clause-lines c =
     let texts = view_texts c.args.tables.now.texts in
     let section = c.args.tables.now.lines.now in
     c.show_lines.ensures ∙ lines_found texts section c.args.addresses.now c.args.found.now c.forget_all.new.found c.loop-offset.found c.requires.places c.forget_all.ensures
-      (found_all texts section c.args.addresses.now c.forget_all.new.found c.loop-offset.offset c.loop-offset.found c.loop-offset.rejected c.loop-offset.invariant c.loop-offset-test.false)
+    (found_all texts section c.args.addresses.now c.forget_all.new.found c.loop-offset.offset c.loop-offset.found c.loop-offset.rejected c.loop-offset.invariant c.loop-offset-test.false)
 
 pub returns-clause-rejected : goal.returns-clause-rejected
 returns-clause-rejected c =
     found_counts (view_texts c.args.tables.now.texts) c.args.tables.now.lines.now c.args.addresses.now c.forget_all.new.found c.loop-offset.offset c.loop-offset.found
-      c.loop-offset.rejected c.loop-offset.invariant c.loop-offset-test.false
+    c.loop-offset.rejected c.loop-offset.invariant c.loop-offset-test.false

@@ -14,4 +14,4 @@ loop-k-preserved c =
     let there : k < length ys = omega arith in
     let e : c.shown.result ≡ shown x = c.shown.ensures ∙ ap shown (get_or_default ys k _ None there) in
     subst (λ (v : Option SourceLine). set ys k v ≡ map shown (take (k + 1) c.args.found.now) ++ drop (k + 1) c.args.found.now) (sym e)
-      (map_over_more shown c.args.found.now ys k x lt c.loop-k.invariant (get_or_default ys k None x there))
+    (map_over_more shown c.args.found.now ys k x lt c.loop-k.invariant (get_or_default ys k None x there))

@@ -13,9 +13,9 @@ loop-index-preserved c =
     let file = c.args.file.now in
     let below : c.loop-index.index < e_shnum file = omega arith in
     let other : is_named_either (names_of file) c.args.plain.now c.args.gnu.now (section_of_index file c.loop-index.index) ≡ false =
-      ap (λ n. is_named_either n c.args.plain.now c.args.gnu.now (section_of_index file c.loop-index.index)) (sym c.names_of-names.ensures)
-      ∙ ap (is_named_either c.names_of-names.result.now c.args.plain.now c.args.gnu.now) (sym c.section_of_index-section.ensures)
-      ∙ sym c.is_named_either.ensures ∙ c.if-is_named_either.false in
+    ap (λ n. is_named_either n c.args.plain.now c.args.gnu.now (section_of_index file c.loop-index.index)) (sym c.names_of-names.ensures)
+    ∙ ap (is_named_either c.names_of-names.result.now c.args.plain.now c.args.gnu.now) (sym c.section_of_index-section.ensures)
+    ∙ sym c.is_named_either.ensures ∙ c.if-is_named_either.false in
     found_later (is_named_either (names_of file) c.args.plain.now c.args.gnu.now) (section_of_index file) c.loop-index.index (e_shnum file) below other
     ∙ c.loop-index.invariant
 
@@ -24,9 +24,9 @@ returns-then-is_named_either c =
     let file = c.args.file.now in
     let below : c.loop-index.index < e_shnum file = omega arith in
     let this : is_named_either (names_of file) c.args.plain.now c.args.gnu.now (section_of_index file c.loop-index.index) ≡ true =
-      ap (λ n. is_named_either n c.args.plain.now c.args.gnu.now (section_of_index file c.loop-index.index)) (sym c.names_of-names.ensures)
-      ∙ ap (is_named_either c.names_of-names.result.now c.args.plain.now c.args.gnu.now) (sym c.section_of_index-section.ensures)
-      ∙ sym c.is_named_either.ensures ∙ c.if-is_named_either.true in
+    ap (λ n. is_named_either n c.args.plain.now c.args.gnu.now (section_of_index file c.loop-index.index)) (sym c.names_of-names.ensures)
+    ∙ ap (is_named_either c.names_of-names.result.now c.args.plain.now c.args.gnu.now) (sym c.section_of_index-section.ensures)
+    ∙ sym c.is_named_either.ensures ∙ c.if-is_named_either.true in
     ap Some c.section_of_index-section.ensures
     ∙ sym (found_here (is_named_either (names_of file) c.args.plain.now c.args.gnu.now) (section_of_index file) c.loop-index.index (e_shnum file) below this)
     ∙ c.loop-index.invariant

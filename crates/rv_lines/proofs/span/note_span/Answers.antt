@@ -9,7 +9,7 @@ loop-k-init c =
     let addresses = c.args.addresses.now in
     let k = c.partition_point-k.result in
     let point = IsPartitionPoint-from_clause (λ a. ltb a c.args.span.now.from) addresses k c.partition_point-k.ensures.partitioned
-      (IsPartitionedBy-ltb (λ a. a) addresses c.args.span.now.from c.requires.rising) (λ a r q h. search rules) in
+    (IsPartitionedBy-ltb (λ a. a) addresses c.args.span.now.from c.requires.rising) (λ a r q h. search rules) in
     record {
       noted = noted_start c.args.span.now addresses c.args.found.now k point;
       from = λ j le lt. ltb-false (get_or addresses j 0) c.args.span.now.from (point.1 j 0 le lt);
