@@ -87,7 +87,7 @@ fn rows_of_the_worked_program(rt: HostRuntime) -> Result<(), Fail> {
 }
 
 #[test]
-fn errors_of_dwarf_2(rt: HostRuntime) -> Result<(), Fail> {
+fn errors_of_a_header(rt: HostRuntime) -> Result<(), Fail> {
     let alloc = rt.alloc();
     assert_eq!(rt; error_of(alloc, &UNIT, &[])?, "none");
     assert_eq!(rt; error_of(alloc, &UNIT[..3], &[])?, "unit-cut-off");
@@ -108,6 +108,12 @@ fn errors_of_dwarf_2(rt: HostRuntime) -> Result<(), Fail> {
     assert_eq!(rt; error_of(alloc, &UNIT, &[(13, 0), (14, 0)])?, "line-range");
     assert_eq!(rt; error_of(alloc, &UNIT, &[(14, 0)])?, "opcode-base");
     assert_eq!(rt; error_of(alloc, &UNIT, &[(16, 2)])?, "opcode-lengths");
+    Ok(())
+}
+
+#[test]
+fn errors_of_a_program(rt: HostRuntime) -> Result<(), Fail> {
+    let alloc = rt.alloc();
     assert_eq!(rt; error_of(alloc, &UNIT, &[(34, 4)])?, "operation-length");
     assert_eq!(rt;
         error_of(alloc, &UNIT, &[(43, 4), (44, 2), (45, 1)])?,
@@ -141,7 +147,7 @@ fn errors_of_dwarf_2(rt: HostRuntime) -> Result<(), Fail> {
 }
 
 #[test]
-fn errors_of_dwarf_5(rt: HostRuntime) -> Result<(), Fail> {
+fn errors_of_a_header_of_dwarf_5(rt: HostRuntime) -> Result<(), Fail> {
     let alloc = rt.alloc();
     assert_eq!(rt; error_of(alloc, &UNIT_5, &[])?, "none");
     assert_eq!(rt; error_of(alloc, &UNIT_5, &[(6, 8)])?, "address-size");
