@@ -1,0 +1,132 @@
+-- What the code keeps of a header, and what it is in the definition.
+use Rattle.std.proofs.Common.{◌≡◌, ◌∙◌, ◌<◌, ℕ, List, length, Bool, true, false, Option, Some, None, option_map, Result, Ok, Err, refl, sym, ap}
+use Rattle.rv_lines.specs.declared.error.UnitError.{UnitError}
+use Rattle.rv_lines.specs.declared.header.Parameters.{Parameters}
+use Rattle.rv_lines.specs.declared.header.Wanted.{Wanted}
+use Rattle.rv_lines.specs.declared.rows.Row.{Row}
+use Rattle.rv_lines.specs.Reading.{◌>>=◌, Read}
+use Rattle.rv_lines.specs.Entries.{Texts, Entry}
+use Rattle.rv_lines.specs.EntriesInside.{Summary, summary, summarised, picked}
+use Rattle.rv_lines.specs.Header.{Header, file_numbers, first_number, index_of, numbered, parameters_at, lengths_at, entries_of_version, parts_of_header, frame_at, header_at}
+use Rattle.rv_lines.specs.HeaderInside.{Brief, brief, brief_of, brief_at}
+use Rattle.rv_lines.specs.Rows.{program_rows}
+use Rattle.rv_lines.specs.Units.{unit_bytes, unit_rows, rows_at}
+
+abbrev done : {X : Type 0} → X → Result X UnitError
+done x = Ok x
+
+ok_same : {X : Type 0} (x y : X) → done x ≡ done y → x ≡ y
+ok_same x y e = cc
+
+-- ---- summaries
+
+pub summarised_err : (index : Option ℕ) (read : Read (List Entry)) (e : UnitError) → summarised index read ≡ Err e → read ≡ Err e
+summarised_err index (Ok x) e h = absurd cc
+summarised_err index (Err d) e h = cc
+
+-- the entries behind a summary
+pub record Summarised (index : Option ℕ) (read : Read (List Entry)) (s : Summary) (rest : List ℕ) : Type 0 where
+  pub list : List Entry
+  pub is : read ≡ Ok (list, rest)
+  pub sums : summary index list ≡ s
+
+pub summarised_ok : (index : Option ℕ) (read : Read (List Entry)) (s : Summary) (rest : List ℕ) → summarised index read ≡ Ok (s, rest) → Summarised index read s rest
+summarised_ok index (Ok x) s rest h =
+    let e = ok_same (summary index x.0, x.1) (s, rest) h in
+    record { list = x.0; is = ap (λ (y : Summary × List ℕ). done (x.0, y.1)) e; sums = ap (λ (y : Summary × List ℕ). y.0) e }
+summarised_ok index (Err d) s rest h = absurd cc
+
+-- ---- the parts of a header
+
+module _ (texts : Texts) (version : ℕ) (parameters : Parameters) (lengths : List ℕ) where
+  abbrev made : List Entry → List Entry → Header
+  made folders files = record { parameters = parameters; lengths = lengths; first = first_number version; folders = folders; files = files }
+
+  abbrev with_files : List Entry × List ℕ → Result Header UnitError
+  with_files folders = entries_of_version texts version true folders.1 >>= λ files. Ok (made folders.0 files.0)
+
+  abbrev with_folders : List ℕ → Result Header UnitError
+  with_folders rest = entries_of_version texts version false rest >>= with_files
+
+  module _ (bytes rest after : List ℕ) (h : parameters_at version bytes ≡ Ok (parameters, rest)) (k : lengths_at parameters.opcode_base rest ≡ Ok (lengths, after)) where
+    parts_then : parts_of_header texts version bytes ≡ with_folders after
+    unfolding parts_of_header
+    parts_then = rw (h, k) refl
+
+    pub folders_fail : (wanted : Wanted) (index : Option ℕ) (e : UnitError) → summarised index (entries_of_version texts version false after) ≡ Err e
+        → brief_of wanted (parts_of_header texts version bytes) ≡ Err e
+    folders_fail wanted index e f = ap (brief_of wanted) (parts_then ∙ ap (λ r. r >>= with_files) (summarised_err index (entries_of_version texts version false after) e f))
+
+    module _ (wanted : Wanted) (index : Option ℕ) (folders : Summary) (files : List ℕ)
+        (f : summarised index (entries_of_version texts version false after) ≡ Ok (folders, files)) where
+      list : Summarised index (entries_of_version texts version false after) folders files
+      list = summarised_ok index (entries_of_version texts version false after) folders files f
+
+      files_then : parts_of_header texts version bytes ≡ with_files (list.list, files)
+      files_then = parts_then ∙ ap (λ r. r >>= with_files) list.is
+
+      pub files_fail : (other : Option ℕ) (e : UnitError) → summarised other (entries_of_version texts version true files) ≡ Err e
+          → brief_of wanted (parts_of_header texts version bytes) ≡ Err e
+      files_fail other e g = ap (brief_of wanted) (files_then
+          ∙ ap (λ r. r >>= λ x. Ok (made list.list x.0)) (summarised_err other (entries_of_version texts version true files) e g))
+
+      abbrev pub brief_with : ℕ → Summary → Summary → Brief
+      brief_with first one other = record { parameters = parameters; lengths = lengths; files = record { first = first; count = other.0 }; folder = one.1; file = other.1 }
+
+      pub files_done : (other : Option ℕ) (second : Summary) (end : List ℕ) (first : ℕ) → first ≡ first_number version
+          → index ≡ index_of first wanted.folder → other ≡ index_of first wanted.file
+          → summarised other (entries_of_version texts version true files) ≡ Ok (second, end)
+          → brief_of wanted (parts_of_header texts version bytes) ≡ Ok (brief_with first folders second)
+      files_done other second end first n i j g =
+          let more = summarised_ok other (entries_of_version texts version true files) second end g in
+          let a : summary (index_of (first_number version) wanted.folder) list.list ≡ folders =
+          ap (λ x. summary (index_of x wanted.folder) list.list) (sym n) ∙ ap (λ x. summary x list.list) (sym i) ∙ list.sums in
+          let b : summary (index_of (first_number version) wanted.file) more.list ≡ second =
+          ap (λ x. summary (index_of x wanted.file) more.list) (sym n) ∙ ap (λ x. summary x more.list) (sym j) ∙ more.sums in
+          ap (brief_of wanted) (files_then ∙ ap (λ r. r >>= λ x. Ok (made list.list x.0)) more.is)
+          ∙ ap (λ x. done (brief_with (first_number version) x (summary (index_of (first_number version) wanted.file) more.list))) a
+          ∙ ap (λ x. done (brief_with (first_number version) folders x)) b
+          ∙ ap (λ x. done (brief_with x folders second)) (sym n)
+
+-- ---- a whole header
+
+brief_err : (wanted : Wanted) (read : Result Header UnitError) (e : UnitError) → brief_of wanted read ≡ Err e → read ≡ Err e
+brief_err wanted (Ok x) e h = absurd cc
+brief_err wanted (Err d) e h = cc
+
+pub header_fails : (texts : Texts) (wanted : Wanted) (bytes : List ℕ) (version : ℕ) (parts after : List ℕ) (e : UnitError) → frame_at bytes ≡ Ok ((version, parts), after)
+    → brief_of wanted (parts_of_header texts version parts) ≡ Err e → brief_at wanted (header_at texts bytes) ≡ Err e
+unfolding header_at
+header_fails texts wanted bytes version parts after e h b =
+    let k = brief_err wanted (parts_of_header texts version parts) e b in rw (h, k) refl
+
+-- the rows of a program need no more of a header than what is kept
+pub brief_rows : (wanted : Wanted) (read : Read Header) (b : Brief) (rest : List ℕ) → brief_at wanted read ≡ Ok (b, rest)
+    → (read >>= λ h. program_rows h.0.parameters (file_numbers h.0) h.0.lengths h.1) ≡ program_rows b.parameters b.files b.lengths rest
+brief_rows wanted (Ok x) b rest h = ap (λ (y : Brief × List ℕ). program_rows y.0.parameters y.0.files y.0.lengths y.1) (ok_same (brief wanted x.0, x.1) (b, rest) h)
+brief_rows wanted (Err d) b rest h = absurd cc
+
+brief_at_err : (wanted : Wanted) (read : Read Header) (e : UnitError) → brief_at wanted read ≡ Err e → read ≡ Err e
+brief_at_err wanted (Ok x) e h = absurd cc
+brief_at_err wanted (Err d) e h = cc
+
+-- ---- a unit
+
+pub rows_cut_off : (texts : Texts) (bytes : List ℕ) (e : UnitError) → unit_bytes bytes ≡ Err e → rows_at texts bytes ≡ Err e
+rows_cut_off texts bytes e h = ap (λ r. r >>= unit_rows texts) h
+
+rows_in : (texts : Texts) (bytes unit : List ℕ) → unit_bytes bytes ≡ Ok unit → rows_at texts bytes ≡ unit_rows texts unit
+rows_in texts bytes unit h = ap (λ r. r >>= unit_rows texts) h
+
+unit_rows_are : (texts : Texts) (unit : List ℕ) → unit_rows texts unit ≡ (header_at texts unit >>= λ h. program_rows h.0.parameters (file_numbers h.0) h.0.lengths h.1)
+unfolding unit_rows
+unit_rows_are texts unit = refl
+
+pub rows_header_fails : (texts : Texts) (wanted : Wanted) (bytes unit : List ℕ) (e : UnitError) → unit_bytes bytes ≡ Ok unit → brief_at wanted (header_at texts unit) ≡ Err e
+    → rows_at texts bytes ≡ Err e
+rows_header_fails texts wanted bytes unit e h b = rows_in texts bytes unit h ∙ unit_rows_are texts unit
+    ∙ ap (λ r. r >>= λ x. program_rows x.0.parameters (file_numbers x.0) x.0.lengths x.1) (brief_at_err wanted (header_at texts unit) e b)
+
+pub rows_of_brief : (texts : Texts) (wanted : Wanted) (bytes unit : List ℕ) (b : Brief) (rest : List ℕ) → unit_bytes bytes ≡ Ok unit
+    → brief_at wanted (header_at texts unit) ≡ Ok (b, rest) → rows_at texts bytes ≡ program_rows b.parameters b.files b.lengths rest
+rows_of_brief texts wanted bytes unit b rest h k = rows_in texts bytes unit h ∙ unit_rows_are texts unit ∙ brief_rows wanted (header_at texts unit) b rest k

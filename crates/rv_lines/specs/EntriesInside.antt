@@ -1,0 +1,53 @@
+-- What the code keeps of folders and files: their number, and one of them.
+use Rattle.std.specs.Prelude.{◌==◌, ℕ, Bool, false, List, [], length, slice_get, Option, Some, None, option_map, option_and_then, Result, Ok, Err}
+use Rattle.rv_lines.specs.declared.entries.Entries.{Entries}
+use Rattle.rv_lines.specs.declared.entries.Format.{Format}
+use Rattle.rv_lines.specs.declared.entries.Entry as declared
+use Rattle.rv_lines.specs.declared.error.UnitError.{UnitError}
+use Rattle.rv_lines.specs.declared.forms.Part.{Part}
+use Rattle.rv_lines.specs.declared.tables.TextSections.{TextSections}
+use Rattle.rv_lines.specs.Reading.{◌>>=◌, Read}
+use Rattle.rv_lines.specs.Entries.{Texts, Entry, parts_at}
+
+-- an entry without where it lies in memory
+abbrev pub view_entry : declared.Entry → Entry
+view_entry e = record { name = e.name.now; folder = e.folder }
+
+-- the sections of texts without where they lie in memory
+abbrev pub view_texts : TextSections → Texts
+view_texts t = record { line_str = t.line_str.now; str = t.str.now }
+
+-- the number of entries, and the entry at an index
+abbrev pub Summary : Type 0
+Summary = ℕ × Option Entry
+
+abbrev pub view_entries : Entries → Summary
+view_entries e = (e.count, option_map view_entry e.found)
+
+-- whether an index is this one
+abbrev pub is_index : Option ℕ → ℕ → Bool
+is_index None k = false
+is_index (Some i) k = i == k
+
+-- the entry at an index, if there is one
+abbrev pub picked : Option ℕ → List Entry → Option Entry
+picked index entries = option_and_then (slice_get entries) index
+
+abbrev pub summary : Option ℕ → List Entry → Summary
+summary index entries = (length entries, picked index entries)
+
+abbrev pub summarised : Option ℕ → Read (List Entry) → Read Summary
+summarised index read = read >>= λ entries. Ok (summary index entries.0, entries.1)
+
+-- the parts that were read, or none after an error
+abbrev pub read_parts : Read (List Part) → List Part
+read_parts (Ok parts) = parts.0
+read_parts (Err error) = []
+
+-- the bytes after what was read
+abbrev pub rest_of : {X : Type 0} → Read X → Result (List ℕ) UnitError
+rest_of read = read >>= λ x. Ok x.1
+
+-- the parts of a format
+abbrev pub parts_of : Format → List Part
+parts_of format = read_parts (parts_at format.count format.bytes.now)

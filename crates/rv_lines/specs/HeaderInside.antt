@@ -1,0 +1,44 @@
+-- What the code keeps of a header: the parameters of the program, the number of files, one file and one folder.
+use Rattle.std.specs.Prelude.{ℕ, List, length, Option, option_map, Result, Ok, Err}
+use Rattle.rv_lines.specs.declared.error.UnitError.{UnitError}
+use Rattle.rv_lines.specs.declared.header.FileNumbers.{FileNumbers}
+use Rattle.rv_lines.specs.declared.header.Header as declared
+use Rattle.rv_lines.specs.declared.header.Parameters.{Parameters}
+use Rattle.rv_lines.specs.declared.header.Wanted.{Wanted}
+use Rattle.rv_lines.specs.Reading.{◌>>=◌, Read}
+use Rattle.rv_lines.specs.Entries.{Entry}
+use Rattle.rv_lines.specs.EntriesInside.{view_entry}
+use Rattle.rv_lines.specs.Header.{Header, file_numbers, numbered}
+
+-- a header, of whose folders and files one each is known
+pub record Brief : Type 0 where
+  pub parameters : Parameters
+  pub lengths : List ℕ
+  pub files : FileNumbers
+  pub folder : Option Entry
+  pub file : Option Entry
+
+abbrev pub view_header : declared.Header → Brief
+view_header h = record {
+  parameters = h.parameters;
+  lengths = h.lengths.now;
+  files = h.files;
+  folder = option_map view_entry h.folder;
+  file = option_map view_entry h.file;
+}
+
+-- a header with the folder and the file of the numbers that are wanted
+abbrev pub brief : Wanted → Header → Brief
+brief wanted h = record {
+  parameters = h.parameters;
+  lengths = h.lengths;
+  files = file_numbers h;
+  folder = numbered h.first h.folders wanted.folder;
+  file = numbered h.first h.files wanted.file;
+}
+
+abbrev pub brief_of : Wanted → Result Header UnitError → Result Brief UnitError
+brief_of wanted read = read >>= λ h. Ok (brief wanted h)
+
+abbrev pub brief_at : Wanted → Read Header → Read Brief
+brief_at wanted read = read >>= λ h. Ok (brief wanted h.0, h.1)

@@ -1,0 +1,19 @@
+-- The paths and headers that the code holds.
+use Rattle.std.specs.Prelude.{ℕ, List, drop, Option, option_map, Result, Ok, Err}
+use Rattle.std.specs.Result.{result_ok}
+use Rattle.rv_lines.specs.declared.header.Wanted.{Wanted}
+use Rattle.rv_lines.specs.declared.path.SourcePath.{SourcePath}
+use Rattle.rv_lines.specs.Entries.{Texts}
+use Rattle.rv_lines.specs.Header.{header_at}
+use Rattle.rv_lines.specs.HeaderInside.{Brief, brief}
+use Rattle.rv_lines.specs.Paths.{joined}
+use Rattle.rv_lines.specs.Reading.{◌>>=◌}
+use Rattle.rv_lines.specs.Units.{unit_bytes}
+
+-- the text of a path
+abbrev pub view_path : SourcePath → List ℕ
+view_path p = joined (option_map (λ folder. folder.now) p.folder) p.name.now
+
+-- what is kept of the header of the unit at an offset of the section
+abbrev pub brief_of_unit : Wanted → Texts → List ℕ → ℕ → Option Brief
+brief_of_unit wanted texts section unit = option_map (λ h. brief wanted h.0) (result_ok (unit_bytes (drop unit section) >>= header_at texts))

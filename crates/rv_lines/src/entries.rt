@@ -1,0 +1,208 @@
+//! The folders and files of a unit's header (DWARF 4, section 6.2.4; DWARF 5, section 6.2.4.1). They are not kept: of each list, the number
+//! of its entries is counted, and one entry is picked.
+ghost use Rattle.std.specs.Prelude.{◌≡◌, if◌then◌else◌, Some, length, option_map, is_ok, true};
+ghost use Rattle.rv_lines.specs.Reading.{Gives};
+ghost use Rattle.rv_lines.specs.Entries.{empty_entry, numbers_at, list_at, parts_at, with_part, entry_at, entries_at, table_at};
+ghost use Rattle.rv_lines.specs.EntriesInside.{is_index, view_entry, view_entries, view_texts, summarised, rest_of, parts_of};
+
+use crate::error::UnitError;
+use crate::forms::{
+    DW_LNCT_DIRECTORY_INDEX, DW_LNCT_PATH, Part, number_of_form, part_at, skip_form, text_of_form,
+};
+use crate::numbers::{number_at, skip_number};
+use crate::reading::{byte_at, text_at};
+use crate::tables::TextSections;
+
+/// A folder, or a file with the number of its folder.
+#[derive(Clone, Copy)]
+pub(crate) struct Entry<'a> {
+    pub(crate) name: &'a [u8],
+    pub(crate) folder: u64,
+}
+
+/// A list of entries: how many there are, and the one that was picked, if there is one.
+#[derive(Clone, Copy)]
+pub(crate) struct Entries<'a> {
+    pub(crate) count: u64,
+    pub(crate) found: Option<Entry<'a>>,
+}
+
+/// The format of entries in DWARF 5: `count` parts, described by `bytes`.
+#[derive(Clone, Copy)]
+pub(crate) struct Format<'a> {
+    pub(crate) count: u8,
+    pub(crate) bytes: &'a [u8],
+}
+
+/// Reads a list of DWARF 2 to 4, of folders or files, up to the empty name that ends it, and picks the entry at an index.
+pub(crate) fn list_at<'a>(
+    of_files: bool,
+    index: Option<u64>,
+    bytes: &'a [u8],
+) -> Result<(Entries<'a>, &'a [u8]), UnitError>
+    ensures { Gives (λ x. (view_entries x.0, x.1.now)) result
+        (summarised index (list_at (length bytes.now) of_files bytes.now)) }
+{
+    let mut count = 0;
+    let mut found = None;
+    let mut rest = bytes;
+    loop {
+        let (name, after) = text_at(UnitError::HeaderCutOff, rest)?;
+        if name.is_empty() {
+            return Ok((Entries { count, found }, after));
+        }
+        let (folder, after) = numbers_at(of_files, after)?;
+        found = pick(index, count, Entry { name, folder }, found);
+        count += 1;
+        rest = after;
+    }
+}
+
+// Returns the entry at index `k` if that is the one to be picked, and otherwise what was found before.
+fn pick<'a>(
+    index: Option<u64>,
+    k: u64,
+    entry: Entry<'a>,
+    found: Option<Entry<'a>>,
+) -> Option<Entry<'a>>
+    ensures { option_map view_entry result
+        ≡ (if is_index index k then Some (view_entry entry.entry) else option_map view_entry found.entry) }
+{
+    if index == Some(k) { Some(entry) } else { found }
+}
+
+// Reads the numbers after the name of a file: its folder, and its time and length, which are skipped. A folder has none.
+#[tactic(auto, unfolding(crate::specs::Entries::numbers_at))]
+fn numbers_at(of_files: bool, bytes: &[u8]) -> Result<(u64, &[u8]), UnitError>
+    ensures { Gives (λ x. (x.0, x.1.now)) result (numbers_at of_files bytes.now) }
+{
+    if !of_files {
+        return Ok((0, bytes));
+    }
+    let (folder, rest) = number_at(UnitError::HeaderCutOff, bytes)?;
+    let rest = skip_number(UnitError::HeaderCutOff, rest)?;
+    let rest = skip_number(UnitError::HeaderCutOff, rest)?;
+    Ok((u64::from(folder), rest))
+}
+
+/// Reads entries of DWARF 5 after their format and their number, and picks the entry at an index.
+#[tactic(auto, unfolding(crate::specs::Entries::table_at))]
+pub(crate) fn table_at<'a>(
+    texts: &TextSections<'a>,
+    index: Option<u64>,
+    bytes: &'a [u8],
+) -> Result<(Entries<'a>, &'a [u8]), UnitError>
+    ensures { Gives (λ x. (view_entries x.0, x.1.now)) result
+        (summarised index (table_at (view_texts texts.now) bytes.now)) }
+{
+    let (count, rest) = byte_at(UnitError::HeaderCutOff, bytes)?;
+    let format = Format { count, bytes: rest };
+    let rest = format_end(&format)?;
+    let (entries, rest) = number_at(UnitError::HeaderCutOff, rest)?;
+    if count == 0 && 0 < entries {
+        return Err(UnitError::EntryForm);
+    }
+    entries_at(texts, &format, entries, index, rest)
+}
+
+// Checks the parts of a format, and returns the bytes after them.
+fn format_end<'a>(format: &Format<'a>) -> Result<&'a [u8], UnitError>
+    ensures { Gives (λ x. x.now) result (rest_of (parts_at format.now.count format.now.bytes.now)) }
+{
+    let mut rest = format.bytes;
+    for _ in 0..format.count {
+        let (_, after) = part_at(rest)?;
+        rest = after;
+    }
+    Ok(rest)
+}
+
+// Reads `count` entries of a format, and picks the one at an index.
+fn entries_at<'a>(
+    texts: &TextSections<'a>,
+    format: &Format<'a>,
+    count: u32,
+    index: Option<u64>,
+    bytes: &'a [u8],
+) -> Result<(Entries<'a>, &'a [u8]), UnitError>
+    requires { is_ok (parts_at format.now.count format.now.bytes.now) ≡ true }
+    ensures { Gives (λ x. (view_entries x.0, x.1.now)) result
+        (summarised index (entries_at (view_texts texts.now) (parts_of format.now) count bytes.now)) }
+{
+    let mut found = None;
+    let mut rest = bytes;
+    for k in 0..count {
+        let (entry, after) = entry_at(texts, format, rest)?;
+        found = pick(index, u64::from(k), entry, found);
+        rest = after;
+    }
+    Ok((
+        Entries {
+            count: u64::from(count),
+            found,
+        },
+        rest,
+    ))
+}
+
+// Reads an entry of a format.
+fn entry_at<'a>(
+    texts: &TextSections<'a>,
+    format: &Format<'a>,
+    bytes: &'a [u8],
+) -> Result<(Entry<'a>, &'a [u8]), UnitError>
+    requires { is_ok (parts_at format.now.count format.now.bytes.now) ≡ true }
+    ensures { Gives (λ x. (view_entry x.0, x.1.now)) result
+        (entry_at (view_texts texts.now) (parts_of format.now) empty_entry bytes.now) }
+{
+    let mut entry = Entry {
+        name: b"",
+        folder: 0,
+    };
+    let mut described = format.bytes;
+    let mut rest = bytes;
+    for _ in 0..format.count {
+        let (part, next) = part_at(described)?;
+        let (more, after) = with_part(texts, part, entry, rest)?;
+        entry = more;
+        described = next;
+        rest = after;
+    }
+    Ok((entry, rest))
+}
+
+// Reads one more part of an entry.
+#[tactic(auto, unfolding(crate::specs::Entries::with_part))]
+fn with_part<'a>(
+    texts: &TextSections<'a>,
+    part: Part,
+    entry: Entry<'a>,
+    bytes: &'a [u8],
+) -> Result<(Entry<'a>, &'a [u8]), UnitError>
+    ensures { Gives (λ x. (view_entry x.0, x.1.now)) result
+        (with_part (view_texts texts.now) part (view_entry entry.entry) bytes.now) }
+{
+    match part.content {
+        DW_LNCT_PATH => {
+            let (name, rest) = text_of_form(texts, part.form, bytes)?;
+            Ok((
+                Entry {
+                    name,
+                    folder: entry.folder,
+                },
+                rest,
+            ))
+        }
+        DW_LNCT_DIRECTORY_INDEX => {
+            let (folder, rest) = number_of_form(part.form, bytes)?;
+            Ok((
+                Entry {
+                    name: entry.name,
+                    folder,
+                },
+                rest,
+            ))
+        }
+        _ => Ok((entry, skip_form(part.form, bytes)?)),
+    }
+}

@@ -1,0 +1,34 @@
+//! The source lines of an image, from its own line tables (DWARF 2 to 5, section 6.2 of DWARF 5).
+//!
+//! [`line_tables`] finds `.debug_line` and the sections of texts in a file. [`find_lines`] finds the source line of each of a sorted list of
+//! addresses, in one pass that keeps no table, and returns how many units were rejected and why. [`source_path`] returns the path of a
+//! line's file. Each result is exactly as defined in `specs/`, which restates the standard. Nothing here allocates.
+#![tactic(auto)]
+
+mod entries;
+mod error;
+mod forms;
+mod header;
+mod law;
+mod numbers;
+mod operations;
+mod path;
+mod program;
+mod reading;
+mod rows;
+mod search;
+mod sections;
+mod span;
+mod tables;
+mod units;
+
+pub use error::{LinesError, UnitError};
+pub use law::{operation_takes_a_byte, operations_are_no_more_than_bytes, rows_are_of_operations};
+pub use path::{SourcePath, source_path};
+pub use search::{RejectedUnits, find_lines};
+pub use sections::line_tables;
+pub use span::SourceLine;
+pub use tables::{LineTables, TextSections};
+
+#[cfg(test)]
+mod tests;

@@ -1,0 +1,94 @@
+//! The path of a source line's file (DWARF 5, section 6.2.4: `directories`, `file_names`).
+ghost use Rattle.std.specs.Prelude.{◌≡◌, ◌==◌, Some, None, MatchOption, option_map};
+ghost use Rattle.rv_lines.specs.EntriesInside.{view_entry, view_texts};
+ghost use Rattle.rv_lines.specs.Paths.{is_absolute, has_no_folder, path_of};
+ghost use Rattle.rv_lines.specs.PathsInside.{brief_of_unit, view_path};
+ghost use Rattle.rv_lines.specs.HeaderInside.{view_header};
+
+use crate::entries::Entry;
+use crate::header::{Header, Wanted, header_at};
+use crate::reading::bytes_from;
+use crate::tables::LineTables;
+use crate::units::unit_bytes;
+
+/// A path: NAME, or FOLDER, `/` and NAME.
+#[derive(Clone, Copy)]
+pub struct SourcePath<'a> {
+    /// The folder, if there is one.
+    pub folder: Option<&'a [u8]>,
+    /// The name.
+    pub name: &'a [u8],
+}
+
+/// Returns the path of a file of the unit at an offset of `.debug_line`, as [`SourceLine`](crate::SourceLine) has them, or `None` if the
+/// unit's header is rejected or has no such file. The path is NAME if that begins with `/`, if its folder is number 0, the compiler's own,
+/// or if no folder has its number; otherwise it is FOLDER/NAME. Reads the header again. Does not allocate.
+pub fn source_path<'a>(tables: &LineTables<'a>, unit: u32, file: u32) -> Option<SourcePath<'a>>
+    ensures { MatchOption result (path_of (view_texts tables.now.texts) tables.now.lines.now unit file ≡ None)
+        (λ p. path_of (view_texts tables.now.texts) tables.now.lines.now unit file ≡ Some (view_path p)) }
+{
+    let number = u64::from(file);
+    let header = header_of(
+        tables,
+        unit,
+        Wanted {
+            folder: 0,
+            file: number,
+        },
+    )?;
+    let entry = header.file?;
+    if has_no_folder(&entry) {
+        return Some(SourcePath {
+            folder: None,
+            name: entry.name,
+        });
+    }
+    let wanted = Wanted {
+        folder: entry.folder,
+        file: number,
+    };
+    let other = header_of(tables, unit, wanted)?;
+    Some(SourcePath {
+        folder: name_of(other.folder),
+        name: entry.name,
+    })
+}
+
+// Returns the header of the unit at an offset, or `None` if it is rejected.
+fn header_of<'a>(tables: &LineTables<'a>, unit: u32, wanted: Wanted) -> Option<Header<'a>>
+    ensures { MatchOption result
+        (brief_of_unit wanted (view_texts tables.now.texts) tables.now.lines.now unit ≡ None)
+        (λ h. brief_of_unit wanted (view_texts tables.now.texts) tables.now.lines.now unit ≡ Some (view_header h)) }
+{
+    let Ok(bytes) = unit_bytes(bytes_from(tables.lines, unit as usize)) else {
+        return None;
+    };
+    match header_at(&tables.texts, wanted, bytes) {
+        Ok((header, _)) => Some(header),
+        Err(_) => None,
+    }
+}
+
+// Returns the name of an entry, if there is one.
+fn name_of(entry: Option<Entry<'_>>) -> Option<&[u8]>
+    ensures { option_map (λ name. name.now) result ≡ option_map (λ e. e.name.now) entry.entry }
+{
+    match entry {
+        Some(entry) => Some(entry.name),
+        None => None,
+    }
+}
+
+// Whether a file has no folder: its name is absolute, or its folder is number 0.
+fn has_no_folder(file: &Entry<'_>) -> bool
+    ensures { result ≡ has_no_folder (view_entry file.now) }
+{
+    is_absolute(file.name) || file.folder == 0
+}
+
+// Whether a path begins with `/`.
+fn is_absolute(path: &[u8]) -> bool
+    ensures { result ≡ is_absolute path.now }
+{
+    !path.is_empty() && path[0] == b'/'
+}
