@@ -80,8 +80,8 @@ fn numbers_at(of_files: bool, bytes: &[u8]) -> Result<(u64, &[u8]), UnitError>
         return Ok((0, bytes));
     }
     let (folder, rest) = number_at(UnitError::HeaderCutOff, bytes)?;
-    let rest = skip_number(UnitError::HeaderCutOff, rest)?;
-    let rest = skip_number(UnitError::HeaderCutOff, rest)?;
+    let after_time = skip_number(UnitError::HeaderCutOff, rest)?;
+    let rest = skip_number(UnitError::HeaderCutOff, after_time)?;
     Ok((u64::from(folder), rest))
 }
 

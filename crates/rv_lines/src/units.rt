@@ -93,14 +93,14 @@ pub(crate) fn unit_size(bytes: &[u8]) -> usize
     if bytes.len() < LENGTH_SIZE {
         return bytes.len();
     }
-    let size = LittleEndian::read_u32(bytes);
-    if size == DWARF_64 {
+    let unit_length = LittleEndian::read_u32(bytes);
+    if unit_length == DWARF_64 {
         return long_unit_size(bytes);
     }
-    if RESERVED <= size {
+    if RESERVED <= unit_length {
         return bytes.len();
     }
-    bytes.len().min(LENGTH_SIZE + size as usize)
+    bytes.len().min(LENGTH_SIZE + unit_length as usize)
 }
 
 // Returns the number of bytes from the unit in 64-bit form at the front to the next one, or that of all bytes if there is none.
