@@ -115,8 +115,8 @@ module _ (texts : Texts) (parts : List Part) (index : Option ℕ) (total : Read 
 
 -- what follows the name of an entry
 abbrev pub after_name : ℕ → Bool → List ℕ → List ℕ → Read (List Entry)
-after_name most of_files name after = cond (length name == 0) (Ok ([], after)) (numbers_at of_files after >>= λ folder.
-    with_entry (record { name = name; folder = folder.0 }) (list_at most of_files folder.1))
+after_name most of_files name after = cond (length name == 0) (Ok ([], after)) (numbers_at of_files after >>= λ directory.
+    with_entry (record { name = name; directory = directory.0 }) (list_at most of_files directory.1))
 
 list_one : (most : ℕ) (of_files : Bool) (bytes : List ℕ)
     → list_at (suc most) of_files bytes ≡ (text_at unit.HeaderCutOff bytes >>= λ name. after_name most of_files name.0 name.1)
@@ -158,8 +158,8 @@ list_named (suc most) of_files bytes name after le h =
     let l = fewer_after (length bytes) (text_at unit.HeaderCutOff bytes) name after (text_fewer unit.HeaderCutOff bytes) h in
     record { fewer = most; enough = omega arith; is = list_one most of_files bytes ∙ ap (λ r. r >>= λ n. after_name most of_files n.0 n.1) h }
 
-pub within_after : (n : ℕ) (r : Read ℕ) (folder : ℕ) (rest : List ℕ) → Within n r → r ≡ Ok (folder, rest) → length rest ≤ n
-within_after n r folder rest w e = subst (Within n) e w
+pub within_after : (n : ℕ) (r : Read ℕ) (directory : ℕ) (rest : List ℕ) → Within n r → r ≡ Ok (directory, rest) → length rest ≤ n
+within_after n r directory rest w e = subst (Within n) e w
 
 -- what is read in all, if k entries were read before; `most` is no less than the bytes that are left
 pub record ListLeft (of_files : Bool) (index : Option ℕ) (total : Read Summary) (k : ℕ) (found : Option Entry) (bytes : List ℕ) : Type 0 where
@@ -176,27 +176,27 @@ module _ (of_files : Bool) (index : Option ℕ) (total : Read Summary) (k : ℕ)
     named = list_named so_far.most of_files bytes name after so_far.enough h
 
     pub list_ends : length name ≡ 0 → total ≡ Ok ((k, found), after)
-    list_ends empty = sym so_far.is ∙ ap (resumed k index found) (named.is ∙ ap (λ n. cond (n == 0) (Ok ([], after)) (numbers_at of_files after >>= λ folder.
-        with_entry (record { name = name; folder = folder.0 }) (list_at named.fewer of_files folder.1))) empty) ∙ resumed_end k index found after
+    list_ends empty = sym so_far.is ∙ ap (resumed k index found) (named.is ∙ ap (λ n. cond (n == 0) (Ok ([], after)) (numbers_at of_files after >>= λ directory.
+        with_entry (record { name = name; directory = directory.0 }) (list_at named.fewer of_files directory.1))) empty) ∙ resumed_end k index found after
 
-    longer : 0 < length name → list_at so_far.most of_files bytes ≡ (numbers_at of_files after >>= λ folder.
-        with_entry (record { name = name; folder = folder.0 }) (list_at named.fewer of_files folder.1))
-    longer l = named.is ∙ ap (λ b. cond b (Ok ([], after)) (numbers_at of_files after >>= λ folder.
-        with_entry (record { name = name; folder = folder.0 }) (list_at named.fewer of_files folder.1))) (ne_eqb (length name) 0 (λ z. omega arith))
+    longer : 0 < length name → list_at so_far.most of_files bytes ≡ (numbers_at of_files after >>= λ directory.
+        with_entry (record { name = name; directory = directory.0 }) (list_at named.fewer of_files directory.1))
+    longer l = named.is ∙ ap (λ b. cond b (Ok ([], after)) (numbers_at of_files after >>= λ directory.
+        with_entry (record { name = name; directory = directory.0 }) (list_at named.fewer of_files directory.1))) (ne_eqb (length name) 0 (λ z. omega arith))
 
     pub list_numbers_fail : (e : UnitError) → 0 < length name → numbers_at of_files after ≡ Err e → total ≡ Err e
-    list_numbers_fail e l n = sym so_far.is ∙ ap (resumed k index found) (longer l ∙ ap (λ r. r >>= λ folder.
-        with_entry (record { name = name; folder = folder.0 }) (list_at named.fewer of_files folder.1)) n)
+    list_numbers_fail e l n = sym so_far.is ∙ ap (resumed k index found) (longer l ∙ ap (λ r. r >>= λ directory.
+        with_entry (record { name = name; directory = directory.0 }) (list_at named.fewer of_files directory.1)) n)
 
-    pub list_on : (folder : ℕ) (rest : List ℕ) → 0 < length name → numbers_at of_files after ≡ Ok (folder, rest)
-        → ListLeft of_files index total (k + 1) (cond (is_index index k) (Some (record { name = name; folder = folder })) found) rest
-    list_on folder rest l n =
-        let w = within_after (length after) (numbers_at of_files after) folder rest (numbers_within of_files after) n in
+    pub list_on : (directory : ℕ) (rest : List ℕ) → 0 < length name → numbers_at of_files after ≡ Ok (directory, rest)
+        → ListLeft of_files index total (k + 1) (cond (is_index index k) (Some (record { name = name; directory = directory })) found) rest
+    list_on directory rest l n =
+        let w = within_after (length after) (numbers_at of_files after) directory rest (numbers_within of_files after) n in
         let enough = named.enough in
         record {
           most = named.fewer;
           enough = omega arith;
-          is = sym (ap (resumed k index found) (longer l ∙ ap (λ r. r >>= λ folder.
-              with_entry (record { name = name; folder = folder.0 }) (list_at named.fewer of_files folder.1)) n)
-              ∙ resumed_on k index found (record { name = name; folder = folder }) (list_at named.fewer of_files rest)) ∙ so_far.is;
+          is = sym (ap (resumed k index found) (longer l ∙ ap (λ r. r >>= λ directory.
+              with_entry (record { name = name; directory = directory.0 }) (list_at named.fewer of_files directory.1)) n)
+              ∙ resumed_on k index found (record { name = name; directory = directory }) (list_at named.fewer of_files rest)) ∙ so_far.is;
         }

@@ -1,10 +1,11 @@
 -- Parts and entries read one after the other, as loops do.
-use Rattle.std.proofs.Common.{◌≡◌, ◌∙◌, ◌<◌, ◌≤◌, ◌+◌, ◌-◌, ℕ, suc, true, List, [], ◌∷◌, length, is_ok, Option, Some, None, Result, Ok, Err, refl, sym, ap, arith}
+use Rattle.std.proofs.Common.{◌≡◌, ◌∙◌, ◌<◌, ◌≤◌, ◌+◌, ◌-◌, ◌||◌, ℕ, suc, Bool, true, false, List, [], ◌∷◌, length, is_ok, Option, Some, None, Result, Ok, Err, refl, sym, ap, arith}
+use Rattle.std.specs.List.{list_any}
 use Rattle.rv_lines.specs.declared.error.UnitError.{UnitError}
 use Rattle.rv_lines.specs.declared.forms.Part.{Part}
 use Rattle.rv_lines.specs.Reading.{◌>>=◌, Read}
-use Rattle.rv_lines.specs.Entries.{Texts, Entry, empty_entry, part_at, parts_at, with_part, entry_at, entries_at}
-use Rattle.rv_lines.specs.EntriesInside.{rest_of, read_parts, summary, summarised, picked, Summary}
+use Rattle.rv_lines.specs.Entries.{Texts, Entry, empty_entry, is_path, part_at, parts_at, with_part, entry_at, entries_at}
+use Rattle.rv_lines.specs.EntriesInside.{path_and_rest, read_parts, summary, summarised, picked, Summary}
 
 -- ---- the parts of a format
 
@@ -20,24 +21,32 @@ pub parts_none : (count k : ℕ) (bytes : List ℕ) → count ≤ k → parts_at
 unfolding parts_at
 parts_none count k bytes le = let e : count - k ≡ 0 = omega arith in rw e refl
 
-rest_with : (part : Part) (read : Read (List Part)) → rest_of (with_first part read) ≡ rest_of read
-rest_with part (Ok x) = refl
-rest_with part (Err e) = refl
+or_assoc : (a b c : Bool) → (a || (b || c)) ≡ ((a || b) || c)
+or_assoc true b c = refl
+or_assoc false b c = refl
 
-pub format_on : (count k : ℕ) (bytes next : List ℕ) (part : Part) (total : Result (List ℕ) UnitError) → k < count → part_at bytes ≡ Ok (part, next)
-    → rest_of (parts_at (count - k) bytes) ≡ total → rest_of (parts_at (count - (k + 1)) next) ≡ total
-format_on count k bytes next part total lt h so_far =
-    sym (ap rest_of (parts_one count k bytes lt ∙ ap (λ r. r >>= λ p. with_first p.0 (parts_at (count - (k + 1)) p.1)) h)
-    ∙ rest_with part (parts_at (count - (k + 1)) next)) ∙ so_far
+rest_with : (before : Bool) (part : Part) (read : Read (List Part)) → path_and_rest before (with_first part read) ≡ path_and_rest (before || is_path part) read
+rest_with before part (Ok x) = ap (λ b. Ok (b, x.1)) (or_assoc before (is_path part) (list_any is_path x.0))
+rest_with before part (Err e) = refl
 
-pub format_ends : (e : UnitError) (count k : ℕ) (bytes : List ℕ) (total : Result (List ℕ) UnitError) → k < count → part_at bytes ≡ Err e
-    → rest_of (parts_at (count - k) bytes) ≡ total → total ≡ Err e
-format_ends e count k bytes total lt h so_far =
-    sym so_far ∙ ap rest_of (parts_one count k bytes lt ∙ ap (λ r. r >>= λ p. with_first p.0 (parts_at (count - (k + 1)) p.1)) h)
+or_none : (b : Bool) → (b || false) ≡ b
+or_none true = refl
+or_none false = refl
 
-pub format_done : (count k : ℕ) (bytes : List ℕ) (total : Result (List ℕ) UnitError) → count ≤ k
-    → rest_of (parts_at (count - k) bytes) ≡ total → total ≡ Ok bytes
-format_done count k bytes total le so_far = sym so_far ∙ ap rest_of (parts_none count k bytes le)
+pub format_on : (before : Bool) (count k : ℕ) (bytes next : List ℕ) (part : Part) (total : Read Bool) → k < count → part_at bytes ≡ Ok (part, next)
+    → path_and_rest before (parts_at (count - k) bytes) ≡ total → path_and_rest (before || is_path part) (parts_at (count - (k + 1)) next) ≡ total
+format_on before count k bytes next part total lt h so_far =
+    sym (ap (path_and_rest before) (parts_one count k bytes lt ∙ ap (λ r. r >>= λ p. with_first p.0 (parts_at (count - (k + 1)) p.1)) h)
+    ∙ rest_with before part (parts_at (count - (k + 1)) next)) ∙ so_far
+
+pub format_ends : (before : Bool) (e : UnitError) (count k : ℕ) (bytes : List ℕ) (total : Read Bool) → k < count → part_at bytes ≡ Err e
+    → path_and_rest before (parts_at (count - k) bytes) ≡ total → total ≡ Err e
+format_ends before e count k bytes total lt h so_far =
+    sym so_far ∙ ap (path_and_rest before) (parts_one count k bytes lt ∙ ap (λ r. r >>= λ p. with_first p.0 (parts_at (count - (k + 1)) p.1)) h)
+
+pub format_done : (before : Bool) (count k : ℕ) (bytes : List ℕ) (total : Read Bool) → count ≤ k
+    → path_and_rest before (parts_at (count - k) bytes) ≡ total → total ≡ Ok (before, bytes)
+format_done before count k bytes total le so_far = sym so_far ∙ ap (path_and_rest before) (parts_none count k bytes le) ∙ ap (λ b. Ok (b, bytes)) (or_none before)
 
 -- ---- the parts of an entry, along its format
 

@@ -16,7 +16,7 @@ use Rattle.rv_lines.specs.declared.span.SourceLine.{SourceLine}
 use Rattle.rv_lines.specs.declared.span.Span.{Span}
 use Rattle.rv_lines.specs.Operations.{Program, operation_at, program, continued, after_operation}
 use Rattle.rv_lines.specs.Rows.{initial, changed, row_of, row_added, after, in_front, rows_of, lacks_file, is_open, program_rows}
-use Rattle.rv_lines.specs.Lines.{spans_after, span}
+use Rattle.rv_lines.specs.Lines.{covers_nothing, spans_after, span}
 use Rattle.rv_lines.specs.SearchInside.{file_check, noted_all}
 use Rattle.rv_lines.specs.Reading.{Read}
 use Rattle.rv_lines.proofs.Noting.{noted_all_append}
@@ -175,7 +175,7 @@ last_more before (row ∷ rows) added = last_more (Some row) rows added
 spans_append : (unit : ℕ) (before : Option Row) (front more : List Row) → spans_after unit before (front ++ more) ≡ spans_after unit before front ++ spans_after unit (last_after before front) more
 spans_append unit before [] more = refl
 spans_append unit None (row ∷ rows) more = spans_append unit (Some row) rows more
-spans_append unit (Some b) (row ∷ rows) more = elim b.ends as (λ z. cond z (spans_after unit (Some row) (rows ++ more)) (span unit b row ∷ spans_after unit (Some row) (rows ++ more))
+spans_append unit (Some b) (row ∷ rows) more = elim (covers_nothing b) as (λ z. cond z (spans_after unit (Some row) (rows ++ more)) (span unit b row ∷ spans_after unit (Some row) (rows ++ more))
     ≡ cond z (spans_after unit (Some row) rows) (span unit b row ∷ spans_after unit (Some row) rows) ++ spans_after unit (last_after (Some row) rows) more) [
       | true ↦ spans_append unit (Some row) rows more
       | false ↦ ap (λ x. span unit b row ∷ x) (spans_append unit (Some row) rows more)

@@ -40,27 +40,27 @@ summarised_ok index (Err d) s rest h = absurd cc
 
 module _ (texts : Texts) (version : ℕ) (parameters : Parameters) (lengths : List ℕ) where
   abbrev made : List Entry → List Entry → Header
-  made folders files = record { parameters = parameters; lengths = lengths; first = first_number version; folders = folders; files = files }
+  made directories files = record { parameters = parameters; lengths = lengths; first = first_number version; directories = directories; files = files }
 
   abbrev with_files : List Entry × List ℕ → Result Header UnitError
-  with_files folders = entries_of_version texts version true folders.1 >>= λ files. Ok (made folders.0 files.0)
+  with_files directories = entries_of_version texts version true directories.1 >>= λ files. Ok (made directories.0 files.0)
 
-  abbrev with_folders : List ℕ → Result Header UnitError
-  with_folders rest = entries_of_version texts version false rest >>= with_files
+  abbrev with_directories : List ℕ → Result Header UnitError
+  with_directories rest = entries_of_version texts version false rest >>= with_files
 
   module _ (bytes rest after : List ℕ) (h : parameters_at version bytes ≡ Ok (parameters, rest)) (k : lengths_at parameters.opcode_base rest ≡ Ok (lengths, after)) where
-    parts_then : parts_of_header texts version bytes ≡ with_folders after
+    parts_then : parts_of_header texts version bytes ≡ with_directories after
     unfolding parts_of_header
     parts_then = rw (h, k) refl
 
-    pub folders_fail : (wanted : Wanted) (index : Option ℕ) (e : UnitError) → summarised index (entries_of_version texts version false after) ≡ Err e
+    pub directories_fail : (wanted : Wanted) (index : Option ℕ) (e : UnitError) → summarised index (entries_of_version texts version false after) ≡ Err e
         → brief_of wanted (parts_of_header texts version bytes) ≡ Err e
-    folders_fail wanted index e f = ap (brief_of wanted) (parts_then ∙ ap (λ r. r >>= with_files) (summarised_err index (entries_of_version texts version false after) e f))
+    directories_fail wanted index e f = ap (brief_of wanted) (parts_then ∙ ap (λ r. r >>= with_files) (summarised_err index (entries_of_version texts version false after) e f))
 
-    module _ (wanted : Wanted) (index : Option ℕ) (folders : Summary) (files : List ℕ)
-        (f : summarised index (entries_of_version texts version false after) ≡ Ok (folders, files)) where
-      list : Summarised index (entries_of_version texts version false after) folders files
-      list = summarised_ok index (entries_of_version texts version false after) folders files f
+    module _ (wanted : Wanted) (index : Option ℕ) (directories : Summary) (files : List ℕ)
+        (f : summarised index (entries_of_version texts version false after) ≡ Ok (directories, files)) where
+      list : Summarised index (entries_of_version texts version false after) directories files
+      list = summarised_ok index (entries_of_version texts version false after) directories files f
 
       files_then : parts_of_header texts version bytes ≡ with_files (list.list, files)
       files_then = parts_then ∙ ap (λ r. r >>= with_files) list.is
@@ -71,22 +71,22 @@ module _ (texts : Texts) (version : ℕ) (parameters : Parameters) (lengths : Li
           ∙ ap (λ r. r >>= λ x. Ok (made list.list x.0)) (summarised_err other (entries_of_version texts version true files) e g))
 
       abbrev pub brief_with : ℕ → Summary → Summary → Brief
-      brief_with first one other = record { parameters = parameters; lengths = lengths; files = record { first = first; count = other.0 }; folder = one.1; file = other.1 }
+      brief_with first one other = record { parameters = parameters; lengths = lengths; files = record { first = first; count = other.0 }; directory = one.1; file = other.1 }
 
       pub files_done : (other : Option ℕ) (second : Summary) (end : List ℕ) (first : ℕ) → first ≡ first_number version
-          → index ≡ index_of first wanted.folder → other ≡ index_of first wanted.file
+          → index ≡ index_of first wanted.directory → other ≡ index_of first wanted.file
           → summarised other (entries_of_version texts version true files) ≡ Ok (second, end)
-          → brief_of wanted (parts_of_header texts version bytes) ≡ Ok (brief_with first folders second)
+          → brief_of wanted (parts_of_header texts version bytes) ≡ Ok (brief_with first directories second)
       files_done other second end first n i j g =
           let more = summarised_ok other (entries_of_version texts version true files) second end g in
-          let a : summary (index_of (first_number version) wanted.folder) list.list ≡ folders =
-          ap (λ x. summary (index_of x wanted.folder) list.list) (sym n) ∙ ap (λ x. summary x list.list) (sym i) ∙ list.sums in
+          let a : summary (index_of (first_number version) wanted.directory) list.list ≡ directories =
+          ap (λ x. summary (index_of x wanted.directory) list.list) (sym n) ∙ ap (λ x. summary x list.list) (sym i) ∙ list.sums in
           let b : summary (index_of (first_number version) wanted.file) more.list ≡ second =
           ap (λ x. summary (index_of x wanted.file) more.list) (sym n) ∙ ap (λ x. summary x more.list) (sym j) ∙ more.sums in
           ap (brief_of wanted) (files_then ∙ ap (λ r. r >>= λ x. Ok (made list.list x.0)) more.is)
           ∙ ap (λ x. done (brief_with (first_number version) x (summary (index_of (first_number version) wanted.file) more.list))) a
-          ∙ ap (λ x. done (brief_with (first_number version) folders x)) b
-          ∙ ap (λ x. done (brief_with x folders second)) (sym n)
+          ∙ ap (λ x. done (brief_with (first_number version) directories x)) b
+          ∙ ap (λ x. done (brief_with x directories second)) (sym n)
 
 -- ---- a whole header
 

@@ -189,6 +189,6 @@ pub numbers_within : (of_files : Bool) (bytes : List ℕ) → Within (length byt
 unfolding numbers_at
 numbers_within false bytes = omega arith
 numbers_within true bytes = let n = length bytes in
-    within_then n (number_at unit.HeaderCutOff bytes) _ (number_within unit.HeaderCutOff bytes) (λ folder h.
-    rest_then n (skip_number unit.HeaderCutOff folder.1) _ (rest_wider (length folder.1) n _ h (skip_within unit.HeaderCutOff folder.1)) (λ time i.
+    within_then n (number_at unit.HeaderCutOff bytes) _ (number_within unit.HeaderCutOff bytes) (λ directory h.
+    rest_then n (skip_number unit.HeaderCutOff directory.1) _ (rest_wider (length directory.1) n _ h (skip_within unit.HeaderCutOff directory.1)) (λ time i.
     rest_then n (skip_number unit.HeaderCutOff time) _ (rest_wider (length time) n _ i (skip_within unit.HeaderCutOff time)) (λ size j. j)))

@@ -1,6 +1,7 @@
--- The folders and files of a unit's header: lists of texts and numbers in DWARF 2 to 4 (DWARF 4, section 6.2.4), entries of described parts
+-- The directories and files of a unit's header: lists of texts and numbers in DWARF 2 to 4 (DWARF 4, section 6.2.4), entries of described parts
 -- in DWARF 5 (section 6.2.4.1, forms in 7.5.6).
 use Rattle.std.specs.Prelude.{◌==◌, ◌||◌, ◌&&◌, ℕ, zero, suc, Bool, not, true, false, List, [], ◌∷◌, length, drop, nat_lt, Option, Some, None, Result, Ok, Err, if◌then◌else◌}
+use Rattle.std.specs.List.{list_any}
 use Rattle.rv_elf.specs.Sections.{text_before_zero}
 use Rattle.rv_lines.specs.declared.error.UnitError.{UnitError}
 use Rattle.rv_lines.specs.declared.error.UnitError.TheVariants.{HeaderCutOff, EntryForm, EntryText}
@@ -13,35 +14,35 @@ pub record Texts : Type 0 where
   pub line_str : List ℕ
   pub str : List ℕ
 
--- a folder, or a file with the number of its folder
+-- a directory, or a file with the number of its directory
 pub record Entry : Type 0 where
   pub name : List ℕ
-  pub folder : ℕ
+  pub directory : ℕ
 
 -- an entry with no parts yet
 abbrev pub empty_entry : Entry
-empty_entry = record { name = []; folder = 0 }
+empty_entry = record { name = []; directory = 0 }
 
 -- ---- DWARF 2 to 4: include_directories, file_names
 
--- the numbers after a file's name: its folder, and its time and length, which are skipped; a folder has none
+-- the numbers after a file's name: its directory, and its time and length, which are skipped; a directory has none
 unfoldable pub numbers_at : Bool → List ℕ → Read ℕ
 numbers_at false bytes = Ok (0, bytes)
 numbers_at true bytes = do
-  folder ← number_at HeaderCutOff bytes
-  time ← skip_number HeaderCutOff folder.1
+  directory ← number_at HeaderCutOff bytes
+  time ← skip_number HeaderCutOff directory.1
   size ← skip_number HeaderCutOff time
-  Ok (folder.0, size)
+  Ok (directory.0, size)
 
--- at most `most` folders, or files if `of_files`, up to an empty name, which ends the list
+-- at most `most` directories, or files if `of_files`, up to an empty name, which ends the list
 unfoldable pub list_at : ℕ → Bool → List ℕ → Read (List Entry)
 list_at zero of_files bytes = Err HeaderCutOff
 list_at (suc most) of_files bytes = do
   name ← text_at HeaderCutOff bytes
   if length name.0 == 0 then Ok ([], name.1) else (do
-    folder ← numbers_at of_files name.1
-    others ← list_at most of_files folder.1
-    Ok (record { name = name.0; folder = folder.0 } ∷ others.0, others.1))
+    directory ← numbers_at of_files name.1
+    others ← list_at most of_files directory.1
+    Ok (record { name = name.0; directory = directory.0 } ∷ others.0, others.1))
 
 -- ---- DWARF 5: directory_entry_format, directories, file_name_entry_format, file_names
 
@@ -131,12 +132,12 @@ skip_sized (Some size) form bytes = skip_at HeaderCutOff size bytes
 abbrev pub skip_form : ℕ → List ℕ → Result (List ℕ) UnitError
 skip_form form bytes = skip_sized (skipped_size form) form bytes
 
--- an entry with one more part: its path, its folder's number, or a part that is skipped
+-- an entry with one more part: its path, its directory's number, or a part that is skipped
 unfoldable pub with_part : Texts → Part → Entry → List ℕ → Read Entry
 with_part texts part entry bytes = if part.content == 1
-    then (form_text_at texts part.form bytes >>= λ text. Ok (record { name = text.0; folder = entry.folder }, text.1))
+    then (form_text_at texts part.form bytes >>= λ text. Ok (record { name = text.0; directory = entry.directory }, text.1))
     else if part.content == 2
-    then (form_number_at part.form bytes >>= λ folder. Ok (record { name = entry.name; folder = folder.0 }, folder.1))
+    then (form_number_at part.form bytes >>= λ directory. Ok (record { name = entry.name; directory = directory.0 }, directory.1))
     else (skip_form part.form bytes >>= λ rest. Ok (entry, rest))
 
 -- an entry with these parts, added to those of `entry`
@@ -152,10 +153,14 @@ entries_at texts parts (suc count) bytes = do
   others ← entries_at texts parts count entry.1
   Ok (entry.0 ∷ others.0, others.1)
 
--- the format of entries, their number, and the entries; entries need at least one part
+-- whether a part is DW_LNCT_path
+abbrev pub is_path : Part → Bool
+is_path part = part.content == 1
+
+-- the format of entries, their number, and the entries, each of which needs a path
 unfoldable pub table_at : Texts → List ℕ → Read (List Entry)
 table_at texts bytes = do
   count ← byte_at HeaderCutOff bytes
   parts ← parts_at count.0 count.1
   entries ← number_at HeaderCutOff parts.1
-  if (count.0 == 0) && nat_lt 0 entries.0 then Err EntryForm else entries_at texts parts.0 entries.0 entries.1
+  if not (list_any is_path parts.0) && nat_lt 0 entries.0 then Err EntryForm else entries_at texts parts.0 entries.0 entries.1

@@ -1,5 +1,6 @@
--- What the code keeps of folders and files: their number, and one of them.
-use Rattle.std.specs.Prelude.{◌==◌, ℕ, Bool, false, List, [], length, slice_get, Option, Some, None, option_map, option_and_then, Result, Ok, Err}
+-- What the code keeps of directories and files: their number, and one of them.
+use Rattle.std.specs.Prelude.{◌==◌, ◌||◌, ℕ, Bool, false, List, [], length, slice_get, Option, Some, None, option_map, option_and_then, Result, Ok, Err}
+use Rattle.std.specs.List.{list_any}
 use Rattle.rv_lines.specs.declared.entries.Entries.{Entries}
 use Rattle.rv_lines.specs.declared.entries.Format.{Format}
 use Rattle.rv_lines.specs.declared.entries.Entry as declared
@@ -7,11 +8,11 @@ use Rattle.rv_lines.specs.declared.error.UnitError.{UnitError}
 use Rattle.rv_lines.specs.declared.forms.Part.{Part}
 use Rattle.rv_lines.specs.declared.tables.TextSections.{TextSections}
 use Rattle.rv_lines.specs.Reading.{◌>>=◌, Read}
-use Rattle.rv_lines.specs.Entries.{Texts, Entry, parts_at}
+use Rattle.rv_lines.specs.Entries.{Texts, Entry, parts_at, is_path}
 
 -- an entry without where it lies in memory
 abbrev pub view_entry : declared.Entry → Entry
-view_entry e = record { name = e.name.now; folder = e.folder }
+view_entry e = record { name = e.name.now; directory = e.directory }
 
 -- the sections of texts without where they lie in memory
 abbrev pub view_texts : TextSections → Texts
@@ -44,9 +45,9 @@ abbrev pub read_parts : Read (List Part) → List Part
 read_parts (Ok parts) = parts.0
 read_parts (Err error) = []
 
--- the bytes after what was read
-abbrev pub rest_of : {X : Type 0} → Read X → Result (List ℕ) UnitError
-rest_of read = read >>= λ x. Ok x.1
+-- whether one of the parts that were read is a path, or one before them, and the bytes after them
+abbrev pub path_and_rest : Bool → Read (List Part) → Read Bool
+path_and_rest before read = read >>= λ x. Ok (before || list_any is_path x.0, x.1)
 
 -- the parts of a format
 abbrev pub parts_of : Format → List Part

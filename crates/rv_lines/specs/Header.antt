@@ -8,20 +8,20 @@ use Rattle.rv_lines.specs.declared.header.Parameters.{Parameters}
 use Rattle.rv_lines.specs.Reading.{◌>>=◌, Read, byte_at, fixed_at}
 use Rattle.rv_lines.specs.Entries.{Texts, Entry, list_at, table_at}
 
--- a header: the parameters of the program, standard_opcode_lengths, the number of the first file and folder (1 in DWARF 2 to 4, 0 in
--- DWARF 5), and the folders and files
+-- a header: the parameters of the program, standard_opcode_lengths, the number of the first file and directory (1 in DWARF 2 to 4, 0 in
+-- DWARF 5), and the directories and files
 pub record Header : Type 0 where
   pub parameters : Parameters
   pub lengths : List ℕ
   pub first : ℕ
-  pub folders : List Entry
+  pub directories : List Entry
   pub files : List Entry
 
 -- the numbers of its files
 abbrev pub file_numbers : Header → FileNumbers
 file_numbers h = record { first = h.first; count = length h.files }
 
--- the number of the first file and of the first folder: 0 in DWARF 5, and 1 before
+-- the number of the first file and of the first directory: 0 in DWARF 5, and 1 before
 abbrev pub first_number : ℕ → ℕ
 first_number version = if version == 5 then 0 else 1
 
@@ -77,7 +77,7 @@ parameters_at version bytes = do
       opcode_base.1,
     ))
 
--- the folders and then the files, in the form of the version
+-- the directories and then the files, in the form of the version
 unfoldable pub entries_of_version : Texts → ℕ → Bool → List ℕ → Read (List Entry)
 entries_of_version texts version of_files bytes = if version == 5 then table_at texts bytes else list_at (length bytes) of_files bytes
 
@@ -86,13 +86,13 @@ unfoldable pub parts_of_header : Texts → ℕ → List ℕ → Result Header Un
 parts_of_header texts version bytes = do
   parameters ← parameters_at version bytes
   lengths ← lengths_at parameters.0.opcode_base parameters.1
-  folders ← entries_of_version texts version false lengths.1
-  files ← entries_of_version texts version true folders.1
+  directories ← entries_of_version texts version false lengths.1
+  files ← entries_of_version texts version true directories.1
   Ok (record {
     parameters = parameters.0;
     lengths = lengths.0;
     first = first_number version;
-    folders = folders.0;
+    directories = directories.0;
     files = files.0;
   })
 

@@ -1,4 +1,4 @@
--- What the code keeps of a header: the parameters of the program, the number of files, one file and one folder.
+-- What the code keeps of a header: the parameters of the program, the number of files, one file and one directory.
 use Rattle.std.specs.Prelude.{ℕ, List, length, Option, option_map, Result, Ok, Err}
 use Rattle.rv_lines.specs.declared.error.UnitError.{UnitError}
 use Rattle.rv_lines.specs.declared.header.FileNumbers.{FileNumbers}
@@ -10,12 +10,12 @@ use Rattle.rv_lines.specs.Entries.{Entry}
 use Rattle.rv_lines.specs.EntriesInside.{view_entry}
 use Rattle.rv_lines.specs.Header.{Header, file_numbers, numbered}
 
--- a header, of whose folders and files one each is known
+-- a header, of whose directories and files one each is known
 pub record Brief : Type 0 where
   pub parameters : Parameters
   pub lengths : List ℕ
   pub files : FileNumbers
-  pub folder : Option Entry
+  pub directory : Option Entry
   pub file : Option Entry
 
 abbrev pub view_header : declared.Header → Brief
@@ -23,17 +23,17 @@ view_header h = record {
   parameters = h.parameters;
   lengths = h.lengths.now;
   files = h.files;
-  folder = option_map view_entry h.folder;
+  directory = option_map view_entry h.directory;
   file = option_map view_entry h.file;
 }
 
--- a header with the folder and the file of the numbers that are wanted
+-- a header with the directory and the file of the numbers that are wanted
 abbrev pub brief : Wanted → Header → Brief
 brief wanted h = record {
   parameters = h.parameters;
   lengths = h.lengths;
   files = file_numbers h;
-  folder = numbered h.first h.folders wanted.folder;
+  directory = numbered h.first h.directories wanted.directory;
   file = numbered h.first h.files wanted.file;
 }
 

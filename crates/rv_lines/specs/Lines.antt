@@ -1,5 +1,5 @@
 -- The source line of an address (DWARF 5, section 6.2.2: "an address is described by the row before it").
-use Rattle.std.specs.Prelude.{◌≡◌, ◌==◌, ◌+◌, ℕ, Bool, not, ◌&&◌, ◌≤◌, ◌<◌, List, [], ◌∷◌, ◌++◌, length, filter, map, nat_lt, nat_le, Option, Some, None, is_err, Result, Ok, Err, if◌then◌else◌, option_map, option_and_then, find}
+use Rattle.std.specs.Prelude.{◌≡◌, ◌==◌, ◌+◌, ℕ, Bool, not, ◌&&◌, ◌||◌, ◌≤◌, ◌<◌, List, [], ◌∷◌, ◌++◌, length, filter, map, nat_lt, nat_le, Option, Some, None, is_err, Result, Ok, Err, if◌then◌else◌, option_map, option_and_then, find}
 use Rattle.std.specs.List.{list_any, flat_map, count_by}
 use Rattle.rv_lines.specs.declared.error.UnitError.{UnitError}
 use Rattle.rv_lines.specs.declared.rows.Row.{Row}
@@ -17,12 +17,17 @@ span unit row next = record {
   source = record { unit = unit; file = row.file; line = row.line; low = row.low };
 }
 
--- the spans of rows, in their order; `before` is the row before them, if there is one, and a row that ends a sequence has none
+-- whether a row covers no address: it ends its sequence, or its address is below that of the first row of its sequence, as where a linker
+-- gives code that it dropped the address 2^32 - 1
+abbrev pub covers_nothing : Row → Bool
+covers_nothing row = row.ends || nat_lt row.address row.low
+
+-- the spans of rows, in their order, without those that cover nothing; `before` is the row before them, if there is one
 abbrev pub spans_after : ℕ → Option Row → List Row → List Span
 spans_after unit before [] = []
 spans_after unit None (row ∷ rows) = spans_after unit (Some row) rows
 spans_after unit (Some before) (row ∷ rows) =
-    if before.ends then spans_after unit (Some row) rows else span unit before row ∷ spans_after unit (Some row) rows
+    if covers_nothing before then spans_after unit (Some row) rows else span unit before row ∷ spans_after unit (Some row) rows
 
 -- the spans of the rows of a unit at an offset; one that is rejected has none
 abbrev pub spans_of_rows : ℕ → Result (List Row) UnitError → List Span

@@ -6,13 +6,13 @@ use Rattle.rv_lines.specs.declared.path.SourcePath.{SourcePath}
 use Rattle.rv_lines.specs.Entries.{Texts}
 use Rattle.rv_lines.specs.Header.{header_at}
 use Rattle.rv_lines.specs.HeaderInside.{Brief, brief}
-use Rattle.rv_lines.specs.Paths.{joined}
+use Rattle.rv_lines.specs.Paths.{Path, path_with}
 use Rattle.rv_lines.specs.Reading.{◌>>=◌}
 use Rattle.rv_lines.specs.Units.{unit_bytes}
 
--- the text of a path
-abbrev pub view_path : SourcePath → List ℕ
-view_path p = joined (option_map (λ folder. folder.now) p.folder) p.name.now
+-- a path without where it lies in memory
+abbrev pub view_path : SourcePath → Path
+view_path p = path_with (option_map (λ directory. directory.now) p.directory) p.name.now
 
 -- what is kept of the header of the unit at an offset of the section
 abbrev pub brief_of_unit : Wanted → Texts → List ℕ → ℕ → Option Brief

@@ -14,8 +14,8 @@ abbrev pub e_shstrndx : List ℕ → ℕ
 e_shstrndx file = half_at file 50
 
 -- the section header at an offset of the file
-unfoldable pub section_at : List ℕ → ℕ → Section
-section_at file at = record {
+unfoldable pub header_at : List ℕ → ℕ → Section
+header_at file at = record {
   name = word_at file at;
   kind = word_at file (at + 4);
   flags = word_at file (at + 8);
@@ -23,11 +23,19 @@ section_at file at = record {
   size = word_at file (at + 20);
 }
 
--- the section header at an index of the table
+-- a section as it is in the file, where one of type SHT_NOBITS has no bytes
+abbrev pub in_file : Section → Section
+in_file s = if s.kind == 8 then record s { offset = 0; size = 0 } else s
+
+-- the section whose header is at an offset of the file
+abbrev pub section_at : List ℕ → ℕ → Section
+section_at file at = in_file (header_at file at)
+
+-- the section whose header is at an index of the table
 abbrev pub section_of_index : List ℕ → ℕ → Section
 section_of_index file index = section_at file (e_shoff file + 40 * index)
 
--- the section headers of the file
+-- the sections of the file
 abbrev pub sections : List ℕ → List Section
 sections file = map (section_of_index file) (range_with_len 0 (e_shnum file))
 

@@ -1,9 +1,9 @@
-//! The folders and files of a unit's header (DWARF 4, section 6.2.4; DWARF 5, section 6.2.4.1). They are not kept: of each list, the number
+//! The directories and files of a unit's header (DWARF 4, section 6.2.4; DWARF 5, section 6.2.4.1). They are not kept: of each list, the number
 //! of its entries is counted, and one entry is picked.
-ghost use Rattle.std.specs.Prelude.{◌≡◌, if◌then◌else◌, Some, length, option_map, is_ok, true};
+ghost use Rattle.std.specs.Prelude.{◌≡◌, ◌||◌, if◌then◌else◌, Some, length, option_map, is_ok, true, false};
 ghost use Rattle.rv_lines.specs.Reading.{Gives};
-ghost use Rattle.rv_lines.specs.Entries.{empty_entry, numbers_at, list_at, parts_at, with_part, entry_at, entries_at, table_at};
-ghost use Rattle.rv_lines.specs.EntriesInside.{is_index, view_entry, view_entries, view_texts, summarised, rest_of, parts_of};
+ghost use Rattle.rv_lines.specs.Entries.{empty_entry, is_path, numbers_at, list_at, parts_at, with_part, entry_at, entries_at, table_at};
+ghost use Rattle.rv_lines.specs.EntriesInside.{is_index, view_entry, view_entries, view_texts, summarised, path_and_rest, parts_of};
 
 use crate::error::UnitError;
 use crate::forms::{
@@ -13,11 +13,11 @@ use crate::numbers::{number_at, skip_number};
 use crate::reading::{byte_at, text_at};
 use crate::tables::TextSections;
 
-/// A folder, or a file with the number of its folder.
+/// A directory, or a file with the number of its directory.
 #[derive(Clone, Copy)]
 pub(crate) struct Entry<'a> {
     pub(crate) name: &'a [u8],
-    pub(crate) folder: u64,
+    pub(crate) directory: u64,
 }
 
 /// A list of entries: how many there are, and the one that was picked, if there is one.
@@ -34,7 +34,7 @@ pub(crate) struct Format<'a> {
     pub(crate) bytes: &'a [u8],
 }
 
-/// Reads a list of DWARF 2 to 4, of folders or files, up to the empty name that ends it, and picks the entry at an index.
+/// Reads a list of DWARF 2 to 4, of directories or files, up to the empty name that ends it, and picks the entry at an index.
 pub(crate) fn list_at<'a>(
     of_files: bool,
     index: Option<u64>,
@@ -51,8 +51,8 @@ pub(crate) fn list_at<'a>(
         if name.is_empty() {
             return Ok((Entries { count, found }, after));
         }
-        let (folder, after) = numbers_at(of_files, after)?;
-        found = pick(index, count, Entry { name, folder }, found);
+        let (directory, after) = numbers_at(of_files, after)?;
+        found = pick(index, count, Entry { name, directory }, found);
         count += 1;
         rest = after;
     }
@@ -71,7 +71,7 @@ fn pick<'a>(
     if index == Some(k) { Some(entry) } else { found }
 }
 
-// Reads the numbers after the name of a file: its folder, and its time and length, which are skipped. A folder has none.
+// Reads the numbers after the name of a file: its directory, and its time and length, which are skipped. A directory has none.
 #[tactic(auto, unfolding(crate::specs::Entries::numbers_at))]
 fn numbers_at(of_files: bool, bytes: &[u8]) -> Result<(u64, &[u8]), UnitError>
     ensures { Gives (λ x. (x.0, x.1.now)) result (numbers_at of_files bytes.now) }
@@ -79,10 +79,10 @@ fn numbers_at(of_files: bool, bytes: &[u8]) -> Result<(u64, &[u8]), UnitError>
     if !of_files {
         return Ok((0, bytes));
     }
-    let (folder, rest) = number_at(UnitError::HeaderCutOff, bytes)?;
+    let (directory, rest) = number_at(UnitError::HeaderCutOff, bytes)?;
     let after_time = skip_number(UnitError::HeaderCutOff, rest)?;
     let rest = skip_number(UnitError::HeaderCutOff, after_time)?;
-    Ok((u64::from(folder), rest))
+    Ok((u64::from(directory), rest))
 }
 
 /// Reads entries of DWARF 5 after their format and their number, and picks the entry at an index.
@@ -97,24 +97,34 @@ pub(crate) fn table_at<'a>(
 {
     let (count, rest) = byte_at(UnitError::HeaderCutOff, bytes)?;
     let format = Format { count, bytes: rest };
-    let rest = format_end(&format)?;
+    let (has_path, rest) = format_end(&format)?;
     let (entries, rest) = number_at(UnitError::HeaderCutOff, rest)?;
-    if count == 0 && 0 < entries {
+    if !has_path && 0 < entries {
         return Err(UnitError::EntryForm);
     }
     entries_at(texts, &format, entries, index, rest)
 }
 
-// Checks the parts of a format, and returns the bytes after them.
-fn format_end<'a>(format: &Format<'a>) -> Result<&'a [u8], UnitError>
-    ensures { Gives (λ x. x.now) result (rest_of (parts_at format.now.count format.now.bytes.now)) }
+// Checks the parts of a format, and returns whether one of them is a path, and the bytes after them.
+fn format_end<'a>(format: &Format<'a>) -> Result<(bool, &'a [u8]), UnitError>
+    ensures { Gives (λ x. (x.0, x.1.now)) result
+        (path_and_rest false (parts_at format.now.count format.now.bytes.now)) }
 {
+    let mut has_path = false;
     let mut rest = format.bytes;
     for _ in 0..format.count {
-        let (_, after) = part_at(rest)?;
+        let (part, after) = part_at(rest)?;
+        has_path = has_path_with(has_path, part);
         rest = after;
     }
-    Ok(rest)
+    Ok((has_path, rest))
+}
+
+// Whether there is a path, once there is one more part.
+fn has_path_with(before: bool, part: Part) -> bool
+    ensures { result ≡ (before || is_path part) }
+{
+    before || part.content == DW_LNCT_PATH
 }
 
 // Reads `count` entries of a format, and picks the one at an index.
@@ -157,7 +167,7 @@ fn entry_at<'a>(
 {
     let mut entry = Entry {
         name: b"",
-        folder: 0,
+        directory: 0,
     };
     let mut described = format.bytes;
     let mut rest = bytes;
@@ -188,17 +198,17 @@ fn with_part<'a>(
             Ok((
                 Entry {
                     name,
-                    folder: entry.folder,
+                    directory: entry.directory,
                 },
                 rest,
             ))
         }
         DW_LNCT_DIRECTORY_INDEX => {
-            let (folder, rest) = number_of_form(part.form, bytes)?;
+            let (directory, rest) = number_of_form(part.form, bytes)?;
             Ok((
                 Entry {
                     name: entry.name,
-                    folder,
+                    directory,
                 },
                 rest,
             ))

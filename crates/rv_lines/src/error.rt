@@ -56,7 +56,7 @@ pub enum UnitError {
     OpcodeBase,
     /// The number of operands of one of the operations 1 to 12 is not the standard's.
     OpcodeLengths,
-    /// A form is not read here, a path is not a text, a folder is not a number, or entries have no parts (6.2.4.1).
+    /// A form is not read here, a path is not a text, a directory is not a number, or entries have no parts (6.2.4.1).
     EntryForm,
     /// The offset of a text is outside its section, or no zero byte follows.
     EntryText,

@@ -61,7 +61,7 @@ pub(crate) fn part_at(bytes: &[u8]) -> Result<(Part, &[u8]), UnitError>
 }
 
 impl Part {
-    // Whether the part may have its form: a path is a text, the number of a folder a number, and any other has a form that is read.
+    // Whether the part may have its form: a path is a text, the number of a directory a number, and any other has a form that is read.
     fn is_good_part(self) -> bool
         ensures { result ≡ is_good_part self }
     {

@@ -33,26 +33,26 @@ pub(crate) struct FileNumbers {
     pub(crate) count: u64,
 }
 
-/// The numbers of the folder and of the file to be picked from a header.
+/// The numbers of the directory and of the file to be picked from a header.
 #[derive(Clone, Copy)]
 pub(crate) struct Wanted {
-    pub(crate) folder: u64,
+    pub(crate) directory: u64,
     pub(crate) file: u64,
 }
 
 impl Wanted {
     /// For a caller that needs neither.
-    pub(crate) const NOTHING: Wanted = Wanted { folder: 0, file: 0 };
+    pub(crate) const NOTHING: Wanted = Wanted { directory: 0, file: 0 };
 }
 
-/// A header, with the folder and the file that were picked.
+/// A header, with the directory and the file that were picked.
 #[derive(Clone, Copy)]
 pub(crate) struct Header<'a> {
     pub(crate) parameters: Parameters,
     /// `standard_opcode_lengths`.
     pub(crate) lengths: &'a [u8],
     pub(crate) files: FileNumbers,
-    pub(crate) folder: Option<Entry<'a>>,
+    pub(crate) directory: Option<Entry<'a>>,
     pub(crate) file: Option<Entry<'a>>,
 }
 
@@ -134,11 +134,11 @@ fn parts_of_header<'a>(
     ensures divides { IfOk result (λ header. 0 < header.parameters.line_range) }
 {
     let first = first_number(version);
-    let folder = index_of(first, wanted.folder);
+    let directory = index_of(first, wanted.directory);
     let file = index_of(first, wanted.file);
     let (parameters, rest) = parameters_at(version, bytes)?;
     let (lengths, rest) = lengths_at(parameters.opcode_base, rest)?;
-    let (folders, rest) = entries_of_version(texts, version, false, folder, rest)?;
+    let (directories, rest) = entries_of_version(texts, version, false, directory, rest)?;
     let (files, _) = entries_of_version(texts, version, true, file, rest)?;
     Ok(Header {
         parameters,
@@ -147,12 +147,12 @@ fn parts_of_header<'a>(
             first,
             count: files.count,
         },
-        folder: folders.found,
+        directory: directories.found,
         file: files.found,
     })
 }
 
-// Returns the number of the first file and of the first folder.
+// Returns the number of the first file and of the first directory.
 fn first_number(version: u16) -> u32
     ensures { result ≡ first_number version }
 {
@@ -166,7 +166,7 @@ fn index_of(first: u32, number: u64) -> Option<u64>
     number.checked_sub(u64::from(first))
 }
 
-// Reads folders or files in the form of the version, and picks the entry at an index.
+// Reads directories or files in the form of the version, and picks the entry at an index.
 #[tactic(auto, unfolding(crate::specs::Header::entries_of_version))]
 fn entries_of_version<'a>(
     texts: &TextSections<'a>,

@@ -1,7 +1,7 @@
 //! The path of a source line's file (DWARF 5, section 6.2.4: `directories`, `file_names`).
-ghost use Rattle.std.specs.Prelude.{◌≡◌, ◌==◌, Some, None, MatchOption, option_map};
+ghost use Rattle.std.specs.Prelude.{◌≡◌, ◌==◌, Some, None, MatchOption, option_map, option_and_then};
 ghost use Rattle.rv_lines.specs.EntriesInside.{view_entry, view_texts};
-ghost use Rattle.rv_lines.specs.Paths.{is_absolute, has_no_folder, path_of};
+ghost use Rattle.rv_lines.specs.Paths.{is_absolute, has_no_directory, directory_name, path_of};
 ghost use Rattle.rv_lines.specs.PathsInside.{brief_of_unit, view_path};
 ghost use Rattle.rv_lines.specs.HeaderInside.{view_header};
 
@@ -11,18 +11,18 @@ use crate::reading::bytes_from;
 use crate::tables::LineTables;
 use crate::units::unit_bytes;
 
-/// A path: NAME, or FOLDER, `/` and NAME.
+/// A path: NAME, or DIRECTORY, `/` and NAME.
 #[derive(Clone, Copy)]
 pub struct SourcePath<'a> {
-    /// The folder, if there is one.
-    pub folder: Option<&'a [u8]>,
+    /// The directory, if there is one.
+    pub directory: Option<&'a [u8]>,
     /// The name.
     pub name: &'a [u8],
 }
 
 /// Returns the path of a file of the unit at an offset of `.debug_line`, as [`SourceLine`](crate::SourceLine) has them, or `None` if the
-/// unit's header is rejected or has no such file. The path is NAME if that begins with `/`, if its folder is number 0, the compiler's own,
-/// or if no folder has its number; otherwise it is FOLDER/NAME. Reads the header again. Does not allocate.
+/// unit's header is rejected or has no such file. The path is NAME if that begins with `/`, if its directory is number 0, the compiler's own,
+/// or if no directory has its number; otherwise it is DIRECTORY/NAME. Reads the header again. Does not allocate.
 pub fn source_path<'a>(tables: &LineTables<'a>, unit: u32, file: u32) -> Option<SourcePath<'a>>
     ensures { MatchOption result (path_of (view_texts tables.now.texts) tables.now.lines.now unit file ≡ None)
         (λ p. path_of (view_texts tables.now.texts) tables.now.lines.now unit file ≡ Some (view_path p)) }
@@ -32,24 +32,24 @@ pub fn source_path<'a>(tables: &LineTables<'a>, unit: u32, file: u32) -> Option<
         tables,
         unit,
         Wanted {
-            folder: 0,
+            directory: 0,
             file: number,
         },
     )?;
     let entry = header.file?;
-    if has_no_folder(&entry) {
+    if has_no_directory(&entry) {
         return Some(SourcePath {
-            folder: None,
+            directory: None,
             name: entry.name,
         });
     }
     let wanted = Wanted {
-        folder: entry.folder,
+        directory: entry.directory,
         file: number,
     };
     let other = header_of(tables, unit, wanted)?;
     Some(SourcePath {
-        folder: name_of(other.folder),
+        directory: name_of(other.directory),
         name: entry.name,
     })
 }
@@ -69,21 +69,21 @@ fn header_of<'a>(tables: &LineTables<'a>, unit: u32, wanted: Wanted) -> Option<H
     }
 }
 
-// Returns the name of an entry, if there is one.
+// Returns the name of a directory, unless it is empty.
 fn name_of(entry: Option<Entry<'_>>) -> Option<&[u8]>
-    ensures { option_map (λ name. name.now) result ≡ option_map (λ e. e.name.now) entry.entry }
+    ensures { option_map (λ name. name.now) result ≡ option_and_then directory_name (option_map view_entry entry.entry) }
 {
     match entry {
-        Some(entry) => Some(entry.name),
-        None => None,
+        Some(entry) if !entry.name.is_empty() => Some(entry.name),
+        _ => None,
     }
 }
 
-// Whether a file has no folder: its name is absolute, or its folder is number 0.
-fn has_no_folder(file: &Entry<'_>) -> bool
-    ensures { result ≡ has_no_folder (view_entry file.now) }
+// Whether a file has no directory: its name is absolute, or its directory is number 0.
+fn has_no_directory(file: &Entry<'_>) -> bool
+    ensures { result ≡ has_no_directory (view_entry file.now) }
 {
-    is_absolute(file.name) || file.folder == 0
+    is_absolute(file.name) || file.directory == 0
 }
 
 // Whether a path begins with `/`.

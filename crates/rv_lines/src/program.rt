@@ -66,7 +66,7 @@ fn check_file(added: Option<Row>, files: FileNumbers) -> Result<(), UnitError>
     }
 }
 
-// Notes the span of the row before, once a row was added after it. A row that ends a sequence has none.
+// Notes the span of the row before, once a row was added after it. A row that covers nothing has none.
 fn note_row(
     unit: u32,
     before: Option<Row>,
@@ -79,7 +79,7 @@ fn note_row(
     ensures { found.new ≡ noted_all (spans_after unit before (in_front added [])) addresses.now found.old }
 {
     if let (Some(row), Some(next)) = (before, added)
-        && !row.ends
+        && !row.covers_nothing()
     {
         note_span(&Span::new(unit, &row, &next), addresses, found);
     }

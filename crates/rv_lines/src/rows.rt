@@ -1,6 +1,7 @@
 //! The rows of a line number program: the fold of its operations over the state (DWARF 5, sections 6.2.2 and 6.2.5).
 ghost use Rattle.std.specs.Prelude.{◌≡◌, ◌<◌};
 ghost use Rattle.rv_lines.specs.Rows.{initial, changed, advanced, line_advanced, low_of, row_of, row_added, after, has_file, lacks_file};
+ghost use Rattle.rv_lines.specs.Lines.{covers_nothing};
 
 use crate::header::{FileNumbers, Parameters};
 use crate::operations::Operation;
@@ -142,6 +143,13 @@ impl State {
 }
 
 impl Row {
+    /// Whether the row covers no address: it ends its sequence, or its address is below that of the first row of its sequence.
+    pub(crate) fn covers_nothing(&self) -> bool
+        ensures { result ≡ covers_nothing self.now }
+    {
+        self.ends || self.address < self.low
+    }
+
     /// Whether the row needs a file that is not there.
     pub(crate) fn lacks_file(&self, files: FileNumbers) -> bool
         ensures { result ≡ lacks_file files self.now }

@@ -2,7 +2,7 @@
 ghost use Rattle.std.specs.Prelude.{◌≡◌, ◌==◌, ◌<◌, ◌≤◌, ◌+◌, ◌*◌, ◌^◌, length, MatchResult, IfOk, Ok, Err, false};
 ghost use Rattle.rv_elf.specs.Fields.{half_at, word_at};
 ghost use Rattle.rv_elf.specs.Sections.{e_shnum, begins_with_name};
-ghost use Rattle.rv_lines.specs.Sections.{section_at, section_of_index, has_bad_table, is_past_file, bytes_of, has_bad_names, is_bad_names, names_of};
+ghost use Rattle.rv_lines.specs.Sections.{header_at, in_file, section_at, section_of_index, has_bad_table, is_past_file, bytes_of, has_bad_names, is_bad_names, names_of};
 ghost use Rattle.rv_lines.specs.Sections.{is_named, is_named_either, named, is_compressed, readable_bytes, bytes_named, tables_of, has_no_lines};
 ghost use Rattle.rv_lines.specs.Sections.{line_tables, HasTable, HasNames};
 ghost use Rattle.rv_lines.specs.SectionsInside.{view_tables};
@@ -35,6 +35,8 @@ const E_SHSTRNDX: usize = 50;
 const HEADER_SIZE: u16 = 40;
 
 const SHT_STRTAB: u32 = 3;
+
+const SHT_NOBITS: u32 = 8;
 
 const SHF_COMPRESSED: u32 = 0x800;
 
@@ -166,6 +168,21 @@ fn names_of(file: &[u8]) -> &[u8]
 }
 
 impl Section {
+    // Returns the section as it is in the file, where one of type `SHT_NOBITS` has no bytes.
+    fn in_file(self) -> Section
+        ensures { result ≡ in_file self }
+    {
+        if self.kind == SHT_NOBITS {
+            Section {
+                offset: 0,
+                size: 0,
+                ..self
+            }
+        } else {
+            self
+        }
+    }
+
     // Whether the section has this name.
     fn is_named(&self, names: &[u8], text: &[u8]) -> bool
         ensures { result ≡ is_named names.now text.now self.now }
@@ -216,11 +233,19 @@ fn section_of_index(file: &[u8], index: u16) -> Section
     section_at(file, table + HEADER_SIZE as usize * index as usize)
 }
 
-// Returns the section header at an offset of the file.
-#[tactic(auto, unfolding(crate::specs::Sections::section_at))]
+// Returns the section whose header is at an offset of the file.
 fn section_at(file: &[u8], at: usize) -> Section
     requires { at + 40 ≤ length file.now }
     ensures { result ≡ section_at file.now at }
+{
+    header_at(file, at).in_file()
+}
+
+// Returns the section header at an offset of the file.
+#[tactic(auto, unfolding(crate::specs::Sections::header_at))]
+fn header_at(file: &[u8], at: usize) -> Section
+    requires { at + 40 ≤ length file.now }
+    ensures { result ≡ header_at file.now at }
 {
     Section {
         name: word_field(file, at),

@@ -9,15 +9,15 @@ use std::test::Fail;
 const UNIT: [u8; 52] = [
     0x30, 0, 0, 0, 2, 0, 0x17, 0, 0, 0, // unit_length, version, header_length
     1, 1, 0xfb, 14, 10, 0, 1, 1, 1, 1, 0, 0, 0, 1, // parameters, standard_opcode_lengths
-    0, b'a', b'.', b'c', 0, 0, 0, 0, 0, // no folder, one file
+    0, b'a', b'.', b'c', 0, 0, 0, 0, 0, // no directory, one file
     0, 5, 2, 0, 0, 0, 0x80, 3, 4, 1, 9, 4, 0, 1, 2, 2, 0, 1, 1, // the program
 ];
 
-// The same rows in DWARF 5, with the folder `d` of number 0.
+// The same rows in DWARF 5, with the directory `d` of number 0.
 const UNIT_5: [u8; 65] = [
     0x3d, 0, 0, 0, 5, 0, 4, 0, 0x20, 0, 0, 0, // unit_length, version, sizes, header_length
     1, 1, 1, 0xfb, 14, 10, 0, 1, 1, 1, 1, 0, 0, 0, 1, // parameters, standard_opcode_lengths
-    1, 1, 8, 1, b'd', 0, // one folder
+    1, 1, 8, 1, b'd', 0, // one directory
     2, 1, 8, 2, 11, 1, b'a', b'.', b'c', 0, 0, // one file
     4, 0, 0, 5, 2, 0, 0, 0, 0x80, 3, 4, 1, 9, 4, 0, 1, 2, 2, 0, 1, 1, // the program
 ];
@@ -171,7 +171,7 @@ fn path_of_a_file(rt: HostRuntime) -> Result<(), Fail> {
         let tables = tables_of(unit).ok_or("a long section")?;
         let path = source_path(&tables, source.unit, source.file).ok_or("no path")?;
         assert_eq!(rt; path.name, b"a.c".as_slice());
-        assert!(rt; path.folder.is_none());
+        assert!(rt; path.directory.is_none());
     }
     Ok(())
 }

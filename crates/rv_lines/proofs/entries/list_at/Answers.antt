@@ -33,15 +33,15 @@ returns-then-is_empty c =
     c.loop-name.count (option_map view_entry c.loop-name.found) c.loop-name.rest.now c.loop-name.invariant.left
     c.in_ok-name.name.now c.in_ok-name.after.now c.in_ok-name.ensures none
 
-pub returns-in_err-folder : goal.returns-in_err-folder
-returns-in_err-folder c =
+pub returns-in_err-directory : goal.returns-in_err-directory
+returns-in_err-directory c =
     let bytes = c.args.bytes.now in
     let e = sym c.is_empty.ensures ∙ c.if-is_empty.false in
     let some : 0 < length c.in_ok-name.name.now = grind (arith, nat_tests) in
-    let p = err_from_is_err_and c.from_residual-in_err-folder.result c.from_residual-in_err-folder.ensures.1 in
+    let p = err_from_is_err_and c.from_residual-in_err-directory.result c.from_residual-in_err-directory.ensures.1 in
     rw (p.1, p.2) (list_numbers_fail c.args.of_files c.args.index (summarised c.args.index (list_at (length bytes) c.args.of_files bytes))
     c.loop-name.count (option_map view_entry c.loop-name.found) c.loop-name.rest.now c.loop-name.invariant.left
-    c.in_ok-name.name.now c.in_ok-name.after.now c.in_ok-name.ensures c.in_err-folder.field-0.0 some c.in_err-folder.ensures)
+    c.in_ok-name.name.now c.in_ok-name.after.now c.in_ok-name.ensures c.in_err-directory.field-0.0 some c.in_err-directory.ensures)
 
 pub loop-name-preserved : goal.loop-name-preserved
 loop-name-preserved c =
@@ -51,14 +51,14 @@ loop-name-preserved c =
     let some : 0 < length c.in_ok-name.name.now = grind (arith, nat_tests) in
     let f = fewer_after (length c.loop-name.rest.now) (text_at HeaderCutOff c.loop-name.rest.now) c.in_ok-name.name.now c.in_ok-name.after.now
     (text_fewer HeaderCutOff c.loop-name.rest.now) c.in_ok-name.ensures in
-    let w = within_after (length c.in_ok-name.after.now) (numbers_at c.args.of_files c.in_ok-name.after.now) c.in_ok-folder.folder c.in_ok-folder.after.now
-    (numbers_within c.args.of_files c.in_ok-name.after.now) c.in_ok-folder.ensures in
+    let w = within_after (length c.in_ok-name.after.now) (numbers_at c.args.of_files c.in_ok-name.after.now) c.in_ok-directory.directory c.in_ok-directory.after.now
+    (numbers_within c.args.of_files c.in_ok-name.after.now) c.in_ok-directory.ensures in
     let within = c.loop-name.invariant.within in
     record {
-      left = subst (λ (found : Option Entry). ListLeft c.args.of_files c.args.index total (c.loop-name.count + 1) found c.in_ok-folder.after.now)
+      left = subst (λ (found : Option Entry). ListLeft c.args.of_files c.args.index total (c.loop-name.count + 1) found c.in_ok-directory.after.now)
           (sym c.pick-found.ensures)
           (list_on c.args.of_files c.args.index total c.loop-name.count (option_map view_entry c.loop-name.found) c.loop-name.rest.now c.loop-name.invariant.left
-          c.in_ok-name.name.now c.in_ok-name.after.now c.in_ok-name.ensures c.in_ok-folder.folder c.in_ok-folder.after.now some c.in_ok-folder.ensures);
+          c.in_ok-name.name.now c.in_ok-name.after.now c.in_ok-name.ensures c.in_ok-directory.directory c.in_ok-directory.after.now some c.in_ok-directory.ensures);
       within = omega arith;
     }
 
@@ -66,6 +66,6 @@ pub loop-name-smaller : goal.loop-name-smaller
 loop-name-smaller c =
     let f = fewer_after (length c.loop-name.rest.now) (text_at HeaderCutOff c.loop-name.rest.now) c.in_ok-name.name.now c.in_ok-name.after.now
     (text_fewer HeaderCutOff c.loop-name.rest.now) c.in_ok-name.ensures in
-    let w = within_after (length c.in_ok-name.after.now) (numbers_at c.args.of_files c.in_ok-name.after.now) c.in_ok-folder.folder c.in_ok-folder.after.now
-    (numbers_within c.args.of_files c.in_ok-name.after.now) c.in_ok-folder.ensures in
+    let w = within_after (length c.in_ok-name.after.now) (numbers_at c.args.of_files c.in_ok-name.after.now) c.in_ok-directory.directory c.in_ok-directory.after.now
+    (numbers_within c.args.of_files c.in_ok-name.after.now) c.in_ok-directory.ensures in
     omega arith
