@@ -1,5 +1,5 @@
 -- Rows, operations and bytes, counted.
-use Rattle.std.proofs.Common.{◌≡◌, ◌∙◌, ◌<◌, ◌≤◌, ◌+◌, ℕ, zero, suc, Bool, true, false, cond, List, [], ◌∷◌, length, Option, Some, None, Result, Ok, Err, refl, sym, ap, arith}
+use Rattle.std.proofs.Common.{◌≡◌, ◌∙◌, ◌<◌, ◌≤◌, ◌+◌, ℕ, zero, suc, Bool, true, false, cond, List, [], ◌∷◌, ◌++◌, length, Option, Some, None, Result, Ok, Err, refl, sym, ap, arith}
 use Rattle.std.specs.List.{count_by}
 use Rattle.std.proofs.lemmas.List.Sums.{sum_by-cons}
 use Rattle.rv_lines.specs.declared.error.UnitError.{UnitError}
@@ -9,7 +9,7 @@ use Rattle.rv_lines.specs.declared.rows.Row.{Row}
 use Rattle.rv_lines.specs.declared.rows.State.{State}
 use Rattle.rv_lines.specs.Reading.{Read}
 use Rattle.rv_lines.specs.Operations.{Program, operation_at, program, continued}
-use Rattle.rv_lines.specs.Rows.{adds_row, ends_sequence, row_of, changed, after, in_front, rows_of}
+use Rattle.rv_lines.specs.Rows.{adds_row, ends_sequence, row_of, row_added, changed, after, in_front, rows_of, state_after}
 use Rattle.rv_lines.proofs.Folding.{operation_shorter}
 
 one_row : (b : Bool) (row : Row) (rows : List Row) → length (in_front (cond b (Some row) None) rows) ≡ cond b 1 0 + length rows
@@ -24,6 +24,21 @@ rows_counted p s (op ∷ ops) =
     one_row (adds_row op) (row_of (ends_sequence op) (changed p op s)) rest
     ∙ ap (λ n. cond (adds_row op) 1 0 + n) (rows_counted p (after p op (changed p op s)) ops)
     ∙ sym (sum_by-cons (λ x. cond (adds_row x) 1 0) op ops)
+
+in_front_append : (row : Option Row) (xs ys : List Row) → in_front row (xs ++ ys) ≡ in_front row xs ++ ys
+in_front_append None xs ys = refl
+in_front_append (Some row) xs ys = refl
+
+pub rows_in_order : (p : Parameters) (s : State) (front : List Operation) (op : Operation) (back : List Operation)
+    → rows_of p s (front ++ op ∷ back)
+    ≡ rows_of p s front ++ in_front (row_added op (changed p op (state_after p s front))) (rows_of p (state_after p s (front ++ op ∷ [])) back)
+unfolding rows_of
+rows_in_order p s [] op back = refl
+rows_in_order p s (x ∷ front) op back =
+    let next = after p x (changed p x s) in
+    ap (in_front (row_added x (changed p x s))) (rows_in_order p next front op back)
+    ∙ in_front_append (row_added x (changed p x s)) (rows_of p next front)
+    (in_front (row_added op (changed p op (state_after p next front))) (rows_of p (state_after p next (front ++ op ∷ [])) back))
 
 few_more : (most : ℕ) (others : List ℕ → Program) (read : Read Operation) → ((rest : List ℕ) → length (others rest).0 ≤ most) → length (continued others read).0 ≤ suc most
 few_more most others (Ok x) h = let k = h x.1 in omega arith

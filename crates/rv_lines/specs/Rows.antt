@@ -81,6 +81,11 @@ unfoldable pub rows_of : Parameters → State → List Operation → List Row
 rows_of p s [] = []
 rows_of p s (op ∷ ops) = in_front (row_added op (changed p op s)) (rows_of p (after p op (changed p op s)) ops)
 
+-- the state after operations, from a state
+abbrev pub state_after : Parameters → State → List Operation → State
+state_after p s [] = s
+state_after p s (op ∷ ops) = state_after p (after p op (changed p op s)) ops
+
 -- whether there is a file of this number
 abbrev pub has_file : FileNumbers → ℕ → Bool
 has_file files file = nat_le files.first file && nat_lt (file - files.first) files.count

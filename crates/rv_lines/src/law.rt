@@ -1,15 +1,26 @@
 //! Laws on line number programs, with no code to run.
-ghost use Rattle.std.specs.Prelude.{◌≡◌, ◌<◌, ◌≤◌, ℕ, List, Ok, length};
+ghost use Rattle.std.specs.Prelude.{◌≡◌, ◌<◌, ◌≤◌, ℕ, [], ◌∷◌, ◌++◌, List, Ok, Some, None, length};
 ghost use Rattle.std.specs.List.{count_by};
 ghost use Rattle.rv_lines.specs.declared.header.Parameters.{Parameters};
 ghost use Rattle.rv_lines.specs.declared.operations.Operation.{Operation};
 ghost use Rattle.rv_lines.specs.declared.rows.State.{State};
 ghost use Rattle.rv_lines.specs.Operations.{operation_at, program};
-ghost use Rattle.rv_lines.specs.Rows.{adds_row, rows_of};
+ghost use Rattle.rv_lines.specs.Rows.{adds_row, changed, row_added, in_front, rows_of, state_after};
+ghost use Rattle.rv_lines.specs.Paths.{path_text, path_with};
 
-/// Proves that each row is the row of one operation.
+/// Proves that the rows are those of the operations that add one, one each, in the order of the operations: after the rows of the operations
+/// before it comes the row of an operation, if it adds one, and then come those of the operations after it.
 pub fn rows_are_of_operations()
-    ensures { (p : Parameters) (s : State) (ops : List Operation) → length (rows_of p s ops) ≡ count_by adds_row ops }
+    ensures order { (p : Parameters) (s : State) (front : List Operation) (op : Operation) (back : List Operation)
+        → rows_of p s (front ++ op ∷ back)
+        ≡ rows_of p s front ++ in_front (row_added op (changed p op (state_after p s front))) (rows_of p (state_after p s (front ++ op ∷ [])) back) }
+    ensures count { (p : Parameters) (s : State) (ops : List Operation) → length (rows_of p s ops) ≡ count_by adds_row ops }
+{}
+
+/// Proves that the text of a path is NAME, or DIRECTORY, `/` and NAME.
+pub fn path_is_name_after_directory()
+    ensures name { (name : List ℕ) → path_text (path_with None name) ≡ name }
+    ensures both { (directory name : List ℕ) → path_text (path_with (Some directory) name) ≡ directory ++ 0x2f ∷ name }
 {}
 
 /// Proves that a program has no more operations than bytes.

@@ -23,7 +23,10 @@ mod tables;
 mod units;
 
 pub use error::{LinesError, UnitError};
-pub use law::{operation_takes_a_byte, operations_are_no_more_than_bytes, rows_are_of_operations};
+pub use law::{
+    operation_takes_a_byte, operations_are_no_more_than_bytes, path_is_name_after_directory,
+    rows_are_of_operations,
+};
 pub use path::{SourcePath, source_path};
 pub use search::{RejectedUnits, find_lines};
 pub use sections::line_tables;
