@@ -7,9 +7,9 @@ use Rattle.std.proofs.lemmas.Bool.Decides.{nat_tests}
 use Rattle.rv_lines.proofs.Shorter.{Within, Fewer, text_fewer, numbers_within}
 use Rattle.rv_lines.specs.declared.error.UnitError.{UnitError}
 use Rattle.rv_lines.specs.declared.error.UnitError.TheVariants as unit
-use Rattle.rv_lines.specs.declared.forms.Part.{Part}
-use Rattle.rv_lines.specs.Reading.{◌>>=◌, Read, text_at}
-use Rattle.rv_lines.specs.Entries.{Texts, Entry, empty_entry, entry_at, entries_at, numbers_at, list_at}
+use Rattle.rv_lines.specs.declared.forms.Field.{Field}
+use Rattle.rv_lines.specs.Reading.{◌>>=◌, Read, string_at}
+use Rattle.rv_lines.specs.Entries.{Strings, Entry, empty_entry, entry_at, entries_at, numbers_at, list_at}
 use Rattle.rv_lines.specs.EntriesInside.{is_index, summary, summarised, picked, Summary}
 
 -- the entry at an index of a list, counted from k
@@ -86,30 +86,30 @@ resumed_end k index found rest = let n : k + 0 ≡ k = omega arith in
 
 -- ---- entries of DWARF 5
 
-module _ (texts : Texts) (parts : List Part) (index : Option ℕ) (total : Read Summary) where
+module _ (strings : Strings) (fields : List Field) (index : Option ℕ) (total : Read Summary) where
   abbrev pub left : ℕ → ℕ → Option Entry → List ℕ → Read Summary
-  left count k found bytes = resumed k index found (entries_at texts parts (count - k) bytes)
+  left count k found bytes = resumed k index found (entries_at strings fields (count - k) bytes)
 
   entries_one : (count k : ℕ) (bytes : List ℕ) → k < count
-      → entries_at texts parts (count - k) bytes ≡ (entry_at texts parts empty_entry bytes >>= λ entry. with_entry entry.0 (entries_at texts parts (count - (k + 1)) entry.1))
+      → entries_at strings fields (count - k) bytes ≡ (entry_at strings fields empty_entry bytes >>= λ entry. with_entry entry.0 (entries_at strings fields (count - (k + 1)) entry.1))
   unfolding entries_at
   entries_one count k bytes lt = let e : count - k ≡ suc (count - (k + 1)) = omega arith in rw e refl
 
-  pub entries_on : (count k : ℕ) (found : Option Entry) (bytes after : List ℕ) (entry : Entry) → k < count → entry_at texts parts empty_entry bytes ≡ Ok (entry, after)
+  pub entries_on : (count k : ℕ) (found : Option Entry) (bytes after : List ℕ) (entry : Entry) → k < count → entry_at strings fields empty_entry bytes ≡ Ok (entry, after)
       → left count k found bytes ≡ total → left count (k + 1) (cond (is_index index k) (Some entry) found) after ≡ total
   entries_on count k found bytes after entry lt h so_far =
-      sym (ap (resumed k index found) (entries_one count k bytes lt ∙ ap (λ r. r >>= λ e. with_entry e.0 (entries_at texts parts (count - (k + 1)) e.1)) h)
-      ∙ resumed_on k index found entry (entries_at texts parts (count - (k + 1)) after)) ∙ so_far
+      sym (ap (resumed k index found) (entries_one count k bytes lt ∙ ap (λ r. r >>= λ e. with_entry e.0 (entries_at strings fields (count - (k + 1)) e.1)) h)
+      ∙ resumed_on k index found entry (entries_at strings fields (count - (k + 1)) after)) ∙ so_far
 
-  pub entries_fail : (e : UnitError) (count k : ℕ) (found : Option Entry) (bytes : List ℕ) → k < count → entry_at texts parts empty_entry bytes ≡ Err e
+  pub entries_fail : (e : UnitError) (count k : ℕ) (found : Option Entry) (bytes : List ℕ) → k < count → entry_at strings fields empty_entry bytes ≡ Err e
       → left count k found bytes ≡ total → total ≡ Err e
   entries_fail e count k found bytes lt h so_far =
-      sym so_far ∙ ap (resumed k index found) (entries_one count k bytes lt ∙ ap (λ r. r >>= λ e. with_entry e.0 (entries_at texts parts (count - (k + 1)) e.1)) h)
+      sym so_far ∙ ap (resumed k index found) (entries_one count k bytes lt ∙ ap (λ r. r >>= λ e. with_entry e.0 (entries_at strings fields (count - (k + 1)) e.1)) h)
 
   pub entries_done : (count k : ℕ) (found : Option Entry) (bytes : List ℕ) → count ≤ k → left count k found bytes ≡ total → total ≡ Ok ((k, found), bytes)
   unfolding entries_at
   entries_done count k found bytes le so_far = let e : count - k ≡ 0 = omega arith in
-      sym so_far ∙ ap (λ n. resumed k index found (entries_at texts parts n bytes)) e ∙ resumed_end k index found bytes
+      sym so_far ∙ ap (λ n. resumed k index found (entries_at strings fields n bytes)) e ∙ resumed_end k index found bytes
 
 -- ---- lists of DWARF 2 to 4
 
@@ -119,23 +119,23 @@ after_name most of_files name after = cond (length name == 0) (Ok ([], after)) (
     with_entry (record { name = name; directory = directory.0 }) (list_at most of_files directory.1))
 
 list_one : (most : ℕ) (of_files : Bool) (bytes : List ℕ)
-    → list_at (suc most) of_files bytes ≡ (text_at unit.HeaderCutOff bytes >>= λ name. after_name most of_files name.0 name.1)
+    → list_at (suc most) of_files bytes ≡ (string_at unit.HeaderCutOff bytes >>= λ name. after_name most of_files name.0 name.1)
 unfolding list_at
 list_one most of_files bytes = refl
 
-no_text : (e : UnitError) → text_at unit.HeaderCutOff [] ≡ Err e → unit.HeaderCutOff ≡ e
-unfolding text_at
+no_text : (e : UnitError) → string_at unit.HeaderCutOff [] ≡ Err e → unit.HeaderCutOff ≡ e
+unfolding string_at
 no_text e h = cc
 
-none_read : (x : List ℕ × List ℕ) → text_at unit.HeaderCutOff [] ≡ Ok x → ⊥
-unfolding text_at
+none_read : (x : List ℕ × List ℕ) → string_at unit.HeaderCutOff [] ≡ Ok x → ⊥
+unfolding string_at
 none_read x h = cc
 
 list_none : (of_files : Bool) (bytes : List ℕ) → list_at zero of_files bytes ≡ Err unit.HeaderCutOff
 unfolding list_at
 list_none of_files bytes = refl
 
-list_text_fails : (most : ℕ) (of_files : Bool) (bytes : List ℕ) (e : UnitError) → length bytes ≤ most → text_at unit.HeaderCutOff bytes ≡ Err e
+list_text_fails : (most : ℕ) (of_files : Bool) (bytes : List ℕ) (e : UnitError) → length bytes ≤ most → string_at unit.HeaderCutOff bytes ≡ Err e
     → list_at most of_files bytes ≡ Err e
 list_text_fails zero of_files [] e le h = list_none of_files [] ∙ ap Err (no_text e h)
 list_text_fails zero of_files (b ∷ bytes) e le h = absurd (omega arith)
@@ -150,12 +150,12 @@ record AfterName (most : ℕ) (of_files : Bool) (bytes name after : List ℕ) : 
 pub fewer_after : (n : ℕ) (r : Read (List ℕ)) (name after : List ℕ) → Fewer n r → r ≡ Ok (name, after) → length after < n
 fewer_after n r name after f h = subst (Fewer n) h f
 
-list_named : (most : ℕ) (of_files : Bool) (bytes name after : List ℕ) → length bytes ≤ most → text_at unit.HeaderCutOff bytes ≡ Ok (name, after)
+list_named : (most : ℕ) (of_files : Bool) (bytes name after : List ℕ) → length bytes ≤ most → string_at unit.HeaderCutOff bytes ≡ Ok (name, after)
     → AfterName most of_files bytes name after
 list_named zero of_files [] name after le h = absurd (none_read (name, after) h)
 list_named zero of_files (b ∷ bytes) name after le h = absurd (omega arith)
 list_named (suc most) of_files bytes name after le h =
-    let l = fewer_after (length bytes) (text_at unit.HeaderCutOff bytes) name after (text_fewer unit.HeaderCutOff bytes) h in
+    let l = fewer_after (length bytes) (string_at unit.HeaderCutOff bytes) name after (text_fewer unit.HeaderCutOff bytes) h in
     record { fewer = most; enough = omega arith; is = list_one most of_files bytes ∙ ap (λ r. r >>= λ n. after_name most of_files n.0 n.1) h }
 
 pub within_after : (n : ℕ) (r : Read ℕ) (directory : ℕ) (rest : List ℕ) → Within n r → r ≡ Ok (directory, rest) → length rest ≤ n
@@ -168,10 +168,10 @@ pub record ListLeft (of_files : Bool) (index : Option ℕ) (total : Read Summary
   pub is : resumed k index found (list_at most of_files bytes) ≡ total
 
 module _ (of_files : Bool) (index : Option ℕ) (total : Read Summary) (k : ℕ) (found : Option Entry) (bytes : List ℕ) (so_far : ListLeft of_files index total k found bytes) where
-  pub list_fails : (e : UnitError) → text_at unit.HeaderCutOff bytes ≡ Err e → total ≡ Err e
+  pub list_fails : (e : UnitError) → string_at unit.HeaderCutOff bytes ≡ Err e → total ≡ Err e
   list_fails e h = sym so_far.is ∙ ap (resumed k index found) (list_text_fails so_far.most of_files bytes e so_far.enough h)
 
-  module _ (name after : List ℕ) (h : text_at unit.HeaderCutOff bytes ≡ Ok (name, after)) where
+  module _ (name after : List ℕ) (h : string_at unit.HeaderCutOff bytes ≡ Ok (name, after)) where
     named : AfterName so_far.most of_files bytes name after
     named = list_named so_far.most of_files bytes name after so_far.enough h
 

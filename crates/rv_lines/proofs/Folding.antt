@@ -14,8 +14,8 @@ use Rattle.rv_lines.specs.declared.rows.Row.{Row}
 use Rattle.rv_lines.specs.declared.rows.State.{State}
 use Rattle.rv_lines.specs.declared.span.SourceLine.{SourceLine}
 use Rattle.rv_lines.specs.declared.span.Span.{Span}
-use Rattle.rv_lines.specs.Operations.{Program, operation_at, program, continued, after_operation}
-use Rattle.rv_lines.specs.Rows.{initial, changed, row_of, row_added, after, in_front, rows_of, lacks_file, is_open, program_rows}
+use Rattle.rv_lines.specs.Operations.{Program, operation_at, program, prepend_operation, after_operation}
+use Rattle.rv_lines.specs.Rows.{initial, apply, row_of, row_added, next_state, in_front, rows_of, lacks_file, is_open, program_rows}
 use Rattle.rv_lines.specs.Lines.{covers_nothing, spans_after, span}
 use Rattle.rv_lines.specs.SearchInside.{file_check, noted_all}
 use Rattle.rv_lines.specs.Reading.{Read}
@@ -54,7 +54,7 @@ module _ (p : Parameters) (files : FileNumbers) (lengths : List ℕ) where
   left_all bytes = refl
 
   read_one : (most : ℕ) (b : ℕ) (bytes : List ℕ) → program (suc most) p.opcode_base lengths (b ∷ bytes)
-      ≡ continued (program most p.opcode_base lengths) (operation_at p.opcode_base lengths (b ∷ bytes))
+      ≡ prepend_operation (program most p.opcode_base lengths) (operation_at p.opcode_base lengths (b ∷ bytes))
   unfolding program
   read_one most b bytes = refl
 
@@ -67,20 +67,20 @@ module _ (p : Parameters) (files : FileNumbers) (lengths : List ℕ) where
   pub fold_fails : (most : ℕ) (s : State) (b : ℕ) (bytes : List ℕ) (e : UnitError) → operation_at p.opcode_base lengths (b ∷ bytes) ≡ Err e
       → left (suc most) s (b ∷ bytes) ≡ Err e
   fold_fails most s b bytes e h =
-      ap (λ (ops : Program). checked_from (is_some s.low) ops.1 (rows_of p s ops.0)) (read_one most b bytes ∙ ap (continued (program most p.opcode_base lengths)) h)
+      ap (λ (ops : Program). checked_from (is_some s.low) ops.1 (rows_of p s ops.0)) (read_one most b bytes ∙ ap (prepend_operation (program most p.opcode_base lengths)) h)
       ∙ fails_at s e
 
   -- ---- an operation that was read
 
-  one_row : (s : State) (op : Operation) (ops : List Operation) → rows_of p s (op ∷ ops) ≡ in_front (row_added op (changed p op s)) (rows_of p (after p op (changed p op s)) ops)
+  one_row : (s : State) (op : Operation) (ops : List Operation) → rows_of p s (op ∷ ops) ≡ in_front (row_added op (apply p op s)) (rows_of p (next_state p op (apply p op s)) ops)
   unfolding rows_of
   one_row s op ops = refl
 
   pub left_one : (most : ℕ) (s : State) (b : ℕ) (bytes rest : List ℕ) (op : Operation) → operation_at p.opcode_base lengths (b ∷ bytes) ≡ Ok (op, rest)
       → left (suc most) s (b ∷ bytes) ≡ checked_from (is_some s.low) (program most p.opcode_base lengths rest).1
-      (in_front (row_added op (changed p op s)) (rows_of p (after p op (changed p op s)) (program most p.opcode_base lengths rest).0))
+      (in_front (row_added op (apply p op s)) (rows_of p (next_state p op (apply p op s)) (program most p.opcode_base lengths rest).0))
   left_one most s b bytes rest op h =
-      ap (λ (ops : Program). checked_from (is_some s.low) ops.1 (rows_of p s ops.0)) (read_one most b bytes ∙ ap (continued (program most p.opcode_base lengths)) h)
+      ap (λ (ops : Program). checked_from (is_some s.low) ops.1 (rows_of p s ops.0)) (read_one most b bytes ∙ ap (prepend_operation (program most p.opcode_base lengths)) h)
       ∙ ap (checked_from (is_some s.low) (program most p.opcode_base lengths rest).1) (one_row s op (program most p.opcode_base lengths rest).0)
 
   lacks_case : (b : Bool) (e : UnitError) → cond {A = Result (Unit {0}) UnitError} b (Err FileNumber) (Ok tt) ≡ Err e → (b ≡ true) × (FileNumber ≡ e)
@@ -99,10 +99,10 @@ module _ (p : Parameters) (files : FileNumbers) (lengths : List ℕ) where
       ap (λ b. cond (b || list_any (lacks_file files) rows) (Err FileNumber) (option_map_or Err error (closed_from begun (row ∷ rows)))) l.0 ∙ ap Err l.1
 
   pub fold_lacks : (most : ℕ) (s : State) (b : ℕ) (bytes rest : List ℕ) (op : Operation) (e : UnitError) → operation_at p.opcode_base lengths (b ∷ bytes) ≡ Ok (op, rest)
-      → file_check files (row_added op (changed p op s)) ≡ Err e → left (suc most) s (b ∷ bytes) ≡ Err e
+      → file_check files (row_added op (apply p op s)) ≡ Err e → left (suc most) s (b ∷ bytes) ≡ Err e
   fold_lacks most s b bytes rest op e h l = left_one most s b bytes rest op h
-      ∙ lacking (row_added op (changed p op s)) e (is_some s.low) (program most p.opcode_base lengths rest).1
-      (rows_of p (after p op (changed p op s)) (program most p.opcode_base lengths rest).0) l
+      ∙ lacking (row_added op (apply p op s)) e (is_some s.low) (program most p.opcode_base lengths rest).1
+      (rows_of p (next_state p op (apply p op s)) (program most p.opcode_base lengths rest).0) l
 
   -- a row in front
   closed_with : (row : Row) (error : Option UnitError) (rows : List Row) (any : Bool)
@@ -122,10 +122,10 @@ module _ (p : Parameters) (files : FileNumbers) (lengths : List ℕ) where
       ∙ closed_with row error rows (list_any (lacks_file files) rows)
 
   -- what an operation adds stands in front of what the operations after it add
-  added_in_front : (op : Operation) (s : State) (error : Option UnitError) (rows : List Row) → file_check files (row_added op (changed p op s)) ≡ Ok tt
-      → checked_from (is_some s.low) error (in_front (row_added op (changed p op s)) rows)
-      ≡ with_rows (in_front (row_added op (changed p op s)) []) (checked_from (is_some (after p op (changed p op s)).low) error rows)
-  added_in_front (Special code) s error rows h = row_in_front (row_of false (changed p (Special code) s)) (is_some s.low) error rows (has_case _ h)
+  added_in_front : (op : Operation) (s : State) (error : Option UnitError) (rows : List Row) → file_check files (row_added op (apply p op s)) ≡ Ok tt
+      → checked_from (is_some s.low) error (in_front (row_added op (apply p op s)) rows)
+      ≡ with_rows (in_front (row_added op (apply p op s)) []) (checked_from (is_some (next_state p op (apply p op s)).low) error rows)
+  added_in_front (Special code) s error rows h = row_in_front (row_of false (apply p (Special code) s)) (is_some s.low) error rows (has_case _ h)
   added_in_front Copy s error rows h = row_in_front (row_of false s) (is_some s.low) error rows (has_case _ h)
   added_in_front EndSequence s error rows h = row_in_front (row_of true s) (is_some s.low) error rows (has_case _ h)
   added_in_front (AdvancePc n) s error rows h = sym (with_none (checked_from (is_some s.low) error rows))
@@ -138,10 +138,10 @@ module _ (p : Parameters) (files : FileNumbers) (lengths : List ℕ) where
   added_in_front Skipped s error rows h = sym (with_none (checked_from (is_some s.low) error rows))
 
   pub fold_on : (most : ℕ) (s : State) (b : ℕ) (bytes rest : List ℕ) (op : Operation) → operation_at p.opcode_base lengths (b ∷ bytes) ≡ Ok (op, rest)
-      → file_check files (row_added op (changed p op s)) ≡ Ok tt
-      → left (suc most) s (b ∷ bytes) ≡ with_rows (in_front (row_added op (changed p op s)) []) (left most (after p op (changed p op s)) rest)
+      → file_check files (row_added op (apply p op s)) ≡ Ok tt
+      → left (suc most) s (b ∷ bytes) ≡ with_rows (in_front (row_added op (apply p op s)) []) (left most (next_state p op (apply p op s)) rest)
   fold_on most s b bytes rest op h l = left_one most s b bytes rest op h
-      ∙ added_in_front op s (program most p.opcode_base lengths rest).1 (rows_of p (after p op (changed p op s)) (program most p.opcode_base lengths rest).0) l
+      ∙ added_in_front op s (program most p.opcode_base lengths rest).1 (rows_of p (next_state p op (apply p op s)) (program most p.opcode_base lengths rest).0) l
 
   -- ---- the end
 
@@ -204,13 +204,13 @@ module _ (p : Parameters) (files : FileNumbers) (lengths : List ℕ) (total : Ro
   so_far_fails bytes e lt h so_far = so_far.is ∙ ap (with_rows so_far.front) (fails_by so_far.most so_far.front bytes e lt so_far.enough h)
 
   lacks_by : (most : ℕ) (bytes rest : List ℕ) (op : Operation) (e : UnitError) → 0 < length bytes → length bytes ≤ most
-      → operation_at p.opcode_base lengths bytes ≡ Ok (op, rest) → file_check files (row_added op (changed p op s)) ≡ Err e → left p files lengths most s bytes ≡ Err e
+      → operation_at p.opcode_base lengths bytes ≡ Ok (op, rest) → file_check files (row_added op (apply p op s)) ≡ Err e → left p files lengths most s bytes ≡ Err e
   lacks_by most [] rest op e lt le h l = absurd (omega arith)
   lacks_by zero (b ∷ bytes) rest op e lt le h l = absurd (omega arith)
   lacks_by (suc most) (b ∷ bytes) rest op e lt le h l = fold_lacks p files lengths most s b bytes rest op e h l
 
   pub so_far_lacks : (bytes rest : List ℕ) (op : Operation) (e : UnitError) → 0 < length bytes → operation_at p.opcode_base lengths bytes ≡ Ok (op, rest)
-      → file_check files (row_added op (changed p op s)) ≡ Err e
+      → file_check files (row_added op (apply p op s)) ≡ Err e
       → NotedSoFar p files lengths total unit addresses old s before bytes found → total ≡ Err e
   so_far_lacks bytes rest op e lt h l so_far = so_far.is ∙ ap (with_rows so_far.front) (lacks_by so_far.most bytes rest op e lt so_far.enough h l)
 
@@ -218,13 +218,13 @@ module _ (p : Parameters) (files : FileNumbers) (lengths : List ℕ) (total : Ro
   record OneMore (most : ℕ) (bytes rest : List ℕ) (op : Operation) : Type 0 where
     pub fewer : ℕ
     pub enough : length rest ≤ fewer
-    pub is : left p files lengths most s bytes ≡ with_rows (in_front (row_added op (changed p op s)) []) (left p files lengths fewer (after p op (changed p op s)) rest)
+    pub is : left p files lengths most s bytes ≡ with_rows (in_front (row_added op (apply p op s)) []) (left p files lengths fewer (next_state p op (apply p op s)) rest)
 
   rest_within : (n : ℕ) (r : Read Operation) (op : Operation) (rest : List ℕ) → Within n r → r ≡ Ok (op, rest) → length rest ≤ n
   rest_within n r op rest w e = subst (Within n) e w
 
   on_by : (most : ℕ) (bytes rest : List ℕ) (op : Operation) → 0 < length bytes → length bytes ≤ most → operation_at p.opcode_base lengths bytes ≡ Ok (op, rest)
-      → file_check files (row_added op (changed p op s)) ≡ Ok tt → OneMore most bytes rest op
+      → file_check files (row_added op (apply p op s)) ≡ Ok tt → OneMore most bytes rest op
   on_by most [] rest op lt le h l = absurd (omega arith)
   on_by zero (b ∷ bytes) rest op lt le h l = absurd (omega arith)
   on_by (suc most) (b ∷ bytes) rest op lt le h l =
@@ -232,20 +232,20 @@ module _ (p : Parameters) (files : FileNumbers) (lengths : List ℕ) (total : Ro
       record { fewer = most; enough = omega arith; is = fold_on p files lengths most s b bytes rest op h l }
 
   pub so_far_on : (bytes rest : List ℕ) (op : Operation) (now : List (Option SourceLine)) → 0 < length bytes → operation_at p.opcode_base lengths bytes ≡ Ok (op, rest)
-      → file_check files (row_added op (changed p op s)) ≡ Ok tt
-      → now ≡ noted_all (spans_after unit before (in_front (row_added op (changed p op s)) [])) addresses found
+      → file_check files (row_added op (apply p op s)) ≡ Ok tt
+      → now ≡ noted_all (spans_after unit before (in_front (row_added op (apply p op s)) [])) addresses found
       → NotedSoFar p files lengths total unit addresses old s before bytes found
-      → NotedSoFar p files lengths total unit addresses old (after p op (changed p op s)) (option_or (row_added op (changed p op s)) before) rest now
+      → NotedSoFar p files lengths total unit addresses old (next_state p op (apply p op s)) (option_or (row_added op (apply p op s)) before) rest now
   so_far_on bytes rest op now lt h l n so_far =
       let one = on_by so_far.most bytes rest op lt so_far.enough h l in
-      let more = in_front (row_added op (changed p op s)) [] in
+      let more = in_front (row_added op (apply p op s)) [] in
       let front = so_far.front in
       record {
         most = one.fewer;
         enough = one.enough;
         front = front ++ more;
-        is = so_far.is ∙ ap (with_rows front) one.is ∙ with_more front more (left p files lengths one.fewer (after p op (changed p op s)) rest);
-        last = ap (option_or (row_added op (changed p op s))) so_far.last ∙ last_more None front (row_added op (changed p op s));
+        is = so_far.is ∙ ap (with_rows front) one.is ∙ with_more front more (left p files lengths one.fewer (next_state p op (apply p op s)) rest);
+        last = ap (option_or (row_added op (apply p op s))) so_far.last ∙ last_more None front (row_added op (apply p op s));
         noted = n ∙ ap (noted_all (spans_after unit before more) addresses) so_far.noted
             ∙ ap (λ b. noted_all (spans_after unit b more) addresses (noted_all (spans_after unit None front) addresses old)) so_far.last
             ∙ sym (ap (λ spans. noted_all spans addresses old) (spans_append unit None front more)
@@ -287,22 +287,22 @@ so_far_start p files lengths unit addresses old bytes = record {
 
 module _ (p : Parameters) (files : FileNumbers) (lengths : List ℕ) (total : Rows) (unit : ℕ) (addresses : List ℕ) (old : List (Option SourceLine))
     (s : State) (before : Option Row) (found : List (Option SourceLine)) (bytes rest : List ℕ) (op : Operation) (changing : State) (added : Option Row) where
-  pub step_lacks : (e : UnitError) → changing ≡ changed p op s → added ≡ row_added op changing → 0 < length bytes → operation_at p.opcode_base lengths bytes ≡ Ok (op, rest)
+  pub step_lacks : (e : UnitError) → changing ≡ apply p op s → added ≡ row_added op changing → 0 < length bytes → operation_at p.opcode_base lengths bytes ≡ Ok (op, rest)
       → file_check files added ≡ Err e → NotedSoFar p files lengths total unit addresses old s before bytes found → total ≡ Err e
   step_lacks e c a lt h l so_far =
       so_far_lacks p files lengths total unit addresses old s before found bytes rest op e lt h (sym (ap (file_check files) (a ∙ ap (row_added op) c)) ∙ l) so_far
 
-  pub step_on : (now : List (Option SourceLine)) (next : State) (last : Option Row) → changing ≡ changed p op s → added ≡ row_added op changing
-      → next ≡ after p op changing → last ≡ option_or added before → 0 < length bytes → operation_at p.opcode_base lengths bytes ≡ Ok (op, rest)
+  pub step_on : (now : List (Option SourceLine)) (next : State) (last : Option Row) → changing ≡ apply p op s → added ≡ row_added op changing
+      → next ≡ next_state p op changing → last ≡ option_or added before → 0 < length bytes → operation_at p.opcode_base lengths bytes ≡ Ok (op, rest)
       → file_check files added ≡ Ok tt → now ≡ noted_all (spans_after unit before (in_front added [])) addresses found
       → NotedSoFar p files lengths total unit addresses old s before bytes found
       → NotedSoFar p files lengths total unit addresses old next last rest now
   step_on now next last c a n b lt h l w so_far =
-      let added_is : added ≡ row_added op (changed p op s) = a ∙ ap (row_added op) c in
-      let next_is : next ≡ after p op (changed p op s) = n ∙ ap (after p op) c in
-      let last_is : last ≡ option_or (row_added op (changed p op s)) before = b ∙ ap (λ x. option_or x before) added_is in
+      let added_is : added ≡ row_added op (apply p op s) = a ∙ ap (row_added op) c in
+      let next_is : next ≡ next_state p op (apply p op s) = n ∙ ap (next_state p op) c in
+      let last_is : last ≡ option_or (row_added op (apply p op s)) before = b ∙ ap (λ x. option_or x before) added_is in
       subst (λ (x : State). NotedSoFar p files lengths total unit addresses old x last rest now) (sym next_is)
-      (subst (λ (x : Option Row). NotedSoFar p files lengths total unit addresses old (after p op (changed p op s)) x rest now) (sym last_is)
+      (subst (λ (x : Option Row). NotedSoFar p files lengths total unit addresses old (next_state p op (apply p op s)) x rest now) (sym last_is)
       (so_far_on p files lengths total unit addresses old s before found bytes rest op now lt h (sym (ap (file_check files) added_is) ∙ l)
       (w ∙ ap (λ x. noted_all (spans_after unit before (in_front x [])) addresses found) added_is) so_far))
 

@@ -6,6 +6,6 @@ use Rattle.rv_lines.specs.Sections.{◌then◌, Tables, bytes_named, tables_of}
 pub tables_then : (file lines line_str str : List ℕ) → bytes_named file (codes ".debug_line") (codes ".zdebug_line") ≡ Ok lines
     → bytes_named file (codes ".debug_line_str") (codes ".zdebug_line_str") ≡ Ok line_str
     → bytes_named file (codes ".debug_str") (codes ".zdebug_str") ≡ Ok str
-    → tables_of file ≡ Ok (record { lines = lines; texts = record { line_str = line_str; str = str } })
+    → tables_of file ≡ Ok (record { lines = lines; strings = record { line_str = line_str; str = str } })
 unfolding tables_of
 tables_then file lines line_str str a b c = rw (a, b, c) refl

@@ -5,10 +5,10 @@ use Rattle.rv_lines.specs.declared.error.UnitError.{UnitError}
 use Rattle.rv_lines.specs.declared.error.UnitError.TheVariants as unit
 use Rattle.rv_lines.specs.declared.operations.Operation.{Operation}
 use Rattle.rv_lines.specs.declared.operations.Operation.TheVariants as operation
-use Rattle.rv_lines.specs.Reading.{◌>>=◌, Read, byte_at, fixed_at, skip_at, text_or, text_at}
+use Rattle.rv_lines.specs.Reading.{◌>>=◌, Read, byte_at, fixed_at, skip_at, string_or, string_at}
 use Rattle.rv_lines.specs.Numbers.{unsigned_leb, signed_leb, number_or, number_at, modulo_or, signed_or, signed_at, end_or, skip_number, skip_numbers}
 use Rattle.rv_lines.specs.Entries.{numbers_at}
-use Rattle.rv_lines.specs.Operations.{with_operand, skipping, standard_at, extended_of_length, extended_at, operation_at}
+use Rattle.rv_lines.specs.Operations.{with_operand, skip_operands, standard_at, extended_of_length, extended_at, operation_at}
 
 -- at most n bytes are left, if there is no error
 abbrev pub Within : {X : Type 0} → ℕ → Read X → Type 0
@@ -126,7 +126,7 @@ operand_within : (n : ℕ) (op : ℕ → Operation) (r : Read ℕ) → Within n 
 operand_within n op (Ok x) w = w
 operand_within n op (Err e) w = tt
 
-skipping_within : (n : ℕ) (r : Result (List ℕ) UnitError) → RestWithin n r → Within n (skipping r)
+skipping_within : (n : ℕ) (r : Result (List ℕ) UnitError) → RestWithin n r → Within n (skip_operands r)
 skipping_within n (Ok x) w = w
 skipping_within n (Err e) w = tt
 
@@ -160,7 +160,7 @@ unfolding operation_at
 operation_within opcode_base lengths b bytes = let n = length bytes in
     within_if n (nat_le opcode_base b) _ _ (omega arith) (within_if n (b == 0) _ _ (extended_within bytes) (standard_within lengths b bytes))
 
--- ---- texts
+-- ---- strings
 
 text_longer : (b n : ℕ) (z : Bool) (o : Option (List ℕ)) → ((t : List ℕ) → o ≡ Some t → length t < n) → (t : List ℕ) → cond z (Some []) (option_map (λ t. b ∷ t) o) ≡ Some t → length t < suc n
 text_longer b n true o h t e = let k : t ≡ [] = cc in rw k (omega arith)
@@ -176,14 +176,14 @@ abbrev pub Fewer : {X : Type 0} → ℕ → Read X → Type 0
 Fewer n (Ok x) = length x.1 < n
 Fewer n (Err e) = Unit {0}
 
-text_or_fewer : (cut : UnitError) (bytes : List ℕ) (o : Option (List ℕ)) → o ≡ text_before_zero bytes → Fewer (length bytes) (text_or cut bytes o)
-text_or_fewer cut bytes None e = tt
-text_or_fewer cut bytes (Some t) e = let l = text_shorter bytes t (sym e) in omega (arith, length-drop (length t + 1) bytes)
+string_or_fewer : (cut : UnitError) (bytes : List ℕ) (o : Option (List ℕ)) → o ≡ text_before_zero bytes → Fewer (length bytes) (string_or cut bytes o)
+string_or_fewer cut bytes None e = tt
+string_or_fewer cut bytes (Some t) e = let l = text_shorter bytes t (sym e) in omega (arith, length-drop (length t + 1) bytes)
 
 -- a text has at least one byte
-pub text_fewer : (cut : UnitError) (bytes : List ℕ) → Fewer (length bytes) (text_at cut bytes)
-unfolding text_at
-text_fewer cut bytes = text_or_fewer cut bytes (text_before_zero bytes) refl
+pub text_fewer : (cut : UnitError) (bytes : List ℕ) → Fewer (length bytes) (string_at cut bytes)
+unfolding string_at
+text_fewer cut bytes = string_or_fewer cut bytes (text_before_zero bytes) refl
 
 pub numbers_within : (of_files : Bool) (bytes : List ℕ) → Within (length bytes) (numbers_at of_files bytes)
 unfolding numbers_at

@@ -5,18 +5,18 @@ use Rattle.rv_lines.specs.declared.entries.Entries.{Entries}
 use Rattle.rv_lines.specs.declared.entries.Format.{Format}
 use Rattle.rv_lines.specs.declared.entries.Entry as declared
 use Rattle.rv_lines.specs.declared.error.UnitError.{UnitError}
-use Rattle.rv_lines.specs.declared.forms.Part.{Part}
-use Rattle.rv_lines.specs.declared.tables.TextSections.{TextSections}
+use Rattle.rv_lines.specs.declared.forms.Field.{Field}
+use Rattle.rv_lines.specs.declared.tables.StringSections.{StringSections}
 use Rattle.rv_lines.specs.Reading.{◌>>=◌, Read}
-use Rattle.rv_lines.specs.Entries.{Texts, Entry, parts_at, is_path}
+use Rattle.rv_lines.specs.Entries.{Strings, Entry, fields_at, is_path}
 
 -- an entry without where it lies in memory
 abbrev pub view_entry : declared.Entry → Entry
 view_entry e = record { name = e.name.now; directory = e.directory }
 
--- the sections of texts without where they lie in memory
-abbrev pub view_texts : TextSections → Texts
-view_texts t = record { line_str = t.line_str.now; str = t.str.now }
+-- the string sections without where they lie in memory
+abbrev pub view_strings : StringSections → Strings
+view_strings t = record { line_str = t.line_str.now; str = t.str.now }
 
 -- the number of entries, and the entry at an index
 abbrev pub Summary : Type 0
@@ -40,15 +40,15 @@ summary index entries = (length entries, picked index entries)
 abbrev pub summarised : Option ℕ → Read (List Entry) → Read Summary
 summarised index read = read >>= λ entries. Ok (summary index entries.0, entries.1)
 
--- the parts that were read, or none after an error
-abbrev pub read_parts : Read (List Part) → List Part
-read_parts (Ok parts) = parts.0
-read_parts (Err error) = []
+-- the fields that were read, or none after an error
+abbrev pub read_fields : Read (List Field) → List Field
+read_fields (Ok fields) = fields.0
+read_fields (Err error) = []
 
--- whether one of the parts that were read is a path, or one before them, and the bytes after them
-abbrev pub path_and_rest : Bool → Read (List Part) → Read Bool
+-- whether one of the fields that were read is a path, or one before them, and the bytes after them
+abbrev pub path_and_rest : Bool → Read (List Field) → Read Bool
 path_and_rest before read = read >>= λ x. Ok (before || list_any is_path x.0, x.1)
 
--- the parts of a format
-abbrev pub parts_of : Format → List Part
-parts_of format = read_parts (parts_at format.count format.bytes.now)
+-- the fields of a format
+abbrev pub fields_of : Format → List Field
+fields_of format = read_fields (fields_at format.count format.bytes.now)

@@ -6,7 +6,7 @@ use Rattle.rv_lines.specs.declared.error.UnitError.TheVariants as unit
 use Rattle.rv_lines.specs.declared.header.FileNumbers.{FileNumbers}
 use Rattle.rv_lines.specs.declared.header.Parameters.{Parameters}
 use Rattle.rv_lines.specs.Reading.{◌>>=◌, Read, byte_at, fixed_at}
-use Rattle.rv_lines.specs.Entries.{Texts, Entry, list_at, table_at}
+use Rattle.rv_lines.specs.Entries.{Strings, Entry, list_at, table_at}
 
 -- a header: the parameters of the program, standard_opcode_lengths, the number of the first file and directory (1 in DWARF 2 to 4, 0 in
 -- DWARF 5), and the directories and files
@@ -50,7 +50,7 @@ unfoldable pub operations_check : ℕ → List ℕ → Result (List ℕ) UnitErr
 operations_check version bytes = if nat_lt version 4 then Ok bytes else (byte_at unit.HeaderCutOff bytes >>= λ operations.
     if operations.0 == 1 then Ok operations.1 else Err unit.Operations)
 
--- standard_opcode_lengths: one byte for each operation from 1 up to, and not with, `opcode_base`
+-- standard_opcode_lengths: one byte for each operation from 1 up to but excluding `opcode_base`
 unfoldable pub lengths_at : ℕ → List ℕ → Read (List ℕ)
 lengths_at opcode_base bytes = let lengths = take (opcode_base - 1) bytes in
     if are_standard lengths then (if length lengths == opcode_base - 1 then Ok (lengths, drop (opcode_base - 1) bytes)
@@ -78,16 +78,16 @@ parameters_at version bytes = do
     ))
 
 -- the directories and then the files, in the form of the version
-unfoldable pub entries_of_version : Texts → ℕ → Bool → List ℕ → Read (List Entry)
-entries_of_version texts version of_files bytes = if version == 5 then table_at texts bytes else list_at (length bytes) of_files bytes
+unfoldable pub entries_of_version : Strings → ℕ → Bool → List ℕ → Read (List Entry)
+entries_of_version strings version of_files bytes = if version == 5 then table_at strings bytes else list_at (length bytes) of_files bytes
 
--- the parts of a header after header_length
-unfoldable pub parts_of_header : Texts → ℕ → List ℕ → Result Header UnitError
-parts_of_header texts version bytes = do
+-- the fields of a header after header_length
+unfoldable pub fields_of_header : Strings → ℕ → List ℕ → Result Header UnitError
+fields_of_header strings version bytes = do
   parameters ← parameters_at version bytes
   lengths ← lengths_at parameters.0.opcode_base parameters.1
-  directories ← entries_of_version texts version false lengths.1
-  files ← entries_of_version texts version true directories.1
+  directories ← entries_of_version strings version false lengths.1
+  files ← entries_of_version strings version true directories.1
   Ok (record {
     parameters = parameters.0;
     lengths = lengths.0;
@@ -109,7 +109,7 @@ unfoldable pub version_at : List ℕ → Read ℕ
 version_at bytes = fixed_at unit.HeaderCutOff 2 bytes >>= λ version.
     if nat_le 2 version.0 && nat_le version.0 5 then Ok version else Err unit.Version
 
--- the version, the bytes of the parts of the header, and after them the program
+-- the version, the bytes of the fields of the header, and after them the program
 unfoldable pub frame_at : List ℕ → Read (ℕ × List ℕ)
 frame_at bytes = do
   version ← version_at bytes
@@ -119,8 +119,8 @@ frame_at bytes = do
       else Ok ((version.0, take size.0 size.1), drop size.0 size.1)
 
 -- the header of a unit, from the bytes after unit_length, and after it the program
-unfoldable pub header_at : Texts → List ℕ → Read Header
-header_at texts bytes = do
+unfoldable pub header_at : Strings → List ℕ → Read Header
+header_at strings bytes = do
   frame ← frame_at bytes
-  header ← parts_of_header texts frame.0.0 frame.0.1
+  header ← fields_of_header strings frame.0.0 frame.0.1
   Ok (header, frame.1)

@@ -4,21 +4,21 @@ use Rattle.rv_lines.specs.declared.error.UnitError.{UnitError}
 use Rattle.rv_lines.specs.declared.header.FileNumbers.{FileNumbers}
 use Rattle.rv_lines.specs.declared.header.Header as declared
 use Rattle.rv_lines.specs.declared.header.Parameters.{Parameters}
-use Rattle.rv_lines.specs.declared.header.Wanted.{Wanted}
+use Rattle.rv_lines.specs.declared.header.RequestedEntries.{RequestedEntries}
 use Rattle.rv_lines.specs.Reading.{◌>>=◌, Read}
 use Rattle.rv_lines.specs.Entries.{Entry}
 use Rattle.rv_lines.specs.EntriesInside.{view_entry}
 use Rattle.rv_lines.specs.Header.{Header, file_numbers, numbered}
 
 -- a header, of whose directories and files one each is known
-pub record Brief : Type 0 where
+pub record HeaderSummary : Type 0 where
   pub parameters : Parameters
   pub lengths : List ℕ
   pub files : FileNumbers
   pub directory : Option Entry
   pub file : Option Entry
 
-abbrev pub view_header : declared.Header → Brief
+abbrev pub view_header : declared.Header → HeaderSummary
 view_header h = record {
   parameters = h.parameters;
   lengths = h.lengths.now;
@@ -27,18 +27,18 @@ view_header h = record {
   file = option_map view_entry h.file;
 }
 
--- a header with the directory and the file of the numbers that are wanted
-abbrev pub brief : Wanted → Header → Brief
-brief wanted h = record {
+-- a header with the directory and the file of the numbers that are requested
+abbrev pub header_summary : RequestedEntries → Header → HeaderSummary
+header_summary requested h = record {
   parameters = h.parameters;
   lengths = h.lengths;
   files = file_numbers h;
-  directory = numbered h.first h.directories wanted.directory;
-  file = numbered h.first h.files wanted.file;
+  directory = numbered h.first h.directories requested.directory;
+  file = numbered h.first h.files requested.file;
 }
 
-abbrev pub brief_of : Wanted → Result Header UnitError → Result Brief UnitError
-brief_of wanted read = read >>= λ h. Ok (brief wanted h)
+abbrev pub header_summary_of : RequestedEntries → Result Header UnitError → Result HeaderSummary UnitError
+header_summary_of requested read = read >>= λ h. Ok (header_summary requested h)
 
-abbrev pub brief_at : Wanted → Read Header → Read Brief
-brief_at wanted read = read >>= λ h. Ok (brief wanted h.0, h.1)
+abbrev pub header_summary_at : RequestedEntries → Read Header → Read HeaderSummary
+header_summary_at requested read = read >>= λ h. Ok (header_summary requested h.0, h.1)

@@ -1,4 +1,4 @@
--- The source line of an address (DWARF 5, section 6.2.2: "an address is described by the row before it").
+-- The source line of an address (DWARF 5, section 6.2.2): that of the row before it, in the order of the rows.
 use Rattle.std.specs.Prelude.{◌≡◌, ◌==◌, ◌+◌, ℕ, Bool, not, ◌&&◌, ◌||◌, ◌≤◌, ◌<◌, List, [], ◌∷◌, ◌++◌, length, filter, map, nat_lt, nat_le, Option, Some, None, is_err, Result, Ok, Err, if◌then◌else◌, option_map, option_and_then, find}
 use Rattle.std.specs.List.{list_any, flat_map, count_by}
 use Rattle.rv_lines.specs.declared.error.UnitError.{UnitError}
@@ -6,10 +6,10 @@ use Rattle.rv_lines.specs.declared.rows.Row.{Row}
 use Rattle.rv_lines.specs.declared.search.RejectedUnits.{RejectedUnits}
 use Rattle.rv_lines.specs.declared.span.SourceLine.{SourceLine}
 use Rattle.rv_lines.specs.declared.span.Span.{Span}
-use Rattle.rv_lines.specs.Entries.{Texts}
+use Rattle.rv_lines.specs.Entries.{Strings}
 use Rattle.rv_lines.specs.Units.{UnitRead, units}
 
--- the addresses that a row covers: from its own up to, and not with, that of the next row of its unit
+-- the addresses that a row covers: from its own up to but excluding that of the next row of its unit
 abbrev pub span : ℕ → Row → Row → Span
 span unit row next = record {
   from = row.address;
@@ -46,7 +46,7 @@ all_spans reads = flat_map spans_of reads
 abbrev pub covers : ℕ → Span → Bool
 covers a s = nat_le s.from a && nat_lt a s.to
 
--- of spans, the first to which no other has a greater `low`
+-- the first span such that no span has a greater `low`
 abbrev pub chosen : List Span → Option Span
 chosen spans = find (λ s. not (list_any (λ t. nat_lt s.source.low t.source.low) spans)) spans
 
@@ -59,12 +59,12 @@ abbrev pub with_line : SourceLine → Option SourceLine
 with_line source = if source.line == 0 then None else Some source
 
 -- the units of `.debug_line`
-abbrev pub units_of : Texts → List ℕ → List UnitRead
-units_of texts section = units (length section) texts 0 section
+abbrev pub units_of : Strings → List ℕ → List UnitRead
+units_of strings section = units (length section) strings 0 section
 
 -- the source line of an address
-unfoldable pub line_at : Texts → List ℕ → ℕ → Option SourceLine
-line_at texts section a = option_and_then with_line (source_at (all_spans (units_of texts section)) a)
+unfoldable pub line_at : Strings → List ℕ → ℕ → Option SourceLine
+line_at strings section a = option_and_then with_line (source_at (all_spans (units_of strings section)) a)
 
 -- ---- the units that are rejected
 

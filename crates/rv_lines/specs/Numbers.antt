@@ -54,7 +54,7 @@ unfoldable pub skip_numbers : UnitError → ℕ → List ℕ → Result (List �
 skip_numbers cut zero bytes = Ok bytes
 skip_numbers cut (suc count) bytes = skip_number cut bytes >>= skip_numbers cut count
 
--- the number whose digits, of seven bits each, are in these bytes, the lowest first; `turned` turns each bit
+-- the number whose digits, of seven bits each, are in these bytes, the lowest first; `inverted` inverts each bit
 abbrev pub digits_value : Bool → List ℕ → ℕ
-digits_value turned [] = 0
-digits_value turned (b ∷ bytes) = (if turned then 127 - b % 128 else b % 128) + 128 * digits_value turned bytes
+digits_value inverted [] = 0
+digits_value inverted (b ∷ bytes) = (if inverted then 127 - b % 128 else b % 128) + 128 * digits_value inverted bytes

@@ -12,8 +12,8 @@ abbrev pub with_operand : (ℕ → Operation) → Read ℕ → Read Operation
 with_operand operation read = read >>= λ operand. Ok (operation operand.0, operand.1)
 
 -- the operands of an operation that is skipped
-abbrev pub skipping : Result (List ℕ) UnitError → Read Operation
-skipping read = read >>= λ rest. Ok (operation.Skipped, rest)
+abbrev pub skip_operands : Result (List ℕ) UnitError → Read Operation
+skip_operands read = read >>= λ rest. Ok (operation.Skipped, rest)
 
 -- a standard operation (section 6.2.5.2); one that changes nothing that is kept has as many operands as `lengths` says
 unfoldable pub standard_at : List ℕ → ℕ → List ℕ → Read Operation
@@ -25,14 +25,14 @@ standard_at lengths code bytes =
     else if code == 6 then Ok (operation.NegateStmt, bytes)
     else if code == 8 then Ok (operation.ConstAddPc, bytes)
     else if code == 9 then with_operand operation.FixedAdvancePc (fixed_at OperationCutOff 2 bytes)
-    else skipping (skip_numbers OperationCutOff (slice_index lengths (code - 1)) bytes)
+    else skip_operands (skip_numbers OperationCutOff (slice_index lengths (code - 1)) bytes)
 
 -- an extended operation of a length, which counts its code and its operands (section 6.2.5.3)
 unfoldable pub extended_of_length : ℕ → List ℕ → Read Operation
 extended_of_length size bytes = byte_at OperationCutOff bytes >>= λ code.
     if code.0 == 1 then (if size == 1 then Ok (operation.EndSequence, code.1) else Err OperationLength)
     else if code.0 == 2 then (if size == 5 then with_operand operation.SetAddress (fixed_at OperationCutOff 4 code.1) else Err OperationLength)
-    else skipping (skip_at OperationCutOff (size - 1) code.1)
+    else skip_operands (skip_at OperationCutOff (size - 1) code.1)
 
 -- an extended operation, from its length, which must not be 0
 unfoldable pub extended_at : List ℕ → Read Operation
@@ -53,13 +53,13 @@ abbrev pub after_operation : Operation → Program → Program
 after_operation first others = (first ∷ others.0, others.1)
 
 -- the operation that was read and those that `others` reads after it, or the error
-abbrev pub continued : (List ℕ → Program) → Read Operation → Program
-continued others (Ok first) = after_operation first.0 (others first.1)
-continued others (Err error) = ([], Some error)
+abbrev pub prepend_operation : (List ℕ → Program) → Read Operation → Program
+prepend_operation others (Ok first) = after_operation first.0 (others first.1)
+prepend_operation others (Err error) = ([], Some error)
 
 -- the first `most` operations of a program, up to one that cannot be read; each has at least one byte, so a program has no more than bytes
 unfoldable pub program : ℕ → ℕ → List ℕ → List ℕ → Program
 program zero opcode_base lengths bytes = ([], None)
 program (suc most) opcode_base lengths [] = ([], None)
 program (suc most) opcode_base lengths (b ∷ bytes) =
-    continued (program most opcode_base lengths) (operation_at opcode_base lengths (b ∷ bytes))
+    prepend_operation (program most opcode_base lengths) (operation_at opcode_base lengths (b ∷ bytes))

@@ -2,7 +2,7 @@
 use Rattle.std.specs.Prelude.{◌==◌, ◌||◌, ◌-◌, ℕ, Bool, true, false, List, [], ◌∷◌, ◌++◌, length, drop, nat_lt, Option, Some, None, Result, Ok, Err, if◌then◌else◌, option_map, option_and_then}
 use Rattle.std.specs.Result.{result_ok}
 use Rattle.rv_lines.specs.Reading.{◌>>=◌}
-use Rattle.rv_lines.specs.Entries.{Texts, Entry}
+use Rattle.rv_lines.specs.Entries.{Strings, Entry}
 use Rattle.rv_lines.specs.Header.{Header, header_at, numbered}
 use Rattle.rv_lines.specs.Units.{unit_bytes}
 
@@ -46,6 +46,6 @@ abbrev pub path_in : Header → Entry → Path
 path_in h file = path_with (directory_of h file) file.name
 
 -- the path of a file of the unit at an offset of the section; `None` if the header is rejected or has no such file
-unfoldable pub path_of : Texts → List ℕ → ℕ → ℕ → Option Path
-path_of texts section unit file = option_and_then (λ header. option_map (path_in header.0) (numbered header.0.first header.0.files file))
-    (result_ok (unit_bytes (drop unit section) >>= header_at texts))
+unfoldable pub path_of : Strings → List ℕ → ℕ → ℕ → Option Path
+path_of strings section unit file = option_and_then (λ header. option_map (path_in header.0) (numbered header.0.first header.0.files file))
+    (result_ok (unit_bytes (drop unit section) >>= header_at strings))

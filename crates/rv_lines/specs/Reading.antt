@@ -14,7 +14,7 @@ abbrev pub ◌>>=◌ : {A B : Type 0} → Result A UnitError → (A → Result B
 (Ok x) >>= f = f x
 (Err e) >>= f = Err e
 
--- `found`, which code returned, is `read`: the same value, as `view` shows it, or the same error
+-- the code's result is what the definition reads, seen through `view`
 abbrev pub Gives : {X Y : Type 0} → (X → Y) → Result X UnitError → Result Y UnitError → Type 0
 Gives view (Ok x) read = read ≡ Ok (view x)
 Gives view (Err e) read = read ≡ Err e
@@ -32,11 +32,11 @@ fixed_at cut size bytes = if nat_lt (length bytes) size then Err cut else Ok (li
 abbrev pub skip_at : UnitError → ℕ → List ℕ → Result (List ℕ) UnitError
 skip_at cut size bytes = if nat_lt (length bytes) size then Err cut else Ok (drop size bytes)
 
--- a text, and the bytes after its zero byte; or the error `cut` if there was no zero byte
-abbrev pub text_or : UnitError → List ℕ → Option (List ℕ) → Read (List ℕ)
-text_or cut bytes None = Err cut
-text_or cut bytes (Some text) = Ok (text, drop (length text + 1) bytes)
+-- a string, and the bytes after its zero byte; or the error `cut` if there was no zero byte
+abbrev pub string_or : UnitError → List ℕ → Option (List ℕ) → Read (List ℕ)
+string_or cut bytes None = Err cut
+string_or cut bytes (Some text) = Ok (text, drop (length text + 1) bytes)
 
 -- the text before the first zero byte, and the bytes after it; or the error `cut` if there is no zero byte
-unfoldable pub text_at : UnitError → List ℕ → Read (List ℕ)
-text_at cut bytes = text_or cut bytes (text_before_zero bytes)
+unfoldable pub string_at : UnitError → List ℕ → Read (List ℕ)
+string_at cut bytes = string_or cut bytes (text_before_zero bytes)

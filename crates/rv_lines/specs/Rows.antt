@@ -16,28 +16,28 @@ use Rattle.rv_lines.specs.Operations.{Program, program}
 abbrev pub initial : Parameters → State
 initial p = record { address = 0; file = 1; line = 1; is_stmt = p.is_stmt; low = None }
 
--- the state with its address advanced by a number of instructions, modulo 2^32
+-- the state with its address advanced by an operation advance, modulo 2^32
 abbrev pub advanced : Parameters → ℕ → State → State
-advanced p instructions s = record s { address = (s.address + (p.min_length * instructions) % 2 ^ 32) % 2 ^ 32 }
+advanced p operation_advance s = record s { address = (s.address + (p.min_length * operation_advance) % 2 ^ 32) % 2 ^ 32 }
 
 -- the state with its line advanced, modulo 2^32
 abbrev pub line_advanced : ℕ → State → State
 line_advanced lines s = record s { line = (s.line + lines) % 2 ^ 32 }
 
--- the state as an operation changes it, before its row; a special operation advances address and line, by the quotient and the rest of its
--- code by `line_range`
-abbrev pub changed : Parameters → Operation → State → State
-changed p (Special code) s = line_advanced ((p.line_base + code % p.line_range) % 2 ^ 32) (advanced p (code / p.line_range) s)
-changed p Copy s = s
-changed p (AdvancePc instructions) s = advanced p instructions s
-changed p (AdvanceLine lines) s = line_advanced lines s
-changed p (SetFile file) s = record s { file = file }
-changed p NegateStmt s = record s { is_stmt = not s.is_stmt }
-changed p ConstAddPc s = advanced p ((255 - p.opcode_base) / p.line_range) s
-changed p (FixedAdvancePc bytes) s = record s { address = (s.address + bytes) % 2 ^ 32 }
-changed p EndSequence s = s
-changed p (SetAddress address) s = record s { address = address }
-changed p Skipped s = s
+-- the state as an operation changes it, before its row; a special opcode advances address and line, by the quotient and the remainder
+-- of its adjusted opcode by `line_range` (section 6.2.5.1)
+abbrev pub apply : Parameters → Operation → State → State
+apply p (Special code) s = line_advanced ((p.line_base + code % p.line_range) % 2 ^ 32) (advanced p (code / p.line_range) s)
+apply p Copy s = s
+apply p (AdvancePc operation_advance) s = advanced p operation_advance s
+apply p (AdvanceLine lines) s = line_advanced lines s
+apply p (SetFile file) s = record s { file = file }
+apply p NegateStmt s = record s { is_stmt = not s.is_stmt }
+apply p ConstAddPc s = advanced p ((255 - p.opcode_base) / p.line_range) s
+apply p (FixedAdvancePc bytes) s = record s { address = (s.address + bytes) % 2 ^ 32 }
+apply p EndSequence s = s
+apply p (SetAddress address) s = record s { address = address }
+apply p Skipped s = s
 
 -- whether an operation adds a row
 abbrev pub adds_row : Operation → Bool
@@ -68,8 +68,8 @@ abbrev pub with_row : State → State
 with_row s = record s { low = Some (low_of s) }
 
 -- the state after an operation, once it has changed the state and added its row
-abbrev pub after : Parameters → Operation → State → State
-after p op s = if ends_sequence op then initial p else if adds_row op then with_row s else s
+abbrev pub next_state : Parameters → Operation → State → State
+next_state p op s = if ends_sequence op then initial p else if adds_row op then with_row s else s
 
 -- a row in front of rows, if there is one
 abbrev pub in_front : Option Row → List Row → List Row
@@ -79,18 +79,18 @@ in_front (Some row) rows = row ∷ rows
 -- the rows that operations add, from a state
 unfoldable pub rows_of : Parameters → State → List Operation → List Row
 rows_of p s [] = []
-rows_of p s (op ∷ ops) = in_front (row_added op (changed p op s)) (rows_of p (after p op (changed p op s)) ops)
+rows_of p s (op ∷ ops) = in_front (row_added op (apply p op s)) (rows_of p (next_state p op (apply p op s)) ops)
 
 -- the state after operations, from a state
 abbrev pub state_after : Parameters → State → List Operation → State
 state_after p s [] = s
-state_after p s (op ∷ ops) = state_after p (after p op (changed p op s)) ops
+state_after p s (op ∷ ops) = state_after p (next_state p op (apply p op s)) ops
 
 -- whether there is a file of this number
 abbrev pub has_file : FileNumbers → ℕ → Bool
 has_file files file = nat_le files.first file && nat_lt (file - files.first) files.count
 
--- whether a row needs a file that is not there
+-- whether a row needs an unknown file
 abbrev pub lacks_file : FileNumbers → Row → Bool
 lacks_file files row = not row.ends && not (has_file files row.file)
 
@@ -100,15 +100,15 @@ is_open begun [] = begun
 is_open begun (row ∷ rows) = is_open (not row.ends) rows
 
 -- the rows, or the error of a program in which each operation could be read
-abbrev pub closed : List Row → Result (List Row) UnitError
-closed rows = if is_open false rows then Err OpenSequence else Ok rows
+abbrev pub require_closed : List Row → Result (List Row) UnitError
+require_closed rows = if is_open false rows then Err OpenSequence else Ok rows
 
 -- the rows of the operations before the first that cannot be read, or the first error: a row that lacks its file, an operation that cannot
 -- be read, rows after the last end of a sequence
-abbrev pub checked : FileNumbers → Program → List Row → Result (List Row) UnitError
-checked files ops rows = if list_any (lacks_file files) rows then Err FileNumber else option_map_or Err ops.1 (closed rows)
+abbrev pub check_rows : FileNumbers → Program → List Row → Result (List Row) UnitError
+check_rows files ops rows = if list_any (lacks_file files) rows then Err FileNumber else option_map_or Err ops.1 (require_closed rows)
 
 -- the rows of a program, from its bytes
 unfoldable pub program_rows : Parameters → FileNumbers → List ℕ → List ℕ → Result (List Row) UnitError
 program_rows p files lengths bytes = let ops = program (length bytes) p.opcode_base lengths bytes in
-    checked files ops (rows_of p (initial p) ops.0)
+    check_rows files ops (rows_of p (initial p) ops.0)

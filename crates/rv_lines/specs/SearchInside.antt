@@ -23,27 +23,27 @@ abbrev pub higher : SourceLine → Option SourceLine → Option SourceLine
 higher source found = if is_higher source found then Some source else found
 
 -- what is found for an address after one more span
-abbrev pub noted : Span → ℕ → Option SourceLine → Option SourceLine
-noted s a found = if covers a s then higher s.source found else found
+abbrev pub note_span_at : Span → ℕ → Option SourceLine → Option SourceLine
+note_span_at s a found = if covers a s then higher s.source found else found
 
 -- what is found for each address after one more span
 abbrev pub noted_each : Span → List ℕ → List (Option SourceLine) → List (Option SourceLine)
 noted_each s [] found = []
 noted_each s (a ∷ addresses) [] = []
-noted_each s (a ∷ addresses) (f ∷ found) = noted s a f ∷ noted_each s addresses found
+noted_each s (a ∷ addresses) (f ∷ found) = note_span_at s a f ∷ noted_each s addresses found
 
 -- what is found for each address after more spans
 abbrev pub noted_all : List Span → List ℕ → List (Option SourceLine) → List (Option SourceLine)
 noted_all [] addresses found = found
 noted_all (s ∷ spans) addresses found = noted_all spans addresses (noted_each s addresses found)
 
--- what is shown of what was found
-abbrev pub shown : Option SourceLine → Option SourceLine
-shown found = option_and_then with_line found
+-- what was found, or nothing if its line is 0
+abbrev pub drop_line_0 : Option SourceLine → Option SourceLine
+drop_line_0 found = option_and_then with_line found
 
 -- nothing, whatever was found
-abbrev pub forgotten : Option SourceLine → Option SourceLine
-forgotten found = None
+abbrev pub clear : Option SourceLine → Option SourceLine
+clear found = None
 
 -- whether the file of a row that was added is there
 abbrev pub file_check : FileNumbers → Option Row → Result (Unit {0}) UnitError

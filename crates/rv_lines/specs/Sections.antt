@@ -7,7 +7,7 @@ use Rattle.rv_elf.specs.Sections.{e_shoff, e_shnum, e_shentsize, begins_with_nam
 use Rattle.rv_lines.specs.declared.error.LinesError.{LinesError}
 use Rattle.rv_lines.specs.declared.error.LinesError.TheVariants.{SectionTable, NoLines, SectionNames, Compressed, SectionFile}
 use Rattle.rv_lines.specs.declared.sections.Section.{Section}
-use Rattle.rv_lines.specs.Entries.{Texts}
+use Rattle.rv_lines.specs.Entries.{Strings}
 
 -- e_shstrndx: the index of the section that has the names of sections
 abbrev pub e_shstrndx : List ℕ → ℕ
@@ -53,12 +53,12 @@ abbrev pub bytes_of : List ℕ → Section → List ℕ
 bytes_of file s = take s.size (drop s.offset file)
 
 -- whether a section is no string table (SHT_STRTAB) within the file
-abbrev pub is_bad_names : List ℕ → Section → Bool
-is_bad_names file s = not (s.kind == 3) || is_past_file (length file) s
+abbrev pub is_invalid_name_table : List ℕ → Section → Bool
+is_invalid_name_table file s = not (s.kind == 3) || is_past_file (length file) s
 
 -- whether the index of the section of names is not that of a string table within the file
 abbrev pub has_bad_names : List ℕ → Bool
-has_bad_names file = not (nat_lt (e_shstrndx file) (e_shnum file)) || is_bad_names file (section_of_index file (e_shstrndx file))
+has_bad_names file = not (nat_lt (e_shstrndx file) (e_shnum file)) || is_invalid_name_table file (section_of_index file (e_shstrndx file))
 
 -- the names of the sections
 abbrev pub names_of : List ℕ → List ℕ
@@ -89,10 +89,10 @@ readable_bytes file gnu s = if is_compressed (names_of file) gnu s then Err Comp
 unfoldable pub bytes_named : List ℕ → List ℕ → List ℕ → Result (List ℕ) LinesError
 bytes_named file plain gnu = option_map_or (readable_bytes file gnu) (named file plain gnu) (Ok [])
 
--- `.debug_line`, and the sections of texts
+-- `.debug_line`, and the string sections
 pub record Tables : Type 0 where
   pub lines : List ℕ
-  pub texts : Texts
+  pub strings : Strings
 
 infixl 10 ◌then◌
 -- what `f` returns for the value, or the error if there is one
@@ -105,7 +105,7 @@ unfoldable pub tables_of : List ℕ → Result Tables LinesError
 tables_of file = bytes_named file (codes ".debug_line") (codes ".zdebug_line") then λ lines.
     (bytes_named file (codes ".debug_line_str") (codes ".zdebug_line_str") then λ line_str.
     (bytes_named file (codes ".debug_str") (codes ".zdebug_str") then λ str.
-    Ok (record { lines = lines; texts = record { line_str = line_str; str = str } })))
+    Ok (record { lines = lines; strings = record { line_str = line_str; str = str } })))
 
 -- whether the file has no `.debug_line`, or an empty one
 abbrev pub has_no_lines : List ℕ → Bool

@@ -1,11 +1,11 @@
--- The units of `.debug_line` (DWARF 5, section 7.4: initial lengths; section 6.2.4).
+-- The units of `.debug_line` (DWARF 5, sections 7.2.2 and 7.4: initial lengths; section 6.2.4).
 use Rattle.std.specs.Prelude.{◌==◌, ◌+◌, ℕ, zero, suc, Bool, List, [], ◌∷◌, length, take, drop, nat_lt, nat_le, Option, Some, None, Result, Ok, Err, if◌then◌else◌}
 use Rattle.byteorder.specs.Endian.{little_number}
 use Rattle.rv_lines.specs.declared.error.UnitError.{UnitError}
 use Rattle.rv_lines.specs.declared.error.UnitError.TheVariants.{UnitCutOff, Dwarf64, ReservedLength}
 use Rattle.rv_lines.specs.declared.rows.Row.{Row}
 use Rattle.rv_lines.specs.Reading.{◌>>=◌}
-use Rattle.rv_lines.specs.Entries.{Texts}
+use Rattle.rv_lines.specs.Entries.{Strings}
 use Rattle.rv_lines.specs.Header.{file_numbers, header_at}
 use Rattle.rv_lines.specs.Rows.{program_rows}
 
@@ -33,14 +33,14 @@ unit_size bytes = if nat_lt (length bytes) 4 then length bytes
     else if nat_le 0xffff_fff0 (unit_length bytes) then length bytes
     else 4 + unit_length bytes
 
--- the rows of a unit; they depend on its bytes and the sections of texts alone
-unfoldable pub unit_rows : Texts → List ℕ → Result (List Row) UnitError
-unit_rows texts bytes = header_at texts bytes >>= λ header.
+-- the rows of a unit; they depend on its bytes and the string sections alone
+unfoldable pub unit_rows : Strings → List ℕ → Result (List Row) UnitError
+unit_rows strings bytes = header_at strings bytes >>= λ header.
     program_rows header.0.parameters (file_numbers header.0) header.0.lengths header.1
 
 -- the rows of the unit at the front of these bytes, or its error
-abbrev pub rows_at : Texts → List ℕ → Result (List Row) UnitError
-rows_at texts bytes = unit_bytes bytes >>= unit_rows texts
+abbrev pub rows_at : Strings → List ℕ → Result (List Row) UnitError
+rows_at strings bytes = unit_bytes bytes >>= unit_rows strings
 
 -- a unit: its offset in the section, and its rows or its error
 pub record UnitRead : Type 0 where
@@ -48,8 +48,8 @@ pub record UnitRead : Type 0 where
   pub rows : Result (List Row) UnitError
 
 -- at most `most` units, from an offset of the section on; each has at least one byte, so there are no more than bytes
-unfoldable pub units : ℕ → Texts → ℕ → List ℕ → List UnitRead
-units zero texts offset bytes = []
-units (suc most) texts offset [] = []
-units (suc most) texts offset (b ∷ bytes) = let here = b ∷ bytes in
-    record { offset = offset; rows = rows_at texts here } ∷ units most texts (offset + unit_size here) (drop (unit_size here) here)
+unfoldable pub units : ℕ → Strings → ℕ → List ℕ → List UnitRead
+units zero strings offset bytes = []
+units (suc most) strings offset [] = []
+units (suc most) strings offset (b ∷ bytes) = let here = b ∷ bytes in
+    record { offset = offset; rows = rows_at strings here } ∷ units most strings (offset + unit_size here) (drop (unit_size here) here)

@@ -2,16 +2,17 @@
 //! of its entries is counted, and one entry is picked.
 ghost use Rattle.std.specs.Prelude.{◌≡◌, ◌||◌, if◌then◌else◌, Some, length, option_map, is_ok, true, false};
 ghost use Rattle.rv_lines.specs.Reading.{Gives};
-ghost use Rattle.rv_lines.specs.Entries.{empty_entry, is_path, numbers_at, list_at, parts_at, with_part, entry_at, entries_at, table_at};
-ghost use Rattle.rv_lines.specs.EntriesInside.{is_index, view_entry, view_entries, view_texts, summarised, path_and_rest, parts_of};
+ghost use Rattle.rv_lines.specs.Entries.{empty_entry, is_path, numbers_at, list_at, fields_at, with_field, entry_at, entries_at, table_at};
+ghost use Rattle.rv_lines.specs.EntriesInside.{is_index, view_entry, view_entries, view_strings, summarised, path_and_rest, fields_of};
 
 use crate::error::UnitError;
 use crate::forms::{
-    DW_LNCT_DIRECTORY_INDEX, DW_LNCT_PATH, Part, number_of_form, part_at, skip_form, text_of_form,
+    DW_LNCT_DIRECTORY_INDEX, DW_LNCT_PATH, Field, field_at, number_of_form, skip_form,
+    string_of_form,
 };
 use crate::numbers::{number_at, skip_number};
-use crate::reading::{byte_at, text_at};
-use crate::tables::TextSections;
+use crate::reading::{byte_at, string_at};
+use crate::tables::StringSections;
 
 /// A directory, or a file with the number of its directory.
 #[derive(Clone, Copy)]
@@ -27,7 +28,7 @@ pub(crate) struct Entries<'a> {
     pub(crate) found: Option<Entry<'a>>,
 }
 
-/// The format of entries in DWARF 5: `count` parts, described by `bytes`.
+/// The format of entries in DWARF 5: `count` fields, described by `bytes`.
 #[derive(Clone, Copy)]
 pub(crate) struct Format<'a> {
     pub(crate) count: u8,
@@ -47,7 +48,7 @@ pub(crate) fn list_at<'a>(
     let mut found = None;
     let mut rest = bytes;
     loop {
-        let (name, after) = text_at(UnitError::HeaderCutOff, rest)?;
+        let (name, after) = string_at(UnitError::HeaderCutOff, rest)?;
         if name.is_empty() {
             return Ok((Entries { count, found }, after));
         }
@@ -88,12 +89,12 @@ fn numbers_at(of_files: bool, bytes: &[u8]) -> Result<(u64, &[u8]), UnitError>
 /// Reads entries of DWARF 5 after their format and their number, and picks the entry at an index.
 #[tactic(auto, unfolding(crate::specs::Entries::table_at))]
 pub(crate) fn table_at<'a>(
-    texts: &TextSections<'a>,
+    strings: &StringSections<'a>,
     index: Option<u64>,
     bytes: &'a [u8],
 ) -> Result<(Entries<'a>, &'a [u8]), UnitError>
     ensures { Gives (λ x. (view_entries x.0, x.1.now)) result
-        (summarised index (table_at (view_texts texts.now) bytes.now)) }
+        (summarised index (table_at (view_strings strings.now) bytes.now)) }
 {
     let (count, rest) = byte_at(UnitError::HeaderCutOff, bytes)?;
     let format = Format { count, bytes: rest };
@@ -102,47 +103,47 @@ pub(crate) fn table_at<'a>(
     if !has_path && 0 < entries {
         return Err(UnitError::EntryForm);
     }
-    entries_at(texts, &format, entries, index, rest)
+    entries_at(strings, &format, entries, index, rest)
 }
 
-// Checks the parts of a format, and returns whether one of them is a path, and the bytes after them.
+// Checks the fields of a format, and returns whether one of them is a path, and the bytes after them.
 fn format_end<'a>(format: &Format<'a>) -> Result<(bool, &'a [u8]), UnitError>
     ensures { Gives (λ x. (x.0, x.1.now)) result
-        (path_and_rest false (parts_at format.now.count format.now.bytes.now)) }
+        (path_and_rest false (fields_at format.now.count format.now.bytes.now)) }
 {
     let mut has_path = false;
     let mut rest = format.bytes;
     for _ in 0..format.count {
-        let (part, after) = part_at(rest)?;
-        has_path = has_path_with(has_path, part);
+        let (field, after) = field_at(rest)?;
+        has_path = has_path_with(has_path, field);
         rest = after;
     }
     Ok((has_path, rest))
 }
 
-// Whether there is a path, once there is one more part.
-fn has_path_with(before: bool, part: Part) -> bool
-    ensures { result ≡ (before || is_path part) }
+// Whether there is a path, once there is one more field.
+fn has_path_with(before: bool, field: Field) -> bool
+    ensures { result ≡ (before || is_path field) }
 {
-    before || part.content == DW_LNCT_PATH
+    before || field.content == DW_LNCT_PATH
 }
 
 // Reads `count` entries of a format, and picks the one at an index.
 fn entries_at<'a>(
-    texts: &TextSections<'a>,
+    strings: &StringSections<'a>,
     format: &Format<'a>,
     count: u32,
     index: Option<u64>,
     bytes: &'a [u8],
 ) -> Result<(Entries<'a>, &'a [u8]), UnitError>
-    requires { is_ok (parts_at format.now.count format.now.bytes.now) ≡ true }
+    requires { is_ok (fields_at format.now.count format.now.bytes.now) ≡ true }
     ensures { Gives (λ x. (view_entries x.0, x.1.now)) result
-        (summarised index (entries_at (view_texts texts.now) (parts_of format.now) count bytes.now)) }
+        (summarised index (entries_at (view_strings strings.now) (fields_of format.now) count bytes.now)) }
 {
     let mut found = None;
     let mut rest = bytes;
     for k in 0..count {
-        let (entry, after) = entry_at(texts, format, rest)?;
+        let (entry, after) = entry_at(strings, format, rest)?;
         found = pick(index, u64::from(k), entry, found);
         rest = after;
     }
@@ -157,13 +158,13 @@ fn entries_at<'a>(
 
 // Reads an entry of a format.
 fn entry_at<'a>(
-    texts: &TextSections<'a>,
+    strings: &StringSections<'a>,
     format: &Format<'a>,
     bytes: &'a [u8],
 ) -> Result<(Entry<'a>, &'a [u8]), UnitError>
-    requires { is_ok (parts_at format.now.count format.now.bytes.now) ≡ true }
+    requires { is_ok (fields_at format.now.count format.now.bytes.now) ≡ true }
     ensures { Gives (λ x. (view_entry x.0, x.1.now)) result
-        (entry_at (view_texts texts.now) (parts_of format.now) empty_entry bytes.now) }
+        (entry_at (view_strings strings.now) (fields_of format.now) empty_entry bytes.now) }
 {
     let mut entry = Entry {
         name: b"",
@@ -172,8 +173,8 @@ fn entry_at<'a>(
     let mut described = format.bytes;
     let mut rest = bytes;
     for _ in 0..format.count {
-        let (part, next) = part_at(described)?;
-        let (more, after) = with_part(texts, part, entry, rest)?;
+        let (field, next) = field_at(described)?;
+        let (more, after) = with_field(strings, field, entry, rest)?;
         entry = more;
         described = next;
         rest = after;
@@ -181,20 +182,20 @@ fn entry_at<'a>(
     Ok((entry, rest))
 }
 
-// Reads one more part of an entry.
-#[tactic(auto, unfolding(crate::specs::Entries::with_part))]
-fn with_part<'a>(
-    texts: &TextSections<'a>,
-    part: Part,
+// Reads one more field of an entry.
+#[tactic(auto, unfolding(crate::specs::Entries::with_field))]
+fn with_field<'a>(
+    strings: &StringSections<'a>,
+    field: Field,
     entry: Entry<'a>,
     bytes: &'a [u8],
 ) -> Result<(Entry<'a>, &'a [u8]), UnitError>
     ensures { Gives (λ x. (view_entry x.0, x.1.now)) result
-        (with_part (view_texts texts.now) part (view_entry entry.entry) bytes.now) }
+        (with_field (view_strings strings.now) field (view_entry entry.entry) bytes.now) }
 {
-    match part.content {
+    match field.content {
         DW_LNCT_PATH => {
-            let (name, rest) = text_of_form(texts, part.form, bytes)?;
+            let (name, rest) = string_of_form(strings, field.form, bytes)?;
             Ok((
                 Entry {
                     name,
@@ -204,7 +205,7 @@ fn with_part<'a>(
             ))
         }
         DW_LNCT_DIRECTORY_INDEX => {
-            let (directory, rest) = number_of_form(part.form, bytes)?;
+            let (directory, rest) = number_of_form(field.form, bytes)?;
             Ok((
                 Entry {
                     name: entry.name,
@@ -213,6 +214,6 @@ fn with_part<'a>(
                 rest,
             ))
         }
-        _ => Ok((entry, skip_form(part.form, bytes)?)),
+        _ => Ok((entry, skip_form(field.form, bytes)?)),
     }
 }

@@ -40,13 +40,13 @@ pub enum UnitError {
     UnitCutOff,
     /// The unit is in 64-bit form (7.4). It is passed over.
     Dwarf64,
-    /// The length is reserved (7.4). Nothing after it is read.
+    /// The length is reserved (7.2.2). Nothing after it is read.
     ReservedLength,
     /// The version is none of 2 to 5.
     Version,
     /// `address_size` is not 4, or there is a segment selector.
     AddressSize,
-    /// A part of the header extends past the header, or the header past the unit.
+    /// A field of the header extends past the header, or the header past the unit.
     HeaderCutOff,
     /// `maximum_operations_per_instruction` is not 1.
     Operations,
@@ -56,9 +56,9 @@ pub enum UnitError {
     OpcodeBase,
     /// The number of operands of one of the operations 1 to 12 is not the standard's.
     OpcodeLengths,
-    /// A form is not read here, a path is not a text, a directory is not a number, or entries have no parts (6.2.4.1).
+    /// A form is not read here, a path is not a string, a directory is not a number, or entries have no path (6.2.4.1).
     EntryForm,
-    /// The offset of a text is outside its section, or no zero byte follows.
+    /// The offset of a string is outside its section, or no zero byte follows.
     EntryText,
     /// A LEB128 number (7.6) that is not skipped is out of range.
     Number,
@@ -66,7 +66,7 @@ pub enum UnitError {
     OperationCutOff,
     /// The length of an extended operation is not that of its operands (6.2.5.3).
     OperationLength,
-    /// A row that does not end a sequence is of a file that is not there.
+    /// A row that does not end a sequence is of an unknown file.
     FileNumber,
     /// Rows follow the last end of a sequence.
     OpenSequence,

@@ -1,20 +1,20 @@
-//! The parts of an entry and their forms (DWARF 5, sections 6.2.4.1 and 7.5.6).
+//! The fields of an entry and their forms (DWARF 5, sections 6.2.4.1 and 7.5.6).
 ghost use Rattle.std.specs.Prelude.{◌≡◌};
 ghost use Rattle.rv_lines.specs.Reading.{Gives};
-ghost use Rattle.rv_lines.specs.Entries.{is_text_form, size_of_form, is_number_form, is_known_form, is_good_part, part_at, offset_text_at};
-ghost use Rattle.rv_lines.specs.Entries.{form_text_at, form_number_at, sized_number_at, skip_variable_form, skipped_size, skip_form};
-ghost use Rattle.rv_lines.specs.EntriesInside.{view_texts};
+ghost use Rattle.rv_lines.specs.Entries.{is_string_form, size_of_form, is_number_form, is_known_form, is_valid_field, field_at, offset_string_at};
+ghost use Rattle.rv_lines.specs.Entries.{form_string_at, form_number_at, sized_number_at, skip_variable_form, skipped_size, skip_form};
+ghost use Rattle.rv_lines.specs.EntriesInside.{view_strings};
 
 use crate::error::UnitError;
 use crate::numbers::{number_at, skip_number};
 use crate::reading::{
-    byte_at, bytes_from, half_at, long_at, skip_at, text_at, text_before_zero, word_at,
+    byte_at, bytes_from, half_at, long_at, skip_at, string_at, text_before_zero, word_at,
 };
-use crate::tables::TextSections;
+use crate::tables::StringSections;
 
-/// A part of an entry: its content type and its form.
+/// A field of an entry: its content type and its form.
 #[derive(Clone, Copy)]
-pub(crate) struct Part {
+pub(crate) struct Field {
     pub(crate) content: u32,
     pub(crate) form: u32,
 }
@@ -45,37 +45,37 @@ const DW_FORM_DATA16: u32 = 0x1e;
 
 const DW_FORM_LINE_STRP: u32 = 0x1f;
 
-/// Reads one part of the format of entries, whose form must fit its content.
-#[tactic(auto, unfolding(crate::specs::Entries::part_at))]
-pub(crate) fn part_at(bytes: &[u8]) -> Result<(Part, &[u8]), UnitError>
-    ensures { Gives (λ x. (x.0, x.1.now)) result (part_at bytes.now) }
+/// Reads one field of the format of entries, whose form must fit its content.
+#[tactic(auto, unfolding(crate::specs::Entries::field_at))]
+pub(crate) fn field_at(bytes: &[u8]) -> Result<(Field, &[u8]), UnitError>
+    ensures { Gives (λ x. (x.0, x.1.now)) result (field_at bytes.now) }
 {
     let (content, rest) = number_at(UnitError::HeaderCutOff, bytes)?;
     let (form, rest) = number_at(UnitError::HeaderCutOff, rest)?;
-    let part = Part { content, form };
-    if part.is_good_part() {
-        Ok((part, rest))
+    let field = Field { content, form };
+    if field.is_valid_field() {
+        Ok((field, rest))
     } else {
         Err(UnitError::EntryForm)
     }
 }
 
-impl Part {
-    // Whether the part may have its form: a path is a text, the number of a directory a number, and any other has a form that is read.
-    fn is_good_part(self) -> bool
-        ensures { result ≡ is_good_part self }
+impl Field {
+    // Whether the field may have its form: a path is a string, the number of a directory a number, and any other has a form that is read.
+    fn is_valid_field(self) -> bool
+        ensures { result ≡ is_valid_field self }
     {
         match self.content {
-            DW_LNCT_PATH => is_text_form(self.form),
+            DW_LNCT_PATH => is_string_form(self.form),
             DW_LNCT_DIRECTORY_INDEX => is_number_form(self.form),
             _ => is_known_form(self.form),
         }
     }
 }
 
-// Whether a form is a text.
-fn is_text_form(form: u32) -> bool
-    ensures { result ≡ is_text_form form }
+// Whether a form is a string.
+fn is_string_form(form: u32) -> bool
+    ensures { result ≡ is_string_form form }
 {
     form == DW_FORM_STRING || form == DW_FORM_LINE_STRP || form == DW_FORM_STRP
 }
@@ -91,7 +91,7 @@ fn is_number_form(form: u32) -> bool
 fn is_known_form(form: u32) -> bool
     ensures { result ≡ is_known_form form }
 {
-    is_text_form(form) || is_number_form(form) || form == DW_FORM_DATA16 || form == DW_FORM_BLOCK
+    is_string_form(form) || is_number_form(form) || form == DW_FORM_DATA16 || form == DW_FORM_BLOCK
 }
 
 // Returns the number of bytes of a number of a fixed size, or `None` for another form.
@@ -107,27 +107,30 @@ fn size_of_form(form: u32) -> Option<u32>
     }
 }
 
-/// Reads a text of a form.
-#[tactic(auto, unfolding(crate::specs::Entries::form_text_at))]
-pub(crate) fn text_of_form<'a>(
-    texts: &TextSections<'a>,
+/// Reads a string of a form.
+#[tactic(auto, unfolding(crate::specs::Entries::form_string_at))]
+pub(crate) fn string_of_form<'a>(
+    strings: &StringSections<'a>,
     form: u32,
     bytes: &'a [u8],
 ) -> Result<(&'a [u8], &'a [u8]), UnitError>
-    ensures { Gives (λ x. (x.0.now, x.1.now)) result (form_text_at (view_texts texts.now) form bytes.now) }
+    ensures { Gives (λ x. (x.0.now, x.1.now)) result (form_string_at (view_strings strings.now) form bytes.now) }
 {
     match form {
-        DW_FORM_STRING => text_at(UnitError::HeaderCutOff, bytes),
-        DW_FORM_LINE_STRP => offset_text_at(texts.line_str, bytes),
-        DW_FORM_STRP => offset_text_at(texts.str, bytes),
+        DW_FORM_STRING => string_at(UnitError::HeaderCutOff, bytes),
+        DW_FORM_LINE_STRP => offset_string_at(strings.line_str, bytes),
+        DW_FORM_STRP => offset_string_at(strings.str, bytes),
         _ => Err(UnitError::EntryForm),
     }
 }
 
-// Reads the offset of a text, and returns the text of the section there.
-#[tactic(auto, unfolding(crate::specs::Entries::offset_text_at))]
-fn offset_text_at<'a>(section: &'a [u8], bytes: &'a [u8]) -> Result<(&'a [u8], &'a [u8]), UnitError>
-    ensures { Gives (λ x. (x.0.now, x.1.now)) result (offset_text_at section.now bytes.now) }
+// Reads the offset of a string, and returns the text of the section there.
+#[tactic(auto, unfolding(crate::specs::Entries::offset_string_at))]
+fn offset_string_at<'a>(
+    section: &'a [u8],
+    bytes: &'a [u8],
+) -> Result<(&'a [u8], &'a [u8]), UnitError>
+    ensures { Gives (λ x. (x.0.now, x.1.now)) result (offset_string_at section.now bytes.now) }
 {
     let (offset, rest) = word_at(UnitError::HeaderCutOff, bytes)?;
     match text_before_zero(bytes_from(section, offset as usize)) {
@@ -191,7 +194,7 @@ fn skip_variable_form(form: u32, bytes: &[u8]) -> Result<&[u8], UnitError>
 {
     match form {
         DW_FORM_STRING => {
-            let (_, rest) = text_at(UnitError::HeaderCutOff, bytes)?;
+            let (_, rest) = string_at(UnitError::HeaderCutOff, bytes)?;
             Ok(rest)
         }
         DW_FORM_UDATA => skip_number(UnitError::HeaderCutOff, bytes),

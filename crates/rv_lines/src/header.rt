@@ -2,14 +2,14 @@
 ghost use Rattle.std.specs.Prelude.{◌≡◌, ◌<◌, IfOk};
 ghost use Rattle.rv_lines.specs.Reading.{Gives};
 ghost use Rattle.rv_lines.specs.Header.{are_standard, sign_extended, operations_check, lengths_at, parameters_at, entries_of_version};
-ghost use Rattle.rv_lines.specs.Header.{first_number, index_of, parts_of_header, addresses_check, version_at, frame_at, header_at};
-ghost use Rattle.rv_lines.specs.EntriesInside.{view_entries, view_texts, summarised};
-ghost use Rattle.rv_lines.specs.HeaderInside.{view_header, brief_of, brief_at};
+ghost use Rattle.rv_lines.specs.Header.{first_number, index_of, fields_of_header, addresses_check, version_at, frame_at, header_at};
+ghost use Rattle.rv_lines.specs.EntriesInside.{view_entries, view_strings, summarised};
+ghost use Rattle.rv_lines.specs.HeaderInside.{view_header, header_summary_of, header_summary_at};
 
 use crate::entries::{Entries, Entry, list_at, table_at};
 use crate::error::UnitError;
 use crate::reading::{byte_at, half_at, word_at};
-use crate::tables::TextSections;
+use crate::tables::StringSections;
 
 /// The parameters of a program.
 #[derive(Clone, Copy)]
@@ -35,14 +35,17 @@ pub(crate) struct FileNumbers {
 
 /// The numbers of the directory and of the file to be picked from a header.
 #[derive(Clone, Copy)]
-pub(crate) struct Wanted {
+pub(crate) struct RequestedEntries {
     pub(crate) directory: u64,
     pub(crate) file: u64,
 }
 
-impl Wanted {
+impl RequestedEntries {
     /// For a caller that needs neither.
-    pub(crate) const NOTHING: Wanted = Wanted { directory: 0, file: 0 };
+    pub(crate) const NOTHING: RequestedEntries = RequestedEntries {
+        directory: 0,
+        file: 0,
+    };
 }
 
 /// A header, with the directory and the file that were picked.
@@ -62,20 +65,20 @@ const STANDARD_LENGTHS: [u8; 12] = [0, 1, 1, 1, 1, 0, 0, 0, 1, 0, 0, 1];
 /// Reads the header of a unit, from the bytes after `unit_length`. After it comes the program.
 #[tactic(auto, unfolding(crate::specs::Header::header_at))]
 pub(crate) fn header_at<'a>(
-    texts: &TextSections<'a>,
-    wanted: Wanted,
+    strings: &StringSections<'a>,
+    requested: RequestedEntries,
     bytes: &'a [u8],
 ) -> Result<(Header<'a>, &'a [u8]), UnitError>
     ensures value { Gives (λ x. (view_header x.0, x.1.now)) result
-        (brief_at wanted (header_at (view_texts texts.now) bytes.now)) }
+        (header_summary_at requested (header_at (view_strings strings.now) bytes.now)) }
     ensures divides { IfOk result (λ x. 0 < x.0.parameters.line_range) }
 {
-    let (version, parts, program) = frame_at(bytes)?;
-    let header = parts_of_header(texts, wanted, version, parts)?;
+    let (version, fields, program) = frame_at(bytes)?;
+    let header = fields_of_header(strings, requested, version, fields)?;
     Ok((header, program))
 }
 
-// Reads the version, and returns the bytes of the header's parts and those of the program.
+// Reads the version, and returns the bytes of the header's fields and those of the program.
 #[tactic(auto, unfolding(crate::specs::Header::frame_at))]
 fn frame_at(bytes: &[u8]) -> Result<(u16, &[u8], &[u8]), UnitError>
     ensures { Gives (λ x. ((x.0, x.1.now), x.2.now)) result (frame_at bytes.now) }
@@ -86,8 +89,8 @@ fn frame_at(bytes: &[u8]) -> Result<(u16, &[u8], &[u8]), UnitError>
     if rest.len() < size as usize {
         return Err(UnitError::HeaderCutOff);
     }
-    let (parts, program) = rest.split_at(size as usize);
-    Ok((version, parts, program))
+    let (fields, program) = rest.split_at(size as usize);
+    Ok((version, fields, program))
 }
 
 // Reads the version, which must be 2 to 5.
@@ -122,24 +125,24 @@ fn addresses_check(version: u16, bytes: &[u8]) -> Result<&[u8], UnitError>
     Ok(rest)
 }
 
-// Reads the parts of a header after `header_length`.
-#[tactic(auto, unfolding(crate::specs::Header::parts_of_header))]
-fn parts_of_header<'a>(
-    texts: &TextSections<'a>,
-    wanted: Wanted,
+// Reads the fields of a header after `header_length`.
+#[tactic(auto, unfolding(crate::specs::Header::fields_of_header))]
+fn fields_of_header<'a>(
+    strings: &StringSections<'a>,
+    requested: RequestedEntries,
     version: u16,
     bytes: &'a [u8],
 ) -> Result<Header<'a>, UnitError>
-    ensures value { Gives view_header result (brief_of wanted (parts_of_header (view_texts texts.now) version bytes.now)) }
+    ensures value { Gives view_header result (header_summary_of requested (fields_of_header (view_strings strings.now) version bytes.now)) }
     ensures divides { IfOk result (λ header. 0 < header.parameters.line_range) }
 {
     let first = first_number(version);
-    let directory = index_of(first, wanted.directory);
-    let file = index_of(first, wanted.file);
+    let directory = index_of(first, requested.directory);
+    let file = index_of(first, requested.file);
     let (parameters, rest) = parameters_at(version, bytes)?;
     let (lengths, rest) = lengths_at(parameters.opcode_base, rest)?;
-    let (directories, rest) = entries_of_version(texts, version, false, directory, rest)?;
-    let (files, _) = entries_of_version(texts, version, true, file, rest)?;
+    let (directories, rest) = entries_of_version(strings, version, false, directory, rest)?;
+    let (files, _) = entries_of_version(strings, version, true, file, rest)?;
     Ok(Header {
         parameters,
         lengths,
@@ -169,17 +172,17 @@ fn index_of(first: u32, number: u64) -> Option<u64>
 // Reads directories or files in the form of the version, and picks the entry at an index.
 #[tactic(auto, unfolding(crate::specs::Header::entries_of_version))]
 fn entries_of_version<'a>(
-    texts: &TextSections<'a>,
+    strings: &StringSections<'a>,
     version: u16,
     of_files: bool,
     index: Option<u64>,
     bytes: &'a [u8],
 ) -> Result<(Entries<'a>, &'a [u8]), UnitError>
     ensures { Gives (λ x. (view_entries x.0, x.1.now)) result
-        (summarised index (entries_of_version (view_texts texts.now) version of_files bytes.now)) }
+        (summarised index (entries_of_version (view_strings strings.now) version of_files bytes.now)) }
 {
     if version == 5 {
-        table_at(texts, index, bytes)
+        table_at(strings, index, bytes)
     } else {
         list_at(of_files, index, bytes)
     }
@@ -240,7 +243,7 @@ fn sign_extended(byte: u8) -> u32
     }
 }
 
-// Reads `standard_opcode_lengths`, of the operations from 1 up to, and not with, `opcode_base`.
+// Reads `standard_opcode_lengths`, of the operations from 1 up to but excluding `opcode_base`.
 #[tactic(auto, unfolding(crate::specs::Header::lengths_at))]
 fn lengths_at(opcode_base: u8, bytes: &[u8]) -> Result<(&[u8], &[u8]), UnitError>
     ensures { Gives (λ x. (x.0.now, x.1.now)) result (lengths_at opcode_base bytes.now) }

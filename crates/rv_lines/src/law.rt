@@ -5,7 +5,7 @@ ghost use Rattle.rv_lines.specs.declared.header.Parameters.{Parameters};
 ghost use Rattle.rv_lines.specs.declared.operations.Operation.{Operation};
 ghost use Rattle.rv_lines.specs.declared.rows.State.{State};
 ghost use Rattle.rv_lines.specs.Operations.{operation_at, program};
-ghost use Rattle.rv_lines.specs.Rows.{adds_row, changed, row_added, in_front, rows_of, state_after};
+ghost use Rattle.rv_lines.specs.Rows.{adds_row, apply, row_added, in_front, rows_of, state_after};
 ghost use Rattle.rv_lines.specs.Paths.{path_text, path_with};
 
 /// Proves that the rows are those of the operations that add one, one each, in the order of the operations: after the rows of the operations
@@ -13,7 +13,7 @@ ghost use Rattle.rv_lines.specs.Paths.{path_text, path_with};
 pub fn rows_are_of_operations()
     ensures order { (p : Parameters) (s : State) (front : List Operation) (op : Operation) (back : List Operation)
         → rows_of p s (front ++ op ∷ back)
-        ≡ rows_of p s front ++ in_front (row_added op (changed p op (state_after p s front))) (rows_of p (state_after p s (front ++ op ∷ [])) back) }
+        ≡ rows_of p s front ++ in_front (row_added op (apply p op (state_after p s front))) (rows_of p (state_after p s (front ++ op ∷ [])) back) }
     ensures count { (p : Parameters) (s : State) (ops : List Operation) → length (rows_of p s ops) ≡ count_by adds_row ops }
 {}
 

@@ -1,8 +1,8 @@
 //! The source lines of an image, from its own line tables (DWARF 2 to 5, section 6.2 of DWARF 5).
 //!
-//! [`line_tables`] finds `.debug_line` and the sections of texts in a file. [`find_lines`] finds the source line of each of a sorted list of
-//! addresses, in one pass that keeps no table, and returns how many units were rejected and why. [`source_path`] returns the path of a
-//! line's file. Each result is exactly as defined in `specs/`, which restates the standard. Nothing here allocates.
+//! [`line_tables`] finds `.debug_line` and the string sections in a file. [`find_lines`] finds the source line of each of a sorted list of
+//! addresses without keeping a table, and returns how many units were rejected and the error of the first. [`source_path`] returns the path of a
+//! line's file. Each result is exactly as defined in `specs/`, which restricts the standard. Nothing here allocates.
 #![tactic(auto)]
 
 mod entries;
@@ -31,7 +31,7 @@ pub use path::{SourcePath, source_path};
 pub use search::{RejectedUnits, find_lines};
 pub use sections::line_tables;
 pub use span::SourceLine;
-pub use tables::{LineTables, TextSections};
+pub use tables::{LineTables, StringSections};
 
 #[cfg(test)]
 mod tests;

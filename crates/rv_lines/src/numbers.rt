@@ -6,7 +6,7 @@ ghost use Rattle.rv_lines.specs.Numbers.{number_at, signed_at, skip_number, skip
 use crate::error::UnitError;
 use crate::reading::bytes_from;
 
-/// A byte of a number has seven bits of it; all but the last have the bit above them too.
+/// Set in every byte of a LEB128 but the last.
 const MORE: u8 = 0x80;
 
 /// The sign of a signed number, in its last byte.
@@ -39,7 +39,7 @@ pub(crate) fn signed_at(cut: UnitError, bytes: &[u8]) -> Result<(u32, &[u8]), Un
         return Err(cut);
     };
     let negative = bytes[last] >= SIGN;
-    // -1 - n has the digits of n with each bit turned.
+    // -1 - n has the digits of n with each bit inverted.
     let value = digits_value(&bytes[..last + 1], negative);
     if value > i32::MAX as u64 {
         return Err(UnitError::Number);
@@ -78,17 +78,17 @@ fn last_byte(bytes: &[u8]) -> Option<usize>
     bytes.iter().position(|byte| *byte < MORE)
 }
 
-// Returns the value of the bytes of a number, seven bits each, the lowest first, or `OUT_OF_RANGE` if it is not below it. `turned` turns
+// Returns the value of the bytes of a number, seven bits each, the lowest first, or `OUT_OF_RANGE` if it is not below it. `inverted` inverts
 // each bit.
-fn digits_value(bytes: &[u8], turned: bool) -> u64
-    ensures { result ≡ min (2 ^ 32) (digits_value turned bytes.now) }
+fn digits_value(bytes: &[u8], inverted: bool) -> u64
+    ensures { result ≡ min (2 ^ 32) (digits_value inverted bytes.now) }
 {
     let mut value = 0;
     let mut at = bytes.len();
     while 0 < at {
         at -= 1;
         let digit = bytes[at] % MORE;
-        let digit = if turned { MORE - 1 - digit } else { digit };
+        let digit = if inverted { MORE - 1 - digit } else { digit };
         value = OUT_OF_RANGE.min(value * 128 + u64::from(digit));
     }
     value

@@ -10,7 +10,7 @@ use crate::reading::{byte_at, half_at, skip_at, word_at};
 /// An operation, with its operand.
 #[derive(Clone, Copy)]
 pub(crate) enum Operation {
-    /// A special operation; its code is counted from `opcode_base`.
+    /// A special opcode, with its adjusted opcode (6.2.5.1).
     Special(u8),
     /// `DW_LNS_copy`.
     Copy,
@@ -87,8 +87,8 @@ fn standard_at<'a>(
     match code {
         DW_LNS_COPY => Ok((Operation::Copy, bytes)),
         DW_LNS_ADVANCE_PC => {
-            let (instructions, rest) = number_at(UnitError::OperationCutOff, bytes)?;
-            Ok((Operation::AdvancePc(instructions), rest))
+            let (operation_advance, rest) = number_at(UnitError::OperationCutOff, bytes)?;
+            Ok((Operation::AdvancePc(operation_advance), rest))
         }
         DW_LNS_ADVANCE_LINE => {
             let (lines, rest) = signed_at(UnitError::OperationCutOff, bytes)?;

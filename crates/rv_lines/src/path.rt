@@ -1,12 +1,12 @@
 //! The path of a source line's file (DWARF 5, section 6.2.4: `directories`, `file_names`).
 ghost use Rattle.std.specs.Prelude.{◌≡◌, ◌==◌, Some, None, MatchOption, option_map, option_and_then};
-ghost use Rattle.rv_lines.specs.EntriesInside.{view_entry, view_texts};
+ghost use Rattle.rv_lines.specs.EntriesInside.{view_entry, view_strings};
 ghost use Rattle.rv_lines.specs.Paths.{is_absolute, has_no_directory, directory_name, path_of};
-ghost use Rattle.rv_lines.specs.PathsInside.{brief_of_unit, view_path};
+ghost use Rattle.rv_lines.specs.PathsInside.{unit_header_summary, view_path};
 ghost use Rattle.rv_lines.specs.HeaderInside.{view_header};
 
 use crate::entries::Entry;
-use crate::header::{Header, Wanted, header_at};
+use crate::header::{Header, RequestedEntries, header_at};
 use crate::reading::bytes_from;
 use crate::tables::LineTables;
 use crate::units::unit_bytes;
@@ -24,14 +24,14 @@ pub struct SourcePath<'a> {
 /// unit's header is rejected or has no such file. The path is NAME if that begins with `/`, if its directory is number 0, the compiler's own,
 /// or if no directory has its number; otherwise it is DIRECTORY/NAME. Reads the header again. Does not allocate.
 pub fn source_path<'a>(tables: &LineTables<'a>, unit: u32, file: u32) -> Option<SourcePath<'a>>
-    ensures { MatchOption result (path_of (view_texts tables.now.texts) tables.now.lines.now unit file ≡ None)
-        (λ p. path_of (view_texts tables.now.texts) tables.now.lines.now unit file ≡ Some (view_path p)) }
+    ensures { MatchOption result (path_of (view_strings tables.now.strings) tables.now.lines.now unit file ≡ None)
+        (λ p. path_of (view_strings tables.now.strings) tables.now.lines.now unit file ≡ Some (view_path p)) }
 {
     let number = u64::from(file);
     let header = header_of(
         tables,
         unit,
-        Wanted {
+        RequestedEntries {
             directory: 0,
             file: number,
         },
@@ -43,11 +43,11 @@ pub fn source_path<'a>(tables: &LineTables<'a>, unit: u32, file: u32) -> Option<
             name: entry.name,
         });
     }
-    let wanted = Wanted {
+    let requested = RequestedEntries {
         directory: entry.directory,
         file: number,
     };
-    let other = header_of(tables, unit, wanted)?;
+    let other = header_of(tables, unit, requested)?;
     Some(SourcePath {
         directory: name_of(other.directory),
         name: entry.name,
@@ -55,15 +55,19 @@ pub fn source_path<'a>(tables: &LineTables<'a>, unit: u32, file: u32) -> Option<
 }
 
 // Returns the header of the unit at an offset, or `None` if it is rejected.
-fn header_of<'a>(tables: &LineTables<'a>, unit: u32, wanted: Wanted) -> Option<Header<'a>>
+fn header_of<'a>(
+    tables: &LineTables<'a>,
+    unit: u32,
+    requested: RequestedEntries,
+) -> Option<Header<'a>>
     ensures { MatchOption result
-        (brief_of_unit wanted (view_texts tables.now.texts) tables.now.lines.now unit ≡ None)
-        (λ h. brief_of_unit wanted (view_texts tables.now.texts) tables.now.lines.now unit ≡ Some (view_header h)) }
+        (unit_header_summary requested (view_strings tables.now.strings) tables.now.lines.now unit ≡ None)
+        (λ h. unit_header_summary requested (view_strings tables.now.strings) tables.now.lines.now unit ≡ Some (view_header h)) }
 {
     let Ok(bytes) = unit_bytes(bytes_from(tables.lines, unit as usize)) else {
         return None;
     };
-    match header_at(&tables.texts, wanted, bytes) {
+    match header_at(&tables.strings, requested, bytes) {
         Ok((header, _)) => Some(header),
         Err(_) => None,
     }

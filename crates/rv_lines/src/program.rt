@@ -1,4 +1,4 @@
-//! One pass over the program of a unit: it checks the program, and notes the span of each row.
+//! Reads the program of a unit: checks it, and notes the span of each row.
 ghost use Rattle.std.specs.Prelude.{◌≡◌, ◌<◌, [], length, IfOk, None};
 ghost use Rattle.rv_lines.specs.Lines.{spans_after};
 ghost use Rattle.rv_lines.specs.SearchInside.{noted_all, checked_only, rows_of_program, file_check, IsRising};
@@ -42,12 +42,12 @@ pub(crate) fn note_program(
             program.lengths,
             rest,
         )?;
-        let changed = state.changed(&program.parameters, operation);
+        let changed = state.apply(&program.parameters, operation);
         let added = changed.row_added(operation);
         check_file(added, program.files)?;
         note_row(program.unit, before, added, addresses, found);
         before = added.or(before);
-        state = changed.after(&program.parameters, operation);
+        state = changed.next_state(&program.parameters, operation);
         rest = after;
     }
     match state.low {

@@ -1,7 +1,7 @@
 //! Reading from the front of bytes. Each function returns a value and the bytes after it, or the error `cut` if the bytes end too early.
 ghost use Rattle.std.specs.Prelude.{◌≡◌, ◌==◌, ◌<◌, ◌+◌, position, Some, None, MatchOption, IfSome, length, drop};
 ghost use Rattle.rv_elf.specs.Sections.{text_before_zero};
-ghost use Rattle.rv_lines.specs.Reading.{Gives, byte_at, fixed_at, skip_at, text_at};
+ghost use Rattle.rv_lines.specs.Reading.{Gives, byte_at, fixed_at, skip_at, string_at};
 
 use crate::error::UnitError;
 use byteorder::{ByteOrder, LittleEndian};
@@ -56,10 +56,10 @@ pub(crate) fn skip_at(cut: UnitError, size: u32, bytes: &[u8]) -> Result<&[u8], 
     Ok(&bytes[size as usize..])
 }
 
-/// Reads a text and its zero byte.
-#[tactic(auto, unfolding(crate::specs::Reading::text_at))]
-pub(crate) fn text_at(cut: UnitError, bytes: &[u8]) -> Result<(&[u8], &[u8]), UnitError>
-    ensures { Gives (λ x. (x.0.now, x.1.now)) result (text_at cut bytes.now) }
+/// Reads a string and its zero byte.
+#[tactic(auto, unfolding(crate::specs::Reading::string_at))]
+pub(crate) fn string_at(cut: UnitError, bytes: &[u8]) -> Result<(&[u8], &[u8]), UnitError>
+    ensures { Gives (λ x. (x.0.now, x.1.now)) result (string_at cut bytes.now) }
 {
     match text_before_zero(bytes) {
         None => Err(cut),

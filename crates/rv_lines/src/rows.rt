@@ -1,6 +1,6 @@
 //! The rows of a line number program: the fold of its operations over the state (DWARF 5, sections 6.2.2 and 6.2.5).
 ghost use Rattle.std.specs.Prelude.{◌≡◌, ◌<◌};
-ghost use Rattle.rv_lines.specs.Rows.{initial, changed, advanced, line_advanced, low_of, row_of, row_added, after, has_file, lacks_file};
+ghost use Rattle.rv_lines.specs.Rows.{initial, apply, advanced, line_advanced, low_of, row_of, row_added, next_state, has_file, lacks_file};
 ghost use Rattle.rv_lines.specs.Lines.{covers_nothing};
 
 use crate::header::{FileNumbers, Parameters};
@@ -42,9 +42,9 @@ impl State {
     }
 
     /// Returns the state as an operation changes it, before its row.
-    pub(crate) fn changed(self, parameters: &Parameters, operation: Operation) -> State
+    pub(crate) fn apply(self, parameters: &Parameters, operation: Operation) -> State
         requires { 0 < parameters.now.line_range }
-        ensures { result ≡ changed parameters.now operation self }
+        ensures { result ≡ apply parameters.now operation self }
     {
         match operation {
             Operation::Special(code) => self
@@ -54,7 +54,7 @@ impl State {
                         .line_base
                         .wrapping_add(u32::from(code % parameters.line_range)),
                 ),
-            Operation::AdvancePc(instructions) => self.advanced(parameters, instructions),
+            Operation::AdvancePc(operation_advance) => self.advanced(parameters, operation_advance),
             Operation::AdvanceLine(lines) => self.line_advanced(lines),
             Operation::SetFile(file) => State { file, ..self },
             Operation::NegateStmt => State {
@@ -74,11 +74,11 @@ impl State {
         }
     }
 
-    // Returns the state with its address advanced by a number of instructions.
-    fn advanced(self, parameters: &Parameters, instructions: u32) -> State
-        ensures { result ≡ advanced parameters.now instructions self }
+    // Returns the state with its address advanced by an operation advance.
+    fn advanced(self, parameters: &Parameters, operation_advance: u32) -> State
+        ensures { result ≡ advanced parameters.now operation_advance self }
     {
-        let bytes = u32::from(parameters.min_length).wrapping_mul(instructions);
+        let bytes = u32::from(parameters.min_length).wrapping_mul(operation_advance);
         State {
             address: self.address.wrapping_add(bytes),
             ..self
@@ -128,8 +128,8 @@ impl State {
     }
 
     /// Returns the state after an operation, given the state as it changed it.
-    pub(crate) fn after(self, parameters: &Parameters, operation: Operation) -> State
-        ensures { result ≡ after parameters.now operation self }
+    pub(crate) fn next_state(self, parameters: &Parameters, operation: Operation) -> State
+        ensures { result ≡ next_state parameters.now operation self }
     {
         match operation {
             Operation::EndSequence => State::initial(parameters),
@@ -150,7 +150,7 @@ impl Row {
         self.ends || self.address < self.low
     }
 
-    /// Whether the row needs a file that is not there.
+    /// Whether the row needs an unknown file.
     pub(crate) fn lacks_file(&self, files: FileNumbers) -> bool
         ensures { result ≡ lacks_file files self.now }
     {

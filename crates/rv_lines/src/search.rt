@@ -1,8 +1,8 @@
-//! The lookup of addresses, in one pass over `.debug_line` that keeps no table.
+//! The lookup of addresses, in one walk over the units of `.debug_line` that keeps no table.
 ghost use Rattle.std.specs.Prelude.{◌≡◌, ◌<◌, ◌≤◌, ◌^◌, length, map};
-ghost use Rattle.rv_lines.specs.EntriesInside.{view_texts};
+ghost use Rattle.rv_lines.specs.EntriesInside.{view_strings};
 ghost use Rattle.rv_lines.specs.Lines.{line_at, units_of, rejected_units};
-ghost use Rattle.rv_lines.specs.SearchInside.{shown, forgotten, IsRising, rejected_after};
+ghost use Rattle.rv_lines.specs.SearchInside.{drop_line_0, clear, IsRising, rejected_after};
 
 use crate::error::UnitError;
 use crate::reading::bytes_from;
@@ -21,10 +21,10 @@ pub struct RejectedUnits {
     pub first: Option<(UnitError, u32)>,
 }
 
-/// Finds the source line of each address; the addresses must be sorted. `found` has a place for each address. Returns how many units are
-/// rejected: their rows are as if they were not there.
+/// Finds the source line of each address; the addresses must be sorted. `found` must be as long as `addresses`. Rejected units are
+/// ignored; how many there are is returned, and the error of the first of them.
 ///
-/// Takes one pass over `.debug_line`, in which a row takes time logarithmic in the number of addresses and linear in the number of those
+/// Walks over the units once, and reads each program twice, first to check it. A row takes time logarithmic in the number of addresses and linear in the number of those
 /// that it covers. Does not allocate.
 pub fn find_lines(
     tables: &LineTables,
@@ -33,8 +33,8 @@ pub fn find_lines(
 ) -> RejectedUnits
     requires rising { IsRising addresses.now }
     requires places { length found.old ≡ length addresses.now }
-    ensures lines { found.new ≡ map (line_at (view_texts tables.now.texts) tables.now.lines.now) addresses.now }
-    ensures rejected { result ≡ rejected_units (units_of (view_texts tables.now.texts) tables.now.lines.now) }
+    ensures lines { found.new ≡ map (line_at (view_strings tables.now.strings) tables.now.lines.now) addresses.now }
+    ensures rejected { result ≡ rejected_units (units_of (view_strings tables.now.strings) tables.now.lines.now) }
 {
     forget_all(found);
     let mut rejected = RejectedUnits {
@@ -75,25 +75,25 @@ impl RejectedUnits {
 
 // Forgets what was found.
 fn forget_all(found: &mut [Option<SourceLine>])
-    ensures { found.new ≡ map forgotten found.old }
+    ensures { found.new ≡ map clear found.old }
 {
     for k in 0..found.len() {
         found[k] = None;
     }
 }
 
-// Keeps what was found, but for line 0, which is no line.
+// Replaces results with line 0 by `None`.
 fn show_lines(found: &mut [Option<SourceLine>])
-    ensures { found.new ≡ map shown found.old }
+    ensures { found.new ≡ map drop_line_0 found.old }
 {
     for k in 0..found.len() {
-        found[k] = shown(found[k]);
+        found[k] = drop_line_0(found[k]);
     }
 }
 
-// Returns what was found, but for line 0.
-fn shown(found: Option<SourceLine>) -> Option<SourceLine>
-    ensures { result ≡ shown found }
+// Returns what was found, or `None` if its line is 0.
+fn drop_line_0(found: Option<SourceLine>) -> Option<SourceLine>
+    ensures { result ≡ drop_line_0 found }
 {
     match found {
         Some(source) if source.line != 0 => Some(source),

@@ -2,14 +2,14 @@
 ghost use Rattle.std.specs.Prelude.{◌≡◌, ◌==◌, ◌<◌, ◌≤◌, ◌+◌, ◌*◌, ◌^◌, length, MatchResult, IfOk, Ok, Err, false};
 ghost use Rattle.rv_elf.specs.Fields.{half_at, word_at};
 ghost use Rattle.rv_elf.specs.Sections.{e_shnum, begins_with_name};
-ghost use Rattle.rv_lines.specs.Sections.{header_at, in_file, section_at, section_of_index, has_bad_table, is_past_file, bytes_of, has_bad_names, is_bad_names, names_of};
+ghost use Rattle.rv_lines.specs.Sections.{header_at, in_file, section_at, section_of_index, has_bad_table, is_past_file, bytes_of, has_bad_names, is_invalid_name_table, names_of};
 ghost use Rattle.rv_lines.specs.Sections.{is_named, is_named_either, named, is_compressed, readable_bytes, bytes_named, tables_of, has_no_lines};
 ghost use Rattle.rv_lines.specs.Sections.{line_tables, HasTable, HasNames};
 ghost use Rattle.rv_lines.specs.SectionsInside.{view_tables};
 
 use crate::error::LinesError;
 use crate::reading::{bytes_from, text_before_zero};
-use crate::tables::{LineTables, TextSections};
+use crate::tables::{LineTables, StringSections};
 use byteorder::{ByteOrder, LittleEndian};
 
 /// The fields of a section header that are used (System V ABI, "Sections").
@@ -40,7 +40,7 @@ const SHT_NOBITS: u32 = 8;
 
 const SHF_COMPRESSED: u32 = 0x800;
 
-/// Returns the line tables of the file of an image, or the first error that applies. A section of texts that is absent is empty. Does not
+/// Returns the line tables of the file of an image, or the first error that applies. A string section that is absent is empty. Does not
 /// allocate.
 #[tactic(auto, unfolding(crate::specs::Sections::line_tables))]
 pub fn line_tables(file: &[u8]) -> Result<LineTables<'_>, LinesError>
@@ -109,7 +109,7 @@ fn tables_of(file: &[u8]) -> Result<LineTables<'_>, LinesError>
     let str = bytes_named(file, b".debug_str", b".zdebug_str")?;
     Ok(LineTables {
         lines,
-        texts: TextSections { line_str, str },
+        strings: StringSections { line_str, str },
     })
 }
 

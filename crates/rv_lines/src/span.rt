@@ -18,7 +18,7 @@ pub struct SourceLine {
     pub low: u32,
 }
 
-/// The addresses that a row covers: from `from` up to, and not with, `to`.
+/// The addresses that a row covers: from `from` up to but excluding `to`.
 #[derive(Clone, Copy)]
 pub(crate) struct Span {
     pub(crate) from: u32,

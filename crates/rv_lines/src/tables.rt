@@ -1,9 +1,9 @@
 //! The line tables of an image.
 ghost use Rattle.std.specs.Prelude.{◌<◌, ◌^◌, length};
 
-/// The sections of texts that headers refer to.
+/// The string sections that headers refer to.
 #[derive(Clone, Copy)]
-pub struct TextSections<'a> {
+pub struct StringSections<'a> {
     /// `.debug_line_str`.
     pub line_str: &'a [u8],
     /// `.debug_str`.
@@ -15,7 +15,7 @@ pub struct TextSections<'a> {
 pub struct LineTables<'a> {
     /// `.debug_line`.
     pub lines: &'a [u8],
-    /// The sections of texts.
-    pub texts: TextSections<'a>,
+    /// The string sections.
+    pub strings: StringSections<'a>,
     pub ghost short: { length lines.now < 2 ^ 32 },
 }

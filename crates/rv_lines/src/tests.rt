@@ -1,6 +1,6 @@
 //! Tests of whole units: the lines of a program that is worked out by hand, and each error of a unit, alone and beside another one.
 
-use crate::{LineTables, SourceLine, TextSections, find_lines, source_path};
+use crate::{LineTables, SourceLine, StringSections, find_lines, source_path};
 use std::alloc::Global;
 use std::rt::HostRuntime;
 use std::test::Fail;
@@ -22,7 +22,7 @@ const UNIT_5: [u8; 65] = [
     4, 0, 0, 5, 2, 0, 0, 0, 0x80, 3, 4, 1, 9, 4, 0, 1, 2, 2, 0, 1, 1, // the program
 ];
 
-const NO_TEXTS: TextSections<'static> = TextSections {
+const NO_STRINGS: StringSections<'static> = StringSections {
     line_str: &[],
     str: &[],
 };
@@ -49,7 +49,7 @@ fn tables_of(bytes: &[u8]) -> Option<LineTables<'_>> {
     }
     Some(LineTables {
         lines: bytes,
-        texts: NO_TEXTS,
+        strings: NO_STRINGS,
     })
 }
 

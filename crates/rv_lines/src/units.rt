@@ -1,13 +1,13 @@
-//! The units of `.debug_line` (DWARF 5, section 7.4 for their lengths, section 6.2.4).
+//! The units of `.debug_line` (DWARF 5, sections 7.2.2 and 7.4 for their lengths, section 6.2.4).
 ghost use Rattle.std.specs.Prelude.{◌≡◌, ◌<◌, length, drop, min, MatchResult, IfOk, Err};
 ghost use Rattle.rv_lines.specs.Reading.{Gives};
-ghost use Rattle.rv_lines.specs.EntriesInside.{view_texts};
+ghost use Rattle.rv_lines.specs.EntriesInside.{view_strings};
 ghost use Rattle.rv_lines.specs.Units.{unit_bytes, unit_size, long_unit_size, rows_at};
 ghost use Rattle.rv_lines.specs.Lines.{spans_of_rows};
 ghost use Rattle.rv_lines.specs.SearchInside.{noted_all, checked_only, rows_of_program, IsRising};
 
 use crate::error::UnitError;
-use crate::header::{Wanted, header_at};
+use crate::header::{RequestedEntries, header_at};
 use crate::program::{Program, note_program};
 use crate::reading::bytes_from;
 use crate::span::SourceLine;
@@ -34,9 +34,9 @@ pub(crate) fn note_unit(
 ) -> Result<(), UnitError>
     requires rising { IsRising addresses.now }
     requires places { length found.old ≡ length addresses.now }
-    ensures value { result ≡ checked_only (rows_at (view_texts tables.now.texts) (drop offset tables.now.lines.now)) }
+    ensures value { result ≡ checked_only (rows_at (view_strings tables.now.strings) (drop offset tables.now.lines.now)) }
     ensures found { found.new ≡ noted_all
-        (spans_of_rows offset (rows_at (view_texts tables.now.texts) (drop offset tables.now.lines.now))) addresses.now found.old }
+        (spans_of_rows offset (rows_at (view_strings tables.now.strings) (drop offset tables.now.lines.now))) addresses.now found.old }
 {
     let program = program_of(tables, offset)?;
     // An error may follow rows, so the program is read once before its rows count.
@@ -47,13 +47,13 @@ pub(crate) fn note_unit(
 // Returns the program of the unit at an offset, if its header can be read.
 fn program_of<'a>(tables: &LineTables<'a>, offset: u32) -> Result<Program<'a>, UnitError>
     ensures value { MatchResult result
-        (λ p. rows_at (view_texts tables.now.texts) (drop offset tables.now.lines.now) ≡ rows_of_program p)
-        (λ e. rows_at (view_texts tables.now.texts) (drop offset tables.now.lines.now) ≡ Err e) }
+        (λ p. rows_at (view_strings tables.now.strings) (drop offset tables.now.lines.now) ≡ rows_of_program p)
+        (λ e. rows_at (view_strings tables.now.strings) (drop offset tables.now.lines.now) ≡ Err e) }
     ensures divides { IfOk result (λ p. 0 < p.parameters.line_range) }
     ensures unit { IfOk result (λ p. p.unit ≡ offset) }
 {
     let bytes = unit_bytes(bytes_from(tables.lines, offset as usize))?;
-    let (header, program) = header_at(&tables.texts, Wanted::NOTHING, bytes)?;
+    let (header, program) = header_at(&tables.strings, RequestedEntries::NOTHING, bytes)?;
     Ok(Program {
         unit: offset,
         parameters: header.parameters,

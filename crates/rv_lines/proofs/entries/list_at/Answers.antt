@@ -2,7 +2,7 @@ use Rattle.std.proofs.Common.{◌≡◌, ◌∙◌, ◌+◌, ◌<◌, ◌≤◌,
 use Rattle.std.proofs.lemmas.Result.{err_from_is_err_and}
 use Rattle.std.proofs.lemmas.Bool.Decides.{nat_tests}
 use Rattle.rv_lines.specs.declared.error.UnitError.TheVariants.{HeaderCutOff}
-use Rattle.rv_lines.specs.Reading.{text_at}
+use Rattle.rv_lines.specs.Reading.{string_at}
 use Rattle.rv_lines.specs.Entries.{Entry, list_at, numbers_at}
 use Rattle.rv_lines.specs.EntriesInside.{view_entry, is_index, summarised}
 use Rattle.rv_lines.proofs.EntryLists.{ListLeft, resumed_all, list_fails, list_ends, list_numbers_fail, list_on, fewer_after, within_after}
@@ -49,7 +49,7 @@ loop-name-preserved c =
     let total = summarised c.args.index (list_at (length bytes) c.args.of_files bytes) in
     let e = sym c.is_empty.ensures ∙ c.if-is_empty.false in
     let some : 0 < length c.in_ok-name.name.now = grind (arith, nat_tests) in
-    let f = fewer_after (length c.loop-name.rest.now) (text_at HeaderCutOff c.loop-name.rest.now) c.in_ok-name.name.now c.in_ok-name.after.now
+    let f = fewer_after (length c.loop-name.rest.now) (string_at HeaderCutOff c.loop-name.rest.now) c.in_ok-name.name.now c.in_ok-name.after.now
     (text_fewer HeaderCutOff c.loop-name.rest.now) c.in_ok-name.ensures in
     let w = within_after (length c.in_ok-name.after.now) (numbers_at c.args.of_files c.in_ok-name.after.now) c.in_ok-directory.directory c.in_ok-directory.after.now
     (numbers_within c.args.of_files c.in_ok-name.after.now) c.in_ok-directory.ensures in
@@ -64,7 +64,7 @@ loop-name-preserved c =
 
 pub loop-name-smaller : goal.loop-name-smaller
 loop-name-smaller c =
-    let f = fewer_after (length c.loop-name.rest.now) (text_at HeaderCutOff c.loop-name.rest.now) c.in_ok-name.name.now c.in_ok-name.after.now
+    let f = fewer_after (length c.loop-name.rest.now) (string_at HeaderCutOff c.loop-name.rest.now) c.in_ok-name.name.now c.in_ok-name.after.now
     (text_fewer HeaderCutOff c.loop-name.rest.now) c.in_ok-name.ensures in
     let w = within_after (length c.in_ok-name.after.now) (numbers_at c.args.of_files c.in_ok-name.after.now) c.in_ok-directory.directory c.in_ok-directory.after.now
     (numbers_within c.args.of_files c.in_ok-name.after.now) c.in_ok-directory.ensures in

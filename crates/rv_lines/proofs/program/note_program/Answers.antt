@@ -36,7 +36,7 @@ returns-in_err-check_file-clause-value c =
     let p = err_from_is_err_and c.from_residual-in_err-check_file.result c.from_residual-in_err-check_file.ensures.1 in
     rw (p.1, p.2) (sym (ap checked_only (step_lacks program.parameters program.files program.lengths.now (rows_of_program program) program.unit c.args.addresses.now c.args.found.now
     c.loop-rest.state c.loop-rest.before c.loop-rest.found c.loop-rest.rest.now c.in_ok-operation.after.now c.in_ok-operation.operation
-    c.changed-changed.result c.row_added-added.result c.in_err-check_file.field-0.0 c.changed-changed.ensures c.row_added-added.ensures lt c.in_ok-operation.ensures
+    c.apply-changed.result c.row_added-added.result c.in_err-check_file.field-0.0 c.apply-changed.ensures c.row_added-added.ensures lt c.in_ok-operation.ensures
     (sym c.check_file.ensures ∙ c.in_err-check_file.was) c.loop-rest.invariant)))
 
 pub returns-in_err-check_file-clause-found : goal.returns-in_err-check_file-clause-found
@@ -46,7 +46,7 @@ returns-in_err-check_file-clause-found c =
     noted_if_err (rows_of_program program) program.unit c.args.addresses.now c.args.found.now c.loop-rest.found c.in_err-check_file.field-0.0
     (step_lacks program.parameters program.files program.lengths.now (rows_of_program program) program.unit c.args.addresses.now c.args.found.now
     c.loop-rest.state c.loop-rest.before c.loop-rest.found c.loop-rest.rest.now c.in_ok-operation.after.now c.in_ok-operation.operation
-    c.changed-changed.result c.row_added-added.result c.in_err-check_file.field-0.0 c.changed-changed.ensures c.row_added-added.ensures lt c.in_ok-operation.ensures
+    c.apply-changed.result c.row_added-added.result c.in_err-check_file.field-0.0 c.apply-changed.ensures c.row_added-added.ensures lt c.in_ok-operation.ensures
     (sym c.check_file.ensures ∙ c.in_err-check_file.was) c.loop-rest.invariant)
 
 pub loop-rest-preserved : goal.loop-rest-preserved
@@ -55,8 +55,8 @@ loop-rest-preserved c =
     let lt : 0 < length c.loop-rest.rest.now = omega arith in
     step_on program.parameters program.files program.lengths.now (rows_of_program program) program.unit c.args.addresses.now c.args.found.now
     c.loop-rest.state c.loop-rest.before c.loop-rest.found c.loop-rest.rest.now c.in_ok-operation.after.now c.in_ok-operation.operation
-    c.changed-changed.result c.row_added-added.result c.note_row.new.found c.after-state.result c.or-before.result c.changed-changed.ensures c.row_added-added.ensures
-    c.after-state.ensures c.or-before.ensures lt c.in_ok-operation.ensures
+    c.apply-changed.result c.row_added-added.result c.note_row.new.found c.next_state-state.result c.or-before.result c.apply-changed.ensures c.row_added-added.ensures
+    c.next_state-state.ensures c.or-before.ensures lt c.in_ok-operation.ensures
     (sym c.check_file.ensures ∙ c.in_ok-check_file.was) c.note_row.ensures c.loop-rest.invariant
 
 pub loop-rest-smaller : goal.loop-rest-smaller

@@ -1,7 +1,7 @@
 use Rattle.std.proofs.Common.{◌≡◌, ◌<◌, get_or, length, None, arith}
 use Rattle.std.proofs.lemmas.List.{get_or_default}
 use Rattle.std.proofs.lemmas.List.Edits.{map_over_more}
-use Rattle.rv_lines.specs.SearchInside.{forgotten}
+use Rattle.rv_lines.specs.SearchInside.{clear}
 use Rattle.rv_lines.proofs.search.forget_all.Goals as goal
 
 pub loop-k-preserved : goal.loop-k-preserved
@@ -11,4 +11,4 @@ loop-k-preserved c =
     let x = get_or ys k None in
     let lt : k < length c.args.found.now = omega arith in
     let there : k < length ys = omega arith in
-    map_over_more forgotten c.args.found.now ys k x lt c.loop-k.invariant (get_or_default ys k None x there)
+    map_over_more clear c.args.found.now ys k x lt c.loop-k.invariant (get_or_default ys k None x there)
