@@ -8,10 +8,10 @@ use Rattle.rv_lines.specs.declared.span.Span.{Span}
 use Rattle.rv_lines.specs.Lines.{covers, chosen, source_at}
 use Rattle.rv_lines.specs.SearchInside.{is_higher, higher, note_span_at}
 
-abbrev below : Span → Span → Bool
+abbrev pub below : Span → Span → Bool
 below s t = nat_lt s.source.low t.source.low
 
-abbrev any_above : Span → List Span → Bool
+abbrev pub any_above : Span → List Span → Bool
 any_above s spans = list_any (below s) spans
 
 -- the better of one that was found and one more
@@ -33,14 +33,14 @@ or_left a b e = ap (λ x. x || b) e
 or_right : (a b : Bool) → b ≡ true → (a || b) ≡ true
 or_right a b e = ap (λ x. a || x) e ∙ or_true a
 
-false_or : (a b : Bool) → a ≡ false → (a || b) ≡ b
+pub false_or : (a b : Bool) → a ≡ false → (a || b) ≡ b
 false_or a b e = ap (λ x. x || b) e
 
 below_less : (s t x : Span) → s.source.low ≤ t.source.low → below t x ≡ true → below s x ≡ true
 below_less s t x le e = let lt = ltb-true t.source.low x.source.low e in lt-ltb s.source.low x.source.low (omega arith)
 
 -- a lower span has one above it where a higher one has
-lower_any : (s t : Span) (spans : List Span) → s.source.low ≤ t.source.low → any_above t spans ≡ true → any_above s spans ≡ true
+pub lower_any : (s t : Span) (spans : List Span) → s.source.low ≤ t.source.low → any_above t spans ≡ true → any_above s spans ≡ true
 lower_any s t [] le e = absurd cc
 lower_any s t (x ∷ spans) le e = elim (below t x) as (λ b. below t x ≡ b → any_above s (x ∷ spans) ≡ true) [
   | true ↦ λ f. or_left (below s x) (any_above s spans) (below_less s t x le f)
@@ -63,7 +63,7 @@ best_some b (s ∷ spans) = elim (below b s) as (λ z. below b s ≡ z → best 
 
 -- ---- the first with none above it
 
-abbrev is_top : List Span → Span → Bool
+abbrev pub is_top : List Span → Span → Bool
 is_top spans s = not (any_above s spans)
 
 -- one that is under another is no matter where that one has one above it

@@ -12,4 +12,5 @@ pub mod UnitLists
 pub mod PathTexts
 pub mod Searching
 pub mod LawsOfRows
+pub mod LawsOfLines
 pub mod SectionFacts

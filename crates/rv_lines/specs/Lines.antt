@@ -1,5 +1,5 @@
 -- The source line of an address (DWARF 5, section 6.2.2): that of the row before it, in the order of the rows.
-use Rattle.std.specs.Prelude.{◌≡◌, ◌==◌, ◌+◌, ℕ, Bool, not, ◌&&◌, ◌||◌, ◌≤◌, ◌<◌, List, [], ◌∷◌, ◌++◌, length, filter, map, nat_lt, nat_le, Option, Some, None, is_err, Result, Ok, Err, if◌then◌else◌, option_map, option_and_then, find}
+use Rattle.std.specs.Prelude.{◌≡◌, true, false, ◌==◌, ◌+◌, ℕ, Bool, not, ◌&&◌, ◌||◌, ◌≤◌, ◌<◌, List, [], ◌∷◌, ◌++◌, length, filter, map, nat_lt, nat_le, Option, Some, None, is_err, Result, Ok, Err, if◌then◌else◌, option_map, option_and_then, find}
 use Rattle.std.specs.List.{list_any, flat_map, count_by}
 use Rattle.rv_lines.specs.declared.error.UnitError.{UnitError}
 use Rattle.rv_lines.specs.declared.rows.Row.{Row}
@@ -65,6 +65,17 @@ units_of strings section = units (length section) strings 0 section
 -- the source line of an address
 unfoldable pub line_at : Strings → List ℕ → ℕ → Option SourceLine
 line_at strings section a = option_and_then with_line (source_at (all_spans (units_of strings section)) a)
+
+-- `source` is that of a span that covers an address; no span that covers it has a greater `low`, and none before it has an equal one
+pub record IsSourceOf (spans : List Span) (a : ℕ) (source : SourceLine) : Type 0 where
+  pub span : Span
+  pub is : span.source ≡ source
+  pub covering : covers a span ≡ true
+  pub highest : list_any (λ t. nat_lt source.low t.source.low) (filter (covers a) spans) ≡ false
+  pub front : List Span
+  pub back : List Span
+  pub place : filter (covers a) spans ≡ front ++ span ∷ back
+  pub first : list_any (λ t. nat_le source.low t.source.low) front ≡ false
 
 -- ---- the units that are rejected
 

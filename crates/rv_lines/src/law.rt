@@ -6,6 +6,9 @@ ghost use Rattle.rv_lines.specs.declared.operations.Operation.{Operation};
 ghost use Rattle.rv_lines.specs.declared.rows.State.{State};
 ghost use Rattle.rv_lines.specs.Operations.{operation_at, program};
 ghost use Rattle.rv_lines.specs.Rows.{adds_row, apply, row_added, in_front, rows_of, state_after};
+ghost use Rattle.rv_lines.specs.declared.span.SourceLine.{SourceLine};
+ghost use Rattle.rv_lines.specs.Entries.{Strings};
+ghost use Rattle.rv_lines.specs.Lines.{line_at, all_spans, units_of, IsSourceOf};
 ghost use Rattle.rv_lines.specs.Paths.{path_text, path_with};
 
 /// Proves that the rows are those of the operations that add one, one each, in the order of the operations: after the rows of the operations
@@ -15,6 +18,13 @@ pub fn rows_are_of_operations()
         → rows_of p s (front ++ op ∷ back)
         ≡ rows_of p s front ++ in_front (row_added op (apply p op (state_after p s front))) (rows_of p (state_after p s (front ++ op ∷ [])) back) }
     ensures count { (p : Parameters) (s : State) (ops : List Operation) → length (rows_of p s ops) ≡ count_by adds_row ops }
+{}
+
+/// Proves that the line of an address is that of a row that covers it, that no row that covers it has a greater `low`, and that none before
+/// it has an equal one.
+pub fn line_is_of_first_highest_row()
+    ensures { (strings : Strings) (section : List ℕ) (a : ℕ) (source : SourceLine) → line_at strings section a ≡ Some source
+        → IsSourceOf (all_spans (units_of strings section)) a source }
 {}
 
 /// Proves that the text of a path is NAME, or DIRECTORY, `/` and NAME.
