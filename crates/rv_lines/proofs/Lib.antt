@@ -12,5 +12,6 @@ pub mod UnitLists
 pub mod PathTexts
 pub mod Searching
 pub mod LawsOfRows
+pub mod LawsOfUnits
 pub mod LawsOfLines
 pub mod SectionFacts

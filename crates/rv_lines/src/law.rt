@@ -1,5 +1,5 @@
 //! Laws on line number programs, with no code to run.
-ghost use Rattle.std.specs.Prelude.{◌≡◌, ◌<◌, ◌≤◌, ℕ, [], ◌∷◌, ◌++◌, List, Ok, Some, None, length};
+ghost use Rattle.std.specs.Prelude.{◌≡◌, ◌<◌, ◌≤◌, ◌+◌, ℕ, [], ◌∷◌, ◌++◌, List, Ok, Some, None, length};
 ghost use Rattle.std.specs.List.{count_by};
 ghost use Rattle.rv_lines.specs.declared.header.Parameters.{Parameters};
 ghost use Rattle.rv_lines.specs.declared.operations.Operation.{Operation};
@@ -9,6 +9,7 @@ ghost use Rattle.rv_lines.specs.Rows.{adds_row, apply, row_added, in_front, rows
 ghost use Rattle.rv_lines.specs.declared.span.SourceLine.{SourceLine};
 ghost use Rattle.rv_lines.specs.Entries.{Strings};
 ghost use Rattle.rv_lines.specs.Lines.{line_at, all_spans, units_of, IsSourceOf};
+ghost use Rattle.rv_lines.specs.Units.{unit_length, rows_at};
 ghost use Rattle.rv_lines.specs.Paths.{path_text, path_with};
 
 /// Proves that the rows are those of the operations that add one, one each, in the order of the operations: after the rows of the operations
@@ -25,6 +26,12 @@ pub fn rows_are_of_operations()
 pub fn line_is_of_first_highest_row()
     ensures { (strings : Strings) (section : List ℕ) (a : ℕ) (source : SourceLine) → line_at strings section a ≡ Some source
         → IsSourceOf (all_spans (units_of strings section)) a source }
+{}
+
+/// Proves that the rows of a unit depend on its bytes and the string sections alone, and not on the bytes after it.
+pub fn rows_depend_on_the_unit()
+    ensures { (strings : Strings) (unit more : List ℕ) → 4 + unit_length unit ≡ length unit
+        → rows_at strings (unit ++ more) ≡ rows_at strings unit }
 {}
 
 /// Proves that the text of a path is NAME, or DIRECTORY, `/` and NAME.

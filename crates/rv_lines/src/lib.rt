@@ -25,7 +25,7 @@ mod units;
 pub use error::{LinesError, UnitError};
 pub use law::{
     line_is_of_first_highest_row, operation_takes_a_byte, operations_are_no_more_than_bytes,
-    path_is_name_after_directory, rows_are_of_operations,
+    path_is_name_after_directory, rows_are_of_operations, rows_depend_on_the_unit,
 };
 pub use path::{SourcePath, source_path};
 pub use search::{RejectedUnits, find_lines};
