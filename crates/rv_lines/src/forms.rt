@@ -124,7 +124,7 @@ pub(crate) fn string_of_form<'a>(
     }
 }
 
-// Reads the offset of a string, and returns the text of the section there.
+// Reads the offset of a string, and returns the string of the section there.
 #[tactic(auto, unfolding(crate::specs::Entries::offset_string_at))]
 fn offset_string_at<'a>(
     section: &'a [u8],

@@ -22,7 +22,8 @@ pub struct SourcePath<'a> {
 
 /// Returns the path of a file of the unit at an offset of `.debug_line`, as [`SourceLine`](crate::SourceLine) has them, or `None` if the
 /// unit's header is rejected or has no such file. The path is NAME if that begins with `/`, if its directory is number 0, the compiler's own,
-/// or if no directory has its number; otherwise it is DIRECTORY/NAME. Reads the header again. Does not allocate.
+/// if no directory has its number, or if the
+/// name of that directory is empty; otherwise it is DIRECTORY/NAME. Reads the header again. Does not allocate.
 pub fn source_path<'a>(tables: &LineTables<'a>, unit: u32, file: u32) -> Option<SourcePath<'a>>
     ensures { MatchOption result (path_of (view_strings tables.now.strings) tables.now.lines.now unit file ≡ None)
         (λ p. path_of (view_strings tables.now.strings) tables.now.lines.now unit file ≡ Some (view_path p)) }

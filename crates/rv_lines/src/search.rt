@@ -24,8 +24,8 @@ pub struct RejectedUnits {
 /// Finds the source line of each address; the addresses must be sorted. `found` must be as long as `addresses`. Rejected units are
 /// ignored; how many there are is returned, and the error of the first of them.
 ///
-/// Walks over the units once, and reads each program twice, first to check it. A row takes time logarithmic in the number of addresses and linear in the number of those
-/// that it covers. Does not allocate.
+/// Walks over the units once, and reads each program twice, first to check it. A row takes time logarithmic in the number of addresses and
+/// linear in the number of those that it covers. Does not allocate.
 pub fn find_lines(
     tables: &LineTables,
     addresses: &[u32],

@@ -87,6 +87,19 @@ fn rows_of_the_worked_program(rt: HostRuntime) -> Result<(), Fail> {
 }
 
 #[test]
+fn rows_below_their_sequence(rt: HostRuntime) -> Result<(), Fail> {
+    // The same rows from ffffffff on: the second one has the address 3.
+    let mut unit = UNIT;
+    for at in 36..40 {
+        unit[at] = 0xff;
+    }
+    for address in [0, 3, 4, 0xffff_ffff] {
+        assert!(rt; line_of(&unit, address)?.is_none());
+    }
+    Ok(())
+}
+
+#[test]
 fn errors_of_a_header(rt: HostRuntime) -> Result<(), Fail> {
     let alloc = rt.alloc();
     assert_eq!(rt; error_of(alloc, &UNIT, &[])?, "none");
@@ -160,6 +173,7 @@ fn errors_of_a_header_of_dwarf_5(rt: HostRuntime) -> Result<(), Fail> {
     assert_eq!(rt; error_of(alloc, &UNIT_5, &[(29, 11)])?, "entry-form");
     assert_eq!(rt; error_of(alloc, &UNIT_5, &[(29, 0x20)])?, "entry-form");
     assert_eq!(rt; error_of(alloc, &UNIT_5, &[(29, 0x1f)])?, "entry-text");
+    assert_eq!(rt; error_of(alloc, &UNIT_5, &[(34, 3)])?, "entry-form");
     assert_eq!(rt; error_of(alloc, &UNIT_5, &[(45, 1)])?, "file-number");
     Ok(())
 }
