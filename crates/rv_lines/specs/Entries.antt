@@ -88,12 +88,12 @@ fields_at (suc count) bytes = do
   others ← fields_at count field.1
   Ok (field.0 ∷ others.0, others.1)
 
--- the text at an offset of a section, or an error if the section has none there
+-- the string at an offset of a section, or an error if the section has none there
 abbrev pub section_string : Option (List ℕ) → List ℕ → Read (List ℕ)
 section_string None rest = Err EntryText
 section_string (Some text) rest = Ok (text, rest)
 
--- the text that a four-byte offset into a section refers to
+-- the string that a four-byte offset into a section refers to
 unfoldable pub offset_string_at : List ℕ → List ℕ → Read (List ℕ)
 offset_string_at section bytes = do
   offset ← fixed_at HeaderCutOff 4 bytes

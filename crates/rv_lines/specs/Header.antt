@@ -33,11 +33,11 @@ index_of first number = if nat_lt number first then None else Some (number - fir
 abbrev pub numbered : ℕ → List Entry → ℕ → Option Entry
 numbered first entries number = option_and_then (slice_get entries) (index_of first number)
 
--- the numbers of operands of the standard operations 1 to 12 (section 6.2.5.2)
+-- the numbers of operands of the standard opcodes 1 to 12 (section 6.2.5.2)
 abbrev pub standard_lengths : List ℕ
 standard_lengths = 0 ∷ 1 ∷ 1 ∷ 1 ∷ 1 ∷ 0 ∷ 0 ∷ 0 ∷ 1 ∷ 0 ∷ 0 ∷ 1 ∷ []
 
--- whether the lengths of the operations that the standard has are those of the standard
+-- whether the lengths of the opcodes that the standard has are those of the standard
 abbrev pub are_standard : List ℕ → Bool
 are_standard lengths = let known = min (length lengths) 12 in bytes_eq (take known lengths) (take known standard_lengths)
 
@@ -50,7 +50,7 @@ unfoldable pub operations_check : ℕ → List ℕ → Result (List ℕ) UnitErr
 operations_check version bytes = if nat_lt version 4 then Ok bytes else (byte_at unit.HeaderCutOff bytes >>= λ operations.
     if operations.0 == 1 then Ok operations.1 else Err unit.Operations)
 
--- standard_opcode_lengths: one byte for each operation from 1 up to but excluding `opcode_base`
+-- standard_opcode_lengths: one byte for each opcode from 1 up to but excluding `opcode_base`
 unfoldable pub lengths_at : ℕ → List ℕ → Read (List ℕ)
 lengths_at opcode_base bytes = let lengths = take (opcode_base - 1) bytes in
     if are_standard lengths then (if length lengths == opcode_base - 1 then Ok (lengths, drop (opcode_base - 1) bytes)

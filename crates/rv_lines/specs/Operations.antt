@@ -1,4 +1,4 @@
--- The operations of a line number program (DWARF 5, section 6.2.5).
+-- The instructions of a line number program (DWARF 5, section 6.2.5), which are called operations here.
 use Rattle.std.specs.Prelude.{◌==◌, ◌-◌, ℕ, zero, suc, List, [], ◌∷◌, slice_index, nat_le, Option, Some, None, Result, Ok, Err, if◌then◌else◌}
 use Rattle.rv_lines.specs.declared.error.UnitError.{UnitError}
 use Rattle.rv_lines.specs.declared.error.UnitError.TheVariants.{OperationCutOff, OperationLength}
@@ -15,7 +15,7 @@ with_operand operation read = read >>= λ operand. Ok (operation operand.0, oper
 abbrev pub skip_operands : Result (List ℕ) UnitError → Read Operation
 skip_operands read = read >>= λ rest. Ok (operation.Skipped, rest)
 
--- a standard operation (section 6.2.5.2); one that changes nothing that is kept has as many operands as `lengths` says
+-- a standard opcode (section 6.2.5.2); one that changes nothing that is kept has as many operands as `lengths` says
 unfoldable pub standard_at : List ℕ → ℕ → List ℕ → Read Operation
 standard_at lengths code bytes =
     if code == 1 then Ok (operation.Copy, bytes)
@@ -27,14 +27,14 @@ standard_at lengths code bytes =
     else if code == 9 then with_operand operation.FixedAdvancePc (fixed_at OperationCutOff 2 bytes)
     else skip_operands (skip_numbers OperationCutOff (slice_index lengths (code - 1)) bytes)
 
--- an extended operation of a length, which counts its code and its operands (section 6.2.5.3)
+-- an extended opcode of a length, which counts its code and its operands (section 6.2.5.3)
 unfoldable pub extended_of_length : ℕ → List ℕ → Read Operation
 extended_of_length size bytes = byte_at OperationCutOff bytes >>= λ code.
     if code.0 == 1 then (if size == 1 then Ok (operation.EndSequence, code.1) else Err OperationLength)
     else if code.0 == 2 then (if size == 5 then with_operand operation.SetAddress (fixed_at OperationCutOff 4 code.1) else Err OperationLength)
     else skip_operands (skip_at OperationCutOff (size - 1) code.1)
 
--- an extended operation, from its length, which must not be 0
+-- an extended opcode, from its length, which must not be 0
 unfoldable pub extended_at : List ℕ → Read Operation
 extended_at bytes = number_at OperationCutOff bytes >>= λ size.
     if size.0 == 0 then Err OperationLength else extended_of_length size.0 size.1

@@ -54,7 +54,7 @@ pub enum UnitError {
     LineRange,
     /// `opcode_base` is 0.
     OpcodeBase,
-    /// The number of operands of one of the operations 1 to 12 is not the standard's.
+    /// The number of operands of one of the standard opcodes 1 to 12 is not the standard's.
     OpcodeLengths,
     /// A form is not read here, a path is not a string, a directory is not a number, or entries have no path (6.2.4.1).
     EntryForm,
@@ -64,7 +64,7 @@ pub enum UnitError {
     Number,
     /// An operand extends past the unit.
     OperationCutOff,
-    /// The length of an extended operation is not that of its operands (6.2.5.3).
+    /// The length of an extended opcode is not that of its operands (6.2.5.3).
     OperationLength,
     /// A row that does not end a sequence is of an unknown file.
     FileNumber,

@@ -59,7 +59,7 @@ pub(crate) struct Header<'a> {
     pub(crate) file: Option<Entry<'a>>,
 }
 
-/// The numbers of operands of the standard operations 1 to 12 (6.2.5.2).
+/// The numbers of operands of the standard opcodes 1 to 12 (6.2.5.2).
 const STANDARD_LENGTHS: [u8; 12] = [0, 1, 1, 1, 1, 0, 0, 0, 1, 0, 0, 1];
 
 /// Reads the header of a unit, from the bytes after `unit_length`. After it comes the program.
@@ -243,7 +243,7 @@ fn sign_extended(byte: u8) -> u32
     }
 }
 
-// Reads `standard_opcode_lengths`, of the operations from 1 up to but excluding `opcode_base`.
+// Reads `standard_opcode_lengths`, of the opcodes from 1 up to but excluding `opcode_base`.
 #[tactic(auto, unfolding(crate::specs::Header::lengths_at))]
 fn lengths_at(opcode_base: u8, bytes: &[u8]) -> Result<(&[u8], &[u8]), UnitError>
     ensures { Gives (λ x. (x.0.now, x.1.now)) result (lengths_at opcode_base bytes.now) }
@@ -259,7 +259,7 @@ fn lengths_at(opcode_base: u8, bytes: &[u8]) -> Result<(&[u8], &[u8]), UnitError
     Ok((lengths, rest))
 }
 
-// Whether the lengths of the operations that the standard has are those of the standard.
+// Whether the lengths of the opcodes that the standard has are those of the standard.
 fn are_standard(lengths: &[u8]) -> bool
     ensures { result ≡ are_standard lengths.now }
 {

@@ -1,4 +1,4 @@
-//! The operations of a line number program (DWARF 5, section 6.2.5).
+//! The instructions of a line number program (DWARF 5, section 6.2.5), which are called operations here.
 ghost use Rattle.std.specs.Prelude.{◌≡◌, ◌<◌, ◌-◌, slice_index};
 ghost use Rattle.rv_lines.specs.Reading.{Gives};
 ghost use Rattle.rv_lines.specs.Operations.{standard_at, extended_of_length, extended_at, operation_at};
@@ -34,7 +34,7 @@ pub(crate) enum Operation {
     Skipped,
 }
 
-// Standard operations (7.22).
+// Standard opcodes (7.22).
 const DW_LNS_COPY: u8 = 1;
 
 const DW_LNS_ADVANCE_PC: u8 = 2;
@@ -49,7 +49,7 @@ const DW_LNS_CONST_ADD_PC: u8 = 8;
 
 const DW_LNS_FIXED_ADVANCE_PC: u8 = 9;
 
-// Extended operations (7.22).
+// Extended opcodes (7.22).
 const DW_LNE_END_SEQUENCE: u8 = 1;
 
 const DW_LNE_SET_ADDRESS: u8 = 2;
@@ -74,7 +74,7 @@ pub(crate) fn operation_at<'a>(
     }
 }
 
-// Reads the operands of a standard operation.
+// Reads the operands of a standard opcode.
 #[tactic(auto, unfolding(crate::specs::Operations::standard_at))]
 fn standard_at<'a>(
     lengths: &[u8],
@@ -112,7 +112,7 @@ fn standard_at<'a>(
     }
 }
 
-// Returns the number of operands of a standard operation, or 0 if `lengths` does not have it.
+// Returns the number of operands of a standard opcode, or 0 if `lengths` does not have it.
 fn operands_of(lengths: &[u8], code: u8) -> u8
     requires { 0 < code }
     ensures { result ≡ slice_index lengths.now (code - 1) }
@@ -121,7 +121,7 @@ fn operands_of(lengths: &[u8], code: u8) -> u8
     if at < lengths.len() { lengths[at] } else { 0 }
 }
 
-// Reads an extended operation, from its length, which must not be 0.
+// Reads an extended opcode, from its length, which must not be 0.
 #[tactic(auto, unfolding(crate::specs::Operations::extended_at))]
 fn extended_at(bytes: &[u8]) -> Result<(Operation, &[u8]), UnitError>
     ensures { Gives (λ x. (x.0, x.1.now)) result (extended_at bytes.now) }
@@ -133,7 +133,7 @@ fn extended_at(bytes: &[u8]) -> Result<(Operation, &[u8]), UnitError>
     extended_of_length(size, rest)
 }
 
-// Reads an extended operation of a length, which counts its code and its operands.
+// Reads an extended opcode of a length, which counts its code and its operands.
 #[tactic(auto, unfolding(crate::specs::Operations::extended_of_length))]
 fn extended_of_length(size: u32, bytes: &[u8]) -> Result<(Operation, &[u8]), UnitError>
     requires { 0 < size }
