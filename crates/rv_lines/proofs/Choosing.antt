@@ -1,12 +1,12 @@
 -- The span chosen among several is the best of them, one after the other: a later one takes its place only with a greater `low`.
-use Rattle.std.proofs.Common.{◌≡◌, ◌∙◌, ◌<◌, ◌≤◌, ◌||◌, ◌&&◌, ℕ, Bool, true, false, not, cond, List, [], ◌∷◌, Option, Some, None, refl, sym, ap, arith, nat_lt, filter, option_map, find}
+use Rattle.std.proofs.Common.{◌≡◌, ◌∙◌, ◌≤◌, ◌||◌, ℕ, Bool, true, false, not, cond, List, [], ◌∷◌, Option, Some, None, refl, sym, ap, arith, nat_lt, filter, option_map, find}
 use Rattle.std.specs.List.{list_any}
 use Rattle.std.proofs.lemmas.Bool.{ltb-true, ltb-false, lt-ltb}
 use Rattle.std.proofs.lemmas.Bool.Decides.{nat_tests}
 use Rattle.rv_lines.specs.declared.span.SourceLine.{SourceLine}
 use Rattle.rv_lines.specs.declared.span.Span.{Span}
 use Rattle.rv_lines.specs.Lines.{covers, chosen, source_at}
-use Rattle.rv_lines.specs.SearchInside.{is_higher, higher, note_span_at}
+use Rattle.rv_lines.specs.SearchInside.{higher, note_span_at}
 
 abbrev pub below : Span → Span → Bool
 below s t = nat_lt s.source.low t.source.low

@@ -1,8 +1,8 @@
 -- Lists of entries read one after the other, of which one is picked, as loops do.
-use Rattle.std.proofs.Common.{◌≡◌, ◌∙◌, ◌<◌, ◌≤◌, ◌+◌, ◌-◌, ◌==◌, ℕ, zero, suc, Bool, true, false, cond, List, [], ◌∷◌, length, Option, Some, None, Result, Ok, Err, refl, sym, ap, arith, nat_lt, inl, inr, subst, ne_eqb}
+use Rattle.std.proofs.Common.{◌≡◌, ◌∙◌, ◌<◌, ◌≤◌, ◌+◌, ◌-◌, ◌==◌, ℕ, zero, suc, Bool, true, false, cond, List, [], ◌∷◌, length, Option, Some, None, Ok, Err, refl, sym, ap, arith, nat_lt, inl, inr, subst, ne_eqb}
 use Rattle.std.specs.Prelude.{slice_get}
 use Rattle.std.specs.Option.{option_or}
-use Rattle.std.proofs.lemmas.Bool.{cases_lt, eqb-true, ltb-true, lt-ltb, le-ltb}
+use Rattle.std.proofs.lemmas.Bool.{cases_lt, eqb-true, lt-ltb, le-ltb}
 use Rattle.std.proofs.lemmas.Bool.Decides.{nat_tests}
 use Rattle.rv_lines.proofs.Shorter.{Within, Fewer, text_fewer, numbers_within}
 use Rattle.rv_lines.specs.declared.error.UnitError.{UnitError}
@@ -10,7 +10,7 @@ use Rattle.rv_lines.specs.declared.error.UnitError.TheVariants as unit
 use Rattle.rv_lines.specs.declared.forms.Field.{Field}
 use Rattle.rv_lines.specs.Reading.{◌>>=◌, Read, string_at}
 use Rattle.rv_lines.specs.Entries.{Strings, Entry, empty_entry, entry_at, entries_at, numbers_at, list_at}
-use Rattle.rv_lines.specs.EntriesInside.{is_index, summary, summarised, picked, Summary}
+use Rattle.rv_lines.specs.EntriesInside.{is_index, summarised, picked, Summary}
 
 -- the entry at an index of a list, counted from k
 abbrev pub picked_from : ℕ → Option ℕ → List Entry → Option Entry

@@ -1,11 +1,11 @@
 -- Fields and entries read one after the other, as loops do.
-use Rattle.std.proofs.Common.{◌≡◌, ◌∙◌, ◌<◌, ◌≤◌, ◌+◌, ◌-◌, ◌||◌, ℕ, suc, Bool, true, false, List, [], ◌∷◌, length, is_ok, Option, Some, None, Result, Ok, Err, refl, sym, ap, arith}
+use Rattle.std.proofs.Common.{◌≡◌, ◌∙◌, ◌<◌, ◌≤◌, ◌+◌, ◌-◌, ◌||◌, ℕ, suc, Bool, true, false, List, [], ◌∷◌, is_ok, Ok, Err, refl, sym, ap, arith}
 use Rattle.std.specs.List.{list_any}
 use Rattle.rv_lines.specs.declared.error.UnitError.{UnitError}
 use Rattle.rv_lines.specs.declared.forms.Field.{Field}
 use Rattle.rv_lines.specs.Reading.{◌>>=◌, Read}
-use Rattle.rv_lines.specs.Entries.{Strings, Entry, empty_entry, is_path, field_at, fields_at, with_field, entry_at, entries_at}
-use Rattle.rv_lines.specs.EntriesInside.{path_and_rest, read_fields, summary, summarised, picked, Summary}
+use Rattle.rv_lines.specs.Entries.{Strings, Entry, is_path, field_at, fields_at, with_field, entry_at}
+use Rattle.rv_lines.specs.EntriesInside.{path_and_rest, read_fields}
 
 -- ---- the fields of a format
 

@@ -1,5 +1,5 @@
 -- The rows of a program, operation after operation, as a loop folds them.
-use Rattle.std.proofs.Common.{◌≡◌, ◌∙◌, ◌<◌, ◌≤◌, ◌+◌, ◌||◌, ℕ, zero, suc, Bool, true, false, not, cond, List, [], ◌∷◌, ◌++◌, length, Option, Some, None, is_some, Result, Ok, Err, refl, sym, ap, subst, arith, append_assoc}
+use Rattle.std.proofs.Common.{◌≡◌, ◌∙◌, ◌<◌, ◌≤◌, ◌||◌, ℕ, zero, suc, Bool, true, false, not, cond, List, [], ◌∷◌, ◌++◌, length, Option, Some, None, is_some, Result, Ok, Err, refl, sym, ap, subst, arith, append_assoc}
 use Rattle.std.specs.Prelude.{IfOk}
 use Rattle.std.specs.List.{list_any}
 use Rattle.std.specs.Option.{option_map_or, option_or}
@@ -13,8 +13,7 @@ use Rattle.rv_lines.specs.declared.operations.Operation.TheVariants.{Special, Co
 use Rattle.rv_lines.specs.declared.rows.Row.{Row}
 use Rattle.rv_lines.specs.declared.rows.State.{State}
 use Rattle.rv_lines.specs.declared.span.SourceLine.{SourceLine}
-use Rattle.rv_lines.specs.declared.span.Span.{Span}
-use Rattle.rv_lines.specs.Operations.{Program, operation_at, program, prepend_operation, after_operation}
+use Rattle.rv_lines.specs.Operations.{Program, operation_at, program, prepend_operation}
 use Rattle.rv_lines.specs.Rows.{initial, apply, row_of, row_added, next_state, in_front, rows_of, lacks_file, is_open, program_rows}
 use Rattle.rv_lines.specs.Lines.{covers_nothing, spans_after, span}
 use Rattle.rv_lines.specs.SearchInside.{file_check, noted_all}

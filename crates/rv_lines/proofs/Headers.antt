@@ -1,13 +1,12 @@
 -- What the code keeps of a header, and what it is in the definition.
-use Rattle.std.proofs.Common.{◌≡◌, ◌∙◌, ◌<◌, ℕ, List, length, Bool, true, false, Option, Some, None, option_map, Result, Ok, Err, refl, sym, ap}
+use Rattle.std.proofs.Common.{◌≡◌, ◌∙◌, ℕ, List, true, false, Option, Result, Ok, Err, refl, sym, ap}
 use Rattle.rv_lines.specs.declared.error.UnitError.{UnitError}
 use Rattle.rv_lines.specs.declared.header.Parameters.{Parameters}
 use Rattle.rv_lines.specs.declared.header.RequestedEntries.{RequestedEntries}
-use Rattle.rv_lines.specs.declared.rows.Row.{Row}
 use Rattle.rv_lines.specs.Reading.{◌>>=◌, Read}
 use Rattle.rv_lines.specs.Entries.{Strings, Entry}
-use Rattle.rv_lines.specs.EntriesInside.{Summary, summary, summarised, picked}
-use Rattle.rv_lines.specs.Header.{Header, file_numbers, first_number, index_of, numbered, parameters_at, lengths_at, entries_of_version, fields_of_header, frame_at, header_at}
+use Rattle.rv_lines.specs.EntriesInside.{Summary, summary, summarised}
+use Rattle.rv_lines.specs.Header.{Header, file_numbers, first_number, index_of, parameters_at, lengths_at, entries_of_version, fields_of_header, frame_at, header_at}
 use Rattle.rv_lines.specs.HeaderInside.{HeaderSummary, header_summary, header_summary_of, header_summary_at}
 use Rattle.rv_lines.specs.Rows.{program_rows}
 use Rattle.rv_lines.specs.Units.{unit_bytes, unit_rows, rows_at}

@@ -1,5 +1,5 @@
 -- A number of variable length ends at its first byte below 128, and its value is that of the digits up to there.
-use Rattle.std.proofs.Common.{◌≡◌, ◌∙◌, ◌<◌, ◌≤◌, ◌+◌, ◌-◌, ◌*◌, ◌%◌, ◌==◌, ℕ, ℤ, pos, negsuc, ◌+ℤ◌, ◌*ℤ◌, zero, suc, Bool, true, false, not, cond, ltb, leb, List, [], ◌∷◌, Option, Some, None, refl, sym, ap, arith, length, take, drop, get_or, option_map, nat_lt, nat_le, min, ◌^◌, Result, Ok, Err}
+use Rattle.std.proofs.Common.{◌≡◌, ◌∙◌, ◌<◌, ◌≤◌, ◌+◌, ◌-◌, ◌*◌, ◌%◌, ℕ, ℤ, pos, negsuc, ◌+ℤ◌, ◌*ℤ◌, suc, Bool, true, false, cond, List, [], ◌∷◌, Option, Some, None, refl, sym, ap, arith, take, drop, get_or, option_map, nat_lt, nat_le, min, ◌^◌, Ok, Err}
 use Rattle.std.specs.Prelude.{position}
 use Rattle.std.proofs.lemmas.Bool.{lt-ltb, le-ltb, ltb-true}
 use Rattle.std.proofs.lemmas.Bool.Decides.{nat_tests}

@@ -1,5 +1,5 @@
 -- The path of a file, from what is kept of its header.
-use Rattle.std.proofs.Common.{◌≡◌, ◌∙◌, ℕ, List, Bool, true, false, cond, Option, Some, None, option_map, Result, Ok, Err, refl, sym, ap}
+use Rattle.std.proofs.Common.{◌≡◌, ◌∙◌, ℕ, List, true, false, cond, Option, Some, None, option_map, Ok, Err, refl, sym, ap}
 use Rattle.std.specs.Prelude.{option_and_then}
 use Rattle.std.specs.Result.{result_ok}
 use Rattle.rv_lines.specs.declared.header.RequestedEntries.{RequestedEntries}

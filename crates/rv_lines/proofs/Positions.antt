@@ -1,5 +1,5 @@
 -- The position of an element, from the front of a list on, and the text before a zero byte.
-use Rattle.std.proofs.Common.{◌≡◌, ◌∙◌, ◌<◌, ◌≤◌, ◌+◌, ◌==◌, ℕ, zero, suc, Bool, true, false, not, cond, ltb, List, [], ◌∷◌, Option, Some, None, refl, sym, ap, arith, length, take, drop, option_map}
+use Rattle.std.proofs.Common.{◌≡◌, ◌∙◌, ◌+◌, ◌==◌, ℕ, suc, Bool, true, false, not, cond, ltb, List, [], ◌∷◌, Option, Some, None, refl, ap, arith, length, take, option_map}
 use Rattle.std.specs.Prelude.{position}
 use Rattle.std.specs.List.{position_or_len}
 use Rattle.std.proofs.lemmas.Bool.{lt-ltb}

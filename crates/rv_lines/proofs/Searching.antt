@@ -1,5 +1,5 @@
 -- A search through the sections of a file, index after index.
-use Rattle.std.proofs.Common.{◌≡◌, ◌∙◌, ◌<◌, ◌≤◌, ◌+◌, ◌-◌, ℕ, suc, Bool, true, false, cond, Option, Some, None, map, refl, ap, sym, arith}
+use Rattle.std.proofs.Common.{◌≡◌, ◌∙◌, ◌<◌, ◌≤◌, ◌+◌, ◌-◌, ℕ, suc, Bool, true, false, cond, Some, None, map, ap, sym, arith}
 use Rattle.std.specs.List.{find, range_with_len}
 
 module _ {X : Type 0} (p : X → Bool) (f : ℕ → X) where

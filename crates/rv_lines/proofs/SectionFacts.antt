@@ -1,8 +1,8 @@
 -- The tables of three sections that were read.
-use Rattle.std.proofs.Common.{◌≡◌, ℕ, List, Result, Ok, Err, refl}
+use Rattle.std.proofs.Common.{◌≡◌, ℕ, List, Ok, Err, refl}
 use Rattle.std.specs.Prelude.{codes}
 use Rattle.rv_lines.specs.declared.error.LinesError.{LinesError}
-use Rattle.rv_lines.specs.Sections.{◌then◌, Tables, bytes_named, tables_of}
+use Rattle.rv_lines.specs.Sections.{bytes_named, tables_of}
 
 pub tables_then : (file lines line_str str : List ℕ) → bytes_named file (codes ".debug_line") (codes ".zdebug_line") ≡ Ok lines
     → bytes_named file (codes ".debug_line_str") (codes ".zdebug_line_str") ≡ Ok line_str

@@ -1,7 +1,7 @@
 -- The units of a section, one after the other, as a loop reads them.
-use Rattle.std.proofs.Common.{◌≡◌, ◌∙◌, ◌<◌, ◌≤◌, ◌+◌, ◌-◌, ◌==◌, ℕ, zero, suc, min, Bool, true, false, cond, List, [], ◌∷◌, ◌++◌, length, drop, get_or, map, Option, Some, None, Result, Ok, Err, is_err, refl, sym, ap, arith, nat_lt, nat_le, length-append, length-drop, inl, inr, append_assoc}
+use Rattle.std.proofs.Common.{◌≡◌, ◌∙◌, ◌<◌, ◌≤◌, ◌+◌, ◌==◌, ℕ, zero, suc, min, Bool, true, false, cond, List, [], ◌∷◌, ◌++◌, length, drop, map, Option, Some, None, Result, Ok, Err, refl, sym, ap, arith, nat_lt, nat_le, length-append, length-drop, inl, inr, append_assoc}
 use Rattle.byteorder.specs.Endian.{little_number}
-use Rattle.std.specs.List.{count_by, flat_map, sum_by}
+use Rattle.std.specs.List.{count_by}
 use Rattle.std.specs.Option.{option_or}
 use Rattle.std.proofs.lemmas.Bool.{cases_lt}
 use Rattle.std.proofs.lemmas.Grind.{flat_map-append}
@@ -10,12 +10,9 @@ use Rattle.std.proofs.lemmas.List.Sums.{sum_by-append, count_by-le-length}
 use Rattle.rv_lines.specs.declared.error.UnitError.{UnitError}
 use Rattle.rv_lines.specs.declared.rows.Row.{Row}
 use Rattle.rv_lines.specs.declared.search.RejectedUnits.{RejectedUnits}
-use Rattle.rv_lines.specs.declared.span.SourceLine.{SourceLine}
-use Rattle.rv_lines.specs.declared.span.Span.{Span}
-use Rattle.rv_lines.specs.Reading.{◌>>=◌}
 use Rattle.rv_lines.specs.Entries.{Strings}
-use Rattle.rv_lines.specs.Units.{UnitRead, unit_length, unit_size, long_unit_size, rows_at, units}
-use Rattle.rv_lines.specs.Lines.{spans_of_rows, spans_of, all_spans, source_at, with_line, line_at, units_of, is_rejected, error_or, first_error, rejected_units}
+use Rattle.rv_lines.specs.Units.{UnitRead, unit_length, unit_size, rows_at, units}
+use Rattle.rv_lines.specs.Lines.{spans_of_rows, spans_of, all_spans, source_at, line_at, units_of, is_rejected, error_or, first_error, rejected_units}
 use Rattle.rv_lines.specs.SearchInside.{noted_all, drop_line_0, clear, checked_only, rejected_after}
 use Rattle.rv_lines.proofs.Noting.{Found, nothing, noted_all_append, noted_sources}
 

@@ -1,10 +1,9 @@
 -- What the code keeps of directories and files: their number, and one of them.
-use Rattle.std.specs.Prelude.{◌==◌, ◌||◌, ℕ, Bool, false, List, [], length, slice_get, Option, Some, None, option_map, option_and_then, Result, Ok, Err}
+use Rattle.std.specs.Prelude.{◌==◌, ◌||◌, ℕ, Bool, false, List, [], length, slice_get, Option, Some, None, option_map, option_and_then, Ok, Err}
 use Rattle.std.specs.List.{list_any}
 use Rattle.rv_lines.specs.declared.entries.Entries.{Entries}
 use Rattle.rv_lines.specs.declared.entries.Format.{Format}
 use Rattle.rv_lines.specs.declared.entries.Entry as declared
-use Rattle.rv_lines.specs.declared.error.UnitError.{UnitError}
 use Rattle.rv_lines.specs.declared.forms.Field.{Field}
 use Rattle.rv_lines.specs.declared.tables.StringSections.{StringSections}
 use Rattle.rv_lines.specs.Reading.{◌>>=◌, Read}

@@ -1,5 +1,5 @@
 -- What the code keeps of a header: the parameters of the program, the number of files, one file and one directory.
-use Rattle.std.specs.Prelude.{ℕ, List, length, Option, option_map, Result, Ok, Err}
+use Rattle.std.specs.Prelude.{ℕ, List, Option, option_map, Result, Ok}
 use Rattle.rv_lines.specs.declared.error.UnitError.{UnitError}
 use Rattle.rv_lines.specs.declared.header.FileNumbers.{FileNumbers}
 use Rattle.rv_lines.specs.declared.header.Header as declared

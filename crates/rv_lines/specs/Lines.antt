@@ -1,5 +1,5 @@
 -- The source line of an address (DWARF 5, section 6.2.2): that of the row before it, in the order of the rows.
-use Rattle.std.specs.Prelude.{◌≡◌, true, false, ◌==◌, ◌+◌, ℕ, Bool, not, ◌&&◌, ◌||◌, ◌≤◌, ◌<◌, List, [], ◌∷◌, ◌++◌, length, filter, map, nat_lt, nat_le, Option, Some, None, is_err, Result, Ok, Err, if◌then◌else◌, option_map, option_and_then, find}
+use Rattle.std.specs.Prelude.{◌≡◌, true, false, ◌==◌, ℕ, Bool, not, ◌&&◌, ◌||◌, List, [], ◌∷◌, ◌++◌, length, filter, nat_lt, nat_le, Option, Some, None, is_err, Result, Ok, Err, if◌then◌else◌, option_map, option_and_then, find}
 use Rattle.std.specs.List.{list_any, flat_map, count_by}
 use Rattle.rv_lines.specs.declared.error.UnitError.{UnitError}
 use Rattle.rv_lines.specs.declared.rows.Row.{Row}

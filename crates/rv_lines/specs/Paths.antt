@@ -1,5 +1,5 @@
 -- The path of a row's file (DWARF 5, section 6.2.4: directories, file_names).
-use Rattle.std.specs.Prelude.{◌==◌, ◌||◌, ◌-◌, ℕ, Bool, true, false, List, [], ◌∷◌, ◌++◌, length, drop, nat_lt, Option, Some, None, Result, Ok, Err, if◌then◌else◌, option_map, option_and_then}
+use Rattle.std.specs.Prelude.{◌==◌, ◌||◌, ℕ, Bool, false, List, [], ◌∷◌, ◌++◌, length, drop, Option, Some, None, if◌then◌else◌, option_map, option_and_then}
 use Rattle.std.specs.Result.{result_ok}
 use Rattle.rv_lines.specs.Reading.{◌>>=◌}
 use Rattle.rv_lines.specs.Entries.{Strings, Entry}

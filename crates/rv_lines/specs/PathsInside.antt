@@ -1,5 +1,5 @@
 -- The paths and headers that the code holds.
-use Rattle.std.specs.Prelude.{ℕ, List, drop, Option, option_map, Result, Ok, Err}
+use Rattle.std.specs.Prelude.{ℕ, List, drop, Option, option_map}
 use Rattle.std.specs.Result.{result_ok}
 use Rattle.rv_lines.specs.declared.header.RequestedEntries.{RequestedEntries}
 use Rattle.rv_lines.specs.declared.path.SourcePath.{SourcePath}

@@ -1,5 +1,5 @@
 -- Reading from the front of bytes: a value and the bytes after it, or the first error in the order of the bytes.
-use Rattle.std.specs.Prelude.{◌≡◌, ◌+◌, ℕ, Bool, List, [], ◌∷◌, length, drop, nat_lt, Option, Some, None, Result, Ok, Err, if◌then◌else◌}
+use Rattle.std.specs.Prelude.{◌≡◌, ◌+◌, ℕ, List, [], ◌∷◌, length, drop, nat_lt, Option, Some, None, Result, Ok, Err, if◌then◌else◌}
 use Rattle.byteorder.specs.Endian.{little_number}
 use Rattle.rv_elf.specs.Sections.{text_before_zero}
 use Rattle.rv_lines.specs.declared.error.UnitError.{UnitError}

@@ -1,5 +1,5 @@
 -- How spans, one after the other, change what has been found for each address.
-use Rattle.std.specs.Prelude.{◌+◌, ◌&&◌, ℕ, Bool, true, List, [], ◌∷◌, nat_lt, Option, Some, None, if◌then◌else◌, option_and_then, map, Result, Ok, Err}
+use Rattle.std.specs.Prelude.{◌+◌, ℕ, Bool, true, List, [], ◌∷◌, nat_lt, Option, Some, None, if◌then◌else◌, option_and_then, Result, Ok, Err}
 use Rattle.std.specs.List.Sorted.{IsNonDecreasingBy}
 use Rattle.std.specs.Option.{option_map_or, option_or}
 use Rattle.rv_lines.specs.declared.error.UnitError.{UnitError}

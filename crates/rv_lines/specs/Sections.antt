@@ -1,5 +1,5 @@
 -- The sections of line tables, by their names (System V ABI, "Sections", "String Table"; compressed sections: SHF_COMPRESSED).
-use Rattle.std.specs.Prelude.{◌≡◌, ◌≤◌, ◌<◌, ◌==◌, ◌||◌, ◌&&◌, ◌+◌, ◌*◌, ℕ, Bool, not, true, false, List, [], ◌∷◌, ◌++◌, length, map, take, drop, nat_lt, nat_le, Option, Some, None, Result, Ok, Err, if◌then◌else◌, find, codes, bit_and, is_none}
+use Rattle.std.specs.Prelude.{◌≡◌, ◌≤◌, ◌<◌, ◌==◌, ◌||◌, ◌&&◌, ◌+◌, ◌*◌, ℕ, Bool, not, true, false, List, [], length, map, take, drop, nat_lt, Option, Result, Ok, Err, if◌then◌else◌, find, codes, bit_and}
 use Rattle.std.specs.List.{range_with_len}
 use Rattle.std.specs.Option.{option_map_or}
 use Rattle.rv_elf.specs.Fields.{half_at, word_at}

@@ -1,5 +1,5 @@
 -- The units of `.debug_line` (DWARF 5, sections 7.2.2 and 7.4: initial lengths; section 6.2.4).
-use Rattle.std.specs.Prelude.{◌==◌, ◌+◌, ℕ, zero, suc, Bool, List, [], ◌∷◌, length, take, drop, nat_lt, nat_le, Option, Some, None, Result, Ok, Err, if◌then◌else◌}
+use Rattle.std.specs.Prelude.{◌==◌, ◌+◌, ℕ, zero, suc, List, [], ◌∷◌, length, take, drop, nat_lt, nat_le, Result, Ok, Err, if◌then◌else◌}
 use Rattle.byteorder.specs.Endian.{little_number}
 use Rattle.rv_lines.specs.declared.error.UnitError.{UnitError}
 use Rattle.rv_lines.specs.declared.error.UnitError.TheVariants.{UnitCutOff, Dwarf64, ReservedLength}

@@ -1,4 +1,3 @@
-use Rattle.std.proofs.Common.{◌≡◌}
 use Rattle.std.proofs.lemmas.Result.{err_from_is_err_and}
 use Rattle.rv_lines.specs.Entries.{empty_entry, entry_at}
 use Rattle.rv_lines.specs.EntriesInside.{view_entry, view_strings, fields_of}

@@ -1,4 +1,4 @@
-use Rattle.std.proofs.Common.{◌≡◌, ◌∙◌, ◌+◌, ◌-◌, ap, false}
+use Rattle.std.proofs.Common.{◌∙◌, ◌+◌, ◌-◌, ap, false}
 use Rattle.std.proofs.lemmas.Result.{err_from_is_err_and}
 use Rattle.rv_lines.specs.Entries.{fields_at}
 use Rattle.rv_lines.specs.EntriesInside.{path_and_rest}

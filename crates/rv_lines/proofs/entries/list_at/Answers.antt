@@ -1,10 +1,10 @@
-use Rattle.std.proofs.Common.{◌≡◌, ◌∙◌, ◌+◌, ◌<◌, ◌≤◌, sym, ap, subst, cond, option_map, length, Option, Some, None, List, ℕ, Ok, refl, arith}
+use Rattle.std.proofs.Common.{◌≡◌, ◌∙◌, ◌+◌, ◌<◌, sym, subst, option_map, length, Option, arith}
 use Rattle.std.proofs.lemmas.Result.{err_from_is_err_and}
 use Rattle.std.proofs.lemmas.Bool.Decides.{nat_tests}
 use Rattle.rv_lines.specs.declared.error.UnitError.TheVariants.{HeaderCutOff}
 use Rattle.rv_lines.specs.Reading.{string_at}
 use Rattle.rv_lines.specs.Entries.{Entry, list_at, numbers_at}
-use Rattle.rv_lines.specs.EntriesInside.{view_entry, is_index, summarised}
+use Rattle.rv_lines.specs.EntriesInside.{view_entry, summarised}
 use Rattle.rv_lines.proofs.EntryLists.{ListLeft, resumed_all, list_fails, list_ends, list_numbers_fail, list_on, fewer_after, within_after}
 use Rattle.rv_lines.proofs.Shorter.{text_fewer, numbers_within}
 use Rattle.rv_lines.proofs.entries.list_at.Goals as goal

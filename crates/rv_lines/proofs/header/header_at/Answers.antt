@@ -1,4 +1,3 @@
-use Rattle.std.proofs.Common.{◌≡◌}
 use Rattle.std.proofs.lemmas.Result.{err_from_is_err_and}
 use Rattle.rv_lines.specs.EntriesInside.{view_strings}
 use Rattle.rv_lines.proofs.Headers.{header_fails}

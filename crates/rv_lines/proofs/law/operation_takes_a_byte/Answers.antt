@@ -1,4 +1,3 @@
-use Rattle.std.proofs.Common.{length}
 use Rattle.rv_lines.proofs.LawsOfRows.{takes_a_byte}
 use Rattle.rv_lines.proofs.law.operation_takes_a_byte.Goals as goal
 

@@ -1,4 +1,3 @@
-use Rattle.std.proofs.Common.{length}
 use Rattle.rv_lines.proofs.LawsOfRows.{rows_counted, rows_in_order}
 use Rattle.rv_lines.proofs.law.rows_are_of_operations.Goals as goal
 

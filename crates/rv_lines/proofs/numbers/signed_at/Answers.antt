@@ -1,4 +1,4 @@
-use Rattle.std.proofs.Common.{◌≡◌, ◌∙◌, ◌+◌, ◌-◌, ◌^◌, sym, ap, Ok, cond, take, drop, get_or, nat_le, arith}
+use Rattle.std.proofs.Common.{◌≡◌, ◌∙◌, ◌+◌, ◌-◌, ◌^◌, sym, ap, Ok, cond, take, drop, get_or, arith}
 use Rattle.std.proofs.lemmas.Bool.{le-leb, lt-leb}
 use Rattle.rv_lines.specs.Numbers.{signed_at, signed_or}
 use Rattle.rv_lines.proofs.Leb.{signed_none, signed_some, signed_small, signed_large, is_negative}

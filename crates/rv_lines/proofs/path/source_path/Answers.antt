@@ -1,4 +1,4 @@
-use Rattle.std.proofs.Common.{◌≡◌, ◌∙◌, drop, sym, ap, Option, Some, None, option_map, refl, ℕ}
+use Rattle.std.proofs.Common.{◌∙◌, drop, sym, ap, Some, option_map, refl}
 use Rattle.rv_lines.specs.Reading.{◌>>=◌}
 use Rattle.rv_lines.specs.EntriesInside.{view_entry, view_strings}
 use Rattle.rv_lines.specs.Header.{header_at}

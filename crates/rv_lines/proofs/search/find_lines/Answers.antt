@@ -1,4 +1,4 @@
-use Rattle.std.proofs.Common.{◌≡◌, ◌∙◌, ◌<◌, ◌≤◌, ◌+◌, sym, ap, subst, length, length-drop, drop, min, arith}
+use Rattle.std.proofs.Common.{◌≡◌, ◌∙◌, ◌<◌, ◌+◌, sym, ap, subst, length, length-drop, drop, min, arith}
 use Rattle.rv_lines.specs.declared.search.RejectedUnits.{RejectedUnits}
 use Rattle.rv_lines.specs.EntriesInside.{view_strings}
 use Rattle.rv_lines.specs.Units.{unit_size}

@@ -1,4 +1,4 @@
-use Rattle.std.proofs.Common.{◌≡◌, ◌<◌, get_or, length, None, arith}
+use Rattle.std.proofs.Common.{◌<◌, get_or, length, None, arith}
 use Rattle.std.proofs.lemmas.List.{get_or_default}
 use Rattle.std.proofs.lemmas.List.Edits.{map_over_more}
 use Rattle.rv_lines.specs.SearchInside.{clear}

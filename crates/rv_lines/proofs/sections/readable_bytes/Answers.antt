@@ -1,4 +1,4 @@
-use Rattle.std.proofs.Common.{◌≡◌, ◌<◌, ◌^◌, ◌∙◌, length, take, drop, min, ap, length-take, arith}
+use Rattle.std.proofs.Common.{◌≡◌, ◌∙◌, length, drop, min, ap, length-take, arith}
 use Rattle.rv_lines.proofs.sections.readable_bytes.Goals as goal
 
 pub returns-clause-short : goal.returns-clause-short

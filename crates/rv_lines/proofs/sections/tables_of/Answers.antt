@@ -1,4 +1,3 @@
-use Rattle.std.proofs.Common.{◌≡◌}
 use Rattle.std.proofs.lemmas.Result.{err_from_is_err_and}
 use Rattle.rv_lines.proofs.SectionFacts.{tables_then, line_str_fails, str_fails}
 use Rattle.rv_lines.proofs.sections.tables_of.Goals as goal

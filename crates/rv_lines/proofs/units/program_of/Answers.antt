@@ -1,4 +1,4 @@
-use Rattle.std.proofs.Common.{◌≡◌, ◌∙◌, sym, ap, drop}
+use Rattle.std.proofs.Common.{◌∙◌, sym, ap, drop}
 use Rattle.std.proofs.lemmas.Result.{err_from_is_err_and}
 use Rattle.rv_lines.specs.EntriesInside.{view_strings}
 use Rattle.rv_lines.specs.HeaderInside.{view_header}
