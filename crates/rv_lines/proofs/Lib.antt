@@ -1,0 +1,17 @@
+pub mod Positions
+pub mod Leb
+pub mod Loops
+pub mod EntryLoops
+pub mod Shorter
+pub mod EntryLists
+pub mod Choosing
+pub mod Noting
+pub mod Folding
+pub mod Headers
+pub mod UnitLists
+pub mod PathTexts
+pub mod Searching
+pub mod LawsOfRows
+pub mod LawsOfUnits
+pub mod LawsOfLines
+pub mod SectionFacts

@@ -1,0 +1,166 @@
+-- The directories and files of a unit's header: lists of strings and numbers in DWARF 2 to 4 (DWARF 4, section 6.2.4), entries of described fields
+-- in DWARF 5 (section 6.2.4.1, forms in 7.5.6).
+use Rattle.std.specs.Prelude.{◌==◌, ◌||◌, ◌&&◌, ℕ, zero, suc, Bool, not, true, false, List, [], ◌∷◌, length, drop, nat_lt, Option, Some, None, Result, Ok, Err, if◌then◌else◌}
+use Rattle.std.specs.List.{list_any}
+use Rattle.rv_elf.specs.Sections.{text_before_zero}
+use Rattle.rv_lines.specs.declared.error.UnitError.{UnitError}
+use Rattle.rv_lines.specs.declared.error.UnitError.TheVariants.{HeaderCutOff, EntryForm, EntryText}
+use Rattle.rv_lines.specs.declared.forms.Field.{Field}
+use Rattle.rv_lines.specs.Reading.{◌>>=◌, Read, byte_at, fixed_at, skip_at, string_at}
+use Rattle.rv_lines.specs.Numbers.{number_at, skip_number}
+
+-- the string sections that entries refer to: `.debug_line_str` and `.debug_str`
+pub record Strings : Type 0 where
+  pub line_str : List ℕ
+  pub str : List ℕ
+
+-- a directory, or a file with the number of its directory
+pub record Entry : Type 0 where
+  pub name : List ℕ
+  pub directory : ℕ
+
+-- an entry with no fields yet
+abbrev pub empty_entry : Entry
+empty_entry = record { name = []; directory = 0 }
+
+-- ---- DWARF 2 to 4: include_directories, file_names
+
+-- the numbers after a file's name: its directory, and its time and length, which are skipped; a directory has none
+unfoldable pub numbers_at : Bool → List ℕ → Read ℕ
+numbers_at false bytes = Ok (0, bytes)
+numbers_at true bytes = do
+  directory ← number_at HeaderCutOff bytes
+  time ← skip_number HeaderCutOff directory.1
+  size ← skip_number HeaderCutOff time
+  Ok (directory.0, size)
+
+-- at most `most` directories, or files if `of_files`, up to an empty name, which ends the list
+unfoldable pub list_at : ℕ → Bool → List ℕ → Read (List Entry)
+list_at zero of_files bytes = Err HeaderCutOff
+list_at (suc most) of_files bytes = do
+  name ← string_at HeaderCutOff bytes
+  if length name.0 == 0 then Ok ([], name.1) else (do
+    directory ← numbers_at of_files name.1
+    others ← list_at most of_files directory.1
+    Ok (record { name = name.0; directory = directory.0 } ∷ others.0, others.1))
+
+-- ---- DWARF 5: directory_entry_format, directories, file_name_entry_format, file_names
+
+-- whether a form is a string: string, line_strp, strp
+abbrev pub is_string_form : ℕ → Bool
+is_string_form form = (form == 0x08) || ((form == 0x1f) || (form == 0x0e))
+
+-- the number of bytes of a form of a fixed size: data1, data2, data4, data8
+abbrev pub size_of_form : ℕ → Option ℕ
+size_of_form form = if form == 0x0b then Some 1 else if form == 0x05 then Some 2 else if form == 0x06 then Some 4
+    else if form == 0x07 then Some 8 else None
+
+abbrev pub is_some_size : Option ℕ → Bool
+is_some_size None = false
+is_some_size (Some size) = true
+
+-- whether a form is a number: udata, data1, data2, data4, data8
+abbrev pub is_number_form : ℕ → Bool
+is_number_form form = (form == 0x0f) || is_some_size (size_of_form form)
+
+-- whether a form is read at all: a string, a number, data16 or block
+abbrev pub is_known_form : ℕ → Bool
+is_known_form form = is_string_form form || (is_number_form form || ((form == 0x1e) || (form == 0x09)))
+
+-- whether a field may have its form: DW_LNCT_path is a string, DW_LNCT_directory_index a number, and any other has a form that is read
+abbrev pub is_valid_field : Field → Bool
+is_valid_field field = if field.content == 1 then is_string_form field.form else if field.content == 2 then is_number_form field.form
+    else is_known_form field.form
+
+-- one field of the format of entries
+unfoldable pub field_at : List ℕ → Read Field
+field_at bytes = do
+  content ← number_at HeaderCutOff bytes
+  form ← number_at HeaderCutOff content.1
+  let field : Field = record { content = content.0; form = form.0 } in
+      if is_valid_field field then Ok (field, form.1) else Err EntryForm
+
+-- `count` fields
+unfoldable pub fields_at : ℕ → List ℕ → Read (List Field)
+fields_at zero bytes = Ok ([], bytes)
+fields_at (suc count) bytes = do
+  field ← field_at bytes
+  others ← fields_at count field.1
+  Ok (field.0 ∷ others.0, others.1)
+
+-- the string at an offset of a section, or an error if the section has none there
+abbrev pub section_string : Option (List ℕ) → List ℕ → Read (List ℕ)
+section_string None rest = Err EntryText
+section_string (Some text) rest = Ok (text, rest)
+
+-- the string that a four-byte offset into a section refers to
+unfoldable pub offset_string_at : List ℕ → List ℕ → Read (List ℕ)
+offset_string_at section bytes = do
+  offset ← fixed_at HeaderCutOff 4 bytes
+  section_string (text_before_zero (drop offset.0 section)) offset.1
+
+-- a string of a form
+unfoldable pub form_string_at : Strings → ℕ → List ℕ → Read (List ℕ)
+form_string_at strings form bytes = if form == 0x08 then string_at HeaderCutOff bytes
+    else if form == 0x1f then offset_string_at strings.line_str bytes
+    else if form == 0x0e then offset_string_at strings.str bytes else Err EntryForm
+
+abbrev pub sized_number_at : Option ℕ → List ℕ → Read ℕ
+sized_number_at None bytes = Err EntryForm
+sized_number_at (Some size) bytes = fixed_at HeaderCutOff size bytes
+
+-- a number of a form
+unfoldable pub form_number_at : ℕ → List ℕ → Read ℕ
+form_number_at form bytes = if form == 0x0f then number_at HeaderCutOff bytes else sized_number_at (size_of_form form) bytes
+
+-- the bytes after a value that is skipped and whose form has no fixed size: string, udata, block
+unfoldable pub skip_variable_form : ℕ → List ℕ → Result (List ℕ) UnitError
+skip_variable_form form bytes = if form == 0x08 then (string_at HeaderCutOff bytes >>= λ text. Ok text.1)
+    else if form == 0x0f then skip_number HeaderCutOff bytes
+    else if form == 0x09 then (number_at HeaderCutOff bytes >>= λ size. skip_at HeaderCutOff size.0 size.1)
+    else Err EntryForm
+
+-- the number of bytes of a form that is skipped: those of a number of a fixed size, 4 of line_strp and strp, 16 of data16
+abbrev pub skipped_size : ℕ → Option ℕ
+skipped_size form = if (form == 0x1f) || (form == 0x0e) then Some 4 else if form == 0x1e then Some 16 else size_of_form form
+
+abbrev pub skip_sized : Option ℕ → ℕ → List ℕ → Result (List ℕ) UnitError
+skip_sized None form bytes = skip_variable_form form bytes
+skip_sized (Some size) form bytes = skip_at HeaderCutOff size bytes
+
+-- the bytes after a value of a form that is skipped
+abbrev pub skip_form : ℕ → List ℕ → Result (List ℕ) UnitError
+skip_form form bytes = skip_sized (skipped_size form) form bytes
+
+-- an entry with one more field: its path, its directory's number, or a field that is skipped
+unfoldable pub with_field : Strings → Field → Entry → List ℕ → Read Entry
+with_field strings field entry bytes = if field.content == 1
+    then (form_string_at strings field.form bytes >>= λ text. Ok (record { name = text.0; directory = entry.directory }, text.1))
+    else if field.content == 2
+    then (form_number_at field.form bytes >>= λ directory. Ok (record { name = entry.name; directory = directory.0 }, directory.1))
+    else (skip_form field.form bytes >>= λ rest. Ok (entry, rest))
+
+-- an entry with these fields, added to those of `entry`
+unfoldable pub entry_at : Strings → List Field → Entry → List ℕ → Read Entry
+entry_at strings [] entry bytes = Ok (entry, bytes)
+entry_at strings (field ∷ fields) entry bytes = with_field strings field entry bytes >>= λ more. entry_at strings fields more.0 more.1
+
+-- `count` entries with these fields
+unfoldable pub entries_at : Strings → List Field → ℕ → List ℕ → Read (List Entry)
+entries_at strings fields zero bytes = Ok ([], bytes)
+entries_at strings fields (suc count) bytes = do
+  entry ← entry_at strings fields empty_entry bytes
+  others ← entries_at strings fields count entry.1
+  Ok (entry.0 ∷ others.0, others.1)
+
+-- whether a field is DW_LNCT_path
+abbrev pub is_path : Field → Bool
+is_path field = field.content == 1
+
+-- the format of entries, their number, and the entries, each of which needs a path
+unfoldable pub table_at : Strings → List ℕ → Read (List Entry)
+table_at strings bytes = do
+  count ← byte_at HeaderCutOff bytes
+  fields ← fields_at count.0 count.1
+  entries ← number_at HeaderCutOff fields.1
+  if not (list_any is_path fields.0) && nat_lt 0 entries.0 then Err EntryForm else entries_at strings fields.0 entries.0 entries.1

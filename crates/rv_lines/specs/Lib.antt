@@ -1,0 +1,16 @@
+pub mod ErrorNames
+pub mod Reading
+pub mod Numbers
+pub mod Entries
+pub mod EntriesInside
+pub mod Header
+pub mod HeaderInside
+pub mod Operations
+pub mod Rows
+pub mod Units
+pub mod Lines
+pub mod SearchInside
+pub mod Paths
+pub mod PathsInside
+pub mod Sections
+pub mod SectionsInside

@@ -1,0 +1,72 @@
+-- How spans, one after the other, change what has been found for each address.
+use Rattle.std.specs.Prelude.{◌+◌, ℕ, Bool, true, List, [], ◌∷◌, nat_lt, Option, Some, None, if◌then◌else◌, option_and_then, Result, Ok, Err}
+use Rattle.std.specs.List.Sorted.{IsNonDecreasingBy}
+use Rattle.std.specs.Option.{option_map_or, option_or}
+use Rattle.rv_lines.specs.declared.error.UnitError.{UnitError}
+use Rattle.rv_lines.specs.declared.error.UnitError.TheVariants.{FileNumber}
+use Rattle.rv_lines.specs.declared.header.FileNumbers.{FileNumbers}
+use Rattle.rv_lines.specs.declared.search.RejectedUnits.{RejectedUnits}
+use Rattle.rv_lines.specs.declared.program.Program as declared
+use Rattle.rv_lines.specs.declared.rows.Row.{Row}
+use Rattle.rv_lines.specs.declared.span.SourceLine.{SourceLine}
+use Rattle.rv_lines.specs.declared.span.Span.{Span}
+use Rattle.rv_lines.specs.Lines.{covers, with_line}
+use Rattle.rv_lines.specs.Reading.{◌>>=◌}
+use Rattle.rv_lines.specs.Rows.{lacks_file, program_rows}
+
+-- whether a source is chosen after what was found: nothing, or one with a smaller `low`
+abbrev pub is_higher : SourceLine → Option SourceLine → Bool
+is_higher source found = option_map_or (λ f. nat_lt f.low source.low) found true
+
+-- the source that is chosen of a new one and what was found
+abbrev pub higher : SourceLine → Option SourceLine → Option SourceLine
+higher source found = if is_higher source found then Some source else found
+
+-- what is found for an address after one more span
+abbrev pub note_span_at : Span → ℕ → Option SourceLine → Option SourceLine
+note_span_at s a found = if covers a s then higher s.source found else found
+
+-- what is found for each address after one more span
+abbrev pub noted_each : Span → List ℕ → List (Option SourceLine) → List (Option SourceLine)
+noted_each s [] found = []
+noted_each s (a ∷ addresses) [] = []
+noted_each s (a ∷ addresses) (f ∷ found) = note_span_at s a f ∷ noted_each s addresses found
+
+-- what is found for each address after more spans
+abbrev pub noted_all : List Span → List ℕ → List (Option SourceLine) → List (Option SourceLine)
+noted_all [] addresses found = found
+noted_all (s ∷ spans) addresses found = noted_all spans addresses (noted_each s addresses found)
+
+-- what was found, or nothing if its line is 0
+abbrev pub drop_line_0 : Option SourceLine → Option SourceLine
+drop_line_0 found = option_and_then with_line found
+
+-- nothing, whatever was found
+abbrev pub clear : Option SourceLine → Option SourceLine
+clear found = None
+
+-- whether the file of a row that was added is there
+abbrev pub file_check : FileNumbers → Option Row → Result (Unit {0}) UnitError
+file_check files None = Ok tt
+file_check files (Some row) = if lacks_file files row then Err FileNumber else Ok tt
+
+-- a result without its value
+abbrev pub checked_only : {X : Type 0} → Result X UnitError → Result (Unit {0}) UnitError
+checked_only read = read >>= λ _. Ok tt
+
+-- the rows of a program that the code holds
+abbrev pub rows_of_program : declared.Program → Result (List Row) UnitError
+rows_of_program p = program_rows p.parameters p.files p.lengths.now p.bytes.now
+
+-- the counts after one more unit at an offset
+abbrev pub rejected_after : RejectedUnits → ℕ → Result (Unit {0}) UnitError → RejectedUnits
+rejected_after counts offset (Ok _) = record counts { units = counts.units + 1 }
+rejected_after counts offset (Err error) = record {
+  units = counts.units + 1;
+  rejected = counts.rejected + 1;
+  first = option_or counts.first (Some (error, offset));
+}
+
+-- addresses in their order
+abbrev pub IsRising : List ℕ → Type 0
+IsRising addresses = IsNonDecreasingBy (λ a. a) addresses

@@ -1,0 +1,219 @@
+//! The directories and files of a unit's header (DWARF 4, section 6.2.4; DWARF 5, section 6.2.4.1). They are not kept: of each list, the number
+//! of its entries is counted, and one entry is picked.
+ghost use Rattle.std.specs.Prelude.{◌≡◌, ◌||◌, if◌then◌else◌, Some, length, option_map, is_ok, true, false};
+ghost use Rattle.rv_lines.specs.Reading.{Gives};
+ghost use Rattle.rv_lines.specs.Entries.{empty_entry, is_path, numbers_at, list_at, fields_at, with_field, entry_at, entries_at, table_at};
+ghost use Rattle.rv_lines.specs.EntriesInside.{is_index, view_entry, view_entries, view_strings, summarised, path_and_rest, fields_of};
+
+use crate::error::UnitError;
+use crate::forms::{
+    DW_LNCT_DIRECTORY_INDEX, DW_LNCT_PATH, Field, field_at, number_of_form, skip_form,
+    string_of_form,
+};
+use crate::numbers::{number_at, skip_number};
+use crate::reading::{byte_at, string_at};
+use crate::tables::StringSections;
+
+/// A directory, or a file with the number of its directory.
+#[derive(Clone, Copy)]
+pub(crate) struct Entry<'a> {
+    pub(crate) name: &'a [u8],
+    pub(crate) directory: u64,
+}
+
+/// A list of entries: how many there are, and the one that was picked, if there is one.
+#[derive(Clone, Copy)]
+pub(crate) struct Entries<'a> {
+    pub(crate) count: u64,
+    pub(crate) found: Option<Entry<'a>>,
+}
+
+/// The format of entries in DWARF 5: `count` fields, described by `bytes`.
+#[derive(Clone, Copy)]
+pub(crate) struct Format<'a> {
+    pub(crate) count: u8,
+    pub(crate) bytes: &'a [u8],
+}
+
+/// Reads a list of DWARF 2 to 4, of directories or files, up to the empty name that ends it, and picks the entry at an index.
+pub(crate) fn list_at<'a>(
+    of_files: bool,
+    index: Option<u64>,
+    bytes: &'a [u8],
+) -> Result<(Entries<'a>, &'a [u8]), UnitError>
+    ensures { Gives (λ x. (view_entries x.0, x.1.now)) result
+        (summarised index (list_at (length bytes.now) of_files bytes.now)) }
+{
+    let mut count = 0;
+    let mut found = None;
+    let mut rest = bytes;
+    loop {
+        let (name, after) = string_at(UnitError::HeaderCutOff, rest)?;
+        if name.is_empty() {
+            return Ok((Entries { count, found }, after));
+        }
+        let (directory, after) = numbers_at(of_files, after)?;
+        found = pick(index, count, Entry { name, directory }, found);
+        count += 1;
+        rest = after;
+    }
+}
+
+// Returns the entry at index `k` if that is the one to be picked, and otherwise what was found before.
+fn pick<'a>(
+    index: Option<u64>,
+    k: u64,
+    entry: Entry<'a>,
+    found: Option<Entry<'a>>,
+) -> Option<Entry<'a>>
+    ensures { option_map view_entry result
+        ≡ (if is_index index k then Some (view_entry entry.entry) else option_map view_entry found.entry) }
+{
+    if index == Some(k) { Some(entry) } else { found }
+}
+
+// Reads the numbers after the name of a file: its directory, and its time and length, which are skipped. A directory has none.
+#[tactic(auto, unfolding(crate::specs::Entries::numbers_at))]
+fn numbers_at(of_files: bool, bytes: &[u8]) -> Result<(u64, &[u8]), UnitError>
+    ensures { Gives (λ x. (x.0, x.1.now)) result (numbers_at of_files bytes.now) }
+{
+    if !of_files {
+        return Ok((0, bytes));
+    }
+    let (directory, rest) = number_at(UnitError::HeaderCutOff, bytes)?;
+    let after_time = skip_number(UnitError::HeaderCutOff, rest)?;
+    let rest = skip_number(UnitError::HeaderCutOff, after_time)?;
+    Ok((u64::from(directory), rest))
+}
+
+/// Reads entries of DWARF 5 after their format and their number, and picks the entry at an index.
+#[tactic(auto, unfolding(crate::specs::Entries::table_at))]
+pub(crate) fn table_at<'a>(
+    strings: &StringSections<'a>,
+    index: Option<u64>,
+    bytes: &'a [u8],
+) -> Result<(Entries<'a>, &'a [u8]), UnitError>
+    ensures { Gives (λ x. (view_entries x.0, x.1.now)) result
+        (summarised index (table_at (view_strings strings.now) bytes.now)) }
+{
+    let (count, rest) = byte_at(UnitError::HeaderCutOff, bytes)?;
+    let format = Format { count, bytes: rest };
+    let (has_path, rest) = format_end(&format)?;
+    let (entries, rest) = number_at(UnitError::HeaderCutOff, rest)?;
+    if !has_path && 0 < entries {
+        return Err(UnitError::EntryForm);
+    }
+    entries_at(strings, &format, entries, index, rest)
+}
+
+// Checks the fields of a format, and returns whether one of them is a path, and the bytes after them.
+fn format_end<'a>(format: &Format<'a>) -> Result<(bool, &'a [u8]), UnitError>
+    ensures { Gives (λ x. (x.0, x.1.now)) result
+        (path_and_rest false (fields_at format.now.count format.now.bytes.now)) }
+{
+    let mut has_path = false;
+    let mut rest = format.bytes;
+    for _ in 0..format.count {
+        let (field, after) = field_at(rest)?;
+        has_path = has_path_with(has_path, field);
+        rest = after;
+    }
+    Ok((has_path, rest))
+}
+
+// Whether there is a path, once there is one more field.
+fn has_path_with(before: bool, field: Field) -> bool
+    ensures { result ≡ (before || is_path field) }
+{
+    before || field.content == DW_LNCT_PATH
+}
+
+// Reads `count` entries of a format, and picks the one at an index.
+fn entries_at<'a>(
+    strings: &StringSections<'a>,
+    format: &Format<'a>,
+    count: u32,
+    index: Option<u64>,
+    bytes: &'a [u8],
+) -> Result<(Entries<'a>, &'a [u8]), UnitError>
+    requires { is_ok (fields_at format.now.count format.now.bytes.now) ≡ true }
+    ensures { Gives (λ x. (view_entries x.0, x.1.now)) result
+        (summarised index (entries_at (view_strings strings.now) (fields_of format.now) count bytes.now)) }
+{
+    let mut found = None;
+    let mut rest = bytes;
+    for k in 0..count {
+        let (entry, after) = entry_at(strings, format, rest)?;
+        found = pick(index, u64::from(k), entry, found);
+        rest = after;
+    }
+    Ok((
+        Entries {
+            count: u64::from(count),
+            found,
+        },
+        rest,
+    ))
+}
+
+// Reads an entry of a format.
+fn entry_at<'a>(
+    strings: &StringSections<'a>,
+    format: &Format<'a>,
+    bytes: &'a [u8],
+) -> Result<(Entry<'a>, &'a [u8]), UnitError>
+    requires { is_ok (fields_at format.now.count format.now.bytes.now) ≡ true }
+    ensures { Gives (λ x. (view_entry x.0, x.1.now)) result
+        (entry_at (view_strings strings.now) (fields_of format.now) empty_entry bytes.now) }
+{
+    let mut entry = Entry {
+        name: b"",
+        directory: 0,
+    };
+    let mut described = format.bytes;
+    let mut rest = bytes;
+    for _ in 0..format.count {
+        let (field, next) = field_at(described)?;
+        let (more, after) = with_field(strings, field, entry, rest)?;
+        entry = more;
+        described = next;
+        rest = after;
+    }
+    Ok((entry, rest))
+}
+
+// Reads one more field of an entry.
+#[tactic(auto, unfolding(crate::specs::Entries::with_field))]
+fn with_field<'a>(
+    strings: &StringSections<'a>,
+    field: Field,
+    entry: Entry<'a>,
+    bytes: &'a [u8],
+) -> Result<(Entry<'a>, &'a [u8]), UnitError>
+    ensures { Gives (λ x. (view_entry x.0, x.1.now)) result
+        (with_field (view_strings strings.now) field (view_entry entry.entry) bytes.now) }
+{
+    match field.content {
+        DW_LNCT_PATH => {
+            let (name, rest) = string_of_form(strings, field.form, bytes)?;
+            Ok((
+                Entry {
+                    name,
+                    directory: entry.directory,
+                },
+                rest,
+            ))
+        }
+        DW_LNCT_DIRECTORY_INDEX => {
+            let (directory, rest) = number_of_form(field.form, bytes)?;
+            Ok((
+                Entry {
+                    name: entry.name,
+                    directory,
+                },
+                rest,
+            ))
+        }
+        _ => Ok((entry, skip_form(field.form, bytes)?)),
+    }
+}

@@ -1,0 +1,95 @@
+//! LEB128, the numbers of variable length (DWARF 5, section 7.6).
+ghost use Rattle.std.specs.Prelude.{◌≡◌, ◌==◌, ◌<◌, ◌≤◌, ◌+◌, ◌^◌, position, nat_lt, length, take, min};
+ghost use Rattle.rv_lines.specs.Reading.{Gives};
+ghost use Rattle.rv_lines.specs.Numbers.{number_at, signed_at, skip_number, skip_numbers, digits_value};
+
+use crate::error::UnitError;
+use crate::reading::bytes_from;
+
+/// Set in every byte of a LEB128 but the last.
+const MORE: u8 = 0x80;
+
+/// The sign of a signed number, in its last byte.
+const SIGN: u8 = 0x40;
+
+/// Where a value is cut: from here on it is out of range.
+const OUT_OF_RANGE: u64 = 0x1_0000_0000;
+
+/// Reads an unsigned number, which must be below 2^32.
+#[tactic(auto, unfolding(crate::specs::Numbers::number_at))]
+pub(crate) fn number_at(cut: UnitError, bytes: &[u8]) -> Result<(u32, &[u8]), UnitError>
+    ensures { Gives (λ x. (x.0, x.1.now)) result (number_at cut bytes.now) }
+{
+    let Some(last) = last_byte(bytes) else {
+        return Err(cut);
+    };
+    let value = digits_value(&bytes[..last + 1], false);
+    if value >= OUT_OF_RANGE {
+        return Err(UnitError::Number);
+    }
+    Ok((value as u32, bytes_from(bytes, last + 1)))
+}
+
+/// Reads a signed number, which must be from -2^31 to 2^31 - 1, modulo 2^32.
+#[tactic(auto, unfolding(crate::specs::Numbers::signed_at))]
+pub(crate) fn signed_at(cut: UnitError, bytes: &[u8]) -> Result<(u32, &[u8]), UnitError>
+    ensures { Gives (λ x. (x.0, x.1.now)) result (signed_at cut bytes.now) }
+{
+    let Some(last) = last_byte(bytes) else {
+        return Err(cut);
+    };
+    let negative = bytes[last] >= SIGN;
+    // -1 - n has the digits of n with each bit inverted.
+    let value = digits_value(&bytes[..last + 1], negative);
+    if value > i32::MAX as u64 {
+        return Err(UnitError::Number);
+    }
+    let number = value as u32;
+    let number = if negative { u32::MAX - number } else { number };
+    Ok((number, bytes_from(bytes, last + 1)))
+}
+
+/// Skips a number of any size.
+#[tactic(auto, unfolding(crate::specs::Numbers::skip_number))]
+pub(crate) fn skip_number(cut: UnitError, bytes: &[u8]) -> Result<&[u8], UnitError>
+    ensures { Gives (λ x. x.now) result (skip_number cut bytes.now) }
+{
+    let Some(last) = last_byte(bytes) else {
+        return Err(cut);
+    };
+    Ok(bytes_from(bytes, last + 1))
+}
+
+/// Skips `count` numbers of any size.
+pub(crate) fn skip_numbers(cut: UnitError, count: u8, bytes: &[u8]) -> Result<&[u8], UnitError>
+    ensures { Gives (λ x. x.now) result (skip_numbers cut count bytes.now) }
+{
+    let mut rest = bytes;
+    for _ in 0..count {
+        rest = skip_number(cut, rest)?;
+    }
+    Ok(rest)
+}
+
+// Returns the index of the last byte of the number at the front, or `None` if it has no end.
+fn last_byte(bytes: &[u8]) -> Option<usize>
+    ensures { result ≡ position (λ b. nat_lt b 128) bytes.now }
+{
+    bytes.iter().position(|byte| *byte < MORE)
+}
+
+// Returns the value of the bytes of a number, seven bits each, the lowest first, or `OUT_OF_RANGE` if it is not below it. `inverted` inverts
+// each bit.
+fn digits_value(bytes: &[u8], inverted: bool) -> u64
+    ensures { result ≡ min (2 ^ 32) (digits_value inverted bytes.now) }
+{
+    let mut value = 0;
+    let mut at = bytes.len();
+    while 0 < at {
+        at -= 1;
+        let digit = bytes[at] % MORE;
+        let digit = if inverted { MORE - 1 - digit } else { digit };
+        value = OUT_OF_RANGE.min(value * 128 + u64::from(digit));
+    }
+    value
+}

@@ -1,0 +1,86 @@
+//! Reads the program of a unit: checks it, and notes the span of each row.
+ghost use Rattle.std.specs.Prelude.{◌≡◌, ◌<◌, [], length, IfOk, None};
+ghost use Rattle.rv_lines.specs.Lines.{spans_after};
+ghost use Rattle.rv_lines.specs.SearchInside.{noted_all, checked_only, rows_of_program, file_check, IsRising};
+ghost use Rattle.rv_lines.specs.Rows.{in_front};
+
+use crate::error::UnitError;
+use crate::header::{FileNumbers, Parameters};
+use crate::operations::operation_at;
+use crate::rows::{Row, State};
+use crate::span::{SourceLine, Span, note_span};
+
+/// The program of a unit at an offset of `.debug_line`, and what it needs of the header.
+#[derive(Clone, Copy)]
+pub(crate) struct Program<'a> {
+    pub(crate) unit: u32,
+    pub(crate) parameters: Parameters,
+    pub(crate) files: FileNumbers,
+    pub(crate) lengths: &'a [u8],
+    pub(crate) bytes: &'a [u8],
+}
+
+/// Notes the spans of a program's rows, or returns its first error. After an error, some spans may have been noted.
+pub(crate) fn note_program(
+    program: &Program,
+    addresses: &[u32],
+    found: &mut [Option<SourceLine>],
+) -> Result<(), UnitError>
+    requires line_range { 0 < program.now.parameters.line_range }
+    requires rising { IsRising addresses.now }
+    requires places { length found.old ≡ length addresses.now }
+    ensures value { result ≡ checked_only (rows_of_program program.now) }
+    ensures found { IfOk (rows_of_program program.now)
+        (λ rows. found.new ≡ noted_all (spans_after program.now.unit None rows) addresses.now found.old) }
+{
+    let mut state = State::initial(&program.parameters);
+    let mut before: Option<Row> = None;
+    let mut rest = program.bytes;
+    while 0 < rest.len() {
+        let (operation, after) = operation_at(
+            program.parameters.opcode_base,
+            program.lengths,
+            rest,
+        )?;
+        let changed = state.apply(&program.parameters, operation);
+        let added = changed.row_added(operation);
+        check_file(added, program.files)?;
+        note_row(program.unit, before, added, addresses, found);
+        before = added.or(before);
+        state = changed.next_state(&program.parameters, operation);
+        rest = after;
+    }
+    match state.low {
+        Some(_) => Err(UnitError::OpenSequence),
+        None => Ok(()),
+    }
+}
+
+// Checks that the file of a row is there, if a row was added and does not end a sequence.
+fn check_file(added: Option<Row>, files: FileNumbers) -> Result<(), UnitError>
+    ensures { result ≡ file_check files added }
+{
+    match added {
+        Some(row) if row.lacks_file(files) => Err(UnitError::FileNumber),
+        _ => Ok(()),
+    }
+}
+
+// Notes the span of the row before, once a row was added after it. A row that covers nothing has none.
+fn note_row(
+    unit: u32,
+    before: Option<Row>,
+    added: Option<Row>,
+    addresses: &[u32],
+    found: &mut [Option<SourceLine>],
+)
+    requires rising { IsRising addresses.now }
+    requires places { length found.old ≡ length addresses.now }
+    ensures { found.new ≡ noted_all (spans_after unit before (in_front added [])) addresses.now found.old }
+{
+    if let (Some(row), Some(next)) = (before, added)
+        && !row.covers_nothing()
+    {
+        note_span(&Span::new(unit, &row, &next), addresses, found);
+    }
+}

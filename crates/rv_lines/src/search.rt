@@ -1,0 +1,102 @@
+//! The lookup of addresses, in one walk over the units of `.debug_line` that keeps no table.
+ghost use Rattle.std.specs.Prelude.{◌≡◌, ◌<◌, ◌≤◌, ◌^◌, length, map};
+ghost use Rattle.rv_lines.specs.EntriesInside.{view_strings};
+ghost use Rattle.rv_lines.specs.Lines.{line_at, units_of, rejected_units};
+ghost use Rattle.rv_lines.specs.SearchInside.{drop_line_0, clear, IsRising, rejected_after};
+
+use crate::error::UnitError;
+use crate::reading::bytes_from;
+use crate::span::SourceLine;
+use crate::tables::LineTables;
+use crate::units::{note_unit, unit_size};
+
+/// How many units there are, how many of them are rejected, and the error and the offset of the first.
+#[derive(Clone, Copy, Debug, PartialEq, Eq)]
+pub struct RejectedUnits {
+    /// The number of units.
+    pub units: usize,
+    /// The number of units that are rejected.
+    pub rejected: usize,
+    /// The error of the first unit that is rejected, and its offset in `.debug_line`.
+    pub first: Option<(UnitError, u32)>,
+}
+
+/// Finds the source line of each address; the addresses must be sorted. `found` must be as long as `addresses`. Rejected units are
+/// ignored; how many there are is returned, and the error of the first of them.
+///
+/// Walks over the units once, and reads each program twice, first to check it. A row takes time logarithmic in the number of addresses and
+/// linear in the number of those that it covers. Does not allocate.
+pub fn find_lines(
+    tables: &LineTables,
+    addresses: &[u32],
+    found: &mut [Option<SourceLine>],
+) -> RejectedUnits
+    requires rising { IsRising addresses.now }
+    requires places { length found.old ≡ length addresses.now }
+    ensures lines { found.new ≡ map (line_at (view_strings tables.now.strings) tables.now.lines.now) addresses.now }
+    ensures rejected { result ≡ rejected_units (units_of (view_strings tables.now.strings) tables.now.lines.now) }
+{
+    forget_all(found);
+    let mut rejected = RejectedUnits {
+        units: 0,
+        rejected: 0,
+        first: None,
+    };
+    let mut offset = 0;
+    while offset < tables.lines.len() {
+        let read = note_unit(tables, offset as u32, addresses, found);
+        rejected = rejected.after(offset as u32, read);
+        offset += unit_size(bytes_from(tables.lines, offset));
+    }
+    show_lines(found);
+    rejected
+}
+
+impl RejectedUnits {
+    // Counts a unit at an offset.
+    fn after(self, offset: u32, read: Result<(), UnitError>) -> RejectedUnits
+        requires few { self.units < 2 ^ 32 }
+        requires within { self.rejected ≤ self.units }
+        ensures { result ≡ rejected_after self offset read }
+    {
+        match read {
+            Ok(()) => RejectedUnits {
+                units: self.units + 1,
+                ..self
+            },
+            Err(error) => RejectedUnits {
+                units: self.units + 1,
+                rejected: self.rejected + 1,
+                first: self.first.or(Some((error, offset))),
+            },
+        }
+    }
+}
+
+// Forgets what was found.
+fn forget_all(found: &mut [Option<SourceLine>])
+    ensures { found.new ≡ map clear found.old }
+{
+    for k in 0..found.len() {
+        found[k] = None;
+    }
+}
+
+// Replaces results with line 0 by `None`.
+fn show_lines(found: &mut [Option<SourceLine>])
+    ensures { found.new ≡ map drop_line_0 found.old }
+{
+    for k in 0..found.len() {
+        found[k] = drop_line_0(found[k]);
+    }
+}
+
+// Returns what was found, or `None` if its line is 0.
+fn drop_line_0(found: Option<SourceLine>) -> Option<SourceLine>
+    ensures { result ≡ drop_line_0 found }
+{
+    match found {
+        Some(source) if source.line != 0 => Some(source),
+        _ => None,
+    }
+}
