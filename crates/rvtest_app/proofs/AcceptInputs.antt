@@ -5,7 +5,7 @@ use Rattle.rv_command.specs.Texts.{optional_text}
 use Rattle.rv_files.specs.CommittedFiles.{CommittedFile}
 use Rattle.rv_rows.specs.declared_job.Job.{Job}
 use Rattle.rvtest_cli.specs.declared.accept.AcceptArgs.{AcceptArgs}
-use Rattle.rvtest_app.specs.Overwrites.{AreAcceptFilesNoInputs, IsNotAnInput, golden_paths_of_selected, inputs_of_accept, is_golden_input, is_read, input_paths}
+use Rattle.rvtest_app.specs.Overwrites.{AreAcceptFilesNotInputs, IsNotAnInput, golden_paths_of_selected, inputs_of_accept, is_golden_input, is_read, input_paths}
 use Rattle.rvtest_app.specs.declared.input_file.InputPath.{InputPath}
 
 -- files are read if their paths are
@@ -22,13 +22,13 @@ pub accept_apart : (committed : Option (List CommittedFile)) (args : AcceptArgs)
     → IfSome committed (λ _. IsNotAnInput (inputs_of_accept args jobs) args.run.list.now)
     → IfSome committed (λ _. list_any (is_golden_input list) files ≡ false)
     → IfSome committed (λ _. list_any (is_golden_input inputs) files ≡ false)
-    → IfSome committed (λ _. AreAcceptFilesNoInputs args jobs selection)
+    → IfSome committed (λ _. AreAcceptFilesNotInputs args jobs selection)
 accept_apart None args jobs selection list inputs files are is_list are_inputs unread no_list no_input = tt
 accept_apart (Some earlier) args jobs selection list inputs files are is_list are_inputs unread no_list no_input = record {
-  list = unread;
-  no_list = ap (λ paths. list_any (is_read (args.run.list.now ∷ [])) paths) (sym are)
+  list_is_no_input = unread;
+  golden_is_not_list = ap (λ paths. list_any (is_read (args.run.list.now ∷ [])) paths) (sym are)
       ∙ ap (λ read. list_any (is_read read) (input_paths files)) (sym is_list) ∙ sym (any_of_paths list files) ∙ no_list;
-  no_input = ap (λ paths. list_any (is_read (inputs_of_accept args jobs)) paths) (sym are)
+  golden_is_no_input = ap (λ paths. list_any (is_read (inputs_of_accept args jobs)) paths) (sym are)
       ∙ ap (λ read. list_any (is_read read) (input_paths files)) (sym are_inputs) ∙ sym (any_of_paths inputs files) ∙ no_input;
 }
 

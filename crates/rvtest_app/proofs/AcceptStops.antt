@@ -41,7 +41,7 @@ pub places_of_targets : (contents : Option FileContents) (root : Option (List �
 places_of_targets contents root jobs [] [] are each = All-nil (HasGoldenPlace root jobs)
 places_of_targets contents root jobs (target ∷ targets) (file ∷ files) are each =
     All-cons (HasGoldenPlace root jobs) file files
-    (target.path, (All-head (HasGoldenPath jobs) target targets each, are.0.leads))
+    (target.path, (All-head (HasGoldenPath jobs) target targets each, are.0.resolved))
     (places_of_targets contents root jobs targets files are.1 (All-tail (HasGoldenPath jobs) target targets each))
 places_of_targets contents root jobs [] (file ∷ files) are each = elim are [ ]
 places_of_targets contents root jobs (target ∷ targets) [] are each = elim are [ ]

@@ -115,9 +115,9 @@ match_machine before root golden_texts [] [] are fates = All-nil (IsOf root gold
 match_machine before root golden_texts [] (file ∷ files) are fates = absurd are
 match_machine before root golden_texts (target ∷ targets) [] are fates = absurd are
 match_machine before root golden_texts (target ∷ targets) (file ∷ files) are fates =
-    let of = are.0.of in
+    let of = are.0.same_target in
     All-cons (IsOf root golden_texts) file files (
-      rw of are.0.leads,
+      rw of are.0.resolved,
       rw of (All-head (λ (target : Target). target.outcome ≡ outcome_of_golden_file target.path golden_texts) target targets
           fates),
     )
@@ -131,7 +131,7 @@ is_told : (before : FileContents) (root : Option (List ℕ)) (path : List ℕ) (
 is_told before root path [] files are is = cc
 is_told before root path (target ∷ targets) [] are is = absurd are
 is_told before root path (target ∷ targets) (file ∷ files) are is =
-    rw are.0.of (go (bytes_eq path target.path) is (is_told before root path targets files are.1))
+    rw are.0.same_target (go (bytes_eq path target.path) is (is_told before root path targets files are.1))
   where
     go : (same : Bool) → (same || has_target path targets) ≡ true
         → (has_target path targets ≡ true → list_any (λ (file : GoldenFile). bytes_eq path file.target.path) files ≡ true)
@@ -343,28 +343,28 @@ pub passes_after : (args : AcceptArgs) (before after : FileContents) (bytes : Li
     (chosen : List Bool) (status : ℕ) (from to : CommandOutputs) (index : ℕ) (job : Job) (row : Row)
     → IsTextAt (Some before) args.run.list.now bytes → job_list_of bytes ≡ Ok jobs
     → (accepted : IsAcceptOfSelected (Some before) args bytes jobs chosen status from to)
-    → (store : IsStoreAfter (written_files accepted.told) before after)
-    → HaveOneTextPerFile store.leads accepted.told.files.now → IsFullyAccepted accepted.told index job
+    → (store : IsStoreAfter (written_files accepted.summary) before after)
+    → HaveOneTextPerFile store.leads accepted.summary.files.now → IsFullyAccepted accepted.summary index job
     → IsRowOfRun after args.run index row → is_pass_or_none row.verdict ≡ true
 passes_after args before after bytes jobs chosen status from to index job row read listed accepted store alike whole later =
-    let told = accepted.told in
-    let outcome = accepted.outcome in
-    let judged = accepted.judged in
-    let earlier = accepted.ran.are.plan in
+    let told = accepted.summary in
+    let outcome = accepted.summarized in
+    let judged = accepted.runs in
+    let earlier = accepted.ran.of_selected.plan in
     let at : slice_get jobs index ≡ Some job = rw outcome.listed at whole.at_index in
     let run : AcceptedRun (slice_get told.runs.now index) = accepted_run (slice_get told.runs.now index) whole.accepted in
     let first = accepted_from_the_first judged told.runs.now index run.of outcome.runs run.is run.accepted in
-    let of : IsAccepted (acceptance_of args.ends) job accepted.judging.candidates accepted.rows index run.of =
-    accepted_at (acceptance_of args.ends) jobs accepted.judging.candidates accepted.rows index job run.of at
-    (rw accepted.judging.are at first) run.accepted in
+    let of : IsAccepted (acceptance_of args.ends) job accepted.are_judged.candidates accepted.rows index run.of =
+    accepted_at (acceptance_of args.ends) jobs accepted.are_judged.candidates accepted.rows index job run.of at
+    (rw accepted.are_judged.are_runs at first) run.accepted in
     let standing_is = stands_at (Some before) (optional_text args.run.root) accepted.rows jobs chosen
-    accepted.judging.candidates index job run.of.row of.candidate accepted.judging.stand at of.row of.stands in
+    accepted.are_judged.candidates index job run.of.row of.candidate accepted.are_judged.are_candidates at of.row of.stands in
     let bare : slice_index_or earlier.jobs index (single_job [] 0 []) ≡ without_expectations job =
-    ap (λ jobs. slice_index_or jobs index (single_job [] 0 [])) accepted.ran.are.planned.listed
+    ap (λ jobs. slice_index_or jobs index (single_job [] 0 [])) accepted.ran.of_selected.planned.listed
     ∙ get_or_from_slice_get (map without_expectations jobs) index (without_expectations job) (single_job [] 0 [])
     (slice_get-map without_expectations jobs index ∙ ap (option_map without_expectations) at) in
     let row_is : run.of.row ≡ row_of earlier (without_expectations job) =
-    row_at_place earlier (jobs_to_run jobs chosen) index run.of.row (rw accepted.ran.are.are at of.row)
+    row_at_place earlier (jobs_to_run jobs chosen) index run.of.row (rw accepted.ran.of_selected.indexed at of.row)
     ∙ ap (row_of earlier) bare in
     let jobs_are = list_reads args before after bytes jobs judged told outcome read listed store alike later.bytes later.jobs
     later.read later.listed in
@@ -373,6 +373,6 @@ passes_after args before after bytes jobs chosen status from to index job row re
     let files = read_of_job later.plan.results job run.of.row
     (subst (AreFilesRead later.plan.results) job_is later.files) in
     let finds_them = finds args before after bytes jobs judged told outcome read listed store alike index job run.of at run.is
-    run.accepted whole.files earlier later.plan.results accepted.ran.are.planned.kept later.planned.kept files row_is in
-    rw later.is (rw job_is (passes_over_files (acceptance_of args.ends) of.candidate.verdict job earlier later.plan run.of.row
-    row_is of.kept (λ passes. ended_well _ (sym standing_is.is ∙ passes)) whole.alone finds_them))
+    run.accepted whole.files earlier later.plan.results accepted.ran.of_selected.planned.results_agree later.planned.results_agree files row_is in
+    rw later.row_is (rw job_is (passes_over_files (acceptance_of args.ends) of.candidate.verdict job earlier later.plan run.of.row
+    row_is of.kept (λ passes. ended_well _ (sym standing_is.is ∙ passes)) whole.no_same_as finds_them))

@@ -12,7 +12,7 @@ use Rattle.rv_rows.specs.declared_row.Row.{Row}
 use Rattle.rv_rows.specs.declared_saved.Shard.{Shard}
 use Rattle.rvtest_app.proofs.WriteStops.{unopened}
 use Rattle.rvtest_app.specs.Outlets.{AreFilesCommitted, AreFilesPartlyCommitted, HasReceived, file_path_at}
-use Rattle.rvtest_app.specs.WriteStops.{IsUnopenedJobStop}
+use Rattle.rvtest_app.specs.WriteStops.{IsFileNotOpenedStop}
 use Rattle.rvtest_app.specs.OutputWrites.{IsWrittenToErrorsIf}
 use Rattle.rvtest_app.specs.RunStops.{IsRunWriteStop}
 use Rattle.rvtest_app.specs.Runs.{AreCountsWritten, AreRunFilesPartlyCommitted, IsCountsText, IsRunWritten, junit_file, report_file}
@@ -69,13 +69,13 @@ pub run_put_where_told : (args : RunArgs) (reporter : RowReporter) (indices : Li
     (old : Option (List Row)) (rows : List Row) (before after : CommandOutputs) → IsRunWritten args reporter indices shard old rows before after
     → IsRunWritten args reporter indices shard old rows before (with_committed_if_reported before.committed after)
 run_put_where_told args reporter indices shard old rows before after put = record {
-  middle = put.middle;
-  seen = put.seen;
+  between = put.between;
+  shown_written = put.shown_written;
   out = put.out;
-  quiet = put.quiet;
-  committed = placed_behind_same before.committed put.middle.committed after.committed
+  errors_unchanged = put.errors_unchanged;
+  committed = placed_behind_same before.committed put.between.committed after.committed
       (Some (junit_file args reporter indices rows ++ report_file args reporter indices shard old rows))
-      (placed_of_shown _ _ before put.middle put.seen) put.committed;
+      (placed_of_shown _ _ before put.between put.shown_written) put.committed;
 }
 
 -- ---- what is left
@@ -106,7 +106,7 @@ part_of_counts args reporter indices shard old rows before after committed given
 -- ---- why
 
 pub unopened_counts : (args : RunArgs) (stop : Stop)
-    → IsSomeAnd (file_path_at (optional_text args.counts)) (λ path. IsUnopenedJobStop path stop) → IsRunWriteStop args stop
+    → IsSomeAnd (file_path_at (optional_text args.counts)) (λ path. IsFileNotOpenedStop path stop) → IsRunWriteStop args stop
 unopened_counts args stop is = inr (inl (unopened _ stop is))
 
 pub unput_counts : (args : RunArgs) (stop : Stop) → IsCountsWriteStop args (file_path_at (optional_text args.counts)) stop

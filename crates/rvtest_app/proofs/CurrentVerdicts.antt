@@ -144,7 +144,7 @@ pub all_stand : (contents : Option FileContents) (root : Option (List ℕ)) (row
     → StandSoFar contents root rows jobs chosen count candidates → length jobs ≤ count
     → AreCandidates contents root rows jobs chosen candidates
 all_stand contents root rows jobs chosen count candidates so all = record {
-  counted = let counted = so.counted in let within = so.within in omega (arith, counted, within, all);
+  same_length = let counted = so.counted in let within = so.within in omega (arith, counted, within, all);
   each = so.each;
 }
 

@@ -125,8 +125,8 @@ module _ {P V : Type 0} (pending_path : P → List ℕ) (taken : V → Option (L
             (same_path shell before after wb wa was is);
         junit = has.junit;
         counts = has.counts;
-        report_whole = still_whole wb wa text put has.report_whole;
-        junit_whole = has.junit_whole;
+        no_report_failure = still_whole wb wa text put has.no_report_failure;
+        no_junit_failure = has.no_junit_failure;
       })
 
 -- the lines that are known of the rows of some jobs are known of the rows of the first of them

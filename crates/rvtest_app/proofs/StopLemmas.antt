@@ -23,7 +23,7 @@ use Rattle.rvtest_app.specs.Runs.{AreJobsToRun}
 use Rattle.rvtest_app.specs.CommandOutputs.{CommandOutputs}
 use Rattle.rvtest_app.specs.Shows.{IsShowWritten}
 use Rattle.rvtest_app.specs.ReportedStops.{IsDiffStop}
-use Rattle.rvtest_app.specs.WrittenTexts.{IsUnwrittenByStop, written_path}
+use Rattle.rvtest_app.specs.WrittenTexts.{IsTextWriteFailedStop, written_path}
 
 pub IfErr-map : {X Y : Type 0} (r : Result X Y) (P Q : Y → Type 0) → ((y : Y) → P y → Q y) → IfErr r P → IfErr r Q
 IfErr-map (Ok x) P Q f p = tt
@@ -80,7 +80,7 @@ unshown_merge contents is_terminal args status before after done =
 
 pub unshown_report : (contents : Option FileContents) (is_terminal : Bool) (args : ShowArgs) (status : ℕ) (before after : CommandOutputs)
     → IsShowWritten contents args status before after → IsCommandStop contents is_terminal (request.Show args) stops.WriteFailed
-unshown_report contents is_terminal args status before after done = inr (inr (done.found, (done.read, inr (inl refl))))
+unshown_report contents is_terminal args status before after done = inr (inr (done.partial_report, (done.read, inr (inl refl))))
 
 -- a sum of tables that goes to standard output may be stopped there, and one that goes to a file put nothing there
 pub unshown_sum : (contents : Option FileContents) (is_terminal : Bool) (args : CountsArgs) (status : ℕ) (before after : CommandOutputs) (Untouched : Type 0)
@@ -92,6 +92,6 @@ unshown_sum contents is_terminal args status before after Untouched put =
       put.sum,
       (
         put.added,
-        subst (λ (b : Bool). IsUnwrittenByStop b (written_path (optional_text args.out)) stops.WriteFailed) (sym out) refl,
+        subst (λ (b : Bool). IsTextWriteFailedStop b (written_path (optional_text args.out)) stops.WriteFailed) (sym out) refl,
       ),
     ))))) inr

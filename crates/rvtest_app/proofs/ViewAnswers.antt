@@ -21,7 +21,7 @@ use Rattle.rv_rows.specs.declared_answers.PathResult.{PathResult}
 use Rattle.rv_rows.specs.declared_kept.Kept.{Kept}
 use Rattle.rv_rows.specs.declared_kept.Kept.TheVariants as kept
 use Rattle.rv_rows.specs.Rows.{content_if_read}
-use Rattle.rvtest_app.specs.RefusedNotes.{invalid_line, refused_lines}
+use Rattle.rvtest_app.specs.RefusedNotes.{line_if_refused, refused_lines}
 use Rattle.rvtest_app.specs.Views.{IsRunTableForView, IsTableForView}
 use Rattle.rvtest_app.specs.declared.view.View.{View}
 use Rattle.rvtest_app.specs.declared.view.View.TheVariants as view
@@ -38,10 +38,10 @@ jobs_more plan indices i index lt is =
 pub refused_more : (judging : JudgeView) (plan : PlanView) (unread : List UnreadablePath) (indices : List ℕ) (i index : ℕ) → i < length indices
     → index ≡ get_or indices i index
     → refused_lines judging plan unread (take (i + 1) indices)
-    ≡ refused_lines judging plan unread (take i indices) ++ invalid_line judging plan unread (slice_index_or plan.jobs index (single_job [] 0 []))
+    ≡ refused_lines judging plan unread (take i indices) ++ line_if_refused judging plan unread (slice_index_or plan.jobs index (single_job [] 0 []))
 refused_more judging plan unread indices i index lt is =
-    ap (λ js. flat_map (invalid_line judging plan unread) js) (jobs_more plan indices i index lt is)
-    ∙ flat_map-append (invalid_line judging plan unread) (jobs_at plan (take i indices)) (slice_index_or plan.jobs index (single_job [] 0 []) ∷ [])
+    ap (λ js. flat_map (line_if_refused judging plan unread) js) (jobs_more plan indices i index lt is)
+    ∙ flat_map-append (line_if_refused judging plan unread) (jobs_at plan (take i indices)) (slice_index_or plan.jobs index (single_job [] 0 []) ∷ [])
     ∙ ap (λ text. refused_lines judging plan unread (take i indices) ++ text) (append-nil _)
 
 -- ---- files

@@ -41,9 +41,9 @@ stop_of_error contents is_terminal args error.OutOfMemory before after stop amon
 stop_of_error contents is_terminal args (error.Message fault text) before after stop among misused is =
     ⊎_elim (λ help. help_stop contents is_terminal args before after stop (ask_for_help args fault among help.0) help.1)
     (λ other. inr (inr (inr (record {
-      faulty = (fault, (among, other.0));
-      refused = inr other.1.0;
-      misused = λ none. by_option (λ o. IsMisuseReported o (error.Message fault text)) (stop ≡ stops.OutOfMemory)
+      invalid = (fault, (among, other.0));
+      rejected = inr other.1.0;
+      misuse = λ none. by_option (λ o. IsMisuseReported o (error.Message fault text)) (stop ≡ stops.OutOfMemory)
           (λ misuse. IsUsageStop (misuse_text misuse) stop) (λ told. absurd told)
           (λ misuse told. inr (other.1.0, (told.1.0, other.1.1 ∙ told.1.1))) (args_misuse args) (misused none);
     })))) is

@@ -11,7 +11,7 @@ use Rattle.rv_files.specs.CommittedFiles.{CommittedFile}
 use Rattle.rv_rows.specs.declared_report.WriteError.{WriteError}
 use Rattle.rv_rows.specs.declared_report.WriteError.TheVariants as write
 use Rattle.rvtest_app.specs.Outlets.{HasReceived, file_path_at, outlet_path}
-use Rattle.rvtest_app.specs.WriteStops.{IsFileStop, IsOutputStop, IsOutputWriteStop, IsTextNotWrittenStop, IsUnopenedJobStop, IsUncommittedStop, IsWriteFailedStop, IsWriteErrorStop, stop_of_write_error}
+use Rattle.rvtest_app.specs.WriteStops.{IsFileStop, IsOutputStop, IsOutputWriteStop, IsTextNotWrittenStop, IsFileNotOpenedStop, IsUncommittedStop, IsWriteFailedStop, IsWriteErrorStop, stop_of_write_error}
 use Rattle.rvtest_app.specs.IntoReports.{run_report_path}
 use Rattle.rvtest_app.specs.RunStops.{IsRunWriteStop, IsShowErrorStop}
 use Rattle.rvtest_app.specs.declared.run_output.ShowError.{ShowError}
@@ -51,7 +51,7 @@ put_of_junit report (Some path) stop = λ unwritten. inr (inr (inr (inr unwritte
 -- ---- files
 
 -- a file that was not opened
-pub unopened : (path : Option (List ℕ)) (stop : Stop) → IsSomeAnd path (λ path. IsUnopenedJobStop path stop)
+pub unopened : (path : Option (List ℕ)) (stop : Stop) → IsSomeAnd path (λ path. IsFileNotOpenedStop path stop)
     → IsFileStop path stop
 unopened (Some path) stop is = inl is
 unopened None stop is = elim is [ ]

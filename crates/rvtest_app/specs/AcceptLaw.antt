@@ -45,15 +45,15 @@ HaveOneTextPerFile leads files = All (λ (file : GoldenFile). All (λ (other : G
 
 -- ---- the job
 
--- `job` is the job at index `index` of the list in the summary `told`; it was accepted, none of its golden files was skipped, and it has no
--- `same_as`
-pub record IsFullyAccepted (told : AcceptSummary) (index : ℕ) (job : Job) : Type 0 where
+-- `job` is the job at index `index` of the list in the summary `summary`; it was accepted, none of its golden files was skipped, and it has
+-- no `same_as`
+pub record IsFullyAccepted (summary : AcceptSummary) (index : ℕ) (job : Job) : Type 0 where
   -- the job is at index `index` of the list
-  pub at_index : slice_get told.list.jobs.now index ≡ Some job
-  pub accepted : IsTrue (is_accepted_entry (slice_get told.runs.now index))
+  pub at_index : slice_get summary.list.jobs.now index ≡ Some job
+  pub accepted : IsTrue (is_accepted_entry (slice_get summary.runs.now index))
   pub files : All (λ (file : GoldenFile). IsTrue (names_golden_file file.target.path job)
-      → IsFalse (is_skipped told.list file)) told.files.now
-  pub alone : job.same_as ≡ None
+      → IsFalse (is_skipped summary.list file)) summary.files.now
+  pub no_same_as : job.same_as ≡ None
 
 -- ---- the run
 
@@ -62,11 +62,11 @@ abbrev pub is_read : Kept → Bool
 is_read (kept.Content bytes) = true
 is_read _ = false
 
--- `answers` has the contents of the job's image and of each of its expectation files
-pub record AreFilesRead (answers : List PathResult) (job : Job) : Type 0 where
-  pub image : IsTrue (is_read (result_or_unreadable answers job.image))
-  pub signature : IfSome job.expect_signature (λ path. IsTrue (is_read (result_or_unreadable answers path)))
-  pub console : IfSome (console_path job.expect_console) (λ path. IsTrue (is_read (result_or_unreadable answers path)))
+-- `results` has the contents of the job's image and of each of its expectation files
+pub record AreFilesRead (results : List PathResult) (job : Job) : Type 0 where
+  pub image : IsTrue (is_read (result_or_unreadable results job.image))
+  pub signature : IfSome job.expect_signature (λ path. IsTrue (is_read (result_or_unreadable results path)))
+  pub console : IfSome (console_path job.expect_console) (λ path. IsTrue (is_read (result_or_unreadable results path)))
 
 -- `row` is the row of the job at index `index` when the list at the path in `args` runs with the files of `store`, and all files of the
 -- job were read
@@ -83,4 +83,4 @@ pub record IsRowOfRun (store : FileContents) (args : RunArgs) (index : ℕ) (row
   pub unread : List UnreadablePath
   pub planned : IsPlanFor (contents_below (optional_text args.root) (Some store)) jobs indices plan unread
   pub files : AreFilesRead plan.results job
-  pub is : row ≡ row_of plan job
+  pub row_is : row ≡ row_of plan job

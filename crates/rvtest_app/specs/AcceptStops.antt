@@ -15,13 +15,13 @@ use Rattle.rv_files.specs.UnreadablePaths.{resolved_path}
 use Rattle.rv_rows.specs.JobList.{job_list_of}
 use Rattle.rv_rows.specs.declared_job.Job.{Job}
 use Rattle.rvtest_app.specs.Overwrites.{IsAcceptOverwriteStop}
-use Rattle.rvtest_app.specs.WriteStops.{IsUnopenedJobStop, IsWriteFailedStop}
+use Rattle.rvtest_app.specs.WriteStops.{IsFileNotOpenedStop, IsWriteFailedStop}
 
 -- ---- one file
 
 -- the stop reports that the file for the path could not be opened, written, or moved to its path
 abbrev pub IsFileNotCreatedStop : List ℕ → Stop → Type 0
-IsFileNotCreatedStop path stop = IsUnopenedJobStop path stop ⊎ IsWriteFailedStop path stop
+IsFileNotCreatedStop path stop = IsFileNotOpenedStop path stop ⊎ IsWriteFailedStop path stop
 
 -- the stop reports that the file at the path does not contain the bytes that were written, or that memory ran out
 abbrev pub IsOtherBytesStop : List ℕ → Stop → Type 0
@@ -41,9 +41,9 @@ IsFileNotWrittenStop contents path stop = IsFileNotCreatedStop path stop ⊎ IsU
 
 -- ---- the golden files
 
--- the condition `happened` holds for the stop and one path: the path of the list, or the resolved path of one of the golden files
+-- `condition` holds for the stop and one path: the path of the list, or the resolved path of one of the golden files
 abbrev pub IsStopForSomeFile : (List ℕ → Stop → Type 0) → List ℕ → List GoldenFile → Stop → Type 0
-IsStopForSomeFile happened list files stop = happened list stop ⊎ Any (λ file. happened file.resolved_path stop) files
+IsStopForSomeFile condition list_path files stop = condition list_path stop ⊎ Any (λ file. condition file.resolved_path stop) files
 
 -- why a command stopped: memory ran out, or the golden file of one of the targets could not be read; its path is resolved against `root`
 abbrev pub IsTargetsUnreadStop : Option FileContents → Option (List ℕ) → List Target → Stop → Type 0
@@ -53,8 +53,8 @@ IsTargetsUnreadStop contents root targets stop = (stop ≡ stops.OutOfMemory)
 -- why a command stopped: memory ran out, a write to standard output failed, or, unless `check` is set, the list or a golden file was not
 -- written
 abbrev pub IsAcceptanceWriteStop : Option FileContents → Bool → List ℕ → List GoldenFile → Stop → Type 0
-IsAcceptanceWriteStop contents check list files stop = (stop ≡ stops.OutOfMemory) ⊎ ((stop ≡ stops.WriteFailed)
-    ⊎ ((check ≡ false) × IsStopForSomeFile (IsFileNotWrittenStop contents) list files stop))
+IsAcceptanceWriteStop contents check list_path files stop = (stop ≡ stops.OutOfMemory) ⊎ ((stop ≡ stops.WriteFailed)
+    ⊎ ((check ≡ false) × IsStopForSomeFile (IsFileNotWrittenStop contents) list_path files stop))
 
 -- ---- the command
 

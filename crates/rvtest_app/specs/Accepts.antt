@@ -57,15 +57,15 @@ pub record AreRowsOfSelected (contents : Option FileContents) (root : Option (Li
   pub plan : PlanView
   pub unread : List UnreadablePath
   pub planned : IsPlanFor (contents_below root contents) bare (selected_job_indices selection) plan unread
-  pub are : rows ≡ indexed_rows selection (rows_at plan (selected_job_indices selection))
-  pub noted : note ≡ missing_images_note plan.jobs unread (length (selected_job_indices selection)) root
+  pub indexed : rows ≡ indexed_rows selection (rows_at plan (selected_job_indices selection))
+  pub note_is : note ≡ missing_images_note plan.jobs unread (length (selected_job_indices selection)) root
 
 -- `rows` are the rows of the selected jobs; nothing but the note about missing images was output, and it went to standard error
 pub record HaveSelectedRun (contents : Option FileContents) (root : Option (List ℕ)) (bare : List Job) (selection : List Bool)
     (rows : List (Option Row)) (before after : CommandOutputs) : Type 0 where
   pub note : List ℕ
-  pub are : AreRowsOfSelected contents root bare selection rows note
-  pub told : IsOnlyErrorOutput note before after
+  pub of_selected : AreRowsOfSelected contents root bare selection rows note
+  pub reported : IsOnlyErrorOutput note before after
 
 -- ---- the files
 
@@ -77,8 +77,8 @@ IsOldContentsAt contents path old = IfSome contents (λ files. files path ≡ ol
 -- `file` is the golden file of `target`: it has the target's path, resolved against `root`, and the contents of the file there
 pub record IsGoldenFile (contents : Option FileContents) (root : Option (List ℕ)) (target : Target) (file : GoldenFile)
     : Type 0 where
-  pub of : file.target ≡ target
-  pub leads : file.resolved_path ≡ resolved_path root target.path
+  pub same_target : file.target ≡ target
+  pub resolved : file.resolved_path ≡ resolved_path root target.path
   -- the old contents are those of the file there
   pub old_contents : IsOldContentsAt contents file.resolved_path file.old
 
@@ -97,95 +97,95 @@ file_if_text path (Some text) = committed_file path text ∷ []
 
 -- the text of the new list; `None` if `accept` leaves the list unchanged
 abbrev pub new_list_text : AcceptSummary → Option (List ℕ)
-new_list_text told = option_map (λ text. text.items) told.new.now.text
+new_list_text summary = option_map (λ text. text.items) summary.new.now.text
 
 -- the files that `accept` writes: the golden files that get a new text, in order, and then the list if it changes
 abbrev pub written_files : AcceptSummary → List CommittedFile
-written_files told = flat_map (λ file. file_if_text file.resolved_path (new_text told.list file)) told.files.now
-    ++ file_if_text told.list.path.now (new_list_text told)
+written_files summary = flat_map (λ file. file_if_text file.resolved_path (new_text summary.list file)) summary.files.now
+    ++ file_if_text summary.list.path.now (new_list_text summary)
 
 -- ---- the command
 
--- the exit status of `accept`: 0 if both `left`, the number of skipped jobs and files, and `changed`, the number of changes that `--check`
--- leaves unwritten, are 0; otherwise 1
+-- the exit status of `accept`: 0 if both `skipped`, the number of skipped jobs and files, and `changed`, the number of changes that
+-- `--check` leaves unwritten, are 0; otherwise 1
 abbrev pub accept_status : ℕ → ℕ → ℕ
-accept_status left changed = if left == 0 && changed == 0 then 0 else 1
+accept_status skipped changed = if skipped == 0 && changed == 0 then 0 else 1
 
--- `told` summarizes `accept` for the list with the text `bytes` and the jobs `jobs`; it has the runs in `judged`, of which some more may be
--- skipped
+-- `summary` summarizes `accept` for the list with the text `bytes` and the jobs `jobs`; it has the runs in `judged`, of which some more may
+-- be skipped
 pub record IsAcceptOutcome (contents : Option FileContents) (args : AcceptArgs) (bytes : List ℕ) (jobs : List Job)
-    (judged : List (Option JobRun)) (told : AcceptSummary) : Type 0 where
-  pub path : told.list.path.now ≡ args.run.list.now
-  pub text : told.list.text.now ≡ bytes
-  pub listed : told.list.jobs.now ≡ jobs
+    (judged : List (Option JobRun)) (summary : AcceptSummary) : Type 0 where
+  pub path : summary.list.path.now ≡ args.run.list.now
+  pub text : summary.list.text.now ≡ bytes
+  pub listed : summary.list.jobs.now ≡ jobs
   -- runs that are accepted in `judged` may be skipped in the summary, but not the other way round
-  pub runs : AreSkippedFrom judged told.runs.now
+  pub runs : AreSkippedFrom judged summary.runs.now
   -- the text that each accepted or skipped run gives to each golden file of its job
-  pub golden_texts : told.golden_texts.now ≡ golden_texts_of_runs 0 jobs told.runs.now
+  pub golden_texts : summary.golden_texts.now ≡ golden_texts_of_runs 0 jobs summary.runs.now
   -- the golden files of the accepted jobs, with their old contents
   pub files : AreGoldenFiles contents (optional_text args.run.root)
-      (fold (with_target told.runs.now told.golden_texts.now) [] told.golden_texts.now) told.files.now
+      (fold (with_target summary.runs.now summary.golden_texts.now) [] summary.golden_texts.now) summary.files.now
   -- a new list is the old one with some edits
-  pub edited : IfSome told.new.now.text (λ text. (edits : List Edit) × (text.items ≡ edited_rest 0 bytes edits))
+  pub edited : IfSome summary.new.now.text (λ text. (edits : List Edit) × (text.items ≡ edited_rest 0 bytes edits))
   -- a new list parses as the intended jobs
-  pub intended : IfSome told.new.now.text (λ text. job_list_of text.items ≡ Ok (intended_jobs jobs told.runs.now))
+  pub intended : IfSome summary.new.now.text (λ text. job_list_of text.items ≡ Ok (intended_jobs jobs summary.runs.now))
   -- without a new list, the intended jobs are those of the old list
-  pub unchanged : told.new.now.text ≡ None → intended_jobs jobs told.runs.now ≡ jobs
+  pub unchanged : summary.new.now.text ≡ None → intended_jobs jobs summary.runs.now ≡ jobs
 
--- the summary `told` was written: its lines and its last line to standard output and, if the Bool is false, the changed files to their
+-- the summary `summary` was written: its lines and its last line to standard output and, if the Bool is false, the changed files to their
 -- paths; if it is true (`--check`), no file was written; `status` is the exit status
 abbrev pub IsAcceptanceWritten : Bool → AcceptSummary → ℕ → CommandOutputs → CommandOutputs → Type 0
-IsAcceptanceWritten true told status before after =
-    (status ≡ accept_status (skipped_count told) (changed_count told))
-    × IsOnlyStandardOutput (accept_lines told ++ count_line writing.CheckOnly (changed_count told) (skipped_count told)) before after
-IsAcceptanceWritten false told status before after =
-    (status ≡ accept_status (skipped_count told) 0)
-    × Appends before.out after.out (accept_lines told ++ count_line writing.Written (changed_count told) (skipped_count told))
+IsAcceptanceWritten true summary status before after =
+    (status ≡ accept_status (skipped_count summary) (changed_count summary))
+    × IsOnlyStandardOutput (accept_lines summary ++ count_line writing.CheckOnly (changed_count summary) (skipped_count summary)) before after
+IsAcceptanceWritten false summary status before after =
+    (status ≡ accept_status (skipped_count summary) 0)
+    × Appends before.out after.out (accept_lines summary ++ count_line writing.Written (changed_count summary) (skipped_count summary))
     × (after.errors ≡ before.errors) × (after.failures ≡ before.failures)
-    × AreFilesCommitted before.committed after.committed (Some (written_files told))
+    × AreFilesCommitted before.committed after.committed (Some (written_files summary))
 
 -- the summary consists of this list, these runs, golden texts and golden files, and this new list
 abbrev pub IsAcceptSummaryOf : ListFile → List (Option JobRun) → List GoldenText → List GoldenFile → NewList → AcceptSummary → Type 0
-IsAcceptSummaryOf list runs golden_texts files new told = (told.list ≡ list) × (told.runs.now ≡ runs) × (told.golden_texts.now ≡ golden_texts)
-    × (told.files.now ≡ files) × (told.new.now ≡ new)
+IsAcceptSummaryOf list runs golden_texts files new summary = (summary.list ≡ list) × (summary.runs.now ≡ runs) × (summary.golden_texts.now ≡ golden_texts)
+    × (summary.files.now ≡ files) × (summary.new.now ≡ new)
 
 -- the summary that consists of this list, these runs, golden texts and golden files, and this new list was written; with `check`, no file
--- was
-pub record IsOutcomeWritten (check : Bool) (list : ListFile) (runs : List (Option JobRun)) (golden_texts : List GoldenText)
+-- was written
+pub record AreChangesWritten (check : Bool) (list : ListFile) (runs : List (Option JobRun)) (golden_texts : List GoldenText)
     (files : List GoldenFile) (new : NewList) (status : ℕ) (before after : CommandOutputs) : Type 0 where
-  pub told : AcceptSummary
-  pub of : IsAcceptSummaryOf list runs golden_texts files new told
-  pub put : IsAcceptanceWritten check told status before after
+  pub summary : AcceptSummary
+  pub parts : IsAcceptSummaryOf list runs golden_texts files new summary
+  pub written : IsAcceptanceWritten check summary status before after
 
--- only a message about golden files outside of the directory was output, to standard error; the message is empty if the outputs report the
--- committed files
+-- only `message`, the warnings about golden files outside of the directory, was output, to standard error; it is empty if the outputs
+-- report the committed files
 pub record AreOutsideFilesReported (before after : CommandOutputs) : Type 0 where
-  pub outside : List ℕ
-  pub inside : IfSome before.committed (λ _. outside ≡ [])
-  pub told : IsOnlyErrorOutput outside before after
+  pub message : List ℕ
+  pub message_is_empty : IfSome before.committed (λ _. message ≡ [])
+  pub reported : IsOnlyErrorOutput message before after
 
 -- `judged` has the run of each job with a row, accepted or skipped according to whether the job is chosen and to the current verdict on it
 pub record AreJudgedRuns (contents : Option FileContents) (args : AcceptArgs) (jobs : List Job) (chosen : List Bool)
     (rows : List (Option Row)) (judged : List (Option JobRun)) : Type 0 where
   pub candidates : List Candidate
-  pub stand : AreCandidates contents (optional_text args.run.root) rows jobs chosen candidates
-  pub are : judged ≡ judged_runs (acceptance_of args.ends) jobs candidates rows
+  pub are_candidates : AreCandidates contents (optional_text args.run.root) rows jobs chosen candidates
+  pub are_runs : judged ≡ judged_runs (acceptance_of args.ends) jobs candidates rows
 
 -- `accept` reported the golden files outside of the directory, ran the chosen jobs and the jobs that these need, without their
 -- expectations, and wrote the summary of the runs
 pub record IsAcceptOfSelected (contents : Option FileContents) (args : AcceptArgs) (bytes : List ℕ) (jobs : List Job)
     (chosen : List Bool) (status : ℕ) (before after : CommandOutputs) : Type 0 where
-  pub first : CommandOutputs
-  pub outside : AreOutsideFilesReported before first
+  pub after_check : CommandOutputs
+  pub outside : AreOutsideFilesReported before after_check
   pub rows : List (Option Row)
-  pub middle : CommandOutputs
+  pub after_run : CommandOutputs
   pub ran : HaveSelectedRun contents (optional_text args.run.root) (map without_expectations jobs)
-      (jobs_to_run jobs chosen) rows first middle
-  pub judged : List (Option JobRun)
-  pub judging : AreJudgedRuns contents args jobs chosen rows judged
-  pub told : AcceptSummary
-  pub outcome : IsAcceptOutcome contents args bytes jobs judged told
-  pub put : IsAcceptanceWritten args.check told status middle after
+      (jobs_to_run jobs chosen) rows after_check after_run
+  pub runs : List (Option JobRun)
+  pub are_judged : AreJudgedRuns contents args jobs chosen rows runs
+  pub summary : AcceptSummary
+  pub summarized : IsAcceptOutcome contents args bytes jobs runs summary
+  pub written : IsAcceptanceWritten args.check summary status after_run after
 
 -- `accept` accepted the results of the chosen jobs; if no job is chosen (`None`), the status is 0 and nothing was output
 abbrev pub IsAcceptedOfChosen : Option FileContents → AcceptArgs → List ℕ → List Job → Option (List Bool) → ℕ
@@ -204,6 +204,6 @@ pub record IsAcceptedAt (contents : Option FileContents) (args : AcceptArgs) (st
   pub chosen : Option (List Bool)
   pub notes : List ℕ
   pub choice : IsChoice contents args.run (failure_rule args.run.lenient) jobs chosen notes
-  pub middle : CommandOutputs
-  pub outputs_of : IsOnlyErrorOutput notes before middle
-  pub accepted : IsAcceptedOfChosen contents args bytes jobs chosen status middle after
+  pub between : CommandOutputs
+  pub reported : IsOnlyErrorOutput notes before between
+  pub accepted : IsAcceptedOfChosen contents args bytes jobs chosen status between after

@@ -23,7 +23,7 @@ colors_of_value None is_terminal = terminal_colors is_terminal
 
 -- plain results if the Bool is true, because an output file goes to standard output; otherwise the given colours
 abbrev pub colors_unless_stdout_used : Bool → Colors → Colors
-colors_unless_stdout_used uses_stdout args = if uses_stdout then colors.Plain else args
+colors_unless_stdout_used uses_stdout given = if uses_stdout then colors.Plain else given
 
 -- the colours of a request's results, given whether standard output is a terminal that supports them; only the results of `run`, `explain`,
 -- `diff` and `show` are ever coloured

@@ -21,21 +21,21 @@ pub record CommandOutputs : Type 0 where
 -- and the committed files
 abbrev pub outputs_of : {F O E : Type 0} → (F → Option (List CommittedFile)) → (O → Option (List ℕ)) → (E → Option (List ℕ))
     → (E → ℕ) → Destinations F O E → CommandOutputs
-outputs_of committed taken told failed to = record {
-  out = taken to.out;
-  errors = told to.errors;
-  failures = failed to.errors;
-  committed = committed to.files;
+outputs_of committed_files out_bytes error_bytes failure_count destinations = record {
+  out = out_bytes destinations.out;
+  errors = error_bytes destinations.errors;
+  failures = failure_count destinations.errors;
+  committed = committed_files destinations.files;
 }
 
--- `committed`, the committed files, if the first argument, the files committed earlier, was reported; otherwise `None`
+-- the committed files `committed`; `None` if the first argument, the files committed earlier, was not reported
 abbrev pub committed_if_reported : Option (List CommittedFile) → Option (List CommittedFile) → Option (List CommittedFile)
 committed_if_reported None committed = None
 committed_if_reported (Some earlier) committed = committed
 
--- the outputs `now`, whose committed files are set to `None` if `earlier`, the files committed earlier, was not reported
+-- `outputs`, with the committed files set to `None` if `earlier`, the files committed earlier, was not reported
 abbrev pub with_committed_if_reported : Option (List CommittedFile) → CommandOutputs → CommandOutputs
-with_committed_if_reported earlier now = record now { committed = committed_if_reported earlier now.committed }
+with_committed_if_reported earlier outputs = record outputs { committed = committed_if_reported earlier outputs.committed }
 
 -- the text was written to standard output, and nothing else was output
 abbrev pub IsOnlyStandardOutput : List ℕ → CommandOutputs → CommandOutputs → Type 0

@@ -66,21 +66,21 @@ IsUnopenedSessionStop contents args stop = IsListUnreadStop contents args.list.n
     × (IsNoJobStop args.list.now text args.name.now stop ⊎ IsUnopenedJobOfTextStop contents args text stop)))
 
 -- why `gdb` did not start a session: standard output is a terminal, or the job could not be opened
-abbrev pub IsUnshownStop : Option FileContents → Bool → GdbArgs → Stop → Type 0
-IsUnshownStop contents is_terminal args stop = ((is_terminal ≡ true) × IsNoGdbStop stop)
+abbrev pub IsSessionNotStartedStop : Option FileContents → Bool → GdbArgs → Stop → Type 0
+IsSessionNotStartedStop contents is_terminal args stop = ((is_terminal ≡ true) × IsNoGdbStop stop)
     ⊎ ((is_terminal ≡ false) × IsUnopenedSessionStop contents args stop)
 
 -- why `gdb` stopped: it did not start a session, or the session ended with an error
 abbrev pub IsGdbStop : Option FileContents → Bool → GdbArgs → Stop → Type 0
-IsGdbStop contents is_terminal args stop = IsUnshownStop contents is_terminal args stop
-    ⊎ ((is_terminal ≡ false) × ((broken : SessionError) × IsSessionErrorStop broken stop))
+IsGdbStop contents is_terminal args stop = IsSessionNotStartedStop contents is_terminal args stop
+    ⊎ ((is_terminal ≡ false) × ((error : SessionError) × IsSessionErrorStop error stop))
 
 -- `gdb` stopped: either it started no session and output nothing, or its session ended with an error, and the number of failed writes rose
 -- by one if this error is a failed write, and did not change otherwise
 abbrev pub IsGdbStopped : Option FileContents → Bool → GdbArgs → Stop → CommandOutputs → CommandOutputs → ℕ → ℕ → Type 0
 IsGdbStopped contents is_terminal args stop before after failures_before failures_after =
-    (IsUnshownStop contents is_terminal args stop × (after ≡ before))
-    ⊎ ((is_terminal ≡ false) × ((broken : SessionError) × (IsSessionErrorStop broken stop × IsFailureCounted broken failures_before failures_after)))
+    (IsSessionNotStartedStop contents is_terminal args stop × (after ≡ before))
+    ⊎ ((is_terminal ≡ false) × ((error : SessionError) × (IsSessionErrorStop error stop × IsFailureCounted error failures_before failures_after)))
 
 -- why a command stopped: the text is not a valid list, or its jobs could not be chosen as the arguments request
 abbrev pub IsNoChoiceStop : Option FileContents → RunArgs → List ℕ → Stop → Type 0
@@ -100,13 +100,13 @@ IsAcceptStop contents args stop = IsListStop contents args.run stop ⊎ IsUnacce
 -- why `diff` stopped: the old report could not be read, or it could, but the new one could not
 abbrev pub IsDiffAtStop : Option FileContents → DiffArgs → Stop → Type 0
 IsDiffAtStop contents args stop = IsRequestedUnreadStop contents args.partial args.old.now stop
-    ⊎ ((found : PartialReport) × (IsReportReadAt contents args.partial args.old.now found
+    ⊎ ((old_report : PartialReport) × (IsReportReadAt contents args.partial args.old.now old_report
     × IsRequestedUnreadStop contents args.partial args.new.now stop))
 
 -- why `show` stopped: the JUnit file would overwrite the report, the report could not be read, or the output could not be written
-abbrev pub IsShowErrorStop : Option FileContents → ShowArgs → Stop → Type 0
-IsShowErrorStop contents args stop = IsShowOverwriteStop args stop ⊎ (IsRequestedUnreadStop contents args.partial args.report.now stop
-    ⊎ ((found : PartialReport) × (IsReportReadAt contents args.partial args.report.now found
+abbrev pub IsShowStop : Option FileContents → ShowArgs → Stop → Type 0
+IsShowStop contents args stop = IsShowOverwriteStop args stop ⊎ (IsRequestedUnreadStop contents args.partial args.report.now stop
+    ⊎ ((report : PartialReport) × (IsReportReadAt contents args.partial args.report.now report
     × IsOutputStop None (optional_text args.junit) stop)))
 
 -- why the requested command stopped; `explain`, `list` and other commands that only print a text stop for the reasons of their own
@@ -122,7 +122,7 @@ IsCommandStop contents is_terminal (request.Help args) stop = (stop ≡ stops.Wr
 IsCommandStop contents is_terminal (request.Run args) stop = IsRunStop contents args stop
 IsCommandStop contents is_terminal (request.Accept args) stop = IsAcceptStop contents args stop
 IsCommandStop contents is_terminal (request.Merge args) stop = IsMergeStop contents args stop
-IsCommandStop contents is_terminal (request.Show args) stop = IsShowErrorStop contents args stop
+IsCommandStop contents is_terminal (request.Show args) stop = IsShowStop contents args stop
 IsCommandStop contents is_terminal (request.Counts args) stop = IsCountsStop contents args stop
 IsCommandStop contents is_terminal (request.Cover args) stop = (stop ≡ stops.WriteFailed) ⊎ IsCoverStop contents args stop
 IsCommandStop contents is_terminal (request.Profile args) stop = (stop ≡ stops.WriteFailed) ⊎ IsProfileStop contents args stop
@@ -139,9 +139,9 @@ IsMisuseStop args stop =
 
 -- the arguments have an error, and the stop rejects them with status 2; if `clap` finds no error in them, the stop reports a misuse
 pub record IsInvalidArgsStop (args : List (List ℕ)) (stop : Stop) : Type 0 where
-  pub faulty : AreInvalidArgs args
-  pub refused : IsRejection stop
-  pub misused : args_errors args ≡ [] → IsMisuseStop args stop
+  pub invalid : AreInvalidArgs args
+  pub rejected : IsRejection stop
+  pub misuse : args_errors args ≡ [] → IsMisuseStop args stop
 
 -- the arguments stopped the program: memory ran out, the requested help could not be written, or the arguments are invalid
 abbrev pub IsArgsStop : List (List ℕ) → Stop → Type 0

@@ -23,13 +23,13 @@ pub record IsJobConsole (contents : Option FileContents) (jobs : List Job) (inde
   pub plan : PlanView
   pub listed : plan.jobs ≡ jobs
   pub paths : paths_of plan.results ≡ paths_used (jobs_needed_for jobs (index ∷ []))
-  pub kept : AgreeWithContents contents plan.results
+  pub results_agree : AgreeWithContents contents plan.results
   pub unread : List UnreadablePath
-  pub noted : HasEntryPerUnreadable plan.results unread
-  pub written : (d : Job) → console ≡ (row_of plan (slice_index_or plan.jobs index d)).console
-  pub told : (d : Job) → line ≡ row_line plan unread (judge_by_rule Strict) (slice_index_or plan.jobs index d)
+  pub unread_entries : HasEntryPerUnreadable plan.results unread
+  pub console_text : (d : Job) → console ≡ (row_of plan (slice_index_or plan.jobs index d)).console
+  pub result_line : (d : Job) → line ≡ row_line plan unread (judge_by_rule Strict) (slice_index_or plan.jobs index d)
       (row_of plan (slice_index_or plan.jobs index d))
-  pub judged : (d : Job) → status ≡ passing_status
+  pub exit_status : (d : Job) → status ≡ passing_status
       (has_passed Strict (row_of plan (slice_index_or plan.jobs index d)))
 
 -- `console`, `line` and `status` are the console, the result line and the exit status of the first job named `name` in the list with the
@@ -54,7 +54,7 @@ pub record IsConsoleWritten (contents : Option FileContents) (args : ConsoleArgs
     : Type 0 where
   pub console : List ℕ
   pub line : List ℕ
-  pub of : IsConsoleAt contents args console line status
-  pub middle : CommandOutputs
-  pub put : IsOnlyStandardOutput console before middle
-  pub told : IsOnlyErrorOutput line middle after
+  pub of_job : IsConsoleAt contents args console line status
+  pub between : CommandOutputs
+  pub written : IsOnlyStandardOutput console before between
+  pub reported : IsOnlyErrorOutput line between after

@@ -21,7 +21,7 @@ use Rattle.rv_job_text.specs.Printable.{printable_text}
 use Rattle.rv_job_text.specs.TextWords.{word_digits}
 use Rattle.rvtest_app.specs.CountSums.{AreTablesAdded, IsTableAt}
 use Rattle.rvtest_app.specs.Overwrites.{IsSumOverwriteStop}
-use Rattle.rvtest_app.specs.WrittenTexts.{IsUnwrittenAtStop, written_path}
+use Rattle.rvtest_app.specs.WrittenTexts.{IsTextNotWrittenAtStop, written_path}
 
 -- the stop reports this error in reading the table of counts at the path: an invalid line, or that memory ran out
 abbrev pub IsReadErrorStop : List ℕ → ReadError → Stop → Type 0
@@ -30,12 +30,12 @@ IsReadErrorStop path (read.Line line) stop =
     IsStop 2 (path_number_message path (codes ":") line (codes ": invalid line in a table of counts\n")) stop
 IsReadErrorStop path read.Truncated stop = IsStop 2 (path_message path (codes "the table is truncated")) stop
 
--- the message that a count at `address` no longer fits in 64 bits if the table at the path is added; `what` names the count
+-- the message that a count at `address` no longer fits in 64 bits if the table at the path is added; `count_name` names the count
 abbrev pub count_overflow_message : List ℕ → List ℕ → ℕ → List ℕ
-count_overflow_message path what address = codes "rvtest: " ++ printable_text path ++ what ++ word_digits address
+count_overflow_message path count_name address = codes "rvtest: " ++ printable_text path ++ count_name ++ word_digits address
     ++ codes " does not fit in 64 bits\n"
 
--- the message that the table at the path gives a function another name than an earlier table does
+-- the message that the table at the path gives the function at this address another name than an earlier table does
 abbrev pub two_names_message : List ℕ → ℕ → List ℕ
 two_names_message path function = codes "rvtest: " ++ printable_text path ++ codes ": the function at " ++ word_digits function
     ++ codes " has two names in one image\n"
@@ -49,11 +49,10 @@ IsSumErrorStop path (sum.Node function) stop =
 IsSumErrorStop path (sum.Names function) stop = IsStop 2 (two_names_message path function) stop
 IsSumErrorStop path sum.Runs stop = IsStop 2 (path_message path (codes "the number of runs does not fit in 64 bits")) stop
 
--- the stop reports the first error in `text`, which is not a valid table of counts, or that memory ran out; if `text` is a valid table,
--- memory ran out
+-- why a command stopped: `text` is not a valid table of counts and the stop reports its first error, or memory ran out
 pub record IsTableFaultStop (path text : List ℕ) (stop : Stop) : Type 0 where
-  pub told : (error : ReadError) × (IsFirstError error text × IsReadErrorStop path error stop)
-  pub whole : (table : CountTable) → IsValidTable table → table_text table ≡ text → stop ≡ stops.OutOfMemory
+  pub reported : (error : ReadError) × (IsFirstError error text × IsReadErrorStop path error stop)
+  pub valid_table : (table : CountTable) → IsValidTable table → table_text table ≡ text → stop ≡ stops.OutOfMemory
 
 -- why a command stopped: the file at the path is a valid table of counts, but cannot be added to `before`, the sum of the earlier tables
 abbrev pub IsSumOverflowStop : Option FileContents → List ℕ → CountTable → Stop → Type 0
@@ -81,4 +80,4 @@ pub record IsSumStop (contents : Option FileContents) (paths : List (Bor (List �
 abbrev pub IsCountsStop : Option FileContents → CountsArgs → Stop → Type 0
 IsCountsStop contents args stop = IsSumOverwriteStop args stop ⊎ ((stop ≡ stops.OutOfMemory) ⊎ (IsSumStop contents args.tables.items stop
     ⊎ ((sum : CountTable) × (AreTablesAdded contents args.tables.items no_counts sum
-    × IsUnwrittenAtStop (written_path (optional_text args.out)) stop))))
+    × IsTextNotWrittenAtStop (written_path (optional_text args.out)) stop))))

@@ -31,7 +31,7 @@ AreTablesAdded contents (path ∷ paths) before after =
 -- how many instructions were executed at these addresses
 abbrev pub executed_at_addresses : List AddressCounts → ℕ
 executed_at_addresses [] = 0
-executed_at_addresses (c ∷ cs) = c.executed + executed_at_addresses cs
+executed_at_addresses (counts ∷ more) = counts.executed + executed_at_addresses more
 
 -- how many instructions were executed in these images
 abbrev pub executed_in_images : List ImageCounts → ℕ
@@ -75,7 +75,7 @@ sum_note table = decimal table.runs ++ run_word table.runs ++ decimal (length ta
 pub record IsSumWritten (contents : Option FileContents) (args : CountsArgs) (status : ℕ) (before after : CommandOutputs) : Type 0 where
   pub sum : CountTable
   pub added : AreTablesAdded contents args.tables.items no_counts sum
-  pub middle : CommandOutputs
-  pub put : IsWrittenAt (Some (written_path (optional_text args.out))) (table_text sum) before middle
-  pub told : IsOnlyErrorOutput (sum_note sum) middle after
-  pub done : status ≡ 0
+  pub between : CommandOutputs
+  pub written : IsWrittenAt (Some (written_path (optional_text args.out))) (table_text sum) before between
+  pub reported : IsOnlyErrorOutput (sum_note sum) between after
+  pub exit_status : status ≡ 0

@@ -55,7 +55,7 @@ compared_row rows (Some index) = row_or_none (slice_get rows index)
 -- whether the list of unmet expectations is empty
 abbrev pub are_all_met : List UnmetExpectation → Bool
 are_all_met [] = true
-are_all_met (one ∷ more) = false
+are_all_met (expectation ∷ more) = false
 
 -- the verdict on a job: it passes if it ran and met all expectations; otherwise it differs if `same_as` is unmet, and fails if not
 abbrev pub verdict_by : Bool → List UnmetExpectation → CurrentVerdict
@@ -76,21 +76,21 @@ comparison_with rows job row console signature = record {
   other = compared_row rows job.same_as;
 }
 
--- `stands` is the verdict on the job with this row, given the current contents of its golden files and the rows of all jobs
+-- `verdict` is the verdict on the job with this row, given the current contents of its golden files and the rows of all jobs
 pub record IsCurrentVerdict (contents : Option FileContents) (root : Option (List ℕ)) (rows : List (Option Row)) (job : Job) (row : Row)
-    (stands : CurrentVerdict) : Type 0 where
+    (verdict : CurrentVerdict) : Type 0 where
   pub console : Option (List ℕ)
   pub signature : Option (List ℕ)
   pub console_read : IsGoldenText contents root (path_to_read job row (console_path job.expect_console)) console
   pub signature_read : IsGoldenText contents root (path_to_read job row job.expect_signature) signature
-  pub is : stands ≡ verdict_of_comparison (comparison_with rows job row console signature)
+  pub verdict_is : verdict ≡ verdict_of_comparison (comparison_with rows job row console signature)
 
--- `stands` is the verdict on the job with this row; without a row the job did not run, and it fails
+-- `verdict` is the verdict on the job with this row; without a row the job did not run, and it fails
 abbrev pub IsCurrentVerdictIfRun : Option FileContents → Option (List ℕ) → List (Option Row) → Job → Option Row → CurrentVerdict → Type 0
-IsCurrentVerdictIfRun contents root rows job None stands = stands ≡ current.Fails
-IsCurrentVerdictIfRun contents root rows job (Some row) stands = IsCurrentVerdict contents root rows job row stands
+IsCurrentVerdictIfRun contents root rows job None verdict = verdict ≡ current.Fails
+IsCurrentVerdictIfRun contents root rows job (Some row) verdict = IsCurrentVerdict contents root rows job row verdict
 
--- whether the `Option` has a value, and the value is true
+-- whether the `Option` has a value that is true
 abbrev pub is_true : Option Bool → Bool
 is_true None = false
 is_true (Some selected) = selected
@@ -109,6 +109,6 @@ IsCandidateAt contents root rows chosen index job candidate = (candidate.is_chos
 -- `candidates` has a candidate for each job of the list, at the index of the job
 pub record AreCandidates (contents : Option FileContents) (root : Option (List ℕ)) (rows : List (Option Row)) (jobs : List Job)
     (chosen : List Bool) (candidates : List Candidate) : Type 0 where
-  pub counted : length candidates ≡ length jobs
+  pub same_length : length candidates ≡ length jobs
   pub each : (index : ℕ) (job : Job) (candidate : Candidate) → slice_get jobs index ≡ Some job
       → slice_get candidates index ≡ Some candidate → IsCandidateAt contents root rows chosen index job candidate

@@ -51,12 +51,12 @@ pub record IsJobOpened (contents : Option FileContents) (root : Option (List ℕ
   pub plan : PlanView
   pub listed : plan.jobs ≡ jobs
   pub paths : paths_of plan.results ≡ paths_used (jobs_needed_for jobs (index ∷ []))
-  pub kept : AgreeWithContents contents plan.results
+  pub results_agree : AgreeWithContents contents plan.results
   pub unread : List UnreadablePath
-  pub noted : HasEntryPerUnreadable plan.results unread
-  pub over : (d : Job) → IsSessionOf plan.results (slice_index_or plan.jobs index d)
+  pub unread_entries : HasEntryPerUnreadable plan.results unread
+  pub session_of_job : (d : Job) → IsSessionOf plan.results (slice_index_or plan.jobs index d)
       (resolved_path root (slice_index_or plan.jobs index d).image) session
-  pub outputs_of : end_text ≡ job_end_text plan unread index
+  pub end_text_is : end_text ≡ job_end_text plan unread index
 
 -- `session` debugs the first job of the requested name in the list with the text `bytes`, and `end_text` is the text that `run` prints
 -- about this job
@@ -77,7 +77,7 @@ pub record IsSessionOpenedAt (contents : Option FileContents) (args : GdbArgs) (
 -- is not a terminal
 pub record IsGdbServed (contents : Option FileContents) (is_terminal : Bool) (args : GdbArgs) (input rest : Option (List ℕ))
     (status : ℕ) (before after : CommandOutputs) : Type 0 where
-  pub spoken : is_terminal ≡ false
+  pub is_no_terminal : is_terminal ≡ false
   pub end_text : List ℕ
   pub first : Session
   pub opened : IsSessionOpenedAt contents args end_text first
@@ -85,18 +85,18 @@ pub record IsGdbServed (contents : Option FileContents) (is_terminal : Bool) (ar
   pub received : List ℕ
   pub read : Consumes input rest received
   -- no byte was read after the session ended
-  pub while_open : IsReadWhileOpen end_text first received
+  pub read_while_open : IsReadWhileOpen end_text first received
   -- the replies; before each stop at the end of the run they have what `run` reports for the job
   pub replies : List ℕ
   pub last : Session
   -- whether the end of the input may have interrupted a move; otherwise only the byte 0x03 did
   pub may_end : Bool
   pub at_end : may_end ≡ true → IsAtEnd rest
-  pub fed : IsReceived end_text may_end first received replies last
-  pub made : last.requested ≡ None
+  pub responded : IsReceived end_text may_end first received replies last
+  pub no_pending_move : last.requested ≡ None
   pub ended : IsEnded last rest
-  pub put : IsOnlyStandardOutput replies before after
-  pub done : status ≡ 0
+  pub written : IsOnlyStandardOutput replies before after
+  pub exit_status : status ≡ 0
 
 -- ---- why the command stops
 
@@ -110,11 +110,11 @@ pub record IsRefusedJobStop (contents : Option FileContents) (jobs : List Job) (
   pub plan : PlanView
   pub listed : plan.jobs ≡ jobs
   pub paths : paths_of plan.results ≡ paths_used (jobs_needed_for jobs (index ∷ []))
-  pub kept : AgreeWithContents contents plan.results
+  pub results_agree : AgreeWithContents contents plan.results
   pub unread : List UnreadablePath
-  pub noted : HasEntryPerUnreadable plan.results unread
+  pub unread_entries : HasEntryPerUnreadable plan.results unread
   pub refused : (d : Job) → is_ok (start_state_in plan.results (slice_index_or plan.jobs index d)) ≡ false
-  pub told : (d : Job) → IsStop 2 (row_line plan unread (judge_by_rule Strict) (slice_index_or plan.jobs index d)
+  pub message : (d : Job) → IsStop 2 (row_line plan unread (judge_by_rule Strict) (slice_index_or plan.jobs index d)
       (row_of plan (slice_index_or plan.jobs index d))) stop
 
 -- why a command stopped: memory ran out, or the job at index `index` is refused
@@ -138,4 +138,4 @@ IsSessionErrorStop broken.ReplyWriteFailed stop = stop ≡ stops.WriteFailed
 -- `before` and `after` count the failed writes: `after` is one more if a failed write ended the session, and equal to `before` if another
 -- error did
 abbrev pub IsFailureCounted : SessionError → ℕ → ℕ → Type 0
-IsFailureCounted cause before after = (cause ≡ broken.ReplyWriteFailed → after ≡ one_more before) × (cause ≢ broken.ReplyWriteFailed → after ≡ before)
+IsFailureCounted error before after = (error ≡ broken.ReplyWriteFailed → after ≡ one_more before) × (error ≢ broken.ReplyWriteFailed → after ≡ before)

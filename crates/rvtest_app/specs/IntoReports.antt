@@ -31,22 +31,22 @@ abbrev pub IsWholeReportAt : Option FileContents → List ℕ → List Job → L
 IsWholeReportAt contents path jobs rows = (report : SavedReport) × (IsReportAt contents path report
     × (IsWholeReport jobs report × (rows ≡ report.rows)))
 
--- `old` are the rows of the report of `--into`, which the run updates; none without `--into`
+-- `old_rows` are the rows of the report of `--into`, which the run updates; none without `--into`
 abbrev pub AreOldRows : Option FileContents → RunArgs → List Job → Option (List Row) → Type 0
-AreOldRows contents args jobs old = MatchOption args.into (old ≡ None)
-    (λ path. IsSomeAnd old (IsWholeReportAt contents path.now jobs))
+AreOldRows contents args jobs old_rows = MatchOption args.into (old_rows ≡ None)
+    (λ path. IsSomeAnd old_rows (IsWholeReportAt contents path.now jobs))
 
 -- ---- the updated report
 
--- the rows `old`, in which the rows at the indices of the first list are replaced, in order, by the rows of the second
+-- the rows `old_rows`, in which the rows at the indices of the first list are replaced, in order, by the rows of the second
 abbrev pub merged_rows : List ℕ → List Row → List Row → List Row
-merged_rows [] rows old = old
-merged_rows (index ∷ indices) [] old = old
-merged_rows (index ∷ indices) (row ∷ rows) old = merged_rows indices rows (slice_set old index row)
+merged_rows [] rows old_rows = old_rows
+merged_rows (index ∷ indices) [] old_rows = old_rows
+merged_rows (index ∷ indices) (row ∷ rows) old_rows = merged_rows indices rows (slice_set old_rows index row)
 
 -- the text of a run's report: with old rows, the whole report updated with the new rows; without, a report of the new rows alone
 abbrev pub run_report_text : Option (List Row) → ℕ → List ℕ → Option Shard → List Row → List ℕ
-run_report_text (Some old) jobs indices shard rows = report_text (merged_rows indices rows old)
+run_report_text (Some old_rows) jobs indices shard rows = report_text (merged_rows indices rows old_rows)
 run_report_text None jobs indices shard rows = chosen_report_text jobs indices shard rows
 
 -- the text that a finished job at index `index` adds to the report at once: its row if rows are streamed, and otherwise nothing
@@ -55,13 +55,13 @@ report_row_text is_streaming index row = if is_streaming then row_text index row
 
 -- the part of the report that is written while jobs finish: their rows, or nothing if the run updates an old report
 abbrev pub streamed_rows : Option (List Row) → List ℕ → List Row → List ℕ
-streamed_rows (Some old) indices rows = []
+streamed_rows (Some old_rows) indices rows = []
 streamed_rows None indices rows = joined_row_texts row_text indices rows
 
 -- the part of the report that is written after all jobs have finished: the whole report if the run updates an old one, and otherwise the
 -- last line
 abbrev pub run_report_rest : Option (List Row) → ℕ → List ℕ → Option Shard → List Row → List ℕ
-run_report_rest (Some old) jobs indices shard rows = report_text (merged_rows indices rows old)
+run_report_rest (Some old_rows) jobs indices shard rows = report_text (merged_rows indices rows old_rows)
 run_report_rest None jobs indices shard rows = chosen_last_line jobs indices shard rows
 
 -- the path of the report to write: the path of `--into`, or else the path of `--report`

@@ -30,22 +30,22 @@ abbrev pub partial_report_message : List ℕ → ℕ → ℕ → List ℕ
 partial_report_message path rows jobs = codes "rvtest: " ++ printable_text path ++ codes ": a partial report (" ++ decimal rows
     ++ codes " of " ++ count_text jobs (codes "job") ++ codes ")" ++ expected_whole_report
 
--- the message that the report at `path` has `rows` rows, but the list at `list` has `jobs` jobs
+-- the message that the report at `path` has `rows` rows, but the list at `list_path` has `jobs` jobs
 abbrev pub row_count_message : List ℕ → List ℕ → ℕ → ℕ → List ℕ
-row_count_message path list rows jobs = codes "rvtest: " ++ printable_text path ++ codes ": has " ++ count_text rows (codes "row")
-    ++ codes ", but " ++ printable_text list ++ codes " has " ++ count_text jobs (codes "job") ++ expected_whole_report
+row_count_message path list_path rows jobs = codes "rvtest: " ++ printable_text path ++ codes ": has " ++ count_text rows (codes "row")
+    ++ codes ", but " ++ printable_text list_path ++ codes " has " ++ count_text jobs (codes "job") ++ expected_whole_report
 
--- the message that job `number` is named `name` in the report at `path`, but `wanted` in the list at `list`
+-- the message that job `number` is named `name_in_report` in the report at `path`, but `listed_name` in the list at `list_path`
 abbrev pub name_mismatch_message : List ℕ → List ℕ → ℕ → List ℕ → List ℕ → List ℕ
-name_mismatch_message path list number name wanted = codes "rvtest: " ++ printable_text path ++ codes ": job "
-    ++ decimal number ++ codes " is \"" ++ name ++ codes "\", but \"" ++ wanted ++ codes "\" in "
-    ++ printable_text list ++ expected_whole_report
+name_mismatch_message path list_path number name_in_report listed_name = codes "rvtest: " ++ printable_text path ++ codes ": job "
+    ++ decimal number ++ codes " is \"" ++ name_in_report ++ codes "\", but \"" ++ listed_name ++ codes "\" in "
+    ++ printable_text list_path ++ expected_whole_report
 
--- the message that the report at `path` is not a report of all jobs of the list at `list`, with the reason
+-- the message that the report at `path` is not a report of all jobs of the list at `list_path`, with the reason
 abbrev pub not_whole_message : List ℕ → List ℕ → NotWholeReason → List ℕ
-not_whole_message path list (reason.Partial rows jobs) = partial_report_message path rows jobs
-not_whole_message path list (reason.RowCount rows jobs) = row_count_message path list rows jobs
-not_whole_message path list (reason.Name name) = name_mismatch_message path list name.number name.in_report.now name.listed.now
+not_whole_message path list_path (reason.Partial rows jobs) = partial_report_message path rows jobs
+not_whole_message path list_path (reason.RowCount rows jobs) = row_count_message path list_path rows jobs
+not_whole_message path list_path (reason.Name name) = name_mismatch_message path list_path name.number name.in_report.now name.listed.now
 
 -- ---- which message is shown
 
@@ -55,15 +55,15 @@ jobs_of_partial_report extent.Whole = None
 jobs_of_partial_report (extent.Selection jobs) = Some jobs
 jobs_of_partial_report (extent.Shard shard) = Some shard.jobs
 
--- `reason` describes the first index at which the two lists have different names: its number, counted from 1, and the name in each list
-pub record IsFirstNameMismatch (names all : List (List ℕ)) (reason : NameMismatch) : Type 0 where
+-- `mismatch` describes the first index at which the two lists have different names: its number, counted from 1, and the name in each list
+pub record IsFirstNameMismatch (report_names listed_names : List (List ℕ)) (mismatch : NameMismatch) : Type 0 where
   -- the index of the name
   pub index : ℕ
-  pub number : reason.number ≡ index + 1
-  pub name_in_report : slice_get names index ≡ Some reason.in_report.now
-  pub listed : slice_get all index ≡ Some reason.listed.now
-  pub differ : bytes_eq reason.in_report.now reason.listed.now ≡ false
-  pub before : take index names ≡ take index all
+  pub number : mismatch.number ≡ index + 1
+  pub name_in_report : slice_get report_names index ≡ Some mismatch.in_report.now
+  pub listed_name : slice_get listed_names index ≡ Some mismatch.listed.now
+  pub differ : bytes_eq mismatch.in_report.now mismatch.listed.now ≡ false
+  pub before : take index report_names ≡ take index listed_names
 
 -- why a report is not a report of all jobs of the list: it is partial, it has another number of rows than the list has jobs, or a row has
 -- another name than its job
@@ -75,11 +75,11 @@ IsNotWholeBecause jobs report (reason.RowCount rows count) = (report.extent ≡ 
 IsNotWholeBecause jobs report (reason.Name name) = (report.extent ≡ extent.Whole)
     × ((length report.rows ≡ length jobs) × IsFirstNameMismatch (row_names report.rows) (job_names jobs) name)
 
--- why a command stopped: the report at `path` could not be read, or it is not a report of all jobs of the list at `list`
+-- why a command stopped: the report at `path` could not be read, or it is not a report of all jobs of the list at `list_path`
 abbrev pub IsNotWholeReportStop : Option FileContents → List ℕ → List ℕ → List Job → Stop → Type 0
-IsNotWholeReportStop contents path list jobs stop = IsReportReadStop contents path stop
+IsNotWholeReportStop contents path list_path jobs stop = IsReportReadStop contents path stop
     ⊎ ((report : SavedReport) × (IsReportAt contents path report
-    × ((reason : NotWholeReason) × (IsNotWholeBecause jobs report reason × IsStop 2 (not_whole_message path list reason) stop))))
+    × ((reason : NotWholeReason) × (IsNotWholeBecause jobs report reason × IsStop 2 (not_whole_message path list_path reason) stop))))
 
 -- why a run with `--into` stopped: the report at its path could not be read, or is not a report of all jobs of the list
 abbrev pub IsIntoStop : Option FileContents → RunArgs → List Job → Stop → Type 0

@@ -15,7 +15,7 @@ abbrev pub suite_name : Option (List ℕ) → List ℕ → List ℕ
 suite_name (Some name) path = name
 suite_name None path = junit_class path
 
--- the JUnit document of these rows of a report, in which each failed row has its result line
+-- the JUnit document, for the suite `suite`, of these rows of a report, in which each failed row has its result line
 abbrev pub failures_junit : List ℕ → JudgeView → List Row → List ℕ
-failures_junit class judging rows = junit_text class judging
+failures_junit suite judging rows = junit_text suite judging
     (map (failed_line judging) rows) rows

@@ -16,8 +16,8 @@ use Rattle.rv_job_text.specs.Printable.{printable_text, printable_value}
 pub record IsKnownFile (contents : Option FileContents) (path : List ℕ) (jobs : List Job) (known : KnownJobs) : Type 0 where
   pub bytes : List ℕ
   pub read : IsTextAt contents path bytes
-  pub named : known_jobs_of (names_of_jobs jobs) bytes ≡ Ok known.jobs
-  pub named_by : known.path ≡ path
+  pub jobs_are : known_jobs_of (names_of_jobs jobs) bytes ≡ Ok known.jobs
+  pub path_is : known.path ≡ path
 
 -- `known` are the known failures that the file at the path of `--known` lists; `None` without a path
 abbrev pub IsKnownAt : Option FileContents → Option (List ℕ) → List Job → Option KnownJobs → Type 0
@@ -26,15 +26,15 @@ IsKnownAt contents (Some path) jobs known = IsSomeAnd known (IsKnownFile content
 
 -- ---- errors in the file
 
--- the text of an error in the file of known failures, about the job name `name`; `list` is the path of the job list
+-- the text of an error in the file of known failures, about the job name `name`; `list_path` is the path of the job list
 abbrev pub known_fault_text : List ℕ → List ℕ → KnownFaultKind → List ℕ
-known_fault_text list name kind.InvalidName =
+known_fault_text list_path name kind.InvalidName =
     codes "\"" ++ printable_value name ++ codes "\" is not a job name: expected NAME [# REASON]"
-known_fault_text list name kind.Twice = codes "duplicate job name \"" ++ printable_value name ++ codes "\""
-known_fault_text list name kind.UnknownJob =
-    codes "no job named \"" ++ printable_value name ++ codes "\" in " ++ printable_text list
+known_fault_text list_path name kind.Twice = codes "duplicate job name \"" ++ printable_value name ++ codes "\""
+known_fault_text list_path name kind.UnknownJob =
+    codes "no job named \"" ++ printable_value name ++ codes "\" in " ++ printable_text list_path
 
--- the message about an error in the file of known failures at `path`
+-- the message about an error in the file of known failures at `path`; `list_path` is the path of the job list
 abbrev pub known_fault_message : List ℕ → List ℕ → KnownFault → List ℕ
-known_fault_message path list fault = codes "rvtest: " ++ printable_text path ++ codes ":" ++ decimal fault.line
-    ++ codes ": " ++ known_fault_text list fault.name fault.kind ++ codes "\n"
+known_fault_message path list_path fault = codes "rvtest: " ++ printable_text path ++ codes ":" ++ decimal fault.line
+    ++ codes ": " ++ known_fault_text list_path fault.name fault.kind ++ codes "\n"

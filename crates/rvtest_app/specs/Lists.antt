@@ -32,20 +32,20 @@ pub record IsListOutputOf (contents : Option FileContents) (args : RunArgs) (byt
   pub listed : job_list_of bytes ≡ Ok jobs
   pub selection : Option (List Bool)
   pub chosen : IsChoice contents args (failure_rule args.lenient) jobs selection notes
-  pub named : names ≡ chosen_name_lines jobs selection
+  pub names_are : names ≡ chosen_name_lines jobs selection
 
 -- `names` is the text that `list` prints for the list at the path in the arguments, and `notes` are the notes about the choice of jobs
 pub record IsListOutputAt (contents : Option FileContents) (args : RunArgs) (names notes : List ℕ) : Type 0 where
   pub bytes : List ℕ
   pub read : IsTextAt contents args.list.now bytes
-  pub of : IsListOutputOf contents args bytes names notes
+  pub output : IsListOutputOf contents args bytes names notes
 
 -- the notes about the choice went to standard error, and then the names to standard output; the status is 0
 pub record IsListWritten (contents : Option FileContents) (args : RunArgs) (status : ℕ) (before after : CommandOutputs) : Type 0 where
   pub names : List ℕ
   pub notes : List ℕ
-  pub are : IsListOutputAt contents args names notes
-  pub middle : CommandOutputs
-  pub told : IsOnlyErrorOutput notes before middle
-  pub put : IsOnlyStandardOutput names middle after
-  pub done : status ≡ 0
+  pub output : IsListOutputAt contents args names notes
+  pub between : CommandOutputs
+  pub reported : IsOnlyErrorOutput notes before between
+  pub written : IsOnlyStandardOutput names between after
+  pub exit_status : status ≡ 0

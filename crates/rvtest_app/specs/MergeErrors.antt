@@ -21,14 +21,15 @@ use Rattle.rv_job_text.specs.Printable.{printable_text}
 abbrev pub part_path : List (Bor (List ℕ)) → ℕ → List ℕ
 part_path parts index = option_map_or (λ path. path.now) (slice_get parts index) (codes "a part")
 
--- a message about two parts: `path`, the rejected part; `what`, the error; `other`, the path of the other part; and `end`
+-- a message about two parts: `path`, the rejected part; `flaw_text`, its flaw; `other_path`, the other part; and `end`, the end of the
+-- message
 abbrev pub two_parts_message : List ℕ → List ℕ → List ℕ → List ℕ → List ℕ
-two_parts_message path what other end =
-    codes "rvtest: " ++ printable_text path ++ codes ": " ++ what ++ printable_text other ++ end
+two_parts_message path flaw_text other_path end =
+    codes "rvtest: " ++ printable_text path ++ codes ": " ++ flaw_text ++ printable_text other_path ++ end
 
--- the message that the part at `path` belongs to another run than the first part; `what` says how they differ
+-- the message that the part at `path` belongs to another run than the first part; `difference` says how they differ
 abbrev pub other_run_message : List (Bor (List ℕ)) → List ℕ → List ℕ → List ℕ
-other_run_message parts path what = two_parts_message path what (part_path parts 0) (codes "\"\n")
+other_run_message parts path difference = two_parts_message path difference (part_path parts 0) (codes "\"\n")
 
 -- the message that the part at the path, which has this text, has this flaw
 abbrev pub flaw_message : List (Bor (List ℕ)) → List ℕ → List ℕ → Flaw → List ℕ

@@ -45,8 +45,8 @@ pub record IsMergedAt (contents : Option FileContents) (args : MergeArgs) (statu
   pub read : AreTextsAt contents args.parts.items texts
   pub rows : List Row
   pub parts : AreParts rows texts
-  pub judged : status ≡ rows_status (report_judging args.lenient) rows
-  pub put : IsOutputWritten (merged_report_path (optional_text args.report) (optional_text args.junit))
+  pub exit_status : status ≡ rows_status (report_judging args.lenient) rows
+  pub written : IsOutputWritten (merged_report_path (optional_text args.report) (optional_text args.junit))
       (optional_text args.junit) (totals_line (report_judging args.lenient) rows) (report_text rows)
       (merged_junit args rows) before after
 

@@ -16,9 +16,9 @@ abbrev pub is_not_found : ErrorKind → Bool
 is_not_found kind.NotFound = true
 is_not_found _ = false
 
--- whether `note` is present, and says that the path could not be read because there is no such file
+-- whether `entry` is present, and says that the path could not be read because there is no such file
 abbrev pub is_reported_missing : Option UnreadablePath → Bool
-is_reported_missing note = option_map_or (λ one. is_not_found one.reason) note false
+is_reported_missing entry = option_map_or (λ unreadable. is_not_found unreadable.reason) entry false
 
 -- whether the path of the job's image is relative, and there is no file at this path
 abbrev pub is_image_missing : List UnreadablePath → Job → Bool

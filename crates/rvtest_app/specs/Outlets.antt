@@ -62,42 +62,42 @@ module _ {P W : Type 0} where
 
   -- no write to the outlet's file failed
   abbrev pub has_no_failure : (W → ℕ) → Outlet P W → Type 0
-  has_no_failure failed outlet.Nowhere = ⊤
-  has_no_failure failed outlet.Stdout = ⊤
-  has_no_failure failed (outlet.File file) = failed file.sink ≡ 0
+  has_no_failure failure_count outlet.Nowhere = ⊤
+  has_no_failure failure_count outlet.Stdout = ⊤
+  has_no_failure failure_count (outlet.File file) = failure_count file.sink ≡ 0
 
   -- the outlet is for this path and, if committed files are reported, its file has received this text so far and no write failed
   abbrev pub HasReceived : (P → List ℕ) → (W → Option (List ℕ)) → (W → ℕ) → Option (List CommittedFile)
       → Option (List ℕ) → List ℕ → Outlet P W → Type 0
-  HasReceived pending_path taken failed committed path text outlet.Nowhere = path ≡ None
-  HasReceived pending_path taken failed committed path text outlet.Stdout = path ≡ Some (codes "-")
-  HasReceived pending_path taken failed committed path text (outlet.File file) =
+  HasReceived pending_path accepted failure_count committed path text outlet.Nowhere = path ≡ None
+  HasReceived pending_path accepted failure_count committed path text outlet.Stdout = path ≡ Some (codes "-")
+  HasReceived pending_path accepted failure_count committed path text (outlet.File file) =
       (path ≡ Some (pending_path file.destination)) × ((is_stdout (pending_path file.destination) ≡ false)
-      × (IfSome committed (λ _. taken file.sink ≡ Some text) × (failed file.sink ≡ 0)
+      × (IfSome committed (λ _. accepted file.sink ≡ Some text) × (failure_count file.sink ≡ 0)
       × (file.path.now ≡ pending_path file.destination)))
 
   -- the text was written to the outlet, and no write failed
   abbrev pub IsWrittenToOutlet : (W → Option (List ℕ)) → (W → ℕ) → Outlet P W → Outlet P W → List ℕ → Type 0
-  IsWrittenToOutlet taken failed outlet.Nowhere outlet.Nowhere text = ⊤
-  IsWrittenToOutlet taken failed outlet.Stdout outlet.Stdout text = ⊤
-  IsWrittenToOutlet taken failed (outlet.File before) (outlet.File after) text =
-      (after.destination ≡ before.destination) × (Appends (taken before.sink) (taken after.sink) text
-      × (failed after.sink ≡ failed before.sink))
-  IsWrittenToOutlet taken failed _ _ text = ⊥
+  IsWrittenToOutlet accepted failure_count outlet.Nowhere outlet.Nowhere text = ⊤
+  IsWrittenToOutlet accepted failure_count outlet.Stdout outlet.Stdout text = ⊤
+  IsWrittenToOutlet accepted failure_count (outlet.File before) (outlet.File after) text =
+      (after.destination ≡ before.destination) × (Appends (accepted before.sink) (accepted after.sink) text
+      × (failure_count after.sink ≡ failure_count before.sink))
+  IsWrittenToOutlet accepted failure_count _ _ text = ⊥
 
   -- the file that an outlet makes when it is committed; none if the sink does not report what it received
   abbrev pub files_of : (P → List ℕ) → (W → Option (List ℕ)) → Outlet P W → Option (List CommittedFile)
-  files_of pending_path taken outlet.Nowhere = Some []
-  files_of pending_path taken outlet.Stdout = Some []
-  files_of pending_path taken (outlet.File file) =
-      option_map (λ bytes. record { path = pending_path file.destination; bytes = bytes } ∷ []) (taken file.sink)
+  files_of pending_path accepted outlet.Nowhere = Some []
+  files_of pending_path accepted outlet.Stdout = Some []
+  files_of pending_path accepted (outlet.File file) =
+      option_map (λ bytes. record { path = pending_path file.destination; bytes = bytes } ∷ []) (accepted file.sink)
 
 module _ {P S : Type 0} where
   -- the file that is synced to disk, with its contents; none if the contents are not reported
   abbrev pub synced_files : (P → List ℕ) → (S → Option (List ℕ)) → Option (SyncedFile P S) → Option (List CommittedFile)
-  synced_files pending_path bytes None = Some []
-  synced_files pending_path bytes (Some file) =
-      option_map (λ bytes. record { path = pending_path file.destination; bytes = bytes } ∷ []) (bytes file.file)
+  synced_files pending_path synced_bytes None = Some []
+  synced_files pending_path synced_bytes (Some file) =
+      option_map (λ bytes. record { path = pending_path file.destination; bytes = bytes } ∷ []) (synced_bytes file.file)
 
   -- the path by which messages name the file
   abbrev pub synced_path : Option (SyncedFile P S) → Option (List ℕ)
@@ -105,7 +105,7 @@ module _ {P S : Type 0} where
 
 -- `after` is the list `before` of committed files followed by `files`; always holds if `before` or `files` is `None`, that is, not reported
 abbrev pub AreFilesCommitted : Option (List CommittedFile) → Option (List CommittedFile) → Option (List CommittedFile) → Type 0
-AreFilesCommitted before after files = IfSome before (λ earlier. IfSome files (λ files. after ≡ Some (earlier ++ files)))
+AreFilesCommitted before after files = IfSome before (λ earlier. IfSome files (λ new. after ≡ Some (earlier ++ new)))
 
 -- after an error, either no more files were committed (`after` is `before`), or exactly the files `first`, the first of two outputs
 abbrev pub AreFilesPartlyCommitted : Option (List CommittedFile) → Option (List CommittedFile) → Option (List CommittedFile) → Type 0
@@ -113,4 +113,4 @@ AreFilesPartlyCommitted before after first = (after ≡ before) ⊎ AreFilesComm
 
 -- the files of the first list followed by the files of the second; `None` if one of the lists is `None`
 abbrev pub joined_files : Option (List CommittedFile) → Option (List CommittedFile) → Option (List CommittedFile)
-joined_files first second = option_and_then (λ first. option_map (λ second. first ++ second) second) first
+joined_files first second = option_and_then (λ earlier. option_map (λ later. earlier ++ later) second) first

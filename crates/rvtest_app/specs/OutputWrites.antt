@@ -24,11 +24,11 @@ junit_of_report line texts = junit_text texts.suite.name.now (judge_view texts.s
 -- XML were written to their paths
 pub record IsOutputWrittenTo (to_stderr : Bool) (report_path junit_path : Option (List ℕ)) (shown report junit : List ℕ)
     (before after : CommandOutputs) : Type 0 where
-  pub middle : CommandOutputs
-  pub seen : IsWrittenToErrorsIf to_stderr shown before middle
-  pub out : Appends middle.out after.out (stdout_at junit_path junit ++ stdout_at report_path report)
-  pub quiet : (after.errors ≡ middle.errors) × (after.failures ≡ middle.failures)
-  pub committed : AreFilesCommitted middle.committed after.committed (Some (file_at junit_path junit ++ file_at report_path report))
+  pub between : CommandOutputs
+  pub shown_written : IsWrittenToErrorsIf to_stderr shown before between
+  pub out : Appends between.out after.out (stdout_at junit_path junit ++ stdout_at report_path report)
+  pub errors_unchanged : (after.errors ≡ between.errors) × (after.failures ≡ between.failures)
+  pub committed : AreFilesCommitted between.committed after.committed (Some (file_at junit_path junit ++ file_at report_path report))
 
 -- the text `shown` was written, to standard error if one of the paths is `-` and otherwise to standard output; then the report and the
 -- JUnit XML were written to their paths

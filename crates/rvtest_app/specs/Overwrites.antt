@@ -26,29 +26,29 @@ use Rattle.rvtest_app.specs.declared.input_file.InputPath.{InputPath}
 use Rattle.rvtest_app.specs.declared.input_file.InputRole.{InputRole}
 use Rattle.rvtest_app.specs.declared.input_file.InputRole.TheVariants as role
 use Rattle.rvtest_app.specs.Outlets.{file_path_at}
-use Rattle.rvtest_app.specs.WriteStops.{IsUnopenedJobStop}
+use Rattle.rvtest_app.specs.WriteStops.{IsFileNotOpenedStop}
 
 -- ---- one file
 
 -- the paths of the inputs
 abbrev pub input_paths : List InputPath → List (List ℕ)
-input_paths read = map (λ (one : InputPath). path_buf_bytes one.path) read
+input_paths inputs = map (λ (input : InputPath). path_buf_bytes input.path) inputs
 
--- the identities of the files in `read` are these paths, provided that the committed files are reported
-abbrev pub AreFilesOf : Option (List CommittedFile) → List (List ℕ) → InputFiles → Type 0
-AreFilesOf committed paths read = IfSome committed (λ _. read.identities.items ≡ paths)
+-- the identities of `inputs` are these paths, provided that the committed files are reported
+abbrev pub HaveIdentities : Option (List CommittedFile) → List (List ℕ) → InputFiles → Type 0
+HaveIdentities committed paths inputs = IfSome committed (λ _. inputs.identities.items ≡ paths)
 
 -- whether one of the identities in `files` is `identity`
 abbrev pub is_among : List (List ℕ) → List ℕ → Bool
 is_among files identity = list_any (λ (file : List ℕ). bytes_eq file identity) files
 
--- the path is not one of the paths in `read`, the inputs
+-- the path is not one of the paths `inputs`
 abbrev pub IsNotAnInput : List (List ℕ) → List ℕ → Type 0
-IsNotAnInput read path = list_any (is_among (path ∷ [])) read ≡ false
+IsNotAnInput inputs path = list_any (is_among (path ∷ [])) inputs ≡ false
 
--- the path of an option is not one of the inputs `read`; always holds if the option is not given, or names standard output
-abbrev pub IsNoInputIfFile : List (List ℕ) → Option (List ℕ) → Type 0
-IsNoInputIfFile read path = IfSome (file_path_at path) (IsNotAnInput read)
+-- the path of an option is not one of the paths `inputs`; always holds if the option is not given, or names standard output
+abbrev pub IsNotAnInputIfFile : List (List ℕ) → Option (List ℕ) → Type 0
+IsNotAnInputIfFile inputs path = IfSome (file_path_at path) (IsNotAnInput inputs)
 
 -- how a message refers to an input that a job names: by the key and the job
 abbrev pub job_input_text : List ℕ → List ℕ → List ℕ
@@ -76,17 +76,17 @@ overwrite_prefix option path = codes "rvtest: " ++ option ++ codes " \"" ++ prin
 abbrev pub input_path_text : List ℕ → List ℕ
 input_path_text path = codes ": \"" ++ printable_text path ++ codes "\"\n"
 
--- the message that `option`, with the path `path`, would overwrite an input; `role` describes the input, and `read` is its path
+-- the message that `option`, with the path `path`, would overwrite the input at `input_path`, which `role` describes
 abbrev pub overwrite_message : List ℕ → List ℕ → List ℕ → List ℕ → List ℕ
-overwrite_message option path role read = overwrite_prefix option path ++ role ++ input_path_text read
+overwrite_message option path role input_path = overwrite_prefix option path ++ role ++ input_path_text input_path
 
 -- the stop reports that `option`, with the path `path`, would overwrite some input, or that memory ran out
 abbrev pub IsOverwriteReported : List ℕ → List ℕ → Stop → Type 0
-IsOverwriteReported option path stop = (role : List ℕ) × (read : List ℕ) × IsStop 2 (overwrite_message option path role read) stop
+IsOverwriteReported option path stop = (role : List ℕ) × (input_path : List ℕ) × IsStop 2 (overwrite_message option path role input_path) stop
 
 -- why a command stopped: `option` would overwrite an input, or it could not be found out to which file its path leads
 abbrev pub IsOverwriteStop : List ℕ → List ℕ → Stop → Type 0
-IsOverwriteStop option path stop = IsUnopenedJobStop path stop ⊎ IsOverwriteReported option path stop
+IsOverwriteStop option path stop = IsFileNotOpenedStop path stop ⊎ IsOverwriteReported option path stop
 
 -- why a command stopped: the option names a file, and would overwrite an input, or it could not be found out to which file its path leads
 abbrev pub IsOptionOverwriteStop : List ℕ → Option (List ℕ) → Stop → Type 0
@@ -118,16 +118,16 @@ report_paths_of_run args = failed_report_path args ++ option_to_list (optional_t
 
 -- no output file of a run is a report that it reads, except that `--into` and `--failed` may name one report
 pub record AreReportsPreserved (args : RunArgs) : Type 0 where
-  pub report : IsNoInputIfFile (failed_report_path args) (optional_text args.report)
-  pub junit : IsNoInputIfFile (report_paths_of_run args) (optional_text args.junit)
-  pub counts : IsNoInputIfFile (report_paths_of_run args) (optional_text args.counts)
+  pub report : IsNotAnInputIfFile (failed_report_path args) (optional_text args.report)
+  pub junit : IsNotAnInputIfFile (report_paths_of_run args) (optional_text args.junit)
+  pub counts : IsNotAnInputIfFile (report_paths_of_run args) (optional_text args.counts)
 
 -- no output file of a run is one of its inputs
-pub record AreRunFilesNoInputs (args : RunArgs) (jobs : List Job) : Type 0 where
-  pub report : IsNoInputIfFile (inputs_of_run args jobs) (optional_text args.report)
-  pub junit : IsNoInputIfFile (inputs_of_run args jobs) (optional_text args.junit)
-  pub counts : IsNoInputIfFile (inputs_of_run args jobs) (optional_text args.counts)
-  pub into : IsNoInputIfFile (inputs_of_run args jobs) (optional_text args.into)
+pub record AreRunFilesNotInputs (args : RunArgs) (jobs : List Job) : Type 0 where
+  pub report : IsNotAnInputIfFile (inputs_of_run args jobs) (optional_text args.report)
+  pub junit : IsNotAnInputIfFile (inputs_of_run args jobs) (optional_text args.junit)
+  pub counts : IsNotAnInputIfFile (inputs_of_run args jobs) (optional_text args.counts)
+  pub into : IsNotAnInputIfFile (inputs_of_run args jobs) (optional_text args.into)
   pub reports : AreReportsPreserved args
 
 -- why a command stopped: memory ran out, or an output file of a run would overwrite an input
@@ -138,15 +138,15 @@ IsRunOverwriteStop args stop = (stop ≡ stops.OutOfMemory)
     ⊎ (IsOptionOverwriteStop (codes "--counts") (optional_text args.counts) stop
     ⊎ IsOptionOverwriteStop (codes "--into") (optional_text args.into) stop)))
 
--- the statement `Apart` holds, unless no file was committed (`after` is `before`) or committed files are not reported
+-- the statement holds, unless no file was committed (`after` is `before`) or committed files are not reported
 abbrev pub HoldsIfCommitted : Type 0 → Option (List CommittedFile) → Option (List CommittedFile) → Type 0
-HoldsIfCommitted Apart before after = (after ≡ before) ⊎ IfSome before (λ _. Apart)
+HoldsIfCommitted Statement before after = (after ≡ before) ⊎ IfSome before (λ _. Statement)
 
 -- a run committed no file, or its output files are not among its inputs
 abbrev pub AreRunInputsPreserved : Option FileContents → RunArgs → Option (List CommittedFile) → Option (List CommittedFile) → Type 0
 AreRunInputsPreserved contents args before after = (after ≡ before)
     ⊎ ((text : List ℕ) × (jobs : List Job) × (IsTextAt contents args.list.now text × ((job_list_of text ≡ Ok jobs)
-    × IfSome before (λ _. AreRunFilesNoInputs args jobs))))
+    × IfSome before (λ _. AreRunFilesNotInputs args jobs))))
 
 -- ---- the files of accept
 
@@ -165,19 +165,19 @@ golden_paths_of_selected root (job ∷ jobs) [] = []
 golden_paths_of_selected root (job ∷ jobs) (selected ∷ selection) =
     (if selected then golden_paths_of_job root job else []) ++ golden_paths_of_selected root jobs selection
 
--- whether the path is one of the paths in `read`, the inputs
+-- whether the path is one of the paths `inputs`
 abbrev pub is_read : List (List ℕ) → List ℕ → Bool
-is_read read path = list_any (is_among (path ∷ [])) read
+is_read inputs path = list_any (is_among (path ∷ [])) inputs
 
--- whether the path of a golden file is one of the paths in `read`, the inputs
+-- whether the path of a golden file is one of the paths `inputs`
 abbrev pub is_golden_input : List (List ℕ) → InputPath → Bool
-is_golden_input read golden = is_read read (path_buf_bytes golden.path)
+is_golden_input inputs golden = is_read inputs (path_buf_bytes golden.path)
 
 -- `accept` overwrites no input: the list is not another input, and no golden file of a selected job is the list or an input
-pub record AreAcceptFilesNoInputs (args : AcceptArgs) (jobs : List Job) (selection : List Bool) : Type 0 where
-  pub list : IsNotAnInput (inputs_of_accept args jobs) args.run.list.now
-  pub no_list : list_any (is_read (args.run.list.now ∷ [])) (golden_paths_of_selected (optional_text args.run.root) jobs selection) ≡ false
-  pub no_input : list_any (is_read (inputs_of_accept args jobs)) (golden_paths_of_selected (optional_text args.run.root) jobs selection) ≡ false
+pub record AreAcceptFilesNotInputs (args : AcceptArgs) (jobs : List Job) (selection : List Bool) : Type 0 where
+  pub list_is_no_input : IsNotAnInput (inputs_of_accept args jobs) args.run.list.now
+  pub golden_is_not_list : list_any (is_read (args.run.list.now ∷ [])) (golden_paths_of_selected (optional_text args.run.root) jobs selection) ≡ false
+  pub golden_is_no_input : list_any (is_read (inputs_of_accept args jobs)) (golden_paths_of_selected (optional_text args.run.root) jobs selection) ≡ false
 
 -- the beginning of a message about a golden file outside of the directory: `head`, and `role`, which describes the file
 abbrev pub outside_prefix : List ℕ → List ℕ → List ℕ
@@ -224,18 +224,18 @@ IsAcceptOverwriteStop stop = (stop ≡ stops.OutOfMemory) ⊎ IsAnyUnwritableSto
 abbrev pub AreAcceptInputsPreserved : Option FileContents → AcceptArgs → Option (List CommittedFile) → Option (List CommittedFile) → Type 0
 AreAcceptInputsPreserved contents args before after = (after ≡ before)
     ⊎ ((text : List ℕ) × (jobs : List Job) × (chosen : List Bool) × (IsTextAt contents args.run.list.now text
-    × ((job_list_of text ≡ Ok jobs) × IfSome before (λ _. AreAcceptFilesNoInputs args jobs (jobs_to_run jobs chosen)))))
+    × ((job_list_of text ≡ Ok jobs) × IfSome before (λ _. AreAcceptFilesNotInputs args jobs (jobs_to_run jobs chosen)))))
 
 -- ---- the files of the other commands
 
 -- the paths in the arguments, as a list
 abbrev pub paths_of_args : List (Bor (List ℕ)) → List (List ℕ)
-paths_of_args args = map (λ (word : Bor (List ℕ)). word.now) args
+paths_of_args args = map (λ (path : Bor (List ℕ)). path.now) args
 
 -- no output file of `merge` is one of its parts
-abbrev pub AreMergeFilesNoInputs : MergeArgs → Type 0
-AreMergeFilesNoInputs args = IsNoInputIfFile (paths_of_args args.parts.items) (optional_text args.report)
-    × IsNoInputIfFile (paths_of_args args.parts.items) (optional_text args.junit)
+abbrev pub AreMergeFilesNotInputs : MergeArgs → Type 0
+AreMergeFilesNotInputs args = IsNotAnInputIfFile (paths_of_args args.parts.items) (optional_text args.report)
+    × IsNotAnInputIfFile (paths_of_args args.parts.items) (optional_text args.junit)
 
 -- why a command stopped: memory ran out, or an output file of `merge` would overwrite a part
 abbrev pub IsMergeOverwriteStop : MergeArgs → Stop → Type 0
@@ -244,16 +244,16 @@ IsMergeOverwriteStop args stop = (stop ≡ stops.OutOfMemory)
     ⊎ IsOptionOverwriteStop (codes "--junit") (optional_text args.junit) stop)
 
 -- the JUnit file of `show` is not the report
-abbrev pub IsShowFileNoInput : ShowArgs → Type 0
-IsShowFileNoInput args = IsNoInputIfFile (args.report.now ∷ []) (optional_text args.junit)
+abbrev pub IsShowFileNotAnInput : ShowArgs → Type 0
+IsShowFileNotAnInput args = IsNotAnInputIfFile (args.report.now ∷ []) (optional_text args.junit)
 
 -- why a command stopped: memory ran out, or the JUnit file of `show` would overwrite the report
 abbrev pub IsShowOverwriteStop : ShowArgs → Stop → Type 0
 IsShowOverwriteStop args stop = (stop ≡ stops.OutOfMemory) ⊎ IsOptionOverwriteStop (codes "--junit") (optional_text args.junit) stop
 
 -- the output file of `counts` is not one of its tables
-abbrev pub IsSumFileNoInput : CountsArgs → Type 0
-IsSumFileNoInput args = IsNoInputIfFile (paths_of_args args.tables.items) (optional_text args.out)
+abbrev pub IsSumFileNotAnInput : CountsArgs → Type 0
+IsSumFileNotAnInput args = IsNotAnInputIfFile (paths_of_args args.tables.items) (optional_text args.out)
 
 -- why a command stopped: memory ran out, or the output file of `counts` would overwrite a table
 abbrev pub IsSumOverwriteStop : CountsArgs → Stop → Type 0

@@ -14,13 +14,13 @@ use Rattle.rvtest_app.specs.Commands.{is_job_refused, report_judging}
 use Rattle.rvtest_app.specs.MissingImages.{missing_images_note}
 
 -- the result line of a refused job; empty if the job is not refused
-unfoldable pub invalid_line : JudgeView → PlanView → List UnreadablePath → Job → List ℕ
-invalid_line judging plan unread job =
+unfoldable pub line_if_refused : JudgeView → PlanView → List UnreadablePath → Job → List ℕ
+line_if_refused judging plan unread job =
     if is_job_refused plan job then row_line plan unread judging job (row_of plan job) else []
 
 -- the result lines of the refused jobs among the jobs at these indices
 abbrev pub refused_lines : JudgeView → PlanView → List UnreadablePath → List ℕ → List ℕ
-refused_lines judging plan unread indices = flat_map (invalid_line judging plan unread) (jobs_at plan indices)
+refused_lines judging plan unread indices = flat_map (line_if_refused judging plan unread) (jobs_at plan indices)
 
 -- the note about missing images, which may be empty, and then the result lines of the refused jobs among the jobs at these indices
 abbrev pub refused_note : RunArgs → PlanView → List UnreadablePath → List ℕ → List ℕ

@@ -29,7 +29,7 @@ rows_by_steps (row ∷ rows) = inserted_by_steps row (rows_by_steps rows)
 -- `sorted` are the rows, sorted by descending steps; rows with equal steps keep their order
 pub record AreSortedBySteps (rows sorted : List Row) : Type 0 where
   pub same_rows : IsPermutation rows sorted
-  pub most_first : AllPairs (λ row behind. behind.steps ≤ row.steps) sorted
+  pub most_first : AllPairs (λ row later. later.steps ≤ row.steps) sorted
   pub stable : (steps : ℕ) → filter (λ row. row.steps == steps) sorted ≡ filter (λ row. row.steps == steps) rows
 
 -- the largest number of rows that `show` lists under "most steps"

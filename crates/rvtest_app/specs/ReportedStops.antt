@@ -20,11 +20,11 @@ use Rattle.rvtest_app.specs.CommandOutputs.{IsOnlyErrorOutput, CommandOutputs}
 
 -- ---- the program
 
--- the program ended with the status and the message of a stop that satisfies `ended`; `closed` says whether the reader of standard output
--- had closed it
+-- the program ended with the status and the message of a stop that satisfies `condition`; `is_closed` says whether the reader of standard
+-- output had closed it
 abbrev pub IsStopReported : Bool → (Stop → Type 0) → ℕ → CommandOutputs → Type 0
-IsStopReported closed ended status after = (stop : Stop) × ended stop × (status ≡ end_status closed stop)
-    × ((before : CommandOutputs) × IsOnlyErrorOutput (end_message closed stop) before after)
+IsStopReported is_closed condition status after = (stop : Stop) × condition stop × (status ≡ end_status is_closed stop)
+    × ((before : CommandOutputs) × IsOnlyErrorOutput (end_message is_closed stop) before after)
 
 -- the exit status if the program cannot get its arguments for this reason: 3 if memory ran out, and otherwise 2
 abbrev pub unreadable_args_status : ErrorKind → ℕ
@@ -70,4 +70,4 @@ IsNewReportStop partial path (Err unread) stop = stop ≡ unread
 -- why `diff` stopped: memory ran out, the text of the old report is invalid, or it is valid, but the new report could not be used
 abbrev pub IsDiffStop : DiffArgs → List ℕ → Result (Vec ℕ Global) Stop → Stop → Type 0
 IsDiffStop args old new stop = (stop ≡ stops.OutOfMemory) ⊎ (IsRequestedFaultStop args.partial args.old.now old stop
-    ⊎ ((found : PartialReport) × IsReportRead args.partial old found × IsNewReportStop args.partial args.new.now new stop))
+    ⊎ ((report : PartialReport) × IsReportRead args.partial old report × IsNewReportStop args.partial args.new.now new stop))

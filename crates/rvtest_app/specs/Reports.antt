@@ -40,9 +40,9 @@ use Rattle.rvtest_app.specs.Commands.{check_status, diff_status, passing_status,
 
 -- ---- unreadable paths
 
--- `unread` has as many entries as `answers` has unreadable files
+-- `unread` has as many entries as `results` has unreadable files
 abbrev pub HasEntryPerUnreadable : List PathResult → List UnreadablePath → Type 0
-HasEntryPerUnreadable answers unread = length unread ≡ after_increments 0 (unreadable_count answers)
+HasEntryPerUnreadable results unread = length unread ≡ after_increments 0 (unreadable_count results)
 
 -- ---- diff
 
@@ -72,17 +72,17 @@ uncompared_row_count old new = (length old.rows - length (compared_rows new old)
 pub record IsDiffOfReports (compare : CompareMode) (before after : SavedReport) (output : List ℕ) (status : ℕ) : Type 0 where
   pub text : output ≡ diff_text compare (compared_rows after before) (compared_rows before after)
       (uncompared_row_count before after)
-  pub judged : status ≡ diff_status (difference_counts compare (compared_rows after before) (compared_rows before after))
+  pub exit_status : status ≡ diff_status (difference_counts compare (compared_rows after before) (compared_rows before after))
 
 -- `output`, `notes` and `status` are the output, the notes and the exit status of `diff` for the reports with the texts `old` and `new`; a
 -- note says how many rows a truncated report has
 pub record IsDiffOf (args : DiffArgs) (old new output notes : List ℕ) (status : ℕ) : Type 0 where
-  pub before : PartialReport
-  pub before_is : IsReportRead args.partial old before
-  pub after : PartialReport
-  pub after_is : IsReportRead args.partial new after
-  pub diff : IsDiffOfReports (requested_comparison args.steps args.slower) before.report after.report output status
-  pub noted : notes ≡ truncation_note args.old.now before ++ truncation_note args.new.now after
+  pub old_report : PartialReport
+  pub old_is : IsReportRead args.partial old old_report
+  pub new_report : PartialReport
+  pub new_is : IsReportRead args.partial new new_report
+  pub diff : IsDiffOfReports (requested_comparison args.steps args.slower) old_report.report new_report.report output status
+  pub notes_are : notes ≡ truncation_note args.old.now old_report ++ truncation_note args.new.now new_report
 
 -- `output`, `notes` and `status` are the output, the notes and the exit status of `diff` for the reports at the two paths in the arguments
 pub record IsDiffAt (contents : Option FileContents) (args : DiffArgs) (output notes : List ℕ) (status : ℕ) : Type 0 where
@@ -97,9 +97,9 @@ pub record IsDiffWritten (contents : Option FileContents) (args : DiffArgs) (sta
   pub text : List ℕ
   pub notes : List ℕ
   pub diff : IsDiffAt contents args text notes status
-  pub middle : CommandOutputs
-  pub told : IsOnlyErrorOutput notes before middle
-  pub put : IsOnlyStandardOutput text middle after
+  pub between : CommandOutputs
+  pub reported : IsOnlyErrorOutput notes before between
+  pub written : IsOnlyStandardOutput text between after
 
 -- ---- check
 
@@ -110,19 +110,19 @@ pub record IsPlanCheckOf (contents : Option FileContents) (root : Option (List �
   pub plan : PlanView
   pub listed : job_list_of bytes ≡ Ok plan.jobs
   pub paths : paths_of plan.results ≡ paths_used plan.jobs
-  pub kept : AgreeWithContents contents plan.results
+  pub results_agree : AgreeWithContents contents plan.results
   pub unread : List UnreadablePath
-  pub noted : HasEntryPerUnreadable plan.results unread
+  pub unread_entries : HasEntryPerUnreadable plan.results unread
   pub text : output ≡ check_text path bytes root plan unread
-  pub judged : status ≡ check_status (refused_job_count plan)
+  pub exit_status : status ≡ check_status (refused_job_count plan)
 
 -- `output` and `status` are the output and the exit status of `check` for a list with these errors: if there are any, the status is 2, and
 -- the output has at least one line for each invalid job, which begins with the list's path, a line and column, and the job's number and
 -- name
 abbrev pub IsCheckOutputOf : Option FileContents → Option (List ℕ) → List JobError → List ℕ → List ℕ → List ℕ → ℕ → Type 0
 IsCheckOutputOf contents root [] path bytes output status = IsPlanCheckOf contents root path bytes output status
-IsCheckOutputOf contents root (fault ∷ faults) path bytes output status =
-    AppendsLinesOfEach (IsFaultMessage path bytes) (fault ∷ faults) [] output × (status ≡ 2)
+IsCheckOutputOf contents root (error ∷ errors) path bytes output status =
+    AppendsLinesOfEach (IsFaultMessage path bytes) (error ∷ errors) [] output × (status ≡ 2)
 
 -- `output` and `status` are the output and the exit status of `check` for the list at the path in the arguments
 pub record IsCheckOutputAt (contents : Option FileContents) (args : CheckArgs) (output : List ℕ) (status : ℕ) : Type 0 where
@@ -137,9 +137,9 @@ pub record IsCheckOutputAt (contents : Option FileContents) (args : CheckArgs) (
 -- it used the budget
 pub record IsTextExplaining (plan : PlanView) (unread : List UnreadablePath) (index last : ℕ) (text : List ℕ) : Type 0 where
   pub budget_use : Option BudgetUse
-  pub found : (d : Job) → IsBudgetUseOfRow plan (slice_index_or plan.jobs index d)
+  pub is_budget_use : (d : Job) → IsBudgetUseOfRow plan (slice_index_or plan.jobs index d)
       (row_of plan (slice_index_or plan.jobs index d)) budget_use
-  pub told : (d : Job) → text ≡ explanation_text plan unread (judge_by_rule Strict) (slice_index_or plan.jobs index d)
+  pub explanation : (d : Job) → text ≡ explanation_text plan unread (judge_by_rule Strict) (slice_index_or plan.jobs index d)
       (row_of plan (slice_index_or plan.jobs index d)) (record { last = last; budget_use = budget_use })
 
 -- `output` and `status` are the output and the exit status of `explain` for the job at index `index`, with the files that its row needs
@@ -149,11 +149,11 @@ pub record IsJobExplained (contents : Option FileContents) (jobs : List Job) (in
   pub plan : PlanView
   pub listed : plan.jobs ≡ jobs
   pub paths : paths_of plan.results ≡ paths_used (jobs_needed_for jobs (index ∷ []))
-  pub kept : AgreeWithContents contents plan.results
+  pub results_agree : AgreeWithContents contents plan.results
   pub unread : List UnreadablePath
-  pub noted : HasEntryPerUnreadable plan.results unread
+  pub unread_entries : HasEntryPerUnreadable plan.results unread
   pub text : IsTextExplaining plan unread index last output
-  pub judged : (d : Job) → status ≡ passing_status
+  pub exit_status : (d : Job) → status ≡ passing_status
       (has_passed Strict (row_of plan (slice_index_or plan.jobs index d)))
 
 -- `index` is the index of the first job named `name`

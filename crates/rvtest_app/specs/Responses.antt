@@ -63,7 +63,7 @@ pub record IsDoneInColors (contents : Option FileContents) (input : Option (List
     (status : ℕ) (before after : CommandOutputs) : Type 0 where
   pub plain : CommandOutputs
   pub done : IsCommandDone contents input is_terminal request status before plain
-  pub shown : IsColoredOutput (requested_colors request is_colored) before plain after
+  pub colored : IsColoredOutput (requested_colors request is_colored) before plain after
 
 -- the arguments request the help or the version
 abbrev pub RequestHelp : List (List ℕ) → Type 0

@@ -26,10 +26,10 @@ rows_status judging rows = if list_any (fails judging) rows then 1 else 0
 abbrev pub job_numbers : List ℕ → List ℕ
 job_numbers indices = map (λ index. index + 1) indices
 
--- the report with these rows of the jobs at these indices; its extent `jobs` says whether it has a shard, all jobs or chosen jobs of a list
+-- the report with these rows of the jobs at these indices; `report_extent` says whether they are a shard, all jobs or chosen jobs of a list
 abbrev pub part_text : Extent → List ℕ → List Row → List ℕ
-part_text jobs indices rows = saved_text (record {
-  extent = jobs;
+part_text report_extent indices rows = saved_text (record {
+  extent = report_extent;
   numbers = job_numbers indices;
   rows = rows;
 })

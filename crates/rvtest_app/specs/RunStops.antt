@@ -45,10 +45,10 @@ pub record IsKnownFailuresStop (contents : Option FileContents) (args : RunArgs)
   pub jobs : List Job
   pub selection : Option (List Bool)
   pub shard : Option Shard
-  pub old : Option (List Row)
+  pub old_rows : Option (List Row)
   pub notes : List ℕ
-  pub requested_jobs : AreRequestedJobs contents args jobs selection shard old notes
-  pub unknown : IsKnownStop contents args jobs stop
+  pub requested_jobs : AreRequestedJobs contents args jobs selection shard old_rows notes
+  pub known_file_stop : IsKnownStop contents args jobs stop
 
 -- why a command stopped: this error occurred while a run was shown; `path` is the path of the report
 abbrev pub IsShowErrorStop : Option (List ℕ) → ShowError → Stop → Type 0

@@ -52,26 +52,26 @@ IsRequestedSelection contents (Some shard) args jobs selection notes =
 IsRequestedSelection contents None args jobs selection notes =
     IsChoice contents args (failure_rule args.lenient) jobs selection notes
 
--- the list at the path in the arguments has the jobs `jobs`; `selection` selects those to run, `shard` is their shard, `old` are the rows
--- that the run updates, and `notes` are the notes about the choice
+-- the list at the path in the arguments has the jobs `jobs`; `selection` selects those to run, `shard` is their shard, `old_rows` are the
+-- rows that the run updates, and `notes` are the notes about the choice
 pub record AreRequestedJobs (contents : Option FileContents) (args : RunArgs) (jobs : List Job)
-    (selection : Option (List Bool)) (shard : Option Shard) (old : Option (List Row)) (notes : List ℕ) : Type 0 where
+    (selection : Option (List Bool)) (shard : Option Shard) (old_rows : Option (List Row)) (notes : List ℕ) : Type 0 where
   pub bytes : List ℕ
   pub read : IsTextAt contents args.list.now bytes
   pub listed : job_list_of bytes ≡ Ok jobs
-  pub sharded : IsShardOf args.shard shard
-  pub stamped : IfSome shard (λ shard. (shard.stamp ≡ stamp_for args.stamp bytes) × (shard.jobs ≡ length jobs))
+  pub shard_is : IsShardOf args.shard shard
+  pub stamp_is : IfSome shard (λ shard. (shard.stamp ≡ stamp_for args.stamp bytes) × (shard.jobs ≡ length jobs))
   pub selected : IsRequestedSelection contents shard args jobs selection notes
-  pub into : AreOldRows contents args jobs old
+  pub into : AreOldRows contents args jobs old_rows
 
 -- the requested jobs and the known failures were found, and at least one job is selected to run
 pub record AreJobsToRun (contents : Option FileContents) (args : RunArgs) : Type 0 where
   pub jobs : List Job
   pub selection : List Bool
   pub shard : Option Shard
-  pub old : Option (List Row)
+  pub old_rows : Option (List Row)
   pub notes : List ℕ
-  pub requested_jobs : AreRequestedJobs contents args jobs (Some selection) shard old notes
+  pub requested_jobs : AreRequestedJobs contents args jobs (Some selection) shard old_rows notes
   pub failures : Option KnownJobs
   pub known_to_fail : IsKnownAt contents (optional_text args.known) jobs failures
 
@@ -81,8 +81,8 @@ pub record IsPlanFor (contents : Option FileContents) (jobs : List Job) (indices
     (unread : List UnreadablePath) : Type 0 where
   pub listed : plan.jobs ≡ jobs
   pub paths : paths_of plan.results ≡ paths_used (jobs_needed_for jobs indices)
-  pub kept : AgreeWithContents contents plan.results
-  pub noted : length unread ≡ after_increments 0 (unreadable_count plan.results)
+  pub results_agree : AgreeWithContents contents plan.results
+  pub unread_entries : length unread ≡ after_increments 0 (unreadable_count plan.results)
 
 -- the JUnit document of the rows of the jobs at these indices, in which each failed row has its lines
 abbrev pub run_junit : RunArgs → RowReporter → List ℕ → List Row → List ℕ
@@ -118,15 +118,15 @@ junit_file args reporter indices rows =
 
 -- a list with the report file of a run with these rows; empty if no option names a report file
 abbrev pub report_file : RunArgs → RowReporter → List ℕ → Option Shard → Option (List Row) → List Row → List CommittedFile
-report_file args reporter indices shard old rows = file_at (run_report_path args)
-    (run_report_text old (length reporter.plan.jobs) (shown_indices indices rows) shard rows)
+report_file args reporter indices shard old_rows rows = file_at (run_report_path args)
+    (run_report_text old_rows (length reporter.plan.jobs) (shown_indices indices rows) shard rows)
 
 -- a run of the jobs at these indices, with these rows, wrote its results, its report and its JUnit XML
 abbrev pub IsRunWritten : RunArgs → RowReporter → List ℕ → Option Shard → Option (List Row) → List Row → CommandOutputs → CommandOutputs → Type 0
-IsRunWritten args reporter indices shard old rows before after =
+IsRunWritten args reporter indices shard old_rows rows before after =
     IsOutputWrittenTo (uses_run_stdout args) (run_report_path args) (optional_text args.junit)
     (run_output_text (row_lines_at reporter) reporter.judging reporter.plan indices rows)
-    (run_report_text old (length reporter.plan.jobs) (shown_indices indices rows) shard rows)
+    (run_report_text old_rows (length reporter.plan.jobs) (shown_indices indices rows) shard rows)
     (run_junit args reporter (shown_indices indices rows) rows) before after
 
 -- `table` has the counts of the runs of the jobs at these indices; it has call stacks if the Bool is true
@@ -147,80 +147,80 @@ AreCountsWritten stacks (Some path) plan indices before after =
     (text : List ℕ) × (IsCountsText stacks plan indices text × IsWrittenAt (Some path) text before after)
 
 -- a run wrote its results, its report and its JUnit XML, and then its table of counts
-pub record IsCountedRunWritten (args : RunArgs) (reporter : RowReporter) (indices : List ℕ) (shard : Option Shard) (old : Option (List Row))
+pub record IsCountedRunWritten (args : RunArgs) (reporter : RowReporter) (indices : List ℕ) (shard : Option Shard) (old_rows : Option (List Row))
     (rows : List Row) (before after : CommandOutputs) : Type 0 where
-  pub middle : CommandOutputs
-  pub put : IsRunWritten args reporter indices shard old rows before middle
-  pub counted : AreCountsWritten args.stacks (optional_text args.counts) reporter.plan (shown_indices indices rows) middle after
+  pub between : CommandOutputs
+  pub rows_written : IsRunWritten args reporter indices shard old_rows rows before between
+  pub counts_written : AreCountsWritten args.stacks (optional_text args.counts) reporter.plan (shown_indices indices rows) between after
 
 -- the jobs at these indices ran, with the requested budget: the note about missing images went to standard error, and then their rows and
 -- counts were written; the status follows from the rows
 pub record IsRunOfJobs (contents : Option FileContents) (args : RunArgs) (failures : Option KnownJobs) (jobs : List Job) (indices : List ℕ)
-    (shard : Option Shard) (old : Option (List Row)) (status : ℕ) (before after : CommandOutputs) : Type 0 where
+    (shard : Option Shard) (old_rows : Option (List Row)) (status : ℕ) (before after : CommandOutputs) : Type 0 where
   pub plan : PlanView
   pub unread : List UnreadablePath
   pub planned : IsPlanFor (contents_below (optional_text args.root) contents) (with_budget args.budget jobs) indices plan
       unread
   pub rows : List Row
-  pub shown : rows ≡ run_rows args.stop_after (run_judging args failures) plan indices
-  pub judged : status ≡ rows_status (run_judging args failures) rows
-  pub middle : CommandOutputs
-  pub noted : IsOnlyErrorOutput (missing_images_note plan.jobs unread (length indices) (optional_text args.root)) before middle
-  pub put : IsCountedRunWritten args (run_reporter args failures plan unread) indices shard old rows middle after
+  pub rows_are : rows ≡ run_rows args.stop_after (run_judging args failures) plan indices
+  pub exit_status : status ≡ rows_status (run_judging args failures) rows
+  pub between : CommandOutputs
+  pub note_reported : IsOnlyErrorOutput (missing_images_note plan.jobs unread (length indices) (optional_text args.root)) before between
+  pub written : IsCountedRunWritten args (run_reporter args failures plan unread) indices shard old_rows rows between after
 
 -- the selected jobs ran and their outputs were written; if no job is selected (`None`), the status is 0 and nothing more was output
 abbrev pub IsRunOfSelected : Option FileContents → RunArgs → Option KnownJobs → List Job → Option (List Bool) → Option Shard
     → Option (List Row) → ℕ → CommandOutputs → CommandOutputs → Type 0
-IsRunOfSelected contents args failures jobs None shard old status before after = (status ≡ 0) × (after ≡ before)
-IsRunOfSelected contents args failures jobs (Some selection) shard old status before after =
-    IsRunOfJobs contents args failures jobs (selected_job_indices selection) shard old status before after
+IsRunOfSelected contents args failures jobs None shard old_rows status before after = (status ≡ 0) × (after ≡ before)
+IsRunOfSelected contents args failures jobs (Some selection) shard old_rows status before after =
+    IsRunOfJobs contents args failures jobs (selected_job_indices selection) shard old_rows status before after
 
 -- `run` wrote the notes about the choice to standard error, and then ran the requested jobs, with the known failures
 pub record IsRunAt (contents : Option FileContents) (args : RunArgs) (status : ℕ) (before after : CommandOutputs) : Type 0 where
   pub jobs : List Job
   pub selection : Option (List Bool)
   pub shard : Option Shard
-  pub old : Option (List Row)
+  pub old_rows : Option (List Row)
   pub notes : List ℕ
-  pub requested_jobs : AreRequestedJobs contents args jobs selection shard old notes
+  pub requested_jobs : AreRequestedJobs contents args jobs selection shard old_rows notes
   pub failures : Option KnownJobs
   pub known_to_fail : IsKnownAt contents (optional_text args.known) jobs failures
-  pub middle : CommandOutputs
-  pub told : IsOnlyErrorOutput notes before middle
-  pub ran : IsRunOfSelected contents args failures jobs selection shard old status middle after
+  pub between : CommandOutputs
+  pub reported : IsOnlyErrorOutput notes before between
+  pub ran : IsRunOfSelected contents args failures jobs selection shard old_rows status between after
 
 -- ---- runs that an error ended
 
 -- after an error, only some of a run's files were committed: the JUnit XML or, if counts are requested, the JUnit XML and the report
 abbrev pub AreRunFilesPartlyCommitted : RunArgs → RowReporter → List ℕ → Option Shard → Option (List Row) → List Row
     → Option (List CommittedFile) → Option (List CommittedFile) → Type 0
-AreRunFilesPartlyCommitted args reporter indices shard old rows before after =
+AreRunFilesPartlyCommitted args reporter indices shard old_rows rows before after =
     AreFilesCommitted before after (Some (junit_file args reporter indices rows))
     ⊎ ((is_some args.counts ≡ true) × AreFilesCommitted before after
-    (Some (junit_file args reporter indices rows ++ report_file args reporter indices shard old rows)))
+    (Some (junit_file args reporter indices rows ++ report_file args reporter indices shard old_rows rows)))
 
 -- the jobs at these indices ran, but only some of the requested output files were committed
 pub record IsRunPartlyCommitted (contents : Option FileContents) (args : RunArgs) (failures : Option KnownJobs) (jobs : List Job) (indices : List ℕ)
-    (shard : Option Shard) (old : Option (List Row)) (before after : Option (List CommittedFile)) : Type 0 where
+    (shard : Option Shard) (old_rows : Option (List Row)) (before after : Option (List CommittedFile)) : Type 0 where
   pub plan : PlanView
   pub unread : List UnreadablePath
   pub planned : IsPlanFor (contents_below (optional_text args.root) contents) (with_budget args.budget jobs) indices plan
       unread
   pub rows : List Row
-  pub shown : rows ≡ run_rows args.stop_after (run_judging args failures) plan indices
-  pub committed : AreRunFilesPartlyCommitted args (run_reporter args failures plan unread) indices shard old rows before after
+  pub rows_are : rows ≡ run_rows args.stop_after (run_judging args failures) plan indices
+  pub committed : AreRunFilesPartlyCommitted args (run_reporter args failures plan unread) indices shard old_rows rows before after
 
 -- after an error, a run of the jobs at these indices has committed no file, or only some of the requested output files
 abbrev pub IsAbortedRunOfJobs : Option FileContents → RunArgs → Option KnownJobs → List Job → List ℕ → Option Shard
     → Option (List Row) → Option (List CommittedFile) → Option (List CommittedFile) → Type 0
-IsAbortedRunOfJobs contents args failures jobs indices shard old before after =
-    (after ≡ before) ⊎ IsRunPartlyCommitted contents args failures jobs indices shard old before after
+IsAbortedRunOfJobs contents args failures jobs indices shard old_rows before after =
+    (after ≡ before) ⊎ IsRunPartlyCommitted contents args failures jobs indices shard old_rows before after
 
 -- the requested jobs were found and ran, but only some of the requested output files were committed
 pub record IsRunPartlyCommittedAt (contents : Option FileContents) (args : RunArgs) (before after : Option (List CommittedFile))
     : Type 0 where
-  pub found : AreJobsToRun contents args
-  pub alone : IsRunPartlyCommitted contents args found.failures found.jobs (selected_job_indices found.selection) found.shard found.old before after
+  pub jobs_to_run : AreJobsToRun contents args
+  pub partly_committed : IsRunPartlyCommitted contents args jobs_to_run.failures jobs_to_run.jobs (selected_job_indices jobs_to_run.selection) jobs_to_run.shard jobs_to_run.old before after
 
 -- after an error, `run` has committed no file, or only some of the requested output files
 abbrev pub IsAbortedRunAt : Option FileContents → RunArgs → Option (List CommittedFile) → Option (List CommittedFile) → Type 0

@@ -24,21 +24,21 @@ shown_junit args rows =
 -- `show` wrote the note about a truncated report to standard error, and then the summary and the JUnit XML of the report
 pub record IsShowWritten (contents : Option FileContents) (args : ShowArgs) (status : ℕ) (before after : CommandOutputs)
     : Type 0 where
-  pub found : PartialReport
-  pub read : IsReportReadAt contents args.partial args.report.now found
-  pub middle : CommandOutputs
-  pub noted : IsOnlyErrorOutput (truncation_note args.report.now found) before middle
-  pub judged : status ≡ rows_status (report_judging args.lenient) found.report.rows
-  pub put : IsOutputWritten None (optional_text args.junit) (summary_text (report_judging args.lenient) found.report.rows)
-      (report_text found.report.rows) (shown_junit args found.report.rows)
-      middle after
+  pub partial_report : PartialReport
+  pub read : IsReportReadAt contents args.partial args.report.now partial_report
+  pub between : CommandOutputs
+  pub note_reported : IsOnlyErrorOutput (truncation_note args.report.now partial_report) before between
+  pub exit_status : status ≡ rows_status (report_judging args.lenient) partial_report.report.rows
+  pub written : IsOutputWritten None (optional_text args.junit) (summary_text (report_judging args.lenient) partial_report.report.rows)
+      (report_text partial_report.report.rows) (shown_junit args partial_report.report.rows)
+      between after
 
 -- `show` committed the JUnit document of the report at the path in the arguments, if one is requested
-pub record IsShownJunit (contents : Option FileContents) (args : ShowArgs) (before after : Option (List CommittedFile)) : Type 0 where
-  pub found : PartialReport
-  pub read : IsReportReadAt contents args.partial args.report.now found
-  pub committed : AreFilesCommitted before after (Some (file_at (optional_text args.junit) (shown_junit args found.report.rows)))
+pub record IsShowJunitCommitted (contents : Option FileContents) (args : ShowArgs) (before after : Option (List CommittedFile)) : Type 0 where
+  pub partial_report : PartialReport
+  pub read : IsReportReadAt contents args.partial args.report.now partial_report
+  pub committed : AreFilesCommitted before after (Some (file_at (optional_text args.junit) (shown_junit args partial_report.report.rows)))
 
 -- after an error, `show` has committed no file, or only the JUnit document
 abbrev pub IsAbortedShowAt : Option FileContents → ShowArgs → Option (List CommittedFile) → Option (List CommittedFile) → Type 0
-IsAbortedShowAt contents args before after = (after ≡ before) ⊎ IsShownJunit contents args before after
+IsAbortedShowAt contents args before after = (after ≡ before) ⊎ IsShowJunitCommitted contents args before after

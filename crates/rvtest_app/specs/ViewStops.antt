@@ -31,9 +31,9 @@ use Rattle.rvtest_app.specs.declared.view.View.TheVariants as view
 
 -- ---- a table that cannot be used
 
--- the message that the table at `table` has counts of another image at `path` than the selected jobs use
+-- the message that the table at `table_path` has counts of another image at `path` than the selected jobs use
 abbrev pub other_image_message : List ℕ → List ℕ → List ℕ
-other_image_message table path = codes "rvtest: " ++ printable_text table ++ codes ": " ++ printable_text path
+other_image_message table_path path = codes "rvtest: " ++ printable_text table_path ++ codes ": " ++ printable_text path
     ++ codes ": counted with a different image than the selected jobs use\n"
 
 -- the stop reports that the table at the path counted an image that is not one of `images`, or that memory ran out
@@ -47,18 +47,18 @@ IsNoTableStop contents path images stop = IsResultUnreadStop contents path stop
     ⊎ (((text : List ℕ) × (IsTextAt contents path text × IsTableFaultStop path text stop))
     ⊎ IsOtherImageStop contents path images stop)
 
--- the message that the table has no call stacks, and how to write a table with call stacks
+-- the message that the table at the path has no call stacks, and how to write a table with call stacks
 abbrev pub no_stacks_message : List ℕ → List ℕ
-no_stacks_message table = path_message table (codes "the table has no stacks: write one with rvtest run LIST --counts FILE --stacks")
+no_stacks_message table_path = path_message table_path (codes "the table has no stacks: write one with rvtest run LIST --counts FILE --stacks")
 
 -- the stop reports that the table at the path has no call stacks, which the view needs, or that memory ran out
 abbrev pub IsNoStacksStop : Option FileContents → View → List ℕ → Stop → Type 0
-IsNoStacksStop contents shown path stop = (table : CountTable) × (IsTableAt contents path table
-    × ((has_counts_for shown table ≡ false) × IsStop 2 (no_stacks_message path) stop))
+IsNoStacksStop contents requested_view path stop = (table : CountTable) × (IsTableAt contents path table
+    × ((has_counts_for requested_view table ≡ false) × IsStop 2 (no_stacks_message path) stop))
 
 -- why a command stopped: the table at the path cannot be used for these images, or it has no call stacks, which the view needs
 abbrev pub IsMismatchedTableStop : Option FileContents → View → List ℕ → List ImageFileView → Stop → Type 0
-IsMismatchedTableStop contents shown path images stop = IsNoTableStop contents path images stop ⊎ IsNoStacksStop contents shown path stop
+IsMismatchedTableStop contents requested_view path images stop = IsNoTableStop contents path images stop ⊎ IsNoStacksStop contents requested_view path stop
 
 -- ---- runs that cannot be counted
 
@@ -76,9 +76,9 @@ IsUncountedStop (view.Profile format) plan indices path stop = IsStackSumOfJobsS
 -- why a command stopped: no table for the view was found: the table at the given path cannot be used, or no path is given and the runs
 -- could not be counted
 abbrev pub IsNoViewTableStop : Option FileContents → RunArgs → View → Option (List ℕ) → PlanView → List ℕ → Stop → Type 0
-IsNoViewTableStop contents args shown None plan indices stop = IsUncountedStop shown plan indices args.list.now stop
-IsNoViewTableStop contents args shown (Some path) plan indices stop =
-    IsMismatchedTableStop contents shown path (images_of plan.results (jobs_at plan indices)) stop
+IsNoViewTableStop contents args requested_view None plan indices stop = IsUncountedStop requested_view plan indices args.list.now stop
+IsNoViewTableStop contents args requested_view (Some path) plan indices stop =
+    IsMismatchedTableStop contents requested_view path (images_of plan.results (jobs_at plan indices)) stop
 
 -- ---- too many steps
 
@@ -105,41 +105,41 @@ IsTableTextStop (view.Profile format) table images source stop = (stop ≡ stops
 -- why a command stopped: a table for the jobs at these indices was found, but its view could not be written because memory ran out or, for
 -- a profile, a sum does not fit in 64 bits
 abbrev pub IsViewTextStop : Option FileContents → RunArgs → View → PlanView → List ℕ → Stop → Type 0
-IsViewTextStop contents args shown plan indices stop = (table : CountTable)
-    × (IsTableForView contents shown (optional_text args.counts) plan indices table
-    × IsTableTextStop shown table (images_of plan.results (jobs_at plan indices)) (counts_source args) stop)
+IsViewTextStop contents args requested_view plan indices stop = (table : CountTable)
+    × (IsTableForView contents requested_view (optional_text args.counts) plan indices table
+    × IsTableTextStop requested_view table (images_of plan.results (jobs_at plan indices)) (counts_source args) stop)
 
 -- ---- the command
 
 -- why a command stopped: memory ran out, no table for the view was found, or its view could not be written
-abbrev pub IsUnshownStop : Option FileContents → RunArgs → View → PlanView → List ℕ → Stop → Type 0
-IsUnshownStop contents args shown plan indices stop = (stop ≡ stops.OutOfMemory)
-    ⊎ (IsNoViewTableStop contents args shown (optional_text args.counts) plan indices stop
-    ⊎ IsViewTextStop contents args shown plan indices stop)
+abbrev pub IsViewNotMadeStop : Option FileContents → RunArgs → View → PlanView → List ℕ → Stop → Type 0
+IsViewNotMadeStop contents args requested_view plan indices stop = (stop ≡ stops.OutOfMemory)
+    ⊎ (IsNoViewTableStop contents args requested_view (optional_text args.counts) plan indices stop
+    ⊎ IsViewTextStop contents args requested_view plan indices stop)
 
 -- why a command stopped: the files of the jobs at these indices were read, but the view could not be made
-pub record IsNoViewOfJobsStop (contents : Option FileContents) (args : RunArgs) (shown : View) (jobs : List Job) (indices : List ℕ)
+pub record IsNoViewOfJobsStop (contents : Option FileContents) (args : RunArgs) (requested_view : View) (jobs : List Job) (indices : List ℕ)
     (stop : Stop) : Type 0 where
   pub plan : PlanView
   pub unread : List UnreadablePath
   pub planned : IsPlanFor (contents_below (optional_text args.root) contents) jobs indices plan unread
-  pub unshown : IsUnshownStop contents args shown plan indices stop
+  pub not_made : IsViewNotMadeStop contents args requested_view plan indices stop
 
 -- why a command stopped: memory ran out, a write to standard output failed, or the view of the jobs at these indices could not be made
 abbrev pub IsViewFailedStop : Option FileContents → RunArgs → View → List Job → List ℕ → Stop → Type 0
-IsViewFailedStop contents args shown jobs indices stop = (stop ≡ stops.OutOfMemory)
-    ⊎ ((stop ≡ stops.WriteFailed) ⊎ IsNoViewOfJobsStop contents args shown jobs indices stop)
+IsViewFailedStop contents args requested_view jobs indices stop = (stop ≡ stops.OutOfMemory)
+    ⊎ ((stop ≡ stops.WriteFailed) ⊎ IsNoViewOfJobsStop contents args requested_view jobs indices stop)
 
 -- why a command stopped: the requested jobs were found, but their view could not be written
-pub record IsRequestedViewFailedStop (contents : Option FileContents) (args : RunArgs) (shown : View) (stop : Stop) : Type 0 where
+pub record IsRequestedViewFailedStop (contents : Option FileContents) (args : RunArgs) (requested_view : View) (stop : Stop) : Type 0 where
   pub jobs : List Job
   pub selection : List Bool
   pub shard : Option Shard
-  pub old : Option (List Row)
+  pub old_rows : Option (List Row)
   pub notes : List ℕ
-  pub requested_jobs : AreRequestedJobs contents args jobs (Some selection) shard old notes
-  pub unviewed : IsViewFailedStop contents args shown jobs (selected_job_indices selection) stop
+  pub requested_jobs : AreRequestedJobs contents args jobs (Some selection) shard old_rows notes
+  pub failed : IsViewFailedStop contents args requested_view jobs (selected_job_indices selection) stop
 
 -- why a command stopped: the requested jobs could not be found, or their view could not be written
 abbrev pub IsViewStop : Option FileContents → RunArgs → View → Stop → Type 0
-IsViewStop contents args shown stop = IsJobRequestStop contents args stop ⊎ IsRequestedViewFailedStop contents args shown stop
+IsViewStop contents args requested_view stop = IsJobRequestStop contents args stop ⊎ IsRequestedViewFailedStop contents args requested_view stop

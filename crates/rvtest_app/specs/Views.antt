@@ -44,52 +44,52 @@ IsViewText (view.Profile format) table images text = IsProfileText format table 
 -- ---- the table for a view
 
 -- `table` is the table at the path; it has the counts that the view needs, and only counts of `images`
-pub record IsMatchingTableAt (contents : Option FileContents) (shown : View) (path : List ℕ) (images : List ImageFileView) (table : CountTable)
+pub record IsMatchingTableAt (contents : Option FileContents) (requested_view : View) (path : List ℕ) (images : List ImageFileView) (table : CountTable)
     : Type 0 where
   pub at : IsTableAt contents path table
-  pub of_images : other_image table images ≡ None
-  pub fit : has_counts_for shown table ≡ true
+  pub only_these_images : other_image table images ≡ None
+  pub has_needed_counts : has_counts_for requested_view table ≡ true
 
 -- `table` is the table for the view: the table at the path, or without a path the counts of a run of the jobs at these indices
 abbrev pub IsTableForView : Option FileContents → View → Option (List ℕ) → PlanView → List ℕ → CountTable → Type 0
-IsTableForView contents shown None plan indices table = IsRunTableForView shown plan indices table
-IsTableForView contents shown (Some path) plan indices table = IsMatchingTableAt contents shown path (images_of plan.results (jobs_at plan indices)) table
+IsTableForView contents requested_view None plan indices table = IsRunTableForView requested_view plan indices table
+IsTableForView contents requested_view (Some path) plan indices table = IsMatchingTableAt contents requested_view path (images_of plan.results (jobs_at plan indices)) table
 
 -- the text is the view of the images of the jobs at these indices of the plan
 abbrev pub IsViewOfPlan : Option FileContents → RunArgs → View → PlanView → List ℕ → List ℕ → Type 0
-IsViewOfPlan contents args shown plan indices text = (table : CountTable)
-    × (IsTableForView contents shown (optional_text args.counts) plan indices table
-    × IsViewText shown table (images_of plan.results (jobs_at plan indices)) text)
+IsViewOfPlan contents args requested_view plan indices text = (table : CountTable)
+    × (IsTableForView contents requested_view (optional_text args.counts) plan indices table
+    × IsViewText requested_view table (images_of plan.results (jobs_at plan indices)) text)
 
 -- ---- the command
 
 -- the notes about missing images and refused jobs went to standard error, and then the view of the jobs at these indices was written
-pub record IsViewOfJobs (contents : Option FileContents) (args : RunArgs) (shown : View) (jobs : List Job) (indices : List ℕ)
+pub record IsViewOfJobsWritten (contents : Option FileContents) (args : RunArgs) (requested_view : View) (jobs : List Job) (indices : List ℕ)
     (before after : CommandOutputs) : Type 0 where
   pub plan : PlanView
   pub unread : List UnreadablePath
   pub planned : IsPlanFor (contents_below (optional_text args.root) contents) jobs indices plan unread
-  pub middle : CommandOutputs
-  pub told : IsOnlyErrorOutput (refused_note args plan unread indices) before middle
+  pub between : CommandOutputs
+  pub reported : IsOnlyErrorOutput (refused_note args plan unread indices) before between
   pub text : List ℕ
-  pub of_plan : IsViewOfPlan contents args shown plan indices text
-  pub put : IsOnlyStandardOutput text middle after
+  pub text_is : IsViewOfPlan contents args requested_view plan indices text
+  pub written : IsOnlyStandardOutput text between after
 
 -- the view of the selected jobs was written; if no job is selected (`None`), nothing was written
-abbrev pub IsViewOfSelected : Option FileContents → RunArgs → View → List Job → Option (List Bool) → CommandOutputs → CommandOutputs → Type 0
-IsViewOfSelected contents args shown jobs None before after = after ≡ before
-IsViewOfSelected contents args shown jobs (Some selection) before after =
-    IsViewOfJobs contents args shown jobs (selected_job_indices selection) before after
+abbrev pub IsViewOfSelectedWritten : Option FileContents → RunArgs → View → List Job → Option (List Bool) → CommandOutputs → CommandOutputs → Type 0
+IsViewOfSelectedWritten contents args requested_view jobs None before after = after ≡ before
+IsViewOfSelectedWritten contents args requested_view jobs (Some selection) before after =
+    IsViewOfJobsWritten contents args requested_view jobs (selected_job_indices selection) before after
 
 -- the notes about the choice went to standard error, and then the view of the requested jobs was written; the status is 0
-pub record IsViewWritten (contents : Option FileContents) (args : RunArgs) (shown : View) (status : ℕ) (before after : CommandOutputs) : Type 0 where
+pub record IsViewWritten (contents : Option FileContents) (args : RunArgs) (requested_view : View) (status : ℕ) (before after : CommandOutputs) : Type 0 where
   pub jobs : List Job
   pub selection : Option (List Bool)
   pub shard : Option Shard
-  pub old : Option (List Row)
+  pub old_rows : Option (List Row)
   pub notes : List ℕ
-  pub requested_jobs : AreRequestedJobs contents args jobs selection shard old notes
-  pub middle : CommandOutputs
-  pub told : IsOnlyErrorOutput notes before middle
-  pub viewed : IsViewOfSelected contents args shown jobs selection middle after
-  pub done : status ≡ 0
+  pub requested_jobs : AreRequestedJobs contents args jobs selection shard old_rows notes
+  pub between : CommandOutputs
+  pub reported : IsOnlyErrorOutput notes before between
+  pub written : IsViewOfSelectedWritten contents args requested_view jobs selection between after
+  pub exit_status : status ≡ 0

@@ -18,13 +18,13 @@ abbrev pub stop_of_write_error : WriteError → Stop
 stop_of_write_error write.OutOfMemory = stops.OutOfMemory
 stop_of_write_error write.Failed = stops.WriteFailed
 
--- the stop reports that a write to the file for the path failed, with this reason, or that memory ran out
-abbrev pub IsWriteStop : List ℕ → ErrorKind → Stop → Type 0
-IsWriteStop path reason stop = IsStop 3 (path_message path (write_error_text reason)) stop
+-- the stop reports that a write to the file for the path failed for this reason, or that memory ran out
+abbrev pub IsWriteFailedForReasonStop : List ℕ → ErrorKind → Stop → Type 0
+IsWriteFailedForReasonStop path reason stop = IsStop 3 (path_message path (write_error_text reason)) stop
 
 -- the stop reports that writing the file for the path failed, or that memory ran out
 abbrev pub IsWriteFailedStop : List ℕ → Stop → Type 0
-IsWriteFailedStop path stop = (reason : ErrorKind) × IsWriteStop path reason stop
+IsWriteFailedStop path stop = (reason : ErrorKind) × IsWriteFailedForReasonStop path reason stop
 
 -- the stop reports this error in writing the file for the path: memory ran out, or a write failed
 abbrev pub IsWriteErrorStop : List ℕ → WriteError → Stop → Type 0
@@ -39,8 +39,8 @@ IsTextNotWrittenStop (Some path) stop = IsWriteFailedStop path stop
 -- ---- files
 
 -- the stop reports that the file for the path could not be opened, for some reason
-abbrev pub IsUnopenedJobStop : List ℕ → Stop → Type 0
-IsUnopenedJobStop path stop = (error : FileError) × IsFileErrorStop path error stop
+abbrev pub IsFileNotOpenedStop : List ℕ → Stop → Type 0
+IsFileNotOpenedStop path stop = (error : FileError) × IsFileErrorStop path error stop
 
 -- why a command stopped: a path is given, and its file could not be synced to disk or moved to the path
 abbrev pub IsUncommittedStop : Option (List ℕ) → Stop → Type 0
@@ -48,7 +48,7 @@ IsUncommittedStop path stop = IsSomeAnd path (λ path. (reason : ErrorKind) × I
 
 -- why a command stopped: a path is given, and its file could not be opened, written, or moved to the path
 abbrev pub IsFileStop : Option (List ℕ) → Stop → Type 0
-IsFileStop path stop = IsSomeAnd path (λ path. IsUnopenedJobStop path stop ⊎ IsWriteFailedStop path stop)
+IsFileStop path stop = IsSomeAnd path (λ path. IsFileNotOpenedStop path stop ⊎ IsWriteFailedStop path stop)
 
 -- why a command stopped: one of the two files could not be opened, written, or moved to its path
 abbrev pub IsEitherFileStop : Option (List ℕ) → Option (List ℕ) → Stop → Type 0

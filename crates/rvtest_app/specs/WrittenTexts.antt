@@ -21,10 +21,10 @@ pub record IsWrittenAt (path : Option (List ℕ)) (text : List ℕ) (before afte
   pub committed : AreFilesCommitted before.committed after.committed (Some (file_at path text))
 
 -- why a command stopped: if the Bool is true, a write to standard output failed, and otherwise the file for the path could not be created
-abbrev pub IsUnwrittenByStop : Bool → List ℕ → Stop → Type 0
-IsUnwrittenByStop true path stop = stop ≡ stops.WriteFailed
-IsUnwrittenByStop false path stop = IsFileNotCreatedStop path stop
+abbrev pub IsTextWriteFailedStop : Bool → List ℕ → Stop → Type 0
+IsTextWriteFailedStop true path stop = stop ≡ stops.WriteFailed
+IsTextWriteFailedStop false path stop = IsFileNotCreatedStop path stop
 
 -- why a command stopped: the text could not be written to the file at the path, or to standard output if the path is `-`
-abbrev pub IsUnwrittenAtStop : List ℕ → Stop → Type 0
-IsUnwrittenAtStop path stop = IsUnwrittenByStop (is_stdout path) path stop
+abbrev pub IsTextNotWrittenAtStop : List ℕ → Stop → Type 0
+IsTextNotWrittenAtStop path stop = IsTextWriteFailedStop (is_stdout path) path stop

@@ -16,11 +16,11 @@ ghost use Rattle.rv_command.specs.Texts.{IsTextAt, optional_text};
 ghost use Rattle.rv_rows.specs.JobList.{job_list_of};
 ghost use Rattle.rv_rows.specs.Jobs.{without_expectations};
 ghost use Rattle.rvtest_app.specs.AcceptStops.{IsAcceptChosenStop, IsGoldenUnreadStop, IsAcceptanceWriteStop};
-ghost use Rattle.rvtest_app.specs.Accepts.{AreGoldenFiles, AreJudgedRuns, HaveSelectedRun, IsAcceptedAt, IsAcceptOfSelected, IsOutcomeWritten, AreOutsideFilesReported, accept_status};
+ghost use Rattle.rvtest_app.specs.Accepts.{AreGoldenFiles, AreJudgedRuns, HaveSelectedRun, IsAcceptedAt, IsAcceptOfSelected, AreChangesWritten, AreOutsideFilesReported, accept_status};
 ghost use Rattle.rvtest_app.specs.Accepts.{acceptance_of};
 ghost use Rattle.rvtest_app.specs.CommandStops.{IsAcceptStop, IsListStop};
 ghost use Rattle.rvtest_app.specs.Commands.{failure_rule};
-ghost use Rattle.rvtest_app.specs.Overwrites.{AreAcceptFilesNoInputs, AreAcceptInputsPreserved, IsAcceptOverwriteStop};
+ghost use Rattle.rvtest_app.specs.Overwrites.{AreAcceptFilesNotInputs, AreAcceptInputsPreserved, IsAcceptOverwriteStop};
 ghost use Rattle.rvtest_app.specs.CommandOutputs.{outputs_of};
 
 use crate::accept_inputs::reject_accept_overwrites;
@@ -126,7 +126,7 @@ fn accept_chosen<
     ensures unwritten { args.now.check ≡ true → to.new.files ≡ to.old.files }
     ensures stopped { IfErr result
         (IsAcceptChosenStop (D.contents host.now.inputs.now) args.now list.now.jobs) }
-    ensures kept { (F.committed to.new.files ≡ F.committed to.old.files) ⊎ IfSome (F.committed to.old.files) (λ _. AreAcceptFilesNoInputs
+    ensures kept { (F.committed to.new.files ≡ F.committed to.old.files) ⊎ IfSome (F.committed to.old.files) (λ _. AreAcceptFilesNotInputs
         args.now list.now.jobs (jobs_to_run list.now.jobs chosen.now)) }
 {
     let selected = checked_jobs(host, args, list, chosen, to)?;
@@ -157,7 +157,7 @@ fn checked_jobs<R, D, F: Outputs + Drop, O: Sink + Drop, E: Sink + Drop>(
     ensures files { to.new.files ≡ to.old.files }
     ensures outside { OnOk result (AreOutsideFilesReported (outputs_of F.committed O.accepted E.accepted E.failure_count to.old)
         (outputs_of F.committed O.accepted E.accepted E.failure_count to.new)) }
-    ensures apart { OnOk result (IfSome (F.committed to.old.files) (λ _. AreAcceptFilesNoInputs
+    ensures apart { OnOk result (IfSome (F.committed to.old.files) (λ _. AreAcceptFilesNotInputs
         args.now list.now.jobs (jobs_to_run list.now.jobs chosen.now))) }
     ensures stopped { IfErr result IsAcceptOverwriteStop }
 {
@@ -345,7 +345,7 @@ fn write_accepted<'x, R, D: Inputs, F: Outputs + Drop, O: Sink + Drop, E: Sink +
 ) -> Result<u8, Stop>
     ensures status_bound { IfOk result (λ status. status ≤ 1) }
     ensures unwritten { args.now.check ≡ true → to.new.files ≡ to.old.files }
-    ensures put { IfOk result (λ status. IsOutcomeWritten args.now.check list.now outcomes.now.new.runs.items
+    ensures put { IfOk result (λ status. AreChangesWritten args.now.check list.now outcomes.now.new.runs.items
         outcomes.now.golden_texts.items outcomes.now.files.items outcomes.now.new status
         (outputs_of F.committed O.accepted E.accepted E.failure_count to.old) (outputs_of F.committed O.accepted E.accepted E.failure_count to.new)) }
     ensures stopped { IfErr result (IsAcceptanceWriteStop (D.contents host.now.inputs.now) args.now.check

@@ -4,7 +4,7 @@ ghost use Rattle.std.specs.Prelude.{◌≡◌, ◌<◌, ◌⊎◌, ◌++◌, ◌
 ghost use Rattle.std.specs.List.{flat_map, list_any};
 ghost use Rattle.std.specs.Path.{path_buf_bytes};
 ghost use Rattle.rv_command.specs.Texts.{optional_text};
-ghost use Rattle.rvtest_app.specs.Overwrites.{AreAcceptFilesNoInputs, AreFilesOf, IsAcceptOverwriteStop, IsOverwriteStop, IsOverwriteReported};
+ghost use Rattle.rvtest_app.specs.Overwrites.{AreAcceptFilesNotInputs, HaveIdentities, IsAcceptOverwriteStop, IsOverwriteStop, IsOverwriteReported};
 ghost use Rattle.rvtest_app.specs.Overwrites.{IsNotAnInput, golden_paths_of_job, golden_paths_of_selected, inputs_of_accept, job_output_text};
 ghost use Rattle.rvtest_app.specs.Overwrites.{is_golden_input, outside_prefix, outside_message, outside_path, outside_text, quoted_text, input_paths, output_role_text};
 
@@ -41,7 +41,7 @@ pub(crate) fn reject_accept_overwrites<F: Outputs>(
     jobs: &[Job],
     selection: &[bool],
 ) -> Result<Vec<u8>, Stop>
-    ensures apart { OnOk result (IfSome (F.committed files.now) (λ _. AreAcceptFilesNoInputs args.now jobs.now selection.now)) }
+    ensures apart { OnOk result (IfSome (F.committed files.now) (λ _. AreAcceptFilesNotInputs args.now jobs.now selection.now)) }
     ensures inside { IfOk result (λ notes. IfSome (F.committed files.now) (λ _. notes.items ≡ [])) }
     ensures stopped { IfErr result IsAcceptOverwriteStop }
 {
@@ -61,8 +61,8 @@ fn input_files<'a, F: Outputs>(
     args: &AcceptArgs<'_>,
     jobs: &'a [Job],
 ) -> Result<AcceptReads<'a>, AllocError>
-    ensures list { IfOk result (λ reads. AreFilesOf (F.committed files.now) (args.now.run.list.now ∷ []) reads.list) }
-    ensures inputs { IfOk result (λ reads. AreFilesOf (F.committed files.now) (inputs_of_accept args.now jobs.now) reads.inputs) }
+    ensures list { IfOk result (λ reads. HaveIdentities (F.committed files.now) (args.now.run.list.now ∷ []) reads.list) }
+    ensures inputs { IfOk result (λ reads. HaveIdentities (F.committed files.now) (inputs_of_accept args.now jobs.now) reads.inputs) }
 {
     let list = inputs_of_args(alloc, &[args.run.list], "the job list")?;
     let inputs = inputs_of_accept(alloc, args, jobs)?;
@@ -135,7 +135,7 @@ fn reject_list_overwrite<F: Outputs>(
     list: &str,
     reads: &AcceptReads<'_>,
 ) -> Result<(), Stop>
-    ensures apart { (paths : List (List ℕ)) → AreFilesOf (F.committed files.now) paths reads.now.inputs
+    ensures apart { (paths : List (List ℕ)) → HaveIdentities (F.committed files.now) paths reads.now.inputs
         → OnOk result (IfSome (F.committed files.now) (λ _. IsNotAnInput paths list.now)) }
     ensures stopped { IfErr result (IsOverwriteStop (codes "the updated list") list.now) }
 {

@@ -20,9 +20,9 @@ pub fn accepted_jobs_pass()
         (status : ℕ) (from to : CommandOutputs) (index : ℕ) (job : Job) (row : Row)
         → IsTextAt (Some before) args.run.list.now bytes → job_list_of bytes ≡ Ok jobs
         → (accepted : IsAcceptOfSelected (Some before) args bytes jobs chosen status from to)
-        → (store : IsStoreAfter (written_files accepted.told) before after)
-        → HaveOneTextPerFile store.leads accepted.told.files.now
-        → IsFullyAccepted accepted.told index job
+        → (store : IsStoreAfter (written_files accepted.summary) before after)
+        → HaveOneTextPerFile store.leads accepted.summary.files.now
+        → IsFullyAccepted accepted.summary index job
         → IsRowOfRun after args.run index row
         → IsTrue (is_pass_or_none row.verdict) }
 {}

@@ -8,7 +8,7 @@ ghost use Rattle.rv_count_tables.specs.Text.{table_text};
 ghost use Rattle.rvtest_app.specs.CountStops.{IsCountsStop, IsReadErrorStop, IsSumErrorStop, IsSumStop, IsTableFaultStop, IsTableNotAddedStop, count_overflow_message, two_names_message};
 ghost use Rattle.rvtest_app.specs.CountSums.{AreTablesAdded, IsTableAdded, IsSumWritten};
 ghost use Rattle.rvtest_app.specs.Outlets.{is_stdout};
-ghost use Rattle.rvtest_app.specs.Overwrites.{HoldsIfCommitted, IsSumFileNoInput, IsSumOverwriteStop};
+ghost use Rattle.rvtest_app.specs.Overwrites.{HoldsIfCommitted, IsSumFileNotAnInput, IsSumOverwriteStop};
 ghost use Rattle.rvtest_app.specs.CommandOutputs.{outputs_of};
 ghost use Rattle.rvtest_app.specs.WrittenTexts.{written_path};
 
@@ -40,7 +40,7 @@ pub(crate) fn put_sum_of_tables<D: Inputs, F: Outputs + Drop, O: Sink + Drop, E:
     ensures untouched { (is_stdout (written_path (optional_text args.now.out)) ≡ true) ⊎ (to.new.out ≡ to.old.out) }
     ensures stopped { IfErr result (IsCountsStop (D.contents inputs.now) args.now) }
     // The tables are not overwritten.
-    ensures kept { HoldsIfCommitted (IsSumFileNoInput args.now) (F.committed to.old.files) (F.committed to.new.files) }
+    ensures kept { HoldsIfCommitted (IsSumFileNotAnInput args.now) (F.committed to.old.files) (F.committed to.new.files) }
 {
     reject_sum_overwrite(&to.files, alloc, args)?;
     let sum = sum_of_paths(inputs, alloc, args.tables.as_slice())?;
@@ -57,7 +57,7 @@ fn reject_sum_overwrite<F: Outputs>(
     alloc: Global,
     args: &CountsArgs<'_>,
 ) -> Result<(), Stop>
-    ensures apart { OnOk result (IfSome (F.committed files.now) (λ _. IsSumFileNoInput args.now)) }
+    ensures apart { OnOk result (IfSome (F.committed files.now) (λ _. IsSumFileNotAnInput args.now)) }
     ensures stopped { IfErr result (IsSumOverwriteStop args.now) }
 {
     let read = identified_files(

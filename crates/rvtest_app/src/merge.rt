@@ -12,7 +12,7 @@ ghost use Rattle.rvtest_app.specs.MergeErrors.{part_path, two_parts_message};
 ghost use Rattle.rvtest_app.specs.MergeStops.{IsPartsUnreadStop, IsMergeStop, IsMergeWriteStop};
 ghost use Rattle.rvtest_app.specs.Merges.{AreTextsAt, IsMergedAt, IsAbortedMergeAt, merged_junit, merged_report_path, merged_suite};
 ghost use Rattle.rvtest_app.specs.Outlets.{AreFilesPartlyCommitted, file_at};
-ghost use Rattle.rvtest_app.specs.Overwrites.{AreMergeFilesNoInputs, IsMergeOverwriteStop, HoldsIfCommitted};
+ghost use Rattle.rvtest_app.specs.Overwrites.{AreMergeFilesNotInputs, IsMergeOverwriteStop, HoldsIfCommitted};
 ghost use Rattle.rvtest_app.specs.OutputWrites.{IsOutputWritten};
 ghost use Rattle.rvtest_app.specs.RunOutput.{rows_status};
 ghost use Rattle.rvtest_app.specs.CommandOutputs.{outputs_of};
@@ -58,7 +58,7 @@ pub(crate) fn merge_reports<D: Inputs, F: Outputs + Drop, O: Sink + Drop, E: Sin
         (F.committed to.old.files) (F.committed to.new.files)) }
     ensures stopped { IfErr result (IsMergeStop (D.contents inputs.now) args.now) }
     // The shards are not overwritten.
-    ensures kept { HoldsIfCommitted (AreMergeFilesNoInputs args.now) (F.committed to.old.files) (F.committed to.new.files) }
+    ensures kept { HoldsIfCommitted (AreMergeFilesNotInputs args.now) (F.committed to.old.files) (F.committed to.new.files) }
 {
     reject_merge_overwrites(&to.files, alloc, args)?;
     let texts = read_part_texts(inputs, alloc, args)?;
@@ -74,7 +74,7 @@ fn reject_merge_overwrites<F: Outputs>(
     alloc: Global,
     args: &MergeArgs<'_>,
 ) -> Result<(), Stop>
-    ensures apart { OnOk result (IfSome (F.committed files.now) (λ _. AreMergeFilesNoInputs args.now)) }
+    ensures apart { OnOk result (IfSome (F.committed files.now) (λ _. AreMergeFilesNotInputs args.now)) }
     ensures stopped { IfErr result (IsMergeOverwriteStop args.now) }
 {
     let read = identified_files(

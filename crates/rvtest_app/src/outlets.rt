@@ -7,7 +7,7 @@ ghost use Rattle.rv_command.specs.Texts.{optional_text};
 ghost use Rattle.rv_expect.specs.Judgement.{judge_view};
 ghost use Rattle.rvtest_app.specs.Outlets.{HasReceived, IsWrittenToOutlet, file_path_at, has_no_failure, is_stdout_outlet, is_stdout, is_stdout_at};
 ghost use Rattle.rvtest_app.specs.Outlets.{outlet_path, text_if_stdout, uses_stdout};
-ghost use Rattle.rvtest_app.specs.WriteStops.{IsEitherFileStop, IsTextNotWrittenStop, IsUnopenedJobStop, IsWriteFailedStop, IsWriteErrorStop, IsWriteStop};
+ghost use Rattle.rvtest_app.specs.WriteStops.{IsEitherFileStop, IsTextNotWrittenStop, IsFileNotOpenedStop, IsWriteFailedStop, IsWriteErrorStop, IsWriteFailedForReasonStop};
 ghost use Rattle.rvtest_app.specs.WriteStops.{stop_of_write_error};
 ghost use Rattle.rv_junit.specs.Junit.{junit_text};
 ghost use Rattle.rv_junit.specs.KnownLines.{AreLinesOf};
@@ -84,7 +84,7 @@ pub(crate) fn open_outlet<'a, F: Outputs>(
     ensures open { IfOk result (HasReceived F.pending_path F.File.accepted F.File.failure_count
         (F.committed files.old) (optional_text path.entry) []) }
     ensures stopped { IfErr result (λ stop. IsSomeAnd (file_path_at (optional_text path.entry))
-        (λ path. IsUnopenedJobStop path stop)) }
+        (λ path. IsFileNotOpenedStop path stop)) }
 {
     match path {
         None => Ok(Outlet::Nowhere),
@@ -120,7 +120,7 @@ fn open_file<'a, F: Outputs>(
     ensures same { F.committed files.new ≡ F.committed files.old }
     ensures open { IfOk result (HasReceived F.pending_path F.File.accepted F.File.failure_count
         (F.committed files.old) (Some path.now) []) }
-    ensures stopped { IfErr result (IsUnopenedJobStop path.now) }
+    ensures stopped { IfErr result (IsFileNotOpenedStop path.now) }
 {
     match files.create(alloc, path) {
         Ok((destination, sink)) => Ok(Outlet::File(OpenFile {
@@ -310,7 +310,7 @@ pub(crate) fn unwritten_stop(alloc: Global, path: &str, reason: ErrorKind) -> St
 
 // Returns the error that a write to the file for the path failed, for this reason.
 fn write_stop(alloc: Global, path: &str, reason: ErrorKind) -> Stop
-    ensures { IsWriteStop path.now reason result }
+    ensures { IsWriteFailedForReasonStop path.now reason result }
 {
     Stop::system_failure(path_message(alloc, path, write_error_text(reason)))
 }

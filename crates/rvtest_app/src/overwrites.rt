@@ -5,7 +5,7 @@ ghost use Rattle.std.specs.List.{list_any};
 ghost use Rattle.std.specs.Path.{path_buf_bytes};
 ghost use Rattle.rv_command.specs.Texts.{optional_text};
 ghost use Rattle.rv_files.specs.UnreadablePaths.{resolved_path};
-ghost use Rattle.rvtest_app.specs.Overwrites.{AreFilesOf, IsNoInputIfFile, IsOptionOverwriteStop, IsOverwriteStop, IsOverwriteReported, IsNotAnInput, is_among, job_input_text, overwrite_prefix, overwrite_message, input_path_text, input_paths, input_role_text};
+ghost use Rattle.rvtest_app.specs.Overwrites.{HaveIdentities, IsNotAnInputIfFile, IsOptionOverwriteStop, IsOverwriteStop, IsOverwriteReported, IsNotAnInput, is_among, job_input_text, overwrite_prefix, overwrite_message, input_path_text, input_paths, input_role_text};
 ghost use Rattle.rvtest_app.specs.Outlets.{is_stdout};
 
 use crate::input_file::{InputFiles, InputPath, InputRole};
@@ -21,7 +21,7 @@ pub(crate) fn identified_files<'a, F: Outputs>(
     alloc: Global,
     paths: Vec<InputPath<'a>>,
 ) -> Result<InputFiles<'a>, AllocError>
-    ensures { IfOk result (λ read. AreFilesOf (F.committed files.now) (input_paths paths.entry.items) read) }
+    ensures { IfOk result (λ read. HaveIdentities (F.committed files.now) (input_paths paths.entry.items) read) }
 {
     let identities = file_identities(files, alloc, paths.as_slice())?;
     Ok(InputFiles { paths, identities })
@@ -51,8 +51,8 @@ pub(crate) fn reject_option_overwrite<F: Outputs>(
     path: Option<&str>,
     read: &InputFiles<'_>,
 ) -> Result<(), Stop>
-    ensures apart { (paths : List (List ℕ)) → AreFilesOf (F.committed files.now) paths read.now
-        → OnOk result (IfSome (F.committed files.now) (λ _. IsNoInputIfFile paths (optional_text path.entry))) }
+    ensures apart { (paths : List (List ℕ)) → HaveIdentities (F.committed files.now) paths read.now
+        → OnOk result (IfSome (F.committed files.now) (λ _. IsNotAnInputIfFile paths (optional_text path.entry))) }
     ensures stopped { IfErr result (IsOptionOverwriteStop option.now (optional_text path.entry)) }
 {
     match path {
@@ -69,7 +69,7 @@ pub(crate) fn reject_file_overwrite<F: Outputs>(
     path: &str,
     read: &InputFiles<'_>,
 ) -> Result<(), Stop>
-    ensures apart { (paths : List (List ℕ)) → AreFilesOf (F.committed files.now) paths read.now
+    ensures apart { (paths : List (List ℕ)) → HaveIdentities (F.committed files.now) paths read.now
         → OnOk result (IfSome (F.committed files.now) (λ _. IsNotAnInput paths path.now)) }
     ensures stopped { IfErr result (IsOverwriteStop option.now path.now) }
 {

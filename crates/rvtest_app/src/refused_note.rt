@@ -4,7 +4,7 @@ ghost use Rattle.std.specs.Prelude.{◌≡◌, ◌<◌, ◌++◌, IfOk, OnOk, le
 ghost use Rattle.rv_stream.specs.JobIndices.{AreJobIndices};
 ghost use Rattle.rv_expect.specs.Judgement.{judge_view};
 ghost use Rattle.rv_rows.specs.declared_job.Job.{Job as AJob};
-ghost use Rattle.rvtest_app.specs.RefusedNotes.{invalid_line, refused_lines, refused_note};
+ghost use Rattle.rvtest_app.specs.RefusedNotes.{line_if_refused, refused_lines, refused_note};
 
 use crate::missing_images::missing_images_note;
 use crate::rules::failure_rule;
@@ -57,7 +57,7 @@ fn push_refused_lines(
 }
 
 // Appends the result line of the job at index `index` if the job is refused; otherwise nothing.
-#[tactic(auto, unfolding(crate::specs::RefusedNotes::invalid_line))]
+#[tactic(auto, unfolding(crate::specs::RefusedNotes::line_if_refused))]
 fn push_refused_line(
     alloc: Global,
     reporter: &TextReporter<'_>,
@@ -66,7 +66,7 @@ fn push_refused_line(
 ) -> Result<(), AllocError>
     requires index { index < length reporter.now.plan.now.jobs }
     ensures { OnOk result ((d : AJob) → text.new.items ≡ text.old.items
-        ++ invalid_line (judge_view reporter.now.judge) reporter.now.plan.now reporter.now.unread.now
+        ++ line_if_refused (judge_view reporter.now.judge) reporter.now.plan.now reporter.now.unread.now
         (slice_index_or reporter.now.plan.now.jobs index d)) }
 {
     match refusal_at(alloc, reporter.plan, index)? {

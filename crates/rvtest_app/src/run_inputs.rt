@@ -4,7 +4,7 @@ ghost use Rattle.std.specs.Prelude.{◌≡◌, ◌++◌, ◌∷◌, [], IfErr, I
 ghost use Rattle.rv_command.specs.Texts.{optional_text};
 ghost use Rattle.rv_files.specs.UnreadablePaths.{resolved_path};
 ghost use Rattle.rv_rows.specs.Jobs.{console_path};
-ghost use Rattle.rvtest_app.specs.Overwrites.{AreReportsPreserved, AreRunFilesNoInputs, IsRunOverwriteStop, failed_report_path, golden_paths_of_job, inputs_of_run, paths_of_job, input_paths, report_paths_of_run};
+ghost use Rattle.rvtest_app.specs.Overwrites.{AreReportsPreserved, AreRunFilesNotInputs, IsRunOverwriteStop, failed_report_path, golden_paths_of_job, inputs_of_run, paths_of_job, input_paths, report_paths_of_run};
 
 use crate::input_file::{InputPath, InputRole};
 use crate::overwrites::{identified_files, push_input, reject_option_overwrite};
@@ -22,7 +22,7 @@ pub(crate) fn reject_run_overwrites<F: Outputs>(
     args: &RunArgs<'_>,
     jobs: &[Job],
 ) -> Result<(), Stop>
-    ensures apart { OnOk result (IfSome (F.committed files.now) (λ _. AreRunFilesNoInputs args.now jobs.now)) }
+    ensures apart { OnOk result (IfSome (F.committed files.now) (λ _. AreRunFilesNotInputs args.now jobs.now)) }
     ensures stopped { IfErr result (IsRunOverwriteStop args.now) }
 {
     let inputs = identified_files(files, alloc, inputs_of_run(alloc, args, jobs)?)?;

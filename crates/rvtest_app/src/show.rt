@@ -4,14 +4,14 @@ ghost use Rattle.std.specs.Prelude.{◌≡◌, ◌≤◌, ◌<◌, ◌^◌, None
 ghost use Rattle.rv_expect.specs.Judgement.{judge_view};
 ghost use Rattle.rv_command.specs.Texts.{optional_text};
 ghost use Rattle.rv_rows.specs.Report.{report_text};
-ghost use Rattle.rvtest_app.specs.CommandStops.{IsShowErrorStop};
+ghost use Rattle.rvtest_app.specs.CommandStops.{IsShowStop};
 ghost use Rattle.rvtest_app.specs.OutputWrites.{IsOutputWritten};
 ghost use Rattle.rvtest_app.specs.WriteStops.{IsOutputStop};
 ghost use Rattle.rvtest_app.specs.Commands.{report_judging};
 ghost use Rattle.rvtest_app.specs.RunOutput.{rows_status};
 ghost use Rattle.rvtest_app.specs.ReportSummary.{summary_text};
 ghost use Rattle.rvtest_app.specs.Outlets.{AreFilesPartlyCommitted, file_at};
-ghost use Rattle.rvtest_app.specs.Overwrites.{HoldsIfCommitted, IsShowFileNoInput, IsShowOverwriteStop};
+ghost use Rattle.rvtest_app.specs.Overwrites.{HoldsIfCommitted, IsShowFileNotAnInput, IsShowOverwriteStop};
 ghost use Rattle.rvtest_app.specs.Shows.{IsShowWritten, IsAbortedShowAt, shown_junit};
 ghost use Rattle.rvtest_app.specs.CommandOutputs.{outputs_of};
 
@@ -51,9 +51,9 @@ pub(crate) fn show_report<D: Inputs, F: Outputs + Drop, O: Sink + Drop, E: Sink 
         (outputs_of F.committed O.accepted E.accepted E.failure_count to.old) (outputs_of F.committed O.accepted E.accepted E.failure_count to.new)) }
     ensures undone { OnErr result (IsAbortedShowAt (D.contents inputs.now) args.entry
         (F.committed to.old.files) (F.committed to.new.files)) }
-    ensures stopped { IfErr result (IsShowErrorStop (D.contents inputs.now) args.entry) }
+    ensures stopped { IfErr result (IsShowStop (D.contents inputs.now) args.entry) }
     // The report is not overwritten.
-    ensures kept { HoldsIfCommitted (IsShowFileNoInput args.entry) (F.committed to.old.files) (F.committed to.new.files) }
+    ensures kept { HoldsIfCommitted (IsShowFileNotAnInput args.entry) (F.committed to.old.files) (F.committed to.new.files) }
 {
     reject_show_overwrite(&to.files, alloc, &args)?;
     let requested = RequestedReport {
@@ -75,7 +75,7 @@ fn reject_show_overwrite<F: Outputs>(
     alloc: Global,
     args: &ShowArgs<'_>,
 ) -> Result<(), Stop>
-    ensures apart { OnOk result (IfSome (F.committed files.now) (λ _. IsShowFileNoInput args.now)) }
+    ensures apart { OnOk result (IfSome (F.committed files.now) (λ _. IsShowFileNotAnInput args.now)) }
     ensures stopped { IfErr result (IsShowOverwriteStop args.now) }
 {
     let read = identified_files(

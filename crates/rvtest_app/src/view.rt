@@ -7,8 +7,8 @@ ghost use Rattle.rv_profile.specs.JobImages.{AreSmall, images_of_files};
 ghost use Rattle.rv_stream.specs.JobIndices.{AreJobIndices};
 ghost use Rattle.rvtest_app.specs.Runs.{selected_job_indices};
 ghost use Rattle.rvtest_app.specs.CommandOutputs.{outputs_of};
-ghost use Rattle.rvtest_app.specs.ViewStops.{IsTableTextStop, IsUnshownStop, IsViewFailedStop, IsViewStop, counts_source};
-ghost use Rattle.rvtest_app.specs.Views.{IsViewOfJobs, IsViewOfPlan, IsViewWritten, IsViewText};
+ghost use Rattle.rvtest_app.specs.ViewStops.{IsTableTextStop, IsViewNotMadeStop, IsViewFailedStop, IsViewStop, counts_source};
+ghost use Rattle.rvtest_app.specs.Views.{IsViewOfJobsWritten, IsViewOfPlan, IsViewWritten, IsViewText};
 
 use crate::destinations::Destinations;
 use crate::host::Host;
@@ -87,7 +87,7 @@ impl<'x, R: Threads + Wait + Sync, D: Inputs> JobsView<'x, R, D> {
         to: &mut Destinations<F, O, E>,
     ) -> Result<u8, Stop>
         requires { length selection.now ≡ length jobs }
-        ensures put { IfOk result (λ status. (status ≡ 0) × IsViewOfJobs (D.contents self.now.host.now.inputs.now)
+        ensures put { IfOk result (λ status. (status ≡ 0) × IsViewOfJobsWritten (D.contents self.now.host.now.inputs.now)
             self.now.args.now self.now.view jobs (selected_job_indices selection.now)
             (outputs_of F.committed O.accepted E.accepted E.failure_count to.old) (outputs_of F.committed O.accepted E.accepted E.failure_count to.new)) }
         ensures stopped { IfErr result (IsViewFailedStop (D.contents self.now.host.now.inputs.now) self.now.args.now
@@ -112,7 +112,7 @@ impl<'x, R: Threads + Wait + Sync, D: Inputs> JobsView<'x, R, D> {
         requires small { AreSmall plan.now.results }
         ensures shown { IfOk result (λ text. IsViewOfPlan (D.contents self.now.host.now.inputs.now) self.now.args.now
             self.now.view plan.now indices.now text.items) }
-        ensures stopped { IfErr result (IsUnshownStop (D.contents self.now.host.now.inputs.now) self.now.args.now
+        ensures stopped { IfErr result (IsViewNotMadeStop (D.contents self.now.host.now.inputs.now) self.now.args.now
             self.now.view plan.now indices.now) }
     {
         let files = images_of_jobs(self.host.alloc, plan, indices)?;

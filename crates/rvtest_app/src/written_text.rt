@@ -7,7 +7,7 @@ ghost use Rattle.rvtest_app.specs.AcceptStops.{IsFileNotCreatedStop};
 ghost use Rattle.rvtest_app.specs.Outlets.{AreFilesCommitted, HasReceived, is_stdout, outlet_path};
 ghost use Rattle.rvtest_app.specs.WriteStops.{IsFileStop};
 ghost use Rattle.rvtest_app.specs.CommandOutputs.{outputs_of, with_committed_if_reported};
-ghost use Rattle.rvtest_app.specs.WrittenTexts.{IsUnwrittenAtStop, IsWrittenAt, written_path};
+ghost use Rattle.rvtest_app.specs.WrittenTexts.{IsTextNotWrittenAtStop, IsWrittenAt, written_path};
 
 use crate::destinations::Destinations;
 use crate::outlets::{OpenFile, Outlet, is_stdout, unwritten_stop};
@@ -27,7 +27,7 @@ pub(crate) fn write_text<F: Outputs + Drop, O: Sink + Drop, E: Sink + Drop>(
     ensures errors { to.new.errors ≡ to.old.errors }
     ensures untouched { (is_stdout (written_path (optional_text path.entry)) ≡ true) ⊎ (to.new.out ≡ to.old.out) }
     ensures same { OnErr result (F.committed to.new.files ≡ F.committed to.old.files) }
-    ensures stopped { IfErr result (IsUnwrittenAtStop (written_path (optional_text path.entry))) }
+    ensures stopped { IfErr result (IsTextNotWrittenAtStop (written_path (optional_text path.entry))) }
 {
     write_text_at(alloc, to, path.unwrap_or("-"), bytes)
 }
@@ -44,7 +44,7 @@ fn write_text_at<F: Outputs + Drop, O: Sink + Drop, E: Sink + Drop>(
     ensures errors { to.new.errors ≡ to.old.errors }
     ensures untouched { (is_stdout path.now ≡ true) ⊎ (to.new.out ≡ to.old.out) }
     ensures same { OnErr result (F.committed to.new.files ≡ F.committed to.old.files) }
-    ensures stopped { IfErr result (IsUnwrittenAtStop path.now) }
+    ensures stopped { IfErr result (IsTextNotWrittenAtStop path.now) }
 {
     if is_stdout(path) {
         write_results(&mut to.out, bytes)

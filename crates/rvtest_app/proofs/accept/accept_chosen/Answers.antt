@@ -20,20 +20,20 @@ returns-clause-accepted g c =
     let outcomes = c.in_ok-outcomes.outcomes in
     IfOk-map c.write_accepted.result _ _
     (λ status put. record {
-      first = outputs_of g.F.Outputs.committed g.O.Sink.accepted g.E.Sink.accepted g.E.Sink.failure_count c.checked_jobs.new.to;
+      after_check = outputs_of g.F.Outputs.committed g.O.Sink.accepted g.E.Sink.accepted g.E.Sink.failure_count c.checked_jobs.new.to;
       outside = c.in_ok-selected.ensures.outside;
       rows = c.in_ok-rows.rows.items;
-      middle = outputs_of g.F.Outputs.committed g.O.Sink.accepted g.E.Sink.accepted g.E.Sink.failure_count c.run_selected.new.to;
+      after_run = outputs_of g.F.Outputs.committed g.O.Sink.accepted g.E.Sink.accepted g.E.Sink.failure_count c.run_selected.new.to;
       ran = rw (c.in_ok-selected.ensures.jobs, c.in_ok-selected.ensures.selection) at c.in_ok-rows.ensures.rows;
-      judged = c.in_ok-runs.runs.items;
-      judging = rw c.as_slice-2.ensures.value at c.in_ok-runs.ensures;
-      told = put.told;
-      outcome = rw (c.as_slice.ensures.value, c.as_slice-2.ensures.value)
-          at (outcome_told contents c.args.args.now _ _ outcomes.golden_texts.items outcomes.files.items outcomes.new put.told refl
+      runs = c.in_ok-runs.runs.items;
+      are_judged = rw c.as_slice-2.ensures.value at c.in_ok-runs.ensures;
+      summary = put.summary;
+      summarized = rw (c.as_slice.ensures.value, c.as_slice-2.ensures.value)
+          at (outcome_told contents c.args.args.now _ _ outcomes.golden_texts.items outcomes.files.items outcomes.new put.summary refl
           c.in_ok-outcomes.ensures.runs c.in_ok-outcomes.ensures.golden_texts
           c.in_ok-outcomes.ensures.files c.in_ok-outcomes.ensures.edited c.in_ok-outcomes.ensures.intended
-          c.in_ok-outcomes.ensures.unchanged put.of);
-      put = put.put;
+          c.in_ok-outcomes.ensures.unchanged put.parts);
+      written = put.written;
     })
     c.write_accepted.ensures.put
 

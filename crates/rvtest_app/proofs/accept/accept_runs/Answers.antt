@@ -21,9 +21,9 @@ returns-in-Some-clause-accepted g c =
       chosen = Some c.in-Some.chosen.items;
       notes = c.in_ok-list.list.notes.items;
       choice = rw c.in-Some.is at c.in_ok-list.ensures.chosen;
-      middle = outputs_of g.F.Outputs.committed g.O.Sink.accepted g.E.Sink.accepted g.E.Sink.failure_count
+      between = outputs_of g.F.Outputs.committed g.O.Sink.accepted g.E.Sink.accepted g.E.Sink.failure_count
           (record c.args.to.now { errors = c.write_message.new.errors });
-      outputs_of = (refl, rw c.as_slice.ensures.value at c.write_message.ensures, refl);
+      reported = (refl, rw c.as_slice.ensures.value at c.write_message.ensures, refl);
       accepted = accepted;
     })
     (rw c.as_slice-in-Some.ensures.value at c.accept_chosen.ensures.accepted)
@@ -46,9 +46,9 @@ returns-clause-accepted g c = record {
   chosen = None;
   notes = c.in_ok-list.list.notes.items;
   choice = rw c.in-None.is at c.in_ok-list.ensures.chosen;
-  middle = outputs_of g.F.Outputs.committed g.O.Sink.accepted g.E.Sink.accepted g.E.Sink.failure_count
+  between = outputs_of g.F.Outputs.committed g.O.Sink.accepted g.E.Sink.accepted g.E.Sink.failure_count
       (record c.args.to.now { errors = c.write_message.new.errors });
-  outputs_of = (refl, rw c.as_slice.ensures.value at c.write_message.ensures, refl);
+  reported = (refl, rw c.as_slice.ensures.value at c.write_message.ensures, refl);
   accepted = (refl, refl);
 }
 

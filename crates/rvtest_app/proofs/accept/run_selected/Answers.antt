@@ -6,16 +6,16 @@ returns-in-Ok-clause-rows g c =
     let found = c.in_ok-plan.ensures in
     record {
       note = c.in_ok-note.note.items;
-      are = record {
+      of_selected = record {
         plan = c.in_ok-plan.plan;
         unread = c.unreadable_paths.result.now;
         planned = record {
           listed = found.jobs;
           paths = rw (c.as_slice-2.ensures.value, c.in_ok-indices.ensures.value, c.as_slice.ensures.value) at found.paths;
-          kept = rw (c.new-store.ensures.inputs, c.new-store.ensures.folder) at found.kept;
-          noted = ap length c.unreadable_paths.ensures ∙ rw c.new-store.ensures.nothing at found.faults;
+          results_agree = rw (c.new-store.ensures.inputs, c.new-store.ensures.folder) at found.kept;
+          unread_entries = ap length c.unreadable_paths.ensures ∙ rw c.new-store.ensures.nothing at found.faults;
         };
-        are = rw (
+        indexed = rw (
           c.as_slice-in-Ok.ensures.value,
           c.into_vec.ensures,
           c.in-Ok.ensures,
@@ -25,7 +25,7 @@ returns-in-Ok-clause-rows g c =
           c.in_ok-indices.ensures.value,
           c.as_slice.ensures.value,
         ) at c.in_ok-indexed_rows-in-Ok.ensures;
-        noted = rw (c.as_slice-count.ensures.value, c.in_ok-indices.ensures.value, c.as_slice.ensures.value) at c.in_ok-note.ensures;
+        note_is = rw (c.as_slice-count.ensures.value, c.in_ok-indices.ensures.value, c.as_slice.ensures.value) at c.in_ok-note.ensures;
       };
-      told = (refl, rw c.as_slice-3.ensures.value at c.write_message.ensures, refl);
+      reported = (refl, rw c.as_slice-3.ensures.value at c.write_message.ensures, refl);
     }

@@ -7,15 +7,15 @@ use Rattle.rvtest_app.proofs.accept.write_accepted.Goals as goal
 
 pub returns-then-args-clause-put : goal.returns-then-args-clause-put
 returns-then-args-clause-put g c = rw c.if-args.true (record {
-  told = record {
+  summary = record {
     list = c.args.list.now;
     runs = c.as_slice.result;
     golden_texts = c.as_slice-2.result;
     files = c.as_slice-3.result;
     new = record { ref_ptr = c.args.outcomes.ref_ptr; now = c.args.outcomes.now.new };
   };
-  of = (refl, c.as_slice.ensures.value, c.as_slice-2.ensures.value, c.as_slice-3.ensures.value, refl);
-  put = (
+  parts = (refl, c.as_slice.ensures.value, c.as_slice-2.ensures.value, c.as_slice-3.ensures.value, refl);
+  written = (
     rw (c.skipped_count.ensures, c.changed_count.ensures) at c.accept_status.ensures.value,
     (Appends-trans _ _ _ _ _ c.in_ok-write_lines.ensures.put c.in_ok-write_count_line.ensures.put, refl, refl, refl),
   );
@@ -23,15 +23,15 @@ returns-then-args-clause-put g c = rw c.if-args.true (record {
 
 pub returns-clause-put : goal.returns-clause-put
 returns-clause-put g c = rw c.if-args.false (record {
-  told = record {
+  summary = record {
     list = c.args.list.now;
     runs = c.as_slice.result;
     golden_texts = c.as_slice-2.result;
     files = c.as_slice-3.result;
     new = record { ref_ptr = c.args.outcomes.ref_ptr; now = c.args.outcomes.now.new };
   };
-  of = (refl, c.as_slice.ensures.value, c.as_slice-2.ensures.value, c.as_slice-3.ensures.value, refl);
-  put = (
+  parts = (refl, c.as_slice.ensures.value, c.as_slice-2.ensures.value, c.as_slice-3.ensures.value, refl);
+  written = (
     rw c.skipped_count-2.ensures at c.accept_status-2.ensures.value,
     Appends-trans _ _ _ _ _ c.in_ok-write_lines.ensures.put c.in_ok-write_count_line-2.ensures.put,
     refl,

@@ -14,8 +14,8 @@ loop-target-preserved g c =
           (into_iter_items c.next.new.self) c.in-Some.target c.loop-target.files.items c.push_file.new.files.items _
           c.loop-target.invariant.goes rest
           (record {
-            of = refl;
-            leads = rw c.as_str.ensures at c.in_ok-resolved.ensures;
+            same_target = refl;
+            resolved = rw c.as_str.ensures at c.in_ok-resolved.ensures;
             old_contents = rw c.as_str-in-loop-target.ensures at c.in_ok-old.ensures.old;
           })
           c.in_ok-push_file.ensures;

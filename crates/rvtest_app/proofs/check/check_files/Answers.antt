@@ -11,11 +11,11 @@ returns-clause-plan g c =
       plan = c.in_ok-plan.plan;
       listed = rw gathered.jobs c.in_ok-jobs.ensures.jobs;
       paths = rw gathered.jobs gathered.paths;
-      kept = rw (c.new-store.ensures.inputs, c.new-store.ensures.folder) at gathered.kept;
+      results_agree = rw (c.new-store.ensures.inputs, c.new-store.ensures.folder) at gathered.kept;
       unread = c.unreadable_paths.result.now;
-      noted = ap length c.unreadable_paths.ensures ∙ (rw c.new-store.ensures.nothing at gathered.faults);
+      unread_entries = ap length c.unreadable_paths.ensures ∙ (rw c.new-store.ensures.nothing at gathered.faults);
       text = text;
-      judged = judged;
+      exit_status = judged;
     }) c.check_plan.ensures.text c.check_plan.ensures.judged
 
 pub returns-clause-stopped : goal.returns-clause-stopped

@@ -11,13 +11,13 @@ pub returns-clause-put : goal.returns-clause-put
 returns-clause-put g c = record {
   console = c.as_slice.result.now;
   line = c.as_slice-2.result.now;
-  of = rw (c.as_slice.ensures, c.as_slice-2.ensures.value) c.in_ok-row.ensures.told;
-  middle = record {
+  of_job = rw (c.as_slice.ensures, c.as_slice-2.ensures.value) c.in_ok-row.ensures.told;
+  between = record {
     out = g.O.Sink.accepted c.write_results.new.out;
     errors = g.E.Sink.accepted c.args.to.now.errors;
     failures = g.E.Sink.failure_count c.args.to.now.errors;
     committed = g.F.Outputs.committed c.args.to.now.files;
   };
-  put = (c.in_ok-write_results.ensures.put, refl, refl, refl);
-  told = (refl, c.write_message.ensures, refl);
+  written = (c.in_ok-write_results.ensures.put, refl, refl, refl);
+  reported = (refl, c.write_message.ensures, refl);
 }

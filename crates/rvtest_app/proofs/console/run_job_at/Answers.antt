@@ -11,10 +11,10 @@ returns-clause-told g c =
       plan = c.in_ok-plan.plan;
       listed = gathered.jobs;
       paths = search rules;
-      kept = rw (c.new-store.ensures.inputs, c.new-store.ensures.folder) at gathered.kept;
+      results_agree = rw (c.new-store.ensures.inputs, c.new-store.ensures.folder) at gathered.kept;
       unread = c.unreadable_paths.result.now;
-      noted = ap length c.unreadable_paths.ensures ∙ (rw c.new-store.ensures.nothing at gathered.faults);
-      written = λ d. ap (λ (r : Row). r.console) (row d);
-      told = line;
-      judged = status;
+      unread_entries = ap length c.unreadable_paths.ensures ∙ (rw c.new-store.ensures.nothing at gathered.faults);
+      console_text = λ d. ap (λ (r : Row). r.console) (row d);
+      result_line = line;
+      exit_status = status;
     }) c.run_planned_job.ensures.row c.run_planned_job.ensures.line c.run_planned_job.ensures.status

@@ -12,8 +12,8 @@ refused_table : (path text : List ℕ) (error : ReadError) (stop : Stop) → IsF
     → ((table : CountTable) → IsValidTable table → table_text table ≡ text → IsOkOrOutOfMemory table (Err error))
     → IsReadErrorStop path error stop → IsTableFaultStop path text stop
 refused_table path text error stop least only is = record {
-  told = (error, (least, is));
-  whole = λ table can same. subst (λ e. IsReadErrorStop path e stop) (only table can same) is;
+  reported = (error, (least, is));
+  valid_table = λ table can same. subst (λ e. IsReadErrorStop path e stop) (only table can same) is;
 }
 
 pub returns-in-Err-clause-stopped : goal.returns-in-Err-clause-stopped

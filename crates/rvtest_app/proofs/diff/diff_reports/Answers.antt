@@ -12,12 +12,12 @@ returns-clause-put g c = record {
   text = c.as_slice-2.result.now;
   notes = c.as_slice.result.now;
   diff = rw (c.as_slice-2.ensures.value, c.as_slice.ensures.value) c.in_ok-found.ensures.diff;
-  middle = record {
+  between = record {
     out = g.O.Sink.accepted c.args.to.now.out;
     errors = g.E.Sink.accepted c.write_message.new.errors;
     failures = g.E.Sink.failure_count c.write_message.new.errors;
     committed = g.F.Outputs.committed c.args.to.now.files;
   };
-  told = (refl, c.write_message.ensures, refl);
-  put = (c.in_ok-write_results.ensures.put, refl, refl, refl);
+  reported = (refl, c.write_message.ensures, refl);
+  written = (c.in_ok-write_results.ensures.put, refl, refl, refl);
 }

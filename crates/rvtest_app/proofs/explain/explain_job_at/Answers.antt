@@ -10,9 +10,9 @@ returns-clause-explained g c =
       plan = c.in_ok-plan.plan;
       listed = gathered.jobs ∙ c.with_budget-jobs.ensures.jobs;
       paths = search (rules, rw c.with_budget-jobs.ensures.jobs at gathered.paths);
-      kept = rw (c.new-store.ensures.inputs, c.new-store.ensures.folder) at gathered.kept;
+      results_agree = rw (c.new-store.ensures.inputs, c.new-store.ensures.folder) at gathered.kept;
       unread = c.unreadable_paths.result.now;
-      noted = ap length c.unreadable_paths.ensures ∙ (rw c.new-store.ensures.nothing at gathered.faults);
+      unread_entries = ap length c.unreadable_paths.ensures ∙ (rw c.new-store.ensures.nothing at gathered.faults);
       text = text;
-      judged = judged;
+      exit_status = judged;
     }) c.explain_planned_job.ensures.text c.explain_planned_job.ensures.status

@@ -8,8 +8,8 @@ returns-clause-text c =
     let plan = c.args.plan.now in
     record {
       budget_use = c.in_ok-budget_use.budget_use;
-      found = λ d. subst (λ (r : Row). IsBudgetUseOfRow plan (slice_index_or plan.jobs c.args.index d) r
+      is_budget_use = λ d. subst (λ (r : Row). IsBudgetUseOfRow plan (slice_index_or plan.jobs c.args.index d) r
           c.in_ok-budget_use.budget_use) (c.in_ok-row.ensures d) (c.in_ok-budget_use.ensures d);
-      told = λ d. rw (c.new-text.ensures.items, c.in_ok-row.ensures d, c.with_rule.ensures)
+      explanation = λ d. rw (c.new-text.ensures.items, c.in_ok-row.ensures d, c.with_rule.ensures)
           at (c.in_ok-push_job_explanation.ensures d);
     }

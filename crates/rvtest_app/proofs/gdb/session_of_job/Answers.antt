@@ -20,11 +20,11 @@ returns-in-Some-clause-opened g c =
       plan = c.in_ok-plan.plan;
       listed = gathered.jobs;
       paths = search rules;
-      kept = rw (c.new-store.ensures.inputs, c.new-store.ensures.folder) at gathered.kept;
+      results_agree = rw (c.new-store.ensures.inputs, c.new-store.ensures.folder) at gathered.kept;
       unread = c.into_unreadable_paths-unread.result.items;
-      noted = ap length c.into_unreadable_paths-unread.ensures ∙ (rw c.new-store.ensures.nothing at gathered.faults);
-      over = λ d. rw c.in-Some.is at (c.in_ok-session.ensures d);
-      outputs_of = refl;
+      unread_entries = ap length c.into_unreadable_paths-unread.ensures ∙ (rw c.new-store.ensures.nothing at gathered.faults);
+      session_of_job = λ d. rw c.in-Some.is at (c.in_ok-session.ensures d);
+      end_text_is = refl;
     }
 
 pub returns-in-None-clause-stopped : goal.returns-in-None-clause-stopped
@@ -34,9 +34,9 @@ returns-in-None-clause-stopped g c =
       plan = c.in_ok-plan.plan;
       listed = gathered.jobs;
       paths = search rules;
-      kept = rw (c.new-store.ensures.inputs, c.new-store.ensures.folder) at gathered.kept;
+      results_agree = rw (c.new-store.ensures.inputs, c.new-store.ensures.folder) at gathered.kept;
       unread = c.unreadable_paths.result.now;
-      noted = ap length c.unreadable_paths.ensures ∙ (rw c.new-store.ensures.nothing at gathered.faults);
+      unread_entries = ap length c.unreadable_paths.ensures ∙ (rw c.new-store.ensures.nothing at gathered.faults);
       refused = λ d. rw c.in-None.is at (c.in_ok-session.ensures d);
-      told = c.refused_job_stop.ensures;
+      message = c.refused_job_stop.ensures;
     })

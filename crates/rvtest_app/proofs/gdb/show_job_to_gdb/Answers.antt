@@ -14,22 +14,22 @@ serve-requires-clause-requested g c =
 pub returns-in-Ok-clause-answered : goal.returns-in-Ok-clause-answered
 returns-in-Ok-clause-answered g c =
     let received = rw (c.in-Ok.is, c.limit_memory.ensures) at c.serve.ensures.heard in record {
-      spoken = c.if-is_terminal.false;
+      is_no_terminal = c.if-is_terminal.false;
       end_text = job_end_text c.in_ok-opened.opened.job.plan c.in_ok-opened.opened.job.unread.items c.in_ok-opened.opened.job.index;
       first = c.in_ok-opened.opened.session;
       opened = c.in_ok-opened.ensures.opened;
       received = received.received;
       read = received.read;
-      while_open = received.while_open;
+      read_while_open = received.while_open;
       replies = received.replies;
       last = c.serve.new.session;
       may_end = received.may_end;
       at_end = received.ended;
-      fed = received.fed;
-      made = received.made;
+      responded = received.fed;
+      no_pending_move = received.made;
       ended = rw c.in-Ok.is at c.serve.ensures.ended;
-      put = (received.put, refl, refl, refl);
-      done = refl;
+      written = (received.put, refl, refl, refl);
+      exit_status = refl;
     }
 
 pub returns-in_err-opened-clause-stopped : goal.returns-in_err-opened-clause-stopped

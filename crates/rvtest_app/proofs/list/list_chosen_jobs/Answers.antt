@@ -11,14 +11,14 @@ pub returns-clause-put : goal.returns-clause-put
 returns-clause-put g c = record {
   names = c.as_slice-2.result.now;
   notes = c.as_slice.result.now;
-  are = rw (c.as_slice-2.ensures.value, c.as_slice.ensures.value) c.in_ok-names.ensures.listed;
-  middle = record {
+  output = rw (c.as_slice-2.ensures.value, c.as_slice.ensures.value) c.in_ok-names.ensures.listed;
+  between = record {
     out = g.O.Sink.accepted c.args.to.now.out;
     errors = g.E.Sink.accepted c.write_message.new.errors;
     failures = g.E.Sink.failure_count c.write_message.new.errors;
     committed = g.F.Outputs.committed c.args.to.now.files;
   };
-  told = (refl, c.write_message.ensures, refl);
-  put = (c.in_ok-write_results.ensures.put, refl, refl, refl);
-  done = refl;
+  reported = (refl, c.write_message.ensures, refl);
+  written = (c.in_ok-write_results.ensures.put, refl, refl, refl);
+  exit_status = refl;
 }

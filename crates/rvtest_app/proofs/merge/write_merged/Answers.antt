@@ -32,10 +32,10 @@ returns-in-Ok-clause-put g c =
     let errors = c.write_whole_files.ensures.errors in
     OnOk-both c.write_whole_files.result _ _ _
     (λ p q. record {
-      middle = outputs_of g.F.Outputs.committed g.O.Sink.accepted g.E.Sink.accepted g.E.Sink.failure_count c.write_shown.new.to;
-      seen = seen;
+      between = outputs_of g.F.Outputs.committed g.O.Sink.accepted g.E.Sink.accepted g.E.Sink.failure_count c.write_shown.new.to;
+      shown_written = seen;
       out = p;
-      quiet = (ap g.E.Sink.accepted errors, ap g.E.Sink.failure_count errors);
+      errors_unchanged = (ap g.E.Sink.accepted errors, ap g.E.Sink.failure_count errors);
       committed = q;
     })
     out committed

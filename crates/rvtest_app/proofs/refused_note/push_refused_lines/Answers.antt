@@ -2,7 +2,7 @@ use Rattle.std.proofs.Common.{◌∙◌, ◌++◌, [], ap, append_assoc, get_or,
 use Rattle.std.proofs.lemmas.List.{get_or_default}
 use Rattle.rv_expect.specs.Judgement.{judge_view}
 use Rattle.rv_rows.specs.Jobs.{single_job}
-use Rattle.rvtest_app.specs.RefusedNotes.{invalid_line, refused_lines}
+use Rattle.rvtest_app.specs.RefusedNotes.{line_if_refused, refused_lines}
 use Rattle.rvtest_app.proofs.ViewAnswers.{refused_more}
 use Rattle.rvtest_app.proofs.refused_note.push_refused_lines.Goals as goal
 
@@ -13,7 +13,7 @@ loop-index-preserved c =
     let indices = c.args.indices.now in
     let i = c.loop-index.index-index in
     let index = get_or indices i 0 in
-    let line = invalid_line judging reporter.plan.now reporter.unread.now (slice_index_or reporter.plan.now.jobs index (single_job [] 0 [])) in
+    let line = line_if_refused judging reporter.plan.now reporter.unread.now (slice_index_or reporter.plan.now.jobs index (single_job [] 0 [])) in
     c.in_ok-push_refused_line.ensures (single_job [] 0 [])
     ∙ ap (λ text. text ++ line) c.loop-index.invariant
     ∙ append_assoc _ (refused_lines judging reporter.plan.now reporter.unread.now (take i indices)) line

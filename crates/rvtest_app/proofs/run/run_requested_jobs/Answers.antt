@@ -13,13 +13,13 @@ returns-in-Some-clause-undone g c =
       jobs = c.in-Ok.requested.jobs;
       selection = c.in-Some.selection.items;
       shard = c.in-Ok.requested.context.shard;
-      old = c.in-Ok.requested.context.old;
+      old_rows = c.in-Ok.requested.context.old;
       notes = c.in-Ok.requested.notes.items;
       requested_jobs = rw c.in-Some.is at c.in-Ok.ensures.requested;
       failures = c.in-Ok-requested_known_jobs.known;
       known_to_fail = rw c.as_slice.ensures.value at c.in-Ok-requested_known_jobs.ensures.known;
     } in
-    OnErr-map c.run_selected_jobs.result.1 _ _ (⊎_elim inl (λ alone. inr (record { found = found; alone = alone })))
+    OnErr-map c.run_selected_jobs.result.1 _ _ (⊎_elim inl (λ alone. inr (record { jobs_to_run = found; partly_committed = alone })))
     c.run_selected_jobs.ensures.undone
 
 pub returns-in-Some-clause-stopped : goal.returns-in-Some-clause-stopped
@@ -28,7 +28,7 @@ returns-in-Some-clause-stopped g c =
       jobs = c.in-Ok.requested.jobs;
       selection = c.in-Some.selection.items;
       shard = c.in-Ok.requested.context.shard;
-      old = c.in-Ok.requested.context.old;
+      old_rows = c.in-Ok.requested.context.old;
       notes = c.in-Ok.requested.notes.items;
       requested_jobs = rw c.in-Some.is at c.in-Ok.ensures.requested;
       failures = c.in-Ok-requested_known_jobs.known;

@@ -12,7 +12,7 @@ pub returns-in_err-write_summarized_report-clause-undone : goal.returns-in_err-w
 returns-in_err-write_summarized_report-clause-undone g c =
     OnErr-from c.from_residual-in_err-write_summarized_report.result _
     (⊎_elim inl (λ committed. inr (record {
-      found = c.in_ok-found.found;
+      partial_report = c.in_ok-found.found;
       read = c.in_ok-found.ensures.read;
       committed = committed;
     }))

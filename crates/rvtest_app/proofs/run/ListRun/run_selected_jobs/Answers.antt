@@ -32,16 +32,16 @@ returns-clause-run g c =
           c.as_slice.ensures.value,
           c.with_budget-jobs.ensures.jobs,
         ) at found.paths;
-        kept = rw (c.new-store.ensures.inputs, c.new-store.ensures.folder) at found.kept;
-        noted = ap length c.unreadable_paths-unread.ensures ∙ rw c.new-store.ensures.nothing at found.faults;
+        results_agree = rw (c.new-store.ensures.inputs, c.new-store.ensures.folder) at found.kept;
+        unread_entries = ap length c.unreadable_paths-unread.ensures ∙ rw c.new-store.ensures.nothing at found.faults;
       };
       rows = _;
-      shown = refl;
-      judged = judged;
-      middle = outputs_of g.F.Outputs.committed g.O.Sink.accepted g.E.Sink.accepted g.E.Sink.failure_count
+      rows_are = refl;
+      exit_status = judged;
+      between = outputs_of g.F.Outputs.committed g.O.Sink.accepted g.E.Sink.accepted g.E.Sink.failure_count
           (record c.args.to { errors = c.write_message.new.errors });
-      noted = (refl, noted, refl);
-      put = put;
+      note_reported = (refl, noted, refl);
+      written = put;
     })
     (rw (c.as_slice-4.ensures.value, c.in-Ok.ensures.value, c.as_slice.ensures.value, c.requires, known)
     at c.run_into_files.ensures.status)
@@ -85,11 +85,11 @@ returns-clause-undone g c =
           c.as_slice.ensures.value,
           c.with_budget-jobs.ensures.jobs,
         ) at found.paths;
-        kept = rw (c.new-store.ensures.inputs, c.new-store.ensures.folder) at found.kept;
-        noted = ap length c.unreadable_paths-unread.ensures ∙ rw c.new-store.ensures.nothing at found.faults;
+        results_agree = rw (c.new-store.ensures.inputs, c.new-store.ensures.folder) at found.kept;
+        unread_entries = ap length c.unreadable_paths-unread.ensures ∙ rw c.new-store.ensures.nothing at found.faults;
       };
       rows = rows;
-      shown = refl;
+      rows_are = refl;
       committed = same_part args told (run_reporter args failures plan unread) c.as_slice-4.result.now indices
           c.args.selected.context.shard c.args.selected.context.old rows (g.F.Outputs.committed c.args.to.files)
           (g.F.Outputs.committed c.run_into_files.result.0.files) told_is places_are part;

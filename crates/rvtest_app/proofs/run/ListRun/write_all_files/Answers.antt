@@ -59,16 +59,16 @@ returns-in_ok-write_counts-in-Ok-clause-outputs_of g c = λ before shown.
     (sym firsts) c.requires.taken.report in
     let same = placed_of_shown _ _ before start shown in
     record {
-      middle = with_committed_if_reported before.committed after;
-      put = run_put_where_told args (reporter_of reporter) indices c.args.context.shard c.args.context.old c.args.rows before after
+      between = with_committed_if_reported before.committed after;
+      rows_written = run_put_where_told args (reporter_of reporter) indices c.args.context.shard c.args.context.old c.args.rows before after
           (record {
-            middle = start;
-            seen = shown;
+            between = start;
+            shown_written = shown;
             out = rw (told, firsts) at (files.put report_path junit_path report c.requires.taken.junit);
-            quiet = (ap g.E.Sink.accepted files.errors, ap g.E.Sink.failure_count files.errors);
+            errors_unchanged = (ap g.E.Sink.accepted files.errors, ap g.E.Sink.failure_count files.errors);
             committed = rw (told, firsts) at (files.committed report_path junit_path report c.requires.taken.junit);
           });
-      counted = rw firsts at (c.in_ok-write_counts-in-Ok.ensures.counted (optional_text args.counts) before.committed
+      counts_written = rw firsts at (c.in_ok-write_counts-in-Ok.ensures.counted (optional_text args.counts) before.committed
           (rw same at c.requires.taken.counts));
     }
 

@@ -17,14 +17,14 @@ returns-in-Some-clause-put g c =
       jobs = c.in_ok-requested.requested.jobs;
       selection = Some c.in-Some.selection.items;
       shard = c.in_ok-requested.requested.context.shard;
-      old = c.in_ok-requested.requested.context.old;
+      old_rows = c.in_ok-requested.requested.context.old;
       notes = c.in_ok-requested.requested.notes.items;
       requested_jobs = rw c.in-Some.is at c.in_ok-requested.ensures.requested;
-      middle = outputs_of g.F.Outputs.committed g.O.Sink.accepted g.E.Sink.accepted g.E.Sink.failure_count
+      between = outputs_of g.F.Outputs.committed g.O.Sink.accepted g.E.Sink.accepted g.E.Sink.failure_count
           (record c.args.to.now { errors = c.write_message.new.errors });
-      told = (refl, rw c.as_slice.ensures.value at c.write_message.ensures, refl);
-      viewed = put.1;
-      done = put.0;
+      reported = (refl, rw c.as_slice.ensures.value at c.write_message.ensures, refl);
+      written = put.1;
+      exit_status = put.0;
     })
     (rw c.as_slice-in-Some.ensures.value at c.write_selected.ensures.put)
 
@@ -39,10 +39,10 @@ returns-in-Some-clause-stopped g c =
       jobs = c.in_ok-requested.requested.jobs;
       selection = c.in-Some.selection.items;
       shard = c.in_ok-requested.requested.context.shard;
-      old = c.in_ok-requested.requested.context.old;
+      old_rows = c.in_ok-requested.requested.context.old;
       notes = c.in_ok-requested.requested.notes.items;
       requested_jobs = rw c.in-Some.is at c.in_ok-requested.ensures.requested;
-      unviewed = is;
+      failed = is;
     })))
     (rw c.as_slice-in-Some.ensures.value at c.write_selected.ensures.stopped)
 
@@ -51,12 +51,12 @@ returns-clause-put g c = record {
   jobs = c.in_ok-requested.requested.jobs;
   selection = None;
   shard = c.in_ok-requested.requested.context.shard;
-  old = c.in_ok-requested.requested.context.old;
+  old_rows = c.in_ok-requested.requested.context.old;
   notes = c.in_ok-requested.requested.notes.items;
   requested_jobs = rw c.in-None.is at c.in_ok-requested.ensures.requested;
-  middle = outputs_of g.F.Outputs.committed g.O.Sink.accepted g.E.Sink.accepted g.E.Sink.failure_count
+  between = outputs_of g.F.Outputs.committed g.O.Sink.accepted g.E.Sink.accepted g.E.Sink.failure_count
       (record c.args.to.now { errors = c.write_message.new.errors });
-  told = (refl, rw c.as_slice.ensures.value at c.write_message.ensures, refl);
-  viewed = refl;
-  done = refl;
+  reported = (refl, rw c.as_slice.ensures.value at c.write_message.ensures, refl);
+  written = refl;
+  exit_status = refl;
 }

@@ -18,10 +18,10 @@ returns-in_err-text-clause-stopped g c =
       planned = record {
         listed = found.jobs;
         paths = rw (c.as_slice-indices.ensures.value, c.in_ok-selected.ensures.value) at found.paths;
-        kept = rw (c.new-store.ensures.inputs, c.new-store.ensures.folder) at found.kept;
-        noted = ap length c.unreadable_paths.ensures ∙ rw c.new-store.ensures.nothing at found.faults;
+        results_agree = rw (c.new-store.ensures.inputs, c.new-store.ensures.folder) at found.kept;
+        unread_entries = ap length c.unreadable_paths.ensures ∙ rw c.new-store.ensures.nothing at found.faults;
       };
-      unshown = rw (c.as_slice-indices.ensures.value, c.in_ok-selected.ensures.value) at c.in_err-text.ensures.stopped;
+      not_made = rw (c.as_slice-indices.ensures.value, c.in_ok-selected.ensures.value) at c.in_err-text.ensures.stopped;
     })))
 
 pub returns-clause-put : goal.returns-clause-put
@@ -34,19 +34,19 @@ returns-clause-put g c =
         planned = record {
           listed = found.jobs;
           paths = rw (c.as_slice-indices.ensures.value, c.in_ok-selected.ensures.value) at found.paths;
-          kept = rw (c.new-store.ensures.inputs, c.new-store.ensures.folder) at found.kept;
-          noted = ap length c.unreadable_paths.ensures ∙ rw c.new-store.ensures.nothing at found.faults;
+          results_agree = rw (c.new-store.ensures.inputs, c.new-store.ensures.folder) at found.kept;
+          unread_entries = ap length c.unreadable_paths.ensures ∙ rw c.new-store.ensures.nothing at found.faults;
         };
-        middle = outputs_of g.F.Outputs.committed g.O.Sink.accepted g.E.Sink.accepted g.E.Sink.failure_count
+        between = outputs_of g.F.Outputs.committed g.O.Sink.accepted g.E.Sink.accepted g.E.Sink.failure_count
             (record c.args.to.now { errors = c.write_message.new.errors });
-        told = (
+        reported = (
           refl,
           rw (c.as_slice.ensures.value, c.in_ok-note.ensures, c.as_slice-indices.ensures.value, c.in_ok-selected.ensures.value)
               at c.write_message.ensures,
           refl,
         );
         text = c.in_ok-text.text.items;
-        of_plan = rw (c.as_slice-indices.ensures.value, c.in_ok-selected.ensures.value) at c.in_ok-text.ensures.shown;
-        put = (rw c.as_slice-2.ensures.value at c.in_ok-write_results.ensures.put, refl, refl, refl);
+        text_is = rw (c.as_slice-indices.ensures.value, c.in_ok-selected.ensures.value) at c.in_ok-text.ensures.shown;
+        written = (rw c.as_slice-2.ensures.value at c.in_ok-write_results.ensures.put, refl, refl, refl);
       },
     )
