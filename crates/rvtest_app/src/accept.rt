@@ -90,10 +90,10 @@ pub(crate) fn accept_runs<
     ensures accepted { IfOk result (λ status. IsAcceptedAt (D.contents host.now.inputs.now) args.now status
         (outputs_of F.committed O.accepted E.accepted E.failure_count to.old) (outputs_of F.committed O.accepted E.accepted E.failure_count to.new)) }
     // A check opens no file for writing, whatever its result.
-    ensures unwritten { args.now.check ≡ true → to.new.files ≡ to.old.files }
+    ensures check_writes_nothing { args.now.check ≡ true → to.new.files ≡ to.old.files }
     ensures stopped { IfErr result (IsAcceptStop (D.contents host.now.inputs.now) args.now) }
     // No input is overwritten, except accepted files.
-    ensures kept { AreAcceptInputsPreserved (D.contents host.now.inputs.now) args.now (F.committed to.old.files) (F.committed to.new.files) }
+    ensures inputs_preserved { AreAcceptInputsPreserved (D.contents host.now.inputs.now) args.now (F.committed to.old.files) (F.committed to.new.files) }
 {
     let list = chosen_list(host, args)?;
     write_message(&mut to.errors, list.notes.as_slice());
@@ -117,16 +117,16 @@ fn accept_chosen<
     chosen: &[bool],
     to: &mut Destinations<F, O, E>,
 ) -> Result<u8, Stop>
-    requires counted { length chosen.now ≡ length list.now.jobs }
+    requires same_length { length chosen.now ≡ length list.now.jobs }
     requires listed { job_list_of list.now.text.items ≡ Ok list.now.jobs }
     ensures status_bound { IfOk result (λ status. status ≤ 1) }
     ensures accepted { IfOk result (λ status. IsAcceptOfSelected (D.contents host.now.inputs.now) args.now
         list.now.text.items list.now.jobs chosen.now status
         (outputs_of F.committed O.accepted E.accepted E.failure_count to.old) (outputs_of F.committed O.accepted E.accepted E.failure_count to.new)) }
-    ensures unwritten { args.now.check ≡ true → to.new.files ≡ to.old.files }
+    ensures check_writes_nothing { args.now.check ≡ true → to.new.files ≡ to.old.files }
     ensures stopped { IfErr result
         (IsAcceptChosenStop (D.contents host.now.inputs.now) args.now list.now.jobs) }
-    ensures kept { (F.committed to.new.files ≡ F.committed to.old.files) ⊎ IfSome (F.committed to.old.files) (λ _. AreAcceptFilesNotInputs
+    ensures inputs_preserved { (F.committed to.new.files ≡ F.committed to.old.files) ⊎ IfSome (F.committed to.old.files) (λ _. AreAcceptFilesNotInputs
         args.now list.now.jobs (jobs_to_run list.now.jobs chosen.now)) }
 {
     let selected = checked_jobs(host, args, list, chosen, to)?;
@@ -149,15 +149,15 @@ fn checked_jobs<R, D, F: Outputs + Drop, O: Sink + Drop, E: Sink + Drop>(
     chosen: &[bool],
     to: &mut Destinations<F, O, E>,
 ) -> Result<BareJobs, Stop>
-    requires counted { length chosen.now ≡ length list.now.jobs }
+    requires same_length { length chosen.now ≡ length list.now.jobs }
     requires listed { job_list_of list.now.text.items ≡ Ok list.now.jobs }
     ensures jobs { IfOk result (λ selected. selected.jobs ≡ map without_expectations list.now.jobs) }
     ensures selection { IfOk result (λ selected. selected.selection.items
         ≡ jobs_to_run list.now.jobs chosen.now) }
-    ensures files { to.new.files ≡ to.old.files }
-    ensures outside { OnOk result (AreOutsideFilesReported (outputs_of F.committed O.accepted E.accepted E.failure_count to.old)
+    ensures files_unchanged { to.new.files ≡ to.old.files }
+    ensures outside_reported { OnOk result (AreOutsideFilesReported (outputs_of F.committed O.accepted E.accepted E.failure_count to.old)
         (outputs_of F.committed O.accepted E.accepted E.failure_count to.new)) }
-    ensures apart { OnOk result (IfSome (F.committed to.old.files) (λ _. AreAcceptFilesNotInputs
+    ensures inputs_preserved { OnOk result (IfSome (F.committed to.old.files) (λ _. AreAcceptFilesNotInputs
         args.now list.now.jobs (jobs_to_run list.now.jobs chosen.now))) }
     ensures stopped { IfErr result IsAcceptOverwriteStop }
 {
@@ -239,7 +239,7 @@ fn selected_jobs(
     list: &ChosenList,
     chosen: &[bool],
 ) -> Result<BareJobs, Stop>
-    requires counted { length chosen.now ≡ length list.now.jobs }
+    requires same_length { length chosen.now ≡ length list.now.jobs }
     requires listed { job_list_of list.now.text.items ≡ Ok list.now.jobs }
     ensures jobs { IfOk result (λ selected. selected.jobs ≡ map without_expectations list.now.jobs) }
     ensures selection { IfOk result (λ selected. selected.selection.items
@@ -265,7 +265,7 @@ fn run_selected<
     selected: BareJobs,
     to: &mut Destinations<F, O, E>,
 ) -> Result<Vec<Option<Row>>, Stop>
-    ensures files { to.new.files ≡ to.old.files }
+    ensures files_unchanged { to.new.files ≡ to.old.files }
     ensures rows { IfOk result (λ rows. HaveSelectedRun (D.contents host.now.inputs.now)
         (optional_text args.now.run.root) selected.jobs selected.selection.items rows.items
         (outputs_of F.committed O.accepted E.accepted E.failure_count to.old) (outputs_of F.committed O.accepted E.accepted E.failure_count to.new)) }
@@ -344,8 +344,8 @@ fn write_accepted<'x, R, D: Inputs, F: Outputs + Drop, O: Sink + Drop, E: Sink +
     to: &mut Destinations<F, O, E>,
 ) -> Result<u8, Stop>
     ensures status_bound { IfOk result (λ status. status ≤ 1) }
-    ensures unwritten { args.now.check ≡ true → to.new.files ≡ to.old.files }
-    ensures put { IfOk result (λ status. AreChangesWritten args.now.check list.now outcomes.now.new.runs.items
+    ensures check_writes_nothing { args.now.check ≡ true → to.new.files ≡ to.old.files }
+    ensures written { IfOk result (λ status. AreChangesWritten args.now.check list.now outcomes.now.new.runs.items
         outcomes.now.golden_texts.items outcomes.now.files.items outcomes.now.new status
         (outputs_of F.committed O.accepted E.accepted E.failure_count to.old) (outputs_of F.committed O.accepted E.accepted E.failure_count to.new)) }
     ensures stopped { IfErr result (IsAcceptanceWriteStop (D.contents host.now.inputs.now) args.now.check
@@ -372,7 +372,7 @@ fn write_accepted<'x, R, D: Inputs, F: Outputs + Drop, O: Sink + Drop, E: Sink +
 
 // Writes the lines about jobs and golden files to standard output.
 fn write_lines<O: Sink>(alloc: Global, summary: &AcceptSummary<'_>, out: &mut O) -> Result<(), Stop>
-    ensures put { OnOk result (Appends (O.accepted out.old) (O.accepted out.new) (accept_lines summary.now)) }
+    ensures written { OnOk result (Appends (O.accepted out.old) (O.accepted out.new) (accept_lines summary.now)) }
     ensures stopped { IfErr result (λ stop. (stop ≡ Stop.OutOfMemory) ⊎ (stop ≡ Stop.WriteFailed)) }
 {
     let mut lines = Vec::new(alloc);
@@ -387,7 +387,7 @@ fn write_count_line<O: Sink>(
     writing: Writing,
     out: &mut O,
 ) -> Result<(), Stop>
-    ensures put { OnOk result (Appends (O.accepted out.old) (O.accepted out.new)
+    ensures written { OnOk result (Appends (O.accepted out.old) (O.accepted out.new)
         (count_line writing (changed_count summary.now) (skipped_count summary.now))) }
     ensures stopped { IfErr result (λ stop. (stop ≡ Stop.OutOfMemory) ⊎ (stop ≡ Stop.WriteFailed)) }
 {

@@ -41,8 +41,8 @@ pub(crate) fn reject_accept_overwrites<F: Outputs>(
     jobs: &[Job],
     selection: &[bool],
 ) -> Result<Vec<u8>, Stop>
-    ensures apart { OnOk result (IfSome (F.committed files.now) (λ _. AreAcceptFilesNotInputs args.now jobs.now selection.now)) }
-    ensures inside { IfOk result (λ notes. IfSome (F.committed files.now) (λ _. notes.items ≡ [])) }
+    ensures inputs_preserved { OnOk result (IfSome (F.committed files.now) (λ _. AreAcceptFilesNotInputs args.now jobs.now selection.now)) }
+    ensures no_warnings { IfOk result (λ notes. IfSome (F.committed files.now) (λ _. notes.items ≡ [])) }
     ensures stopped { IfErr result IsAcceptOverwriteStop }
 {
     let root = args.run.root;
@@ -135,7 +135,7 @@ fn reject_list_overwrite<F: Outputs>(
     list: &str,
     reads: &AcceptReads<'_>,
 ) -> Result<(), Stop>
-    ensures apart { (paths : List (List ℕ)) → HaveIdentities (F.committed files.now) paths reads.now.inputs
+    ensures is_no_input { (paths : List (List ℕ)) → HaveIdentities (F.committed files.now) paths reads.now.inputs
         → OnOk result (IfSome (F.committed files.now) (λ _. IsNotAnInput paths list.now)) }
     ensures stopped { IfErr result (IsOverwriteStop (codes "the updated list") list.now) }
 {
@@ -150,8 +150,8 @@ fn reject_golden_overwrites<F: Outputs>(
     golden: &[InputPath<'_>],
     reads: &AcceptReads<'_>,
 ) -> Result<(), Stop>
-    ensures no_list { OnOk result (IfSome (F.committed files.now) (λ _. list_any (is_golden_input reads.now.list.identities.items) golden.now ≡ false)) }
-    ensures no_input { OnOk result (IfSome (F.committed files.now) (λ _. list_any (is_golden_input reads.now.inputs.identities.items) golden.now ≡ false)) }
+    ensures none_is_list { OnOk result (IfSome (F.committed files.now) (λ _. list_any (is_golden_input reads.now.list.identities.items) golden.now ≡ false)) }
+    ensures none_is_input { OnOk result (IfSome (F.committed files.now) (λ _. list_any (is_golden_input reads.now.inputs.identities.items) golden.now ≡ false)) }
     ensures stopped { IfErr result IsAcceptOverwriteStop }
 {
     for at in 0..golden.len() {
@@ -167,8 +167,8 @@ fn reject_golden_overwrite<F: Outputs>(
     golden: &InputPath<'_>,
     reads: &AcceptReads<'_>,
 ) -> Result<(), Stop>
-    ensures no_list { OnOk result (IfSome (F.committed files.now) (λ _. is_golden_input reads.now.list.identities.items golden.now ≡ false)) }
-    ensures no_input { OnOk result (IfSome (F.committed files.now) (λ _. is_golden_input reads.now.inputs.identities.items golden.now ≡ false)) }
+    ensures is_not_list { OnOk result (IfSome (F.committed files.now) (λ _. is_golden_input reads.now.list.identities.items golden.now ≡ false)) }
+    ensures is_not_input { OnOk result (IfSome (F.committed files.now) (λ _. is_golden_input reads.now.inputs.identities.items golden.now ≡ false)) }
     ensures stopped { IfErr result IsAcceptOverwriteStop }
 {
     let path = golden.path.as_str();
@@ -208,7 +208,7 @@ fn reject_if_found(
     first: Option<usize>,
 ) -> Result<(), Stop>
     requires { IfSome first (λ at. at < length read.now.paths.items) }
-    ensures none { OnOk result (first ≡ None) }
+    ensures none_found { OnOk result (first ≡ None) }
     ensures stopped { IfErr result (IsOverwriteReported (output_role_text golden.now.role) (path_buf_bytes golden.now.path)) }
 {
     match first {
@@ -262,7 +262,7 @@ fn outside_notes<F: Outputs>(
     args: &AcceptArgs<'_>,
     golden: &[InputPath<'_>],
 ) -> Result<Vec<u8>, Stop>
-    ensures inside { IfOk result (λ notes. IfSome (F.committed files.now) (λ _. notes.items ≡ [])) }
+    ensures no_warnings { IfOk result (λ notes. IfSome (F.committed files.now) (λ _. notes.items ≡ [])) }
     ensures stopped { IfErr result IsAcceptOverwriteStop }
 {
     let bounds = Bounds {
@@ -293,7 +293,7 @@ fn push_outside_notes<F: Outputs>(
     golden: &[InputPath<'_>],
     notes: &mut Vec<u8>,
 ) -> Result<(), Stop>
-    ensures inside { OnOk result (IfSome (F.committed files.now) (λ _. notes.new.items ≡ notes.old.items)) }
+    ensures no_warnings { OnOk result (IfSome (F.committed files.now) (λ _. notes.new.items ≡ notes.old.items)) }
     ensures stopped { IfErr result IsAcceptOverwriteStop }
 {
     match golden {
@@ -313,7 +313,7 @@ fn check_inside_directory<F: Outputs>(
     golden: &InputPath<'_>,
     notes: &mut Vec<u8>,
 ) -> Result<(), Stop>
-    ensures inside { OnOk result (IfSome (F.committed files.now) (λ _. notes.new.items ≡ notes.old.items)) }
+    ensures no_warnings { OnOk result (IfSome (F.committed files.now) (λ _. notes.new.items ≡ notes.old.items)) }
     ensures stopped { IfErr result IsAcceptOverwriteStop }
 {
     if files.is_below(alloc, bounds.directory, golden.path.as_str())? {

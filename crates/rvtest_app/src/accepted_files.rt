@@ -68,7 +68,7 @@ pub(crate) fn golden_file_path(
 
 // Reads the file at a path. Returns `None` if there is no file.
 fn read_golden_file<D: Inputs>(inputs: &D, alloc: Global, path: &str) -> Result<Option<Bytes>, Stop>
-    ensures old { IfOk result (IsOldContentsAt (D.contents inputs.now) path.now) }
+    ensures contents { IfOk result (IsOldContentsAt (D.contents inputs.now) path.now) }
     ensures stopped { IfErr result (IsListUnreadStop (D.contents inputs.now) path.now) }
 {
     match read_whole_up_to(inputs, alloc, path, MAX_FILE_SIZE) {
@@ -124,7 +124,7 @@ fn check_unchanged<D: Inputs>(
     path: &str,
     old: Option<&[u8]>,
 ) -> Result<(), Stop>
-    ensures same { OnOk result (IsOldContentsAt (D.contents inputs.now) path.now (option_map (λ old. old.now) old.entry)) }
+    ensures unchanged { OnOk result (IsOldContentsAt (D.contents inputs.now) path.now (option_map (λ old. old.now) old.entry)) }
     ensures stopped { IfErr result (IsUnverifiedStop (D.contents inputs.now) path.now) }
 {
     let found = read_golden_file(inputs, alloc, path)?;

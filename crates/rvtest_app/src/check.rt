@@ -91,7 +91,7 @@ fn check_plan(
     ensures status_bound { IfOk result (λ found. found.status ≤ 2) }
     ensures text { IfOk result (λ found. found.text.items
         ≡ check_text args.entry.list.now text.now (optional_text args.entry.root) plan.now unread.now) }
-    ensures judged { IfOk result (λ found. found.status ≡ check_status (refused_job_count plan.now)) }
+    ensures exit_status { IfOk result (λ found. found.status ≡ check_status (refused_job_count plan.now)) }
     ensures memory { IfErr result (λ stop. stop ≡ Stop.OutOfMemory) }
 {
     let lines = job_begin_lines(alloc, text)?;

@@ -20,13 +20,13 @@ pub(crate) fn write_command_result<O: Sink>(
     out: &mut O,
     found: Result<CommandResult, Stop>,
 ) -> Result<u8, Stop>
-    ensures put { IfOk result (λ status. MatchResult found (λ found. (status ≡ found.status)
+    ensures written { IfOk result (λ status. MatchResult found (λ found. (status ≡ found.status)
         × Appends (O.accepted out.old) (O.accepted out.new) found.text.items) (λ stop. ⊥)) }
-    ensures counted { OnOk result (O.failure_count out.new ≡ O.failure_count out.old) }
-    ensures part { OnErr result (MatchResult found
+    ensures no_failed_writes { OnOk result (O.failure_count out.new ≡ O.failure_count out.old) }
+    ensures prefix_written { OnErr result (MatchResult found
         (λ found. AppendsPrefix (O.accepted out.old) (O.accepted out.new) found.text.items)
         (λ stop. O.accepted out.new ≡ O.accepted out.old)) }
-    ensures failed { IfErr result (λ _. MatchResult found
+    ensures failures_counted { IfErr result (λ _. MatchResult found
         (λ _. O.failure_count out.new ≡ one_more (O.failure_count out.old)) (λ _. O.failure_count out.new ≡ O.failure_count out.old)) }
     ensures stopped { IfErr result (λ stop. MatchResult found (λ _. stop ≡ Stop.WriteFailed) (λ found_stop. stop ≡ found_stop)) }
 {

@@ -37,7 +37,7 @@ pub(crate) fn commit_outlets<F: Outputs>(
     ensures committed { OnOk result (AreFilesCommitted (F.committed files.old) (F.committed files.new)
         (joined_files (files_of F.pending_path F.File.accepted outlets.entry.junit)
         (files_of F.pending_path F.File.accepted outlets.entry.report))) }
-    ensures part { OnErr result (AreFilesPartlyCommitted (F.committed files.old) (F.committed files.new)
+    ensures committed_after_error { OnErr result (AreFilesPartlyCommitted (F.committed files.old) (F.committed files.new)
         (files_of F.pending_path F.File.accepted outlets.entry.junit)) }
     ensures stopped { IfErr result (λ stop. IsUncommittedStop (outlet_path outlets.entry.report) stop
         ⊎ IsUncommittedStop (outlet_path outlets.entry.junit) stop) }
@@ -54,7 +54,7 @@ fn sync_outlets<'a, F: Outputs>(
 ) -> Result<SyncedFiles<'a, F::Place, F::Synced>, Stop>
     requires report { has_no_failure F.File.failure_count outlets.report }
     requires junit { has_no_failure F.File.failure_count outlets.junit }
-    ensures same { F.committed files.new ≡ F.committed files.old }
+    ensures nothing_committed { F.committed files.new ≡ F.committed files.old }
     ensures junit { IfOk result (λ synced. synced_files F.pending_path F.synced_bytes synced.junit
         ≡ files_of F.pending_path F.File.accepted outlets.entry.junit) }
     ensures report { IfOk result (λ synced. synced_files F.pending_path F.synced_bytes synced.report
@@ -88,7 +88,7 @@ fn sync_outlet<'a, F: Outputs>(
     outlet: Outlet<'a, F::Place, F::File>,
 ) -> Result<Option<SyncedFile<'a, F::Place, F::Synced>>, Stop>
     requires { has_no_failure F.File.failure_count outlet }
-    ensures same { F.committed files.new ≡ F.committed files.old }
+    ensures nothing_committed { F.committed files.new ≡ F.committed files.old }
     ensures synced { IfOk result (λ synced. synced_files F.pending_path F.synced_bytes synced
         ≡ files_of F.pending_path F.File.accepted outlet.entry) }
     ensures path { IfOk result (λ synced. synced_path synced ≡ outlet_path outlet.entry) }
@@ -134,7 +134,7 @@ fn commit_both<F: Outputs>(
     ensures committed { OnOk result (AreFilesCommitted (F.committed files.old) (F.committed files.new)
         (joined_files (synced_files F.pending_path F.synced_bytes first.entry)
         (synced_files F.pending_path F.synced_bytes second.entry))) }
-    ensures part { OnErr result (AreFilesPartlyCommitted (F.committed files.old) (F.committed files.new)
+    ensures committed_after_error { OnErr result (AreFilesPartlyCommitted (F.committed files.old) (F.committed files.new)
         (synced_files F.pending_path F.synced_bytes first.entry)) }
     ensures stopped { IfErr result
         (λ stop. IsUncommittedStop (synced_path second.entry) stop ⊎ IsUncommittedStop (synced_path first.entry) stop) }
@@ -156,7 +156,7 @@ fn commit_synced<F: Outputs>(
 ) -> Result<(), Stop>
     ensures committed { OnOk result (AreFilesCommitted (F.committed files.old) (F.committed files.new)
         (synced_files F.pending_path F.synced_bytes synced.entry)) }
-    ensures same { OnErr result (F.committed files.new ≡ F.committed files.old) }
+    ensures nothing_committed { OnErr result (F.committed files.new ≡ F.committed files.old) }
     ensures stopped { IfErr result (IsUncommittedStop (synced_path synced.entry)) }
 {
     let Some(synced) = synced else {

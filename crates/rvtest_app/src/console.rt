@@ -41,7 +41,7 @@ pub(crate) fn put_job_console<D: Inputs, F: Outputs + Drop, O: Sink + Drop, E: S
     args: ConsoleArgs<'_>,
     to: &mut Destinations<F, O, E>,
 ) -> Result<u8, Stop>
-    ensures put { IfOk result (λ status. IsConsoleWritten (D.contents inputs.now) args.entry status
+    ensures written { IfOk result (λ status. IsConsoleWritten (D.contents inputs.now) args.entry status
         (outputs_of F.committed O.accepted E.accepted E.failure_count to.old) (outputs_of F.committed O.accepted E.accepted E.failure_count to.new)) }
     ensures status_bound { IfOk result (λ status. status ≤ 1) }
     ensures stopped { IfErr result (λ stop. (stop ≡ Stop.WriteFailed)
@@ -59,7 +59,7 @@ fn run_named_job<D: Inputs>(
     alloc: Global,
     args: ConsoleArgs<'_>,
 ) -> Result<ReportedRow, Stop>
-    ensures told { IfOk result (λ told. IsConsoleAt (D.contents inputs.now) args.entry
+    ensures reported { IfOk result (λ told. IsConsoleAt (D.contents inputs.now) args.entry
         told.row.console told.line.items told.status) }
     ensures status_bound { IfOk result (λ told. told.status ≤ 1) }
     ensures stopped { IfErr result (IsConsoleStop (D.contents inputs.now) args.entry) }
@@ -75,7 +75,7 @@ fn run_job_of_text<D: Inputs>(
     args: ConsoleArgs<'_>,
     text: &[u8],
 ) -> Result<ReportedRow, Stop>
-    ensures told { IfOk result (λ told.
+    ensures reported { IfOk result (λ told.
         IsConsoleOf (contents_below (optional_text args.entry.root) (D.contents inputs.now))
         text.now args.entry.name.now told.row.console told.line.items told.status) }
     ensures status_bound { IfOk result (λ told. told.status ≤ 1) }
@@ -94,7 +94,7 @@ fn run_job_at<D: Inputs>(
     index: usize,
 ) -> Result<ReportedRow, Stop>
     requires { index < length jobs }
-    ensures told { IfOk result (λ told.
+    ensures reported { IfOk result (λ told.
         IsJobConsole (contents_below (optional_text args.entry.root) (D.contents inputs.now))
         jobs index told.row.console told.line.items told.status) }
     ensures status_bound { IfOk result (λ told. told.status ≤ 1) }

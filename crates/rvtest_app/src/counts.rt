@@ -32,15 +32,15 @@ pub(crate) fn put_sum_of_tables<D: Inputs, F: Outputs + Drop, O: Sink + Drop, E:
     args: &CountsArgs<'_>,
     to: &mut Destinations<F, O, E>,
 ) -> Result<u8, Stop>
-    ensures put { IfOk result (λ status. IsSumWritten (D.contents inputs.now) args.now status
+    ensures written { IfOk result (λ status. IsSumWritten (D.contents inputs.now) args.now status
         (outputs_of F.committed O.accepted E.accepted E.failure_count to.old) (outputs_of F.committed O.accepted E.accepted E.failure_count to.new)) }
     ensures status_bound { IfOk result (λ status. status ≤ 1) }
-    ensures undone { OnErr result (F.committed to.new.files ≡ F.committed to.old.files) }
+    ensures nothing_committed { OnErr result (F.committed to.new.files ≡ F.committed to.old.files) }
     // Only the sum may go to standard output.
-    ensures untouched { (is_stdout (written_path (optional_text args.now.out)) ≡ true) ⊎ (to.new.out ≡ to.old.out) }
+    ensures out_unchanged { (is_stdout (written_path (optional_text args.now.out)) ≡ true) ⊎ (to.new.out ≡ to.old.out) }
     ensures stopped { IfErr result (IsCountsStop (D.contents inputs.now) args.now) }
     // The tables are not overwritten.
-    ensures kept { HoldsIfCommitted (IsSumFileNotAnInput args.now) (F.committed to.old.files) (F.committed to.new.files) }
+    ensures inputs_preserved { HoldsIfCommitted (IsSumFileNotAnInput args.now) (F.committed to.old.files) (F.committed to.new.files) }
 {
     reject_sum_overwrite(&to.files, alloc, args)?;
     let sum = sum_of_paths(inputs, alloc, args.tables.as_slice())?;
@@ -57,7 +57,7 @@ fn reject_sum_overwrite<F: Outputs>(
     alloc: Global,
     args: &CountsArgs<'_>,
 ) -> Result<(), Stop>
-    ensures apart { OnOk result (IfSome (F.committed files.now) (λ _. IsSumFileNotAnInput args.now)) }
+    ensures inputs_preserved { OnOk result (IfSome (F.committed files.now) (λ _. IsSumFileNotAnInput args.now)) }
     ensures stopped { IfErr result (IsSumOverwriteStop args.now) }
 {
     let read = identified_files(
@@ -71,7 +71,7 @@ fn reject_sum_overwrite<F: Outputs>(
 // Returns the sum of the tables of counts at these paths.
 fn sum_of_paths<D: Inputs>(inputs: &D, alloc: Global, paths: &[&str]) -> Result<CountTable, Stop>
     ensures added { IfOk result (AreTablesAdded (D.contents inputs.now) paths.now no_counts) }
-    ensures table { IfOk result IsValidTable }
+    ensures valid_table { IfOk result IsValidTable }
     ensures stopped { IfErr result (IsSumStop (D.contents inputs.now) paths.now) }
 {
     let mut sum = CountTable {
@@ -93,7 +93,7 @@ fn sum_with_path<D: Inputs>(
 ) -> Result<CountTable, Stop>
     requires { IsValidTable before.now }
     ensures added { IfOk result (IsTableAdded (D.contents inputs.now) path.now before.now) }
-    ensures table { IfOk result IsValidTable }
+    ensures valid_table { IfOk result IsValidTable }
     ensures stopped { IfErr result (IsTableNotAddedStop (D.contents inputs.now) path.now before.now) }
 {
     let text = read_result_file(inputs, alloc, path)?;
@@ -106,7 +106,7 @@ fn sum_with_path<D: Inputs>(
 
 /// Parses the text of the file at a path as a table of counts.
 pub(crate) fn table_of_text(alloc: Global, path: &str, text: &[u8]) -> Result<CountTable, Stop>
-    ensures table { IfOk result (λ table. IsValidTable table × (table_text table ≡ text.now)) }
+    ensures valid_table { IfOk result (λ table. IsValidTable table × (table_text table ≡ text.now)) }
     ensures stopped { IfErr result (IsTableFaultStop path.now text.now) }
 {
     match read_table(alloc, text) {

@@ -38,7 +38,7 @@ pub(crate) fn diff_reports<D: Inputs, F: Outputs + Drop, O: Sink + Drop, E: Sink
     args: DiffArgs<'_>,
     to: &mut Destinations<F, O, E>,
 ) -> Result<u8, Stop>
-    ensures put { IfOk result (λ status. IsDiffWritten (D.contents inputs.now) args.entry status
+    ensures written { IfOk result (λ status. IsDiffWritten (D.contents inputs.now) args.entry status
         (outputs_of F.committed O.accepted E.accepted E.failure_count to.old) (outputs_of F.committed O.accepted E.accepted E.failure_count to.new)) }
     ensures status_bound { IfOk result (λ status. status ≤ 1) }
     ensures stopped { IfErr result (λ stop. (stop ≡ WriteFailed)
@@ -76,7 +76,7 @@ fn diff_report_texts(
 ) -> Result<NotedDiff, Stop>
     ensures diff { IfOk result (λ noted. MatchResult new (λ new. IsDiffOf args.entry old.now new.items
         noted.found.text.items noted.notes.items noted.found.status) (λ stop. ⊥)) }
-    ensures blamed { IfErr result (IsDiffStop args.entry old.now new) }
+    ensures stopped { IfErr result (IsDiffStop args.entry old.now new) }
     ensures status_bound { IfOk result (λ noted. noted.found.status ≤ 1) }
 {
     let old = parse_requested_report(alloc, requested(args.old, args), old)?;
@@ -107,7 +107,7 @@ fn diff_read_reports(
     requires new { length new.report.rows < 2 ^ 32 }
     ensures diff { IfOk result (λ noted. IsDiffOfReports (requested_comparison args.entry.steps args.entry.slower)
         old.report new.report noted.found.text.items noted.found.status) }
-    ensures noted { IfOk result (λ noted. noted.notes.items
+    ensures notes { IfOk result (λ noted. noted.notes.items
         ≡ truncation_note args.entry.old.now old ++ truncation_note args.entry.new.now new) }
     ensures status_bound { IfOk result (λ noted. noted.found.status ≤ 1) }
     ensures memory { IfErr result (λ stop. stop ≡ OutOfMemory) }
@@ -131,7 +131,7 @@ fn diff_saved_reports(
     ensures status_bound { IfOk result (λ found. found.status ≤ 1) }
     ensures text { IfOk result (λ found. found.text.items
         ≡ diff_text compare (compared_rows new old) (compared_rows old new) (uncompared_row_count old new)) }
-    ensures judged { IfOk result (λ found. found.status
+    ensures exit_status { IfOk result (λ found. found.status
         ≡ diff_status (difference_counts compare (compared_rows new old) (compared_rows old new))) }
     ensures memory { IfErr result (λ stop. stop ≡ OutOfMemory) }
 {
@@ -203,7 +203,7 @@ fn diff_rows(
     ensures status_bound { IfOk result (λ found. found.status ≤ 1) }
     ensures text { IfOk result (λ found. found.text.items
         ≡ diff_text compare compared.entry.old.now compared.entry.new.now compared.entry.not_compared) }
-    ensures judged { IfOk result (λ found. found.status
+    ensures exit_status { IfOk result (λ found. found.status
         ≡ diff_status (difference_counts compare compared.entry.old.now compared.entry.new.now)) }
     ensures memory { IfErr result (λ stop. stop ≡ OutOfMemory) }
 {

@@ -58,10 +58,10 @@ pub(crate) fn show_job_to_gdb<
     input: &mut I,
     to: &mut Destinations<F, O, E>,
 ) -> Result<u8, Stop>
-    ensures answered { IfOk result (λ status. IsGdbServed (D.contents host.now.inputs.now) is_terminal args.entry
+    ensures served { IfOk result (λ status. IsGdbServed (D.contents host.now.inputs.now) is_terminal args.entry
         (I.remaining input.old) (I.remaining input.new) status
         (outputs_of F.committed O.accepted E.accepted E.failure_count to.old) (outputs_of F.committed O.accepted E.accepted E.failure_count to.new)) }
-    ensures done { IfOk result (λ status. status ≡ 0) }
+    ensures exit_status { IfOk result (λ status. status ≡ 0) }
     ensures stopped { IfErr result (λ stop. IsGdbStopped (D.contents host.now.inputs.now) is_terminal args.entry stop
         (outputs_of F.committed O.accepted E.accepted E.failure_count to.old) (outputs_of F.committed O.accepted E.accepted E.failure_count to.new)
         (O.failure_count to.old.out) (O.failure_count to.new.out)) }

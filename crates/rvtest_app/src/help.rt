@@ -13,9 +13,9 @@ use rvtest_cli::ArgsError;
 /// Writes the help or the version to standard output if the arguments request it, and returns status 0. Otherwise returns the error of the
 /// arguments.
 pub(crate) fn respond_to_args_error<O: Sink>(out: &mut O, error: ArgsError) -> Result<u8, Stop>
-    ensures done { IfOk result (λ status. status ≡ 0) }
-    ensures helped { OnOk result (IsHelpWritten error (O.accepted out.old) (O.accepted out.new)) }
-    ensures counted { OnOk result (O.failure_count out.new ≡ O.failure_count out.old) }
+    ensures exit_status { IfOk result (λ status. status ≡ 0) }
+    ensures help_written { OnOk result (IsHelpWritten error (O.accepted out.old) (O.accepted out.new)) }
+    ensures no_failed_writes { OnOk result (O.failure_count out.new ≡ O.failure_count out.old) }
     ensures stopped { IfErr result (IsArgsErrorStop error (O.failure_count out.old) (O.failure_count out.new)) }
 {
     match error {
@@ -28,10 +28,10 @@ pub(crate) fn respond_to_args_error<O: Sink>(out: &mut O, error: ArgsError) -> R
 
 // Writes the text of the help or the version to standard output, and returns status 0.
 fn write_help<O: Sink>(out: &mut O, text: &str) -> Result<u8, Stop>
-    ensures done { IfOk result (λ status. status ≡ 0) }
-    ensures put { OnOk result (Appends (O.accepted out.old) (O.accepted out.new) text.now) }
-    ensures counted { OnOk result (O.failure_count out.new ≡ O.failure_count out.old) }
-    ensures part { OnErr result (AppendsPrefix (O.accepted out.old) (O.accepted out.new) text.now) }
+    ensures exit_status { IfOk result (λ status. status ≡ 0) }
+    ensures written { OnOk result (Appends (O.accepted out.old) (O.accepted out.new) text.now) }
+    ensures no_failed_writes { OnOk result (O.failure_count out.new ≡ O.failure_count out.old) }
+    ensures prefix_written { OnErr result (AppendsPrefix (O.accepted out.old) (O.accepted out.new) text.now) }
     ensures stopped { IfErr result (IsHelpStop (O.failure_count out.old) (O.failure_count out.new)) }
 {
     write_results(out, text.as_bytes())?;

@@ -13,7 +13,7 @@ use std::alloc::{AllocError, Global};
 
 /// Returns the help about the keys of a job list if the topic is `keys`, and an error for any other topic.
 pub(crate) fn topic_help(alloc: Global, args: HelpArgs<'_>) -> Result<CommandResult, Stop>
-    ensures told { IfOk result (λ found. IsTopicPrinted args.entry.topic.now found.text.items found.status) }
+    ensures printed { IfOk result (λ found. IsTopicPrinted args.entry.topic.now found.text.items found.status) }
     ensures stopped { IfErr result (IsNoTopicStop args.entry.topic.now) }
 {
     if args.topic != "keys" {

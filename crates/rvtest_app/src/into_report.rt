@@ -43,7 +43,7 @@ impl<'a> IntoRows<'a> {
 // Replaces the rows of `whole` at the indices `indices`, in order, by `rows`.
 fn replace_rows_at(whole: &mut Vec<Row>, indices: &[usize], rows: Vec<Row>)
     requires within { All (λ index. index < vec_len whole.old) indices.now }
-    requires counted { length indices.now ≡ vec_len rows }
+    requires same_length { length indices.now ≡ vec_len rows }
     ensures { whole.new.items ≡ merged_rows indices.now rows.items whole.old.items }
 {
     let mut at = 0;

@@ -32,7 +32,7 @@ pub(crate) fn list_chosen_jobs<D: Inputs, F: Outputs + Drop, O: Sink + Drop, E: 
     args: &RunArgs<'_>,
     to: &mut Destinations<F, O, E>,
 ) -> Result<u8, Stop>
-    ensures put { IfOk result (λ status. IsListWritten (D.contents inputs.now) args.now status
+    ensures written { IfOk result (λ status. IsListWritten (D.contents inputs.now) args.now status
         (outputs_of F.committed O.accepted E.accepted E.failure_count to.old) (outputs_of F.committed O.accepted E.accepted E.failure_count to.new)) }
     ensures status_bound { IfOk result (λ status. status ≤ 1) }
     ensures stopped { IfErr result (λ stop. (stop ≡ Stop.WriteFailed)

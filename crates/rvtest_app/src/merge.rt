@@ -54,11 +54,11 @@ pub(crate) fn merge_reports<D: Inputs, F: Outputs + Drop, O: Sink + Drop, E: Sin
     ensures status_bound { IfOk result (λ status. status ≤ 1) }
     ensures merged { IfOk result (λ status. IsMergedAt (D.contents inputs.now) args.now status
         (outputs_of F.committed O.accepted E.accepted E.failure_count to.old) (outputs_of F.committed O.accepted E.accepted E.failure_count to.new)) }
-    ensures undone { OnErr result (IsAbortedMergeAt (D.contents inputs.now) args.now
+    ensures committed_after_error { OnErr result (IsAbortedMergeAt (D.contents inputs.now) args.now
         (F.committed to.old.files) (F.committed to.new.files)) }
     ensures stopped { IfErr result (IsMergeStop (D.contents inputs.now) args.now) }
     // The shards are not overwritten.
-    ensures kept { HoldsIfCommitted (AreMergeFilesNotInputs args.now) (F.committed to.old.files) (F.committed to.new.files) }
+    ensures inputs_preserved { HoldsIfCommitted (AreMergeFilesNotInputs args.now) (F.committed to.old.files) (F.committed to.new.files) }
 {
     reject_merge_overwrites(&to.files, alloc, args)?;
     let texts = read_part_texts(inputs, alloc, args)?;
@@ -74,7 +74,7 @@ fn reject_merge_overwrites<F: Outputs>(
     alloc: Global,
     args: &MergeArgs<'_>,
 ) -> Result<(), Stop>
-    ensures apart { OnOk result (IfSome (F.committed files.now) (λ _. AreMergeFilesNotInputs args.now)) }
+    ensures inputs_preserved { OnOk result (IfSome (F.committed files.now) (λ _. AreMergeFilesNotInputs args.now)) }
     ensures stopped { IfErr result (IsMergeOverwriteStop args.now) }
 {
     let read = identified_files(
@@ -104,10 +104,10 @@ fn merge_part_texts(alloc: Global, args: &MergeArgs<'_>, texts: &[Vec<u8>]) -> R
         (λ merged. AreParts merged.rows (map (λ text. text.items) texts.now)) }
     ensures line { IfOk result (λ merged. merged.line.items
         ≡ totals_line (report_judging args.now.lenient) merged.rows) }
-    ensures judged { IfOk result (λ merged. merged.status
+    ensures exit_status { IfOk result (λ merged. merged.status
         ≡ rows_status (report_judging args.now.lenient) merged.rows) }
     ensures status_bound { IfOk result (λ merged. merged.status ≤ 1) }
-    ensures blamed { IfErr result (IsPartsErrorStop args.now.parts.items (map (λ text. text.items) texts.now)) }
+    ensures stopped { IfErr result (IsPartsErrorStop args.now.parts.items (map (λ text. text.items) texts.now)) }
 {
     let judge = report_judge(args.lenient);
     let rows = rows_of_part_texts(alloc, args, texts)?;
@@ -120,8 +120,8 @@ fn merge_part_texts(alloc: Global, args: &MergeArgs<'_>, texts: &[Vec<u8>]) -> R
 // Returns the merged rows of the parts with these texts, in list order.
 fn rows_of_part_texts(alloc: Global, args: &MergeArgs<'_>, texts: &[Vec<u8>]) -> Result<Rows, Stop>
     ensures parts { IfOk result (λ rows. AreParts rows (map (λ text. text.items) texts.now)) }
-    ensures few { IfOk result (λ rows. length rows ≤ max_jobs) }
-    ensures blamed { IfErr result (IsPartsErrorStop args.now.parts.items (map (λ text. text.items) texts.now)) }
+    ensures at_most_max { IfOk result (λ rows. length rows ≤ max_jobs) }
+    ensures stopped { IfErr result (IsPartsErrorStop args.now.parts.items (map (λ text. text.items) texts.now)) }
 {
     let parts = text_slices(alloc, texts)?;
     match merge_parts(alloc, parts.as_slice()) {
@@ -138,7 +138,7 @@ fn read_part_texts<D: Inputs>(
 ) -> Result<Vec<Vec<u8>>, Stop>
     ensures read { IfOk result (λ texts. AreTextsAt (D.contents inputs.now)
         args.now.parts.items (map (λ text. text.items) texts.items)) }
-    ensures unread { IfErr result (IsPartsUnreadStop (D.contents inputs.now) args.now.parts.items) }
+    ensures stopped { IfErr result (IsPartsUnreadStop (D.contents inputs.now) args.now.parts.items) }
 {
     let mut texts = Vec::new(alloc);
     for path in &args.parts {
@@ -175,12 +175,12 @@ fn write_merged<F: Outputs + Drop, O: Sink + Drop, E: Sink + Drop>(
     merged: Merged,
     to: &mut Destinations<F, O, E>,
 ) -> Result<(), Stop>
-    ensures put { OnOk result (IsOutputWritten
+    ensures written { OnOk result (IsOutputWritten
         (merged_report_path (optional_text args.now.report) (optional_text args.now.junit))
         (optional_text args.now.junit) merged.line.items (report_text merged.rows)
         (merged_junit args.now merged.rows)
         (outputs_of F.committed O.accepted E.accepted E.failure_count to.old) (outputs_of F.committed O.accepted E.accepted E.failure_count to.new)) }
-    ensures part { OnErr result (AreFilesPartlyCommitted (F.committed to.old.files) (F.committed to.new.files)
+    ensures committed_after_error { OnErr result (AreFilesPartlyCommitted (F.committed to.old.files) (F.committed to.new.files)
         (Some (file_at (optional_text args.now.junit) (merged_junit args.now merged.rows)))) }
     ensures stopped { IfErr result (IsMergeWriteStop args.now) }
 {

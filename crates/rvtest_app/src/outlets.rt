@@ -54,7 +54,7 @@ pub(crate) fn open_outlets<'a, F: Outputs>(
     report: Option<&'a str>,
     junit: Option<&'a str>,
 ) -> Result<Outlets<'a, F::Place, F::File>, Stop>
-    ensures same { F.committed files.new ≡ F.committed files.old }
+    ensures nothing_committed { F.committed files.new ≡ F.committed files.old }
     ensures report { IfOk result (λ outlets. HasReceived F.pending_path F.File.accepted F.File.failure_count
         (F.committed files.old) (optional_text report.entry) [] outlets.report) }
     ensures junit { IfOk result (λ outlets. HasReceived F.pending_path F.File.accepted F.File.failure_count
@@ -80,7 +80,7 @@ pub(crate) fn open_outlet<'a, F: Outputs>(
     alloc: Global,
     path: Option<&'a str>,
 ) -> Result<Outlet<'a, F::Place, F::File>, Stop>
-    ensures same { F.committed files.new ≡ F.committed files.old }
+    ensures nothing_committed { F.committed files.new ≡ F.committed files.old }
     ensures open { IfOk result (HasReceived F.pending_path F.File.accepted F.File.failure_count
         (F.committed files.old) (optional_text path.entry) []) }
     ensures stopped { IfErr result (λ stop. IsSomeAnd (file_path_at (optional_text path.entry))
@@ -117,7 +117,7 @@ fn open_file<'a, F: Outputs>(
     path: &'a str,
 ) -> Result<Outlet<'a, F::Place, F::File>, Stop>
     requires { is_stdout path.now ≡ false }
-    ensures same { F.committed files.new ≡ F.committed files.old }
+    ensures nothing_committed { F.committed files.new ≡ F.committed files.old }
     ensures open { IfOk result (HasReceived F.pending_path F.File.accepted F.File.failure_count
         (F.committed files.old) (Some path.now) []) }
     ensures stopped { IfErr result (IsFileNotOpenedStop path.now) }
@@ -136,7 +136,7 @@ impl<'a, P: Drop, W: Drop> Outlet<'a, P, W> {
     /// Separates the outlet from its sink. The sink is `None` if the outlet is not a file.
     pub(crate) fn split_sink(self) -> (Outlet<'a, P, ()>, Option<W>)
         ensures parts { AreOutletParts result.0 result.1 self.entry }
-        ensures there { is_some result.1 ≡ is_file result.0 }
+        ensures sink_if_file { is_some result.1 ≡ is_file result.0 }
     {
         match self {
             Outlet::Nowhere => (Outlet::Nowhere, None),
@@ -221,12 +221,12 @@ impl<'a, P: Drop, W: Sink + LastError + Drop> Outlet<'a, P, W> {
         out: &mut O,
         report: ReportText<'_>,
     ) -> Result<(), Stop>
-        ensures put { OnOk result
+        ensures written { OnOk result
             (IsWrittenToOutlet W.accepted W.failure_count self.old self.new (report_rest_of report.entry)) }
-        ensures out { OnOk result (Appends (O.accepted out.old) (O.accepted out.new)
+        ensures out_written { OnOk result (Appends (O.accepted out.old) (O.accepted out.new)
             (text_if_stdout self.old (report_text_of report.entry))) }
-        ensures counted { OnOk result (O.failure_count out.new ≡ O.failure_count out.old) }
-        ensures part { OnErr result (AppendsPrefix (O.accepted out.old) (O.accepted out.new)
+        ensures no_failed_writes { OnOk result (O.failure_count out.new ≡ O.failure_count out.old) }
+        ensures prefix_written { OnErr result (AppendsPrefix (O.accepted out.old) (O.accepted out.new)
             (text_if_stdout self.old (report_text_of report.entry))) }
         ensures path { outlet_path self.new ≡ outlet_path self.old }
         ensures stopped { IfErr result (IsTextNotWrittenStop (outlet_path self.old)) }
@@ -250,13 +250,13 @@ impl<'a, P: Drop, W: Sink + LastError + Drop> Outlet<'a, P, W> {
         cases: &Cases<'_, T>,
     ) -> Result<(), Stop>
         requires known { AreLinesOf (T.line cases.now.reporter.now) cases.now.indices.now cases.now.rows.now cases.now.texts.now }
-        ensures put { OnOk result (IsWrittenToOutlet W.accepted W.failure_count self.old self.new
+        ensures written { OnOk result (IsWrittenToOutlet W.accepted W.failure_count self.old self.new
             (junit_text suite.now.name.now (judge_view suite.now.judge)
             (row_texts (T.line cases.now.reporter.now) cases.now.indices.now cases.now.rows.now) cases.now.rows.now)) }
-        ensures out { OnOk result (Appends (O.accepted out.old) (O.accepted out.new) (text_if_stdout self.old
+        ensures out_written { OnOk result (Appends (O.accepted out.old) (O.accepted out.new) (text_if_stdout self.old
             (junit_text suite.now.name.now (judge_view suite.now.judge)
             (row_texts (T.line cases.now.reporter.now) cases.now.indices.now cases.now.rows.now) cases.now.rows.now))) }
-        ensures counted { OnOk result (O.failure_count out.new ≡ O.failure_count out.old) }
+        ensures no_failed_writes { OnOk result (O.failure_count out.new ≡ O.failure_count out.old) }
         ensures path { outlet_path self.new ≡ outlet_path self.old }
         ensures stopped { IfErr result (IsTextNotWrittenStop (outlet_path self.old)) }
     {
@@ -273,7 +273,7 @@ impl<'a, P: Drop, W: Sink + LastError + Drop> Outlet<'a, P, W> {
 
 // Returns the result of writing a text to standard output, with the error as a stop.
 fn stdout_result(written: Result<(), WriteError>) -> Result<(), Stop>
-    ensures went { MatchResult written (λ _. IsOk result) (λ _. IsErr result) }
+    ensures same_success { MatchResult written (λ _. IsOk result) (λ _. IsErr result) }
     ensures stopped { IfErr result (λ stop. MatchResult written (λ _. ⊥) (λ error. stop ≡ stop_of_write_error error)) }
 {
     match written {
@@ -290,7 +290,7 @@ fn file_result(
     reason: ErrorKind,
     written: Result<(), WriteError>,
 ) -> Result<(), Stop>
-    ensures went { MatchResult written (λ _. IsOk result) (λ _. IsErr result) }
+    ensures same_success { MatchResult written (λ _. IsOk result) (λ _. IsErr result) }
     ensures stopped { IfErr result
         (λ stop. MatchResult written (λ _. ⊥) (λ error. IsWriteErrorStop path.now error stop)) }
 {

@@ -26,7 +26,7 @@ pub(crate) fn write_shown<F: Outputs + Drop, O: Sink + Drop, E: Sink + Drop>(
     text: &[u8],
     to_stderr: bool,
 ) -> Result<(), Stop>
-    ensures files { to.new.files ≡ to.old.files }
+    ensures files_unchanged { to.new.files ≡ to.old.files }
     ensures shown { OnOk result (IsWrittenToErrorsIf to_stderr text.now
         (outputs_of F.committed O.accepted E.accepted E.failure_count to.old) (outputs_of F.committed O.accepted E.accepted E.failure_count to.new)) }
     ensures stopped { IfErr result (λ stop. stop ≡ Stop.WriteFailed) }
@@ -49,8 +49,8 @@ pub(crate) fn put_files<F: Outputs + Drop, O: Sink + Drop, E: Sink + Drop, T: Ro
     requires known { AreLinesOf (T.line texts.reporter.now) texts.indices.now (report_rows texts.report) texts.texts.now }
     requires report { has_no_failure F.File.failure_count outlets.report }
     requires junit { has_no_failure F.File.failure_count outlets.junit }
-    ensures errors { to.new.errors ≡ to.old.errors }
-    ensures put { (had : List ℕ) (report_path junit_path : Option (List ℕ))
+    ensures errors_unchanged { to.new.errors ≡ to.old.errors }
+    ensures out_written { (had : List ℕ) (report_path junit_path : Option (List ℕ))
         → HasReceived F.pending_path F.File.accepted F.File.failure_count (F.committed to.old.files) report_path had outlets.entry.report
         → HasReceived F.pending_path F.File.accepted F.File.failure_count (F.committed to.old.files) junit_path [] outlets.entry.junit
         → OnOk result (Appends (O.accepted to.old.out) (O.accepted to.new.out)
@@ -61,7 +61,7 @@ pub(crate) fn put_files<F: Outputs + Drop, O: Sink + Drop, E: Sink + Drop, T: Ro
         → OnOk result (AreFilesCommitted (F.committed to.old.files) (F.committed to.new.files)
         (Some (file_at junit_path (junit_of_report T.line texts.entry)
         ++ file_at report_path (had ++ report_rest_of texts.entry.report)))) }
-    ensures part { (junit_path : Option (List ℕ))
+    ensures committed_after_error { (junit_path : Option (List ℕ))
         → HasReceived F.pending_path F.File.accepted F.File.failure_count (F.committed to.old.files) junit_path [] outlets.entry.junit
         → OnErr result (AreFilesPartlyCommitted (F.committed to.old.files) (F.committed to.new.files)
         (Some (file_at junit_path (junit_of_report T.line texts.entry)))) }

@@ -33,8 +33,8 @@ fn file_identities<F: Outputs>(
     alloc: Global,
     paths: &[InputPath<'_>],
 ) -> Result<Vec<Text>, AllocError>
-    ensures counted { IfOk result (λ found. length found.items ≡ length paths.now) }
-    ensures told { IfOk result (λ found. IfSome (F.committed files.now) (λ _. found.items ≡ input_paths paths.now)) }
+    ensures same_length { IfOk result (λ found. length found.items ≡ length paths.now) }
+    ensures are_paths { IfOk result (λ found. IfSome (F.committed files.now) (λ _. found.items ≡ input_paths paths.now)) }
 {
     let mut found = Vec::new(alloc);
     for at in 0..paths.len() {
@@ -51,7 +51,7 @@ pub(crate) fn reject_option_overwrite<F: Outputs>(
     path: Option<&str>,
     read: &InputFiles<'_>,
 ) -> Result<(), Stop>
-    ensures apart { (paths : List (List ℕ)) → HaveIdentities (F.committed files.now) paths read.now
+    ensures is_no_input { (paths : List (List ℕ)) → HaveIdentities (F.committed files.now) paths read.now
         → OnOk result (IfSome (F.committed files.now) (λ _. IsNotAnInputIfFile paths (optional_text path.entry))) }
     ensures stopped { IfErr result (IsOptionOverwriteStop option.now (optional_text path.entry)) }
 {
@@ -69,7 +69,7 @@ pub(crate) fn reject_file_overwrite<F: Outputs>(
     path: &str,
     read: &InputFiles<'_>,
 ) -> Result<(), Stop>
-    ensures apart { (paths : List (List ℕ)) → HaveIdentities (F.committed files.now) paths read.now
+    ensures is_no_input { (paths : List (List ℕ)) → HaveIdentities (F.committed files.now) paths read.now
         → OnOk result (IfSome (F.committed files.now) (λ _. IsNotAnInput paths path.now)) }
     ensures stopped { IfErr result (IsOverwriteStop option.now path.now) }
 {

@@ -24,7 +24,7 @@ pub(crate) fn profile_requested_jobs<
     O: Sink + Drop,
     E: Sink + Drop,
 >(host: &Host<'_, R, D>, args: &ProfileArgs<'_>, to: &mut Destinations<F, O, E>) -> Result<u8, Stop>
-    ensures put { IfOk result (λ status. IsProfileWritten (D.contents host.now.inputs.now) args.now status
+    ensures written { IfOk result (λ status. IsProfileWritten (D.contents host.now.inputs.now) args.now status
         (outputs_of F.committed O.accepted E.accepted E.failure_count to.old) (outputs_of F.committed O.accepted E.accepted E.failure_count to.new)) }
     ensures status_bound { IfOk result (λ status. status ≤ 1) }
     ensures stopped { IfErr result (λ stop. (stop ≡ Stop.WriteFailed)

@@ -63,7 +63,7 @@ where
     F::File: Send,
     ensures status_bound { O.closed result.0.out ≡ false → result.1 ≤ 3 }
     // A status of 0 or 1 means that everything was written, to standard output in the requested colours.
-    ensures answered { result.1 ≤ 1 → IsCarriedOut (D.contents host.now.inputs.now) (I.remaining input.old)
+    ensures carried_out { result.1 ≤ 1 → IsCarriedOut (D.contents host.now.inputs.now) (I.remaining input.old)
         terminals.is_out_terminal terminals.is_out_colored (map T.text args.entry.now) result.1
         (outputs_of F.committed O.accepted E.accepted E.failure_count to) (outputs_of F.committed O.accepted E.accepted E.failure_count result.0) }
     // Any other status means that the command stopped before its work was done and that its last output says so, except when the reader
@@ -172,7 +172,7 @@ where
         terminals.is_out_terminal request.entry status
         (outputs_of F.committed O.accepted E.accepted E.failure_count to) (outputs_of F.committed O.accepted E.accepted E.failure_count result.0)) }
     // A command that a failed write could not have stopped wrote nothing.
-    ensures untouched { IfOk result.1 (λ _.
+    ensures out_unchanged { IfOk result.1 (λ _.
         IsCommandStop (D.contents host.now.inputs.now) terminals.is_out_terminal request.entry Stop.WriteFailed
         ⊎ (result.0.out ≡ to.out)) }
     ensures stopped { IfErr result.1 (IsCommandStop (D.contents host.now.inputs.now) terminals.is_out_terminal request.entry) }
@@ -206,7 +206,7 @@ where
 pub fn reject_unreadable_args<E: Sink>(error: &io::Error, errors: &mut E) -> u8
     ensures status_bound { result ≤ 3 }
     ensures status { result ≡ unreadable_args_status (error_kind error.now) }
-    ensures told { IsMessageWritten (E.accepted errors.old) (E.accepted errors.new) (E.failure_count errors.old) (E.failure_count errors.new)
+    ensures reported { IsMessageWritten (E.accepted errors.old) (E.accepted errors.new) (E.failure_count errors.old) (E.failure_count errors.new)
         (unreadable_args_message (error_kind error.now)) }
 {
     match error.kind() {

@@ -41,12 +41,12 @@ impl<'a> ReportText<'a> {
 
     /// Writes the report. After an error, a prefix of it has been written.
     pub(crate) fn write<W: Sink>(self, alloc: Global, out: &mut W) -> Result<(), WriteError>
-        ensures all { OnOk result
+        ensures written { OnOk result
             (Appends (W.accepted out.old) (W.accepted out.new) (report_text_of self.entry)) }
-        ensures counted { OnOk result (W.failure_count out.new ≡ W.failure_count out.old) }
-        ensures part { OnErr result
+        ensures no_failed_writes { OnOk result (W.failure_count out.new ≡ W.failure_count out.old) }
+        ensures prefix_written { OnErr result
             (AppendsPrefix (W.accepted out.old) (W.accepted out.new) (report_text_of self.entry)) }
-        ensures failed { IfErr result (λ error. error ≡ WriteError.Failed
+        ensures failures_increased { IfErr result (λ error. error ≡ WriteError.Failed
             → HasIncreased (W.failure_count out.old) (W.failure_count out.new)) }
     {
         match self {
@@ -58,12 +58,12 @@ impl<'a> ReportText<'a> {
 
     /// Writes the part of the report that is written after all jobs have finished. After an error, a prefix of it has been written.
     pub(crate) fn write_rest<W: Sink>(self, alloc: Global, out: &mut W) -> Result<(), WriteError>
-        ensures all { OnOk result
+        ensures written { OnOk result
             (Appends (W.accepted out.old) (W.accepted out.new) (report_rest_of self.entry)) }
-        ensures counted { OnOk result (W.failure_count out.new ≡ W.failure_count out.old) }
-        ensures part { OnErr result
+        ensures no_failed_writes { OnOk result (W.failure_count out.new ≡ W.failure_count out.old) }
+        ensures prefix_written { OnErr result
             (AppendsPrefix (W.accepted out.old) (W.accepted out.new) (report_rest_of self.entry)) }
-        ensures failed { IfErr result (λ error. error ≡ WriteError.Failed
+        ensures failures_increased { IfErr result (λ error. error ≡ WriteError.Failed
             → HasIncreased (W.failure_count out.old) (W.failure_count out.new)) }
     {
         match self {
@@ -80,12 +80,12 @@ fn write_whole_report<W: Sink>(
     into: IntoRows<'_>,
     out: &mut W,
 ) -> Result<(), WriteError>
-    ensures all { OnOk result (Appends (W.accepted out.old) (W.accepted out.new)
+    ensures written { OnOk result (Appends (W.accepted out.old) (W.accepted out.new)
         (report_text (merged_rows into.entry.chosen.indices.now into.entry.chosen.rows into.entry.old))) }
-    ensures counted { OnOk result (W.failure_count out.new ≡ W.failure_count out.old) }
-    ensures part { OnErr result (AppendsPrefix (W.accepted out.old) (W.accepted out.new)
+    ensures no_failed_writes { OnOk result (W.failure_count out.new ≡ W.failure_count out.old) }
+    ensures prefix_written { OnErr result (AppendsPrefix (W.accepted out.old) (W.accepted out.new)
         (report_text (merged_rows into.entry.chosen.indices.now into.entry.chosen.rows into.entry.old))) }
-    ensures failed { IfErr result (λ error. error ≡ WriteError.Failed
+    ensures failures_increased { IfErr result (λ error. error ≡ WriteError.Failed
         → HasIncreased (W.failure_count out.old) (W.failure_count out.new)) }
 {
     let rows = into.into_whole_rows();

@@ -47,7 +47,7 @@ impl<'x, R, D: Inputs> ListRun<'x, R, D> {
     // Returns the rows of the report of `--into`, which the run updates; `None` without this option.
     fn old_rows(&self, jobs: &[Job]) -> Result<Option<Rows>, Stop>
         ensures old { IfOk result (AreOldRows (D.contents self.now.host.now.inputs.now) self.now.args.now jobs.now) }
-        ensures counted { IfOk result (λ old. ForSome old (λ rows. length rows ≡ length jobs.now)) }
+        ensures same_length { IfOk result (λ old. ForSome old (λ rows. length rows ≡ length jobs.now)) }
         ensures stopped { IfErr result (IsIntoStop (D.contents self.now.host.now.inputs.now) self.now.args.now jobs.now) }
     {
         let (inputs, alloc) = (self.host.inputs, self.host.alloc);
@@ -66,7 +66,7 @@ impl<'x, R, D: Inputs> ListRun<'x, R, D> {
         old: Option<Rows>,
     ) -> Result<RequestedJobs, Stop>
         requires shard { (0 < shard.number) × (shard.number ≤ shard.shards) }
-        requires counted { ForSome old (λ rows. length rows ≡ length jobs) }
+        requires same_length { ForSome old (λ rows. length rows ≡ length jobs) }
         ensures old { IfOk result (λ requested. requested.context.old ≡ old) }
         ensures selected { IfOk result (λ requested. (requested.jobs ≡ jobs) × (requested.context.shard ≡ Some shard)
             × (option_map (λ selection. selection.items) requested.selection

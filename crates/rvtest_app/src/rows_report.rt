@@ -24,12 +24,12 @@ pub(crate) fn write_chosen_report<W: Sink>(
     shard: Option<Shard>,
     out: &mut W,
 ) -> Result<(), WriteError>
-    ensures all { OnOk result (Appends (W.accepted out.old) (W.accepted out.new)
+    ensures written { OnOk result (Appends (W.accepted out.old) (W.accepted out.new)
         (chosen_report_text chosen.entry.jobs chosen.entry.indices.now shard chosen.entry.rows)) }
-    ensures counted { OnOk result (W.failure_count out.new ≡ W.failure_count out.old) }
-    ensures part { OnErr result (AppendsPrefix (W.accepted out.old) (W.accepted out.new)
+    ensures no_failed_writes { OnOk result (W.failure_count out.new ≡ W.failure_count out.old) }
+    ensures prefix_written { OnErr result (AppendsPrefix (W.accepted out.old) (W.accepted out.new)
         (chosen_report_text chosen.entry.jobs chosen.entry.indices.now shard chosen.entry.rows)) }
-    ensures failed { IfErr result (λ error. error ≡ WriteError.Failed
+    ensures failures_increased { IfErr result (λ error. error ≡ WriteError.Failed
         → HasIncreased (W.failure_count out.old) (W.failure_count out.new)) }
 {
     let extent = match shard {
@@ -49,12 +49,12 @@ pub(crate) fn write_last_line<W: Sink>(
     shard: Option<Shard>,
     out: &mut W,
 ) -> Result<(), WriteError>
-    ensures all { OnOk result (Appends (W.accepted out.old) (W.accepted out.new)
+    ensures written { OnOk result (Appends (W.accepted out.old) (W.accepted out.new)
         (chosen_last_line chosen.entry.jobs chosen.entry.indices.now shard chosen.entry.rows)) }
-    ensures counted { OnOk result (W.failure_count out.new ≡ W.failure_count out.old) }
-    ensures part { OnErr result (AppendsPrefix (W.accepted out.old) (W.accepted out.new)
+    ensures no_failed_writes { OnOk result (W.failure_count out.new ≡ W.failure_count out.old) }
+    ensures prefix_written { OnErr result (AppendsPrefix (W.accepted out.old) (W.accepted out.new)
         (chosen_last_line chosen.entry.jobs chosen.entry.indices.now shard chosen.entry.rows)) }
-    ensures failed { IfErr result (λ error. error ≡ WriteError.Failed
+    ensures failures_increased { IfErr result (λ error. error ≡ WriteError.Failed
         → HasIncreased (W.failure_count out.old) (W.failure_count out.new)) }
 {
     let extent = match shard {
@@ -75,12 +75,12 @@ fn write_part_report<W: Sink>(
     chosen: ChosenRows<'_>,
     out: &mut W,
 ) -> Result<(), WriteError>
-    ensures all { OnOk result (Appends (W.accepted out.old) (W.accepted out.new)
+    ensures written { OnOk result (Appends (W.accepted out.old) (W.accepted out.new)
         (part_text extent chosen.entry.indices.now chosen.entry.rows)) }
-    ensures counted { OnOk result (W.failure_count out.new ≡ W.failure_count out.old) }
-    ensures part { OnErr result (AppendsPrefix (W.accepted out.old) (W.accepted out.new)
+    ensures no_failed_writes { OnOk result (W.failure_count out.new ≡ W.failure_count out.old) }
+    ensures prefix_written { OnErr result (AppendsPrefix (W.accepted out.old) (W.accepted out.new)
         (part_text extent chosen.entry.indices.now chosen.entry.rows)) }
-    ensures failed { IfErr result (λ error. error ≡ WriteError.Failed
+    ensures failures_increased { IfErr result (λ error. error ≡ WriteError.Failed
         → HasIncreased (W.failure_count out.old) (W.failure_count out.new)) }
 {
     let report = SavedReport {

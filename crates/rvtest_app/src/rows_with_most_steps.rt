@@ -28,7 +28,7 @@ fn insert_by_steps<'a>(top_rows: &mut Vec<&'a Row>, row: &'a Row) -> Result<(), 
     requires { length top_rows.old.items ≤ MAX_SHOWN }
     ensures rows { OnOk result (map (λ row. row.now) top_rows.new.items
         ≡ take MAX_SHOWN (inserted_by_steps row.now (map (λ row. row.now) top_rows.old.items))) }
-    ensures few { OnOk result (length top_rows.new.items ≤ MAX_SHOWN) }
+    ensures at_most_max { OnOk result (length top_rows.new.items ≤ MAX_SHOWN) }
 {
     let rank = rank_by_steps(top_rows.as_slice(), row.steps);
     if rank == MAX_SHOWN {

@@ -57,14 +57,14 @@ where
     F::File: Send,
     ensures run { IfOk result.1 (λ status. IsRunAt (D.contents host.now.inputs.now) args.now status
         (outputs_of F.committed O.accepted E.accepted E.failure_count to) (outputs_of F.committed O.accepted E.accepted E.failure_count result.0)) }
-    ensures undone { OnErr result.1 (IsAbortedRunAt (D.contents host.now.inputs.now) args.now
+    ensures committed_after_error { OnErr result.1 (IsAbortedRunAt (D.contents host.now.inputs.now) args.now
         (F.committed to.files) (F.committed result.0.files)) }
     ensures status_bound { IfOk result.1 (λ status. status ≤ 1) }
-    ensures untouched { IfOk result.1 (λ _. AreJobsToRun (D.contents host.now.inputs.now) args.now
+    ensures out_unchanged { IfOk result.1 (λ _. AreJobsToRun (D.contents host.now.inputs.now) args.now
         ⊎ (result.0.out ≡ to.out)) }
     ensures stopped { IfErr result.1 (IsRunStop (D.contents host.now.inputs.now) args.now) }
     // The inputs of the run are not overwritten.
-    ensures kept { AreRunInputsPreserved (D.contents host.now.inputs.now) args.now (F.committed to.files) (F.committed result.0.files) }
+    ensures inputs_preserved { AreRunInputsPreserved (D.contents host.now.inputs.now) args.now (F.committed to.files) (F.committed result.0.files) }
 {
     let run = ListRun {
         host,
@@ -123,7 +123,7 @@ impl<'x, R: Threads + Wait + Sync + Clock, D: Inputs> ListRun<'x, R, D> {
         ensures run { IfOk result.1 (λ status. IsRunOfSelected (D.contents self.now.host.now.inputs.now) self.now.args.now
             selected.known selected.jobs (Some selected.selection.items) selected.context.shard selected.context.old status
             (outputs_of F.committed O.accepted E.accepted E.failure_count to) (outputs_of F.committed O.accepted E.accepted E.failure_count result.0)) }
-        ensures undone { OnErr result.1 (IsAbortedRunOfJobs (D.contents self.now.host.now.inputs.now) self.now.args.now
+        ensures committed_after_error { OnErr result.1 (IsAbortedRunOfJobs (D.contents self.now.host.now.inputs.now) self.now.args.now
             selected.known selected.jobs (selected_job_indices selected.selection.items) selected.context.shard selected.context.old
             (F.committed to.files) (F.committed result.0.files)) }
         ensures stopped { IfErr result.1 (IsRunWriteStop self.now.args.now) }
@@ -181,12 +181,12 @@ pub(crate) fn gather_jobs_at<S: Store>(
     store: &mut S,
 ) -> Result<Plan, AllocError>
     requires { All (λ index. index < length jobs) indices.now }
-    ensures same { S.contents store.new ≡ S.contents store.old }
+    ensures contents_unchanged { S.contents store.new ≡ S.contents store.old }
     ensures jobs { IfOk result (λ plan. plan.jobs ≡ jobs) }
     ensures paths { IfOk result (λ plan. paths_of plan.results
         ≡ paths_used (jobs_needed_for jobs indices.now)) }
     ensures kept { IfOk result (λ plan. AgreeWithContents (S.contents store.old) plan.results) }
-    ensures faults { IfOk result (λ plan. S.fault_count store.new
+    ensures unreadable_count { IfOk result (λ plan. S.fault_count store.new
         ≡ after_increments (S.fault_count store.old) (unreadable_count plan.results)) }
 {
     gather_jobs(alloc, jobs, Vec::from_slice(alloc, indices)?, store)

@@ -38,15 +38,15 @@ impl<'x, R: Threads + Wait + Sync + Clock, D: Inputs> ListRun<'x, R, D> {
         requires rising { IsStrictlyIncreasing indices.now }
         requires open { (path : Option (List ℕ))
             × HasReceived F.pending_path F.File.accepted F.File.failure_count None path [] outlet }
-        ensures counted { (path : Option (List ℕ)) (earlier : Option (List CommittedFile))
+        ensures counts_written { (path : Option (List ℕ)) (earlier : Option (List CommittedFile))
             → HasReceived F.pending_path F.File.accepted F.File.failure_count earlier path [] outlet.entry
             → OnOk result (AreCountsWritten self.now.args.now.stacks path plan.now indices.now
             (with_committed_if_reported earlier (outputs_of F.committed O.accepted E.accepted E.failure_count to.old))
             (outputs_of F.committed O.accepted E.accepted E.failure_count to.new)) }
-        ensures requested { (path : Option (List ℕ)) (earlier : Option (List CommittedFile))
+        ensures path_given { (path : Option (List ℕ)) (earlier : Option (List CommittedFile))
             → HasReceived F.pending_path F.File.accepted F.File.failure_count earlier path [] outlet.entry
             → OnErr result (is_some path ≡ true) }
-        ensures same { OnErr result (F.committed to.new.files ≡ F.committed to.old.files) }
+        ensures nothing_committed { OnErr result (F.committed to.new.files ≡ F.committed to.old.files) }
         ensures stopped { IfErr result (IsCountsWriteStop self.now.args.now (outlet_path outlet.entry)) }
     {
         if let Outlet::Nowhere = outlet {

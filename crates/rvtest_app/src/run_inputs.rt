@@ -22,7 +22,7 @@ pub(crate) fn reject_run_overwrites<F: Outputs>(
     args: &RunArgs<'_>,
     jobs: &[Job],
 ) -> Result<(), Stop>
-    ensures apart { OnOk result (IfSome (F.committed files.now) (λ _. AreRunFilesNotInputs args.now jobs.now)) }
+    ensures inputs_preserved { OnOk result (IfSome (F.committed files.now) (λ _. AreRunFilesNotInputs args.now jobs.now)) }
     ensures stopped { IfErr result (IsRunOverwriteStop args.now) }
 {
     let inputs = identified_files(files, alloc, inputs_of_run(alloc, args, jobs)?)?;
@@ -39,7 +39,7 @@ fn reject_report_overwrites<F: Outputs>(
     alloc: Global,
     args: &RunArgs<'_>,
 ) -> Result<(), Stop>
-    ensures apart { OnOk result (IfSome (F.committed files.now) (λ _. AreReportsPreserved args.now)) }
+    ensures inputs_preserved { OnOk result (IfSome (F.committed files.now) (λ _. AreReportsPreserved args.now)) }
     ensures stopped { IfErr result (IsRunOverwriteStop args.now) }
 {
     let failed = identified_files(files, alloc, failed_report_path(alloc, args)?)?;

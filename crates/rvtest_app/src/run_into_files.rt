@@ -64,15 +64,15 @@ impl<'x, R: Threads + Wait + Sync + Clock, D: Inputs> ListRun<'x, R, D> {
     ) -> (Destinations<F, O, E>, Result<u8, Stop>)
     where
         F::File: Send,
-        requires whole { ForSome context.old (λ rows. length rows ≡ length planned.now.reporter.now.plan.now.jobs) }
+        requires old_row_per_job { ForSome context.old (λ rows. length rows ≡ length planned.now.reporter.now.plan.now.jobs) }
         ensures status { IfOk result.1 (λ status. status ≡ rows_status (judge_view planned.now.reporter.now.judge) (run_rows
             self.now.args.now.stop_after (judge_view planned.now.reporter.now.judge) planned.now.reporter.now.plan.now
             planned.now.indices.now)) }
-        ensures outputs_of { OnOk result.1 (IsCountedRunWritten self.now.args.now (reporter_of planned.now.reporter.now)
+        ensures written { OnOk result.1 (IsCountedRunWritten self.now.args.now (reporter_of planned.now.reporter.now)
             planned.now.indices.now context.shard context.old (run_rows self.now.args.now.stop_after
             (judge_view planned.now.reporter.now.judge) planned.now.reporter.now.plan.now planned.now.indices.now)
             (outputs_of F.committed O.accepted E.accepted E.failure_count to) (outputs_of F.committed O.accepted E.accepted E.failure_count result.0)) }
-        ensures part { (rows : List ARow) → rows ≡ run_rows self.now.args.now.stop_after
+        ensures committed_after_error { (rows : List ARow) → rows ≡ run_rows self.now.args.now.stop_after
             (judge_view planned.now.reporter.now.judge) planned.now.reporter.now.plan.now planned.now.indices.now
             → OnErr result.1 ((F.committed result.0.files ≡ F.committed to.files)
             ⊎ AreRunFilesPartlyCommitted self.now.args.now (reporter_of planned.now.reporter.now) planned.now.indices.now context.shard
@@ -138,18 +138,18 @@ impl<'x, R: Threads + Wait + Sync + Clock, D: Inputs> ListRun<'x, R, D> {
     ) -> (Destinations<F, O, E>, Result<u8, Stop>)
         requires rows { IfOk run.ran (λ rows. rows ≡ run_rows self.now.args.now.stop_after (judge_view planned.now.reporter.now.judge)
             planned.now.reporter.now.plan.now planned.now.indices.now) }
-        requires few { IfOk run.ran (λ rows. length rows ≤ length planned.now.indices.now) }
+        requires row_count { IfOk run.ran (λ rows. length rows ≤ length planned.now.indices.now) }
         requires texts { IfOk run.ran (λ rows. AreLinesOf (failure_lines (reporter_of planned.now.reporter.now))
             planned.now.indices.now rows run.texts.items) }
         requires failed { IfErr run.ran (λ error. error ≡ ReportFailed → is_some (outlet_path outlets.report) ≡ true) }
-        requires whole { ForSome context.old (λ rows. length rows ≡ length planned.now.reporter.now.plan.now.jobs) }
+        requires old_row_per_job { ForSome context.old (λ rows. length rows ≡ length planned.now.reporter.now.plan.now.jobs) }
         requires path { outlet_path outlets.report ≡ file_path_at (run_report_path self.now.args.now) }
-        requires taken { IfOk run.ran (λ rows. HaveRunOutletsReceived F.pending_path F.File.accepted F.File.failure_count (F.committed to.files)
+        requires received { IfOk run.ran (λ rows. HaveRunOutletsReceived F.pending_path F.File.accepted F.File.failure_count (F.committed to.files)
             self.now.args.now (streamed_rows context.old (shown_indices planned.now.indices.now rows) rows) outlets) }
         ensures status { IfOk result.1 (λ status. status ≡ rows_status (judge_view planned.now.reporter.now.judge) (run_rows
             self.now.args.now.stop_after (judge_view planned.now.reporter.now.judge) planned.now.reporter.now.plan.now
             planned.now.indices.now)) }
-        ensures outputs_of { (before : CommandOutputs) → OnOk run.ran (IsWrittenToErrorsIf (uses_run_stdout self.now.args.now) (run_output_text
+        ensures written { (before : CommandOutputs) → OnOk run.ran (IsWrittenToErrorsIf (uses_run_stdout self.now.args.now) (run_output_text
             (row_lines_at (reporter_of planned.now.reporter.now)) (judge_view planned.now.reporter.now.judge)
             planned.now.reporter.now.plan.now planned.now.indices.now (run_rows self.now.args.now.stop_after
             (judge_view planned.now.reporter.now.judge) planned.now.reporter.now.plan.now planned.now.indices.now))
@@ -158,7 +158,7 @@ impl<'x, R: Threads + Wait + Sync + Clock, D: Inputs> ListRun<'x, R, D> {
             context.shard context.old (run_rows self.now.args.now.stop_after (judge_view planned.now.reporter.now.judge)
             planned.now.reporter.now.plan.now planned.now.indices.now) before
             (outputs_of F.committed O.accepted E.accepted E.failure_count result.0)) }
-        ensures part { OnErr result.1 ((F.committed result.0.files ≡ F.committed to.files)
+        ensures committed_after_error { OnErr result.1 ((F.committed result.0.files ≡ F.committed to.files)
             ⊎ AreRunFilesPartlyCommitted self.now.args.now (reporter_of planned.now.reporter.now) planned.now.indices.now context.shard
             context.old (run_rows self.now.args.now.stop_after (judge_view planned.now.reporter.now.judge)
             planned.now.reporter.now.plan.now planned.now.indices.now) (F.committed to.files) (F.committed result.0.files)) }
@@ -191,19 +191,19 @@ impl<'x, R: Threads + Wait + Sync + Clock, D: Inputs> ListRun<'x, R, D> {
     ) -> Result<u8, Stop>
         requires rows { rows ≡ run_rows self.now.args.now.stop_after (judge_view planned.now.reporter.now.judge)
             planned.now.reporter.now.plan.now planned.now.indices.now }
-        requires few { length rows ≤ length planned.now.indices.now }
+        requires row_count { length rows ≤ length planned.now.indices.now }
         requires texts { AreLinesOf (failure_lines (reporter_of planned.now.reporter.now)) planned.now.indices.now rows texts.items }
-        requires whole { ForSome context.old (λ rows. length rows ≡ length planned.now.reporter.now.plan.now.jobs) }
-        requires taken { HaveRunOutletsReceived F.pending_path F.File.accepted F.File.failure_count (F.committed to.old.files) self.now.args.now
+        requires old_row_per_job { ForSome context.old (λ rows. length rows ≡ length planned.now.reporter.now.plan.now.jobs) }
+        requires received { HaveRunOutletsReceived F.pending_path F.File.accepted F.File.failure_count (F.committed to.old.files) self.now.args.now
             (streamed_rows context.old (shown_indices planned.now.indices.now rows) rows) outlets }
         ensures status { IfOk result (λ status. status ≡ rows_status (judge_view planned.now.reporter.now.judge) rows) }
-        ensures outputs_of { (before : CommandOutputs) → IsWrittenToErrorsIf (uses_run_stdout self.now.args.now) (run_output_text
+        ensures written { (before : CommandOutputs) → IsWrittenToErrorsIf (uses_run_stdout self.now.args.now) (run_output_text
             (row_lines_at (reporter_of planned.now.reporter.now)) (judge_view planned.now.reporter.now.judge)
             planned.now.reporter.now.plan.now planned.now.indices.now rows)
             before (outputs_of F.committed O.accepted E.accepted E.failure_count to.old)
             → OnOk result (IsCountedRunWritten self.now.args.now (reporter_of planned.now.reporter.now) planned.now.indices.now
             context.shard context.old rows before (outputs_of F.committed O.accepted E.accepted E.failure_count to.new)) }
-        ensures part { OnErr result ((F.committed to.new.files ≡ F.committed to.old.files)
+        ensures committed_after_error { OnErr result ((F.committed to.new.files ≡ F.committed to.old.files)
             ⊎ AreRunFilesPartlyCommitted self.now.args.now (reporter_of planned.now.reporter.now) planned.now.indices.now context.shard
             context.old rows (F.committed to.old.files) (F.committed to.new.files)) }
         ensures stopped { IfErr result (IsRunWriteStop self.now.args.now) }
@@ -237,14 +237,14 @@ impl<'x, R: Threads + Wait + Sync + Clock, D: Inputs> ListRun<'x, R, D> {
         outlets: Outlets<'_, F::Place, F::File>,
         to: &mut Destinations<F, O, E>,
     ) -> Result<u8, Stop>
-        requires counted { length rows ≡ length planned.now.indices.now }
+        requires same_length { length rows ≡ length planned.now.indices.now }
         requires texts { AreLinesOf (failure_lines (reporter_of planned.now.reporter.now)) planned.now.indices.now rows texts.items }
-        requires whole { ForSome context.old (λ rows. length rows ≡ length planned.now.reporter.now.plan.now.jobs) }
+        requires old_row_per_job { ForSome context.old (λ rows. length rows ≡ length planned.now.reporter.now.plan.now.jobs) }
         requires report { has_no_failure F.File.failure_count outlets.report }
         requires junit { has_no_failure F.File.failure_count outlets.junit }
         ensures status { IfOk result (λ status. status ≡ rows_status (judge_view planned.now.reporter.now.judge) rows) }
-        ensures errors { to.new.errors ≡ to.old.errors }
-        ensures put { (report_path junit_path : Option (List ℕ))
+        ensures errors_unchanged { to.new.errors ≡ to.old.errors }
+        ensures out_written { (report_path junit_path : Option (List ℕ))
             → HasReceived F.pending_path F.File.accepted F.File.failure_count (F.committed to.old.files) report_path
             (streamed_rows context.old planned.now.indices.now rows) outlets.entry.report
             → HasReceived F.pending_path F.File.accepted F.File.failure_count (F.committed to.old.files) junit_path [] outlets.entry.junit
@@ -260,7 +260,7 @@ impl<'x, R: Threads + Wait + Sync + Clock, D: Inputs> ListRun<'x, R, D> {
             (Some (file_at junit_path (run_junit self.now.args.now (reporter_of planned.now.reporter.now)
             planned.now.indices.now rows) ++ file_at report_path (run_report_text context.old
             (length planned.now.reporter.now.plan.now.jobs) planned.now.indices.now context.shard rows)))) }
-        ensures part { (junit_path : Option (List ℕ))
+        ensures committed_after_error { (junit_path : Option (List ℕ))
             → HasReceived F.pending_path F.File.accepted F.File.failure_count (F.committed to.old.files) junit_path [] outlets.entry.junit
             → OnErr result (AreFilesPartlyCommitted (F.committed to.old.files) (F.committed to.new.files)
             (Some (file_at junit_path (run_junit self.now.args.now (reporter_of planned.now.reporter.now)

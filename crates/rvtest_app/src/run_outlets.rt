@@ -25,7 +25,7 @@ pub(crate) fn open_run_outlets<'a, F: Outputs>(
     alloc: Global,
     args: &RunArgs<'a>,
 ) -> Result<RunOutlets<'a, F::Place, F::File>, Stop>
-    ensures same { F.committed files.new ≡ F.committed files.old }
+    ensures nothing_committed { F.committed files.new ≡ F.committed files.old }
     ensures open { IfOk result (HaveRunOutletsReceived F.pending_path F.File.accepted F.File.failure_count (F.committed files.old) args.now []) }
     ensures stopped { IfErr result (IsRunWriteStop args.now) }
 {

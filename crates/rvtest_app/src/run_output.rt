@@ -69,12 +69,12 @@ pub(crate) fn write_totals_line<W: Sink>(
     ran: Result<Rows, ShowError>,
     out: &mut W,
 ) -> Result<Rows, ShowError>
-    requires few { IfOk ran (λ rows. length rows ≤ length batch.now.places.now) }
+    requires row_count { IfOk ran (λ rows. length rows ≤ length batch.now.places.now) }
     ensures rows { IfOk result (λ rows. ran ≡ Ok rows) }
     ensures line { IfOk result (λ rows. Appends (W.accepted out.old) (W.accepted out.new)
         (run_totals_line (judge_view judge.now) batch.now.plan.now batch.now.places.now rows
         (length batch.now.places.now - length rows))) }
-    ensures counted { OnOk result (W.failure_count out.new ≡ W.failure_count out.old) }
+    ensures no_failed_writes { OnOk result (W.failure_count out.new ≡ W.failure_count out.old) }
     ensures report { IfErr result (λ error. error ≡ ReportFailed → ran ≡ Err ReportFailed) }
 {
     let rows = ran?;

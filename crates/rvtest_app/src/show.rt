@@ -49,11 +49,11 @@ pub(crate) fn show_report<D: Inputs, F: Outputs + Drop, O: Sink + Drop, E: Sink 
     ensures status_bound { IfOk result (λ status. status ≤ 1) }
     ensures shown { IfOk result (λ status. IsShowWritten (D.contents inputs.now) args.entry status
         (outputs_of F.committed O.accepted E.accepted E.failure_count to.old) (outputs_of F.committed O.accepted E.accepted E.failure_count to.new)) }
-    ensures undone { OnErr result (IsAbortedShowAt (D.contents inputs.now) args.entry
+    ensures committed_after_error { OnErr result (IsAbortedShowAt (D.contents inputs.now) args.entry
         (F.committed to.old.files) (F.committed to.new.files)) }
     ensures stopped { IfErr result (IsShowStop (D.contents inputs.now) args.entry) }
     // The report is not overwritten.
-    ensures kept { HoldsIfCommitted (IsShowFileNotAnInput args.entry) (F.committed to.old.files) (F.committed to.new.files) }
+    ensures inputs_preserved { HoldsIfCommitted (IsShowFileNotAnInput args.entry) (F.committed to.old.files) (F.committed to.new.files) }
 {
     reject_show_overwrite(&to.files, alloc, &args)?;
     let requested = RequestedReport {
@@ -75,7 +75,7 @@ fn reject_show_overwrite<F: Outputs>(
     alloc: Global,
     args: &ShowArgs<'_>,
 ) -> Result<(), Stop>
-    ensures apart { OnOk result (IfSome (F.committed files.now) (λ _. IsShowFileNotAnInput args.now)) }
+    ensures inputs_preserved { OnOk result (IfSome (F.committed files.now) (λ _. IsShowFileNotAnInput args.now)) }
     ensures stopped { IfErr result (IsShowOverwriteStop args.now) }
 {
     let read = identified_files(
@@ -96,7 +96,7 @@ fn summarize_report(
     ensures report { IfOk result (λ summarized. summarized.report ≡ report) }
     ensures summary { IfOk result (λ summarized. summarized.summary.items
         ≡ summary_text (report_judging args.entry.lenient) report.rows) }
-    ensures judged { IfOk result (λ summarized. summarized.status
+    ensures exit_status { IfOk result (λ summarized. summarized.status
         ≡ rows_status (report_judging args.entry.lenient) report.rows) }
     ensures status_bound { IfOk result (λ summarized. summarized.status ≤ 1) }
 {
@@ -117,11 +117,11 @@ fn write_summarized_report<F: Outputs + Drop, O: Sink + Drop, E: Sink + Drop>(
     summarized: SummarizedReport,
     to: &mut Destinations<F, O, E>,
 ) -> Result<(), Stop>
-    ensures put { OnOk result (IsOutputWritten None (optional_text args.entry.junit) summarized.summary.items
+    ensures written { OnOk result (IsOutputWritten None (optional_text args.entry.junit) summarized.summary.items
         (report_text summarized.report.rows)
         (shown_junit args.entry summarized.report.rows)
         (outputs_of F.committed O.accepted E.accepted E.failure_count to.old) (outputs_of F.committed O.accepted E.accepted E.failure_count to.new)) }
-    ensures part { OnErr result (AreFilesPartlyCommitted (F.committed to.old.files) (F.committed to.new.files)
+    ensures committed_after_error { OnErr result (AreFilesPartlyCommitted (F.committed to.old.files) (F.committed to.new.files)
         (Some (file_at (optional_text args.entry.junit) (shown_junit args.entry summarized.report.rows)))) }
     ensures stopped { IfErr result (IsOutputStop None (optional_text args.entry.junit)) }
 {

@@ -64,21 +64,21 @@ impl<'x, R: Threads + Wait + Sync + Clock, D: Inputs> ListRun<'x, R, D> {
         sink: Option<V>,
         terminals: Terminals<P>,
     ) -> (W, Option<V>, ShownRun)
-        requires there { is_some sink ≡ K.has_sink }
+        requires sink_given { is_some sink ≡ K.has_sink }
         requires sink { IfSome sink (λ sink. (K.accepted_before ≡ V.accepted sink) × (K.failure_count ≡ V.failure_count sink)) }
         requires line { report_row_text rows.now.is_streaming ≡ K.row_text }
         requires judging { judge_view planned.now.reporter.now.judge ≡ K.judge }
-        requires keeps { stores_failure_texts self.now.args.now planned.now.reporter.now.verbosity ≡ K.keeps_failure_texts }
+        requires stores_texts { stores_failure_texts self.now.args.now planned.now.reporter.now.verbosity ≡ K.keeps_failure_texts }
         ensures rows { IfOk result.2.ran (λ rows. rows ≡ run_rows self.now.args.now.stop_after
             (judge_view planned.now.reporter.now.judge) planned.now.reporter.now.plan.now planned.now.indices.now) }
-        ensures few { IfOk result.2.ran (λ rows. length rows ≤ length planned.now.indices.now) }
+        ensures row_count { IfOk result.2.ran (λ rows. length rows ≤ length planned.now.indices.now) }
         ensures shown { OnOk result.2.ran (Appends (W.accepted shown.stream) (W.accepted result.0)
             (run_output_text (row_lines_at (reporter_of planned.now.reporter.now))
             (judge_view planned.now.reporter.now.judge) planned.now.reporter.now.plan.now planned.now.indices.now
             (run_rows self.now.args.now.stop_after (judge_view planned.now.reporter.now.judge)
             planned.now.reporter.now.plan.now planned.now.indices.now))) }
-        ensures counted { OnOk result.2.ran (W.failure_count result.0 ≡ W.failure_count shown.stream) }
-        ensures report { OnOk result.2.ran (AreRowsWritten V.accepted V.failure_count sink result.1
+        ensures no_failed_writes { OnOk result.2.ran (W.failure_count result.0 ≡ W.failure_count shown.stream) }
+        ensures report_written { OnOk result.2.ran (AreRowsWritten V.accepted V.failure_count sink result.1
             (joined_row_texts (report_row_text rows.now.is_streaming) planned.now.indices.now (run_rows self.now.args.now.stop_after
             (judge_view planned.now.reporter.now.judge) planned.now.reporter.now.plan.now planned.now.indices.now))) }
         ensures sink { is_some result.1 ≡ is_some sink }
@@ -157,7 +157,7 @@ impl<'x, R: Threads + Wait + Sync + Clock, D: Inputs> ListRun<'x, R, D> {
     // Returns an observer of the rows that stores the texts of failures, if the JUnit document needs them.
     fn failure_texts<'m, K: StreamSpec>(&self, reporter: &TextReporter<'m>) -> FailureTexts<'m, K>
         requires judging { judge_view reporter.now.judge ≡ K.judge }
-        requires keeps { stores_failure_texts self.now.args.now reporter.now.verbosity ≡ K.keeps_failure_texts }
+        requires stores_texts { stores_failure_texts self.now.args.now reporter.now.verbosity ≡ K.keeps_failure_texts }
         ensures { AreFailureTexts K.judge result.is_closed result.texts.items [] }
     {
         let is_needed = match reporter.verbosity {

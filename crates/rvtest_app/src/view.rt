@@ -54,7 +54,7 @@ impl<'x, R: Threads + Wait + Sync, D: Inputs> JobsView<'x, R, D> {
         command: ChoosingCommand,
         to: &mut Destinations<F, O, E>,
     ) -> Result<u8, Stop>
-        ensures put { IfOk result (λ status. IsViewWritten (D.contents self.now.host.now.inputs.now) self.now.args.now
+        ensures written { IfOk result (λ status. IsViewWritten (D.contents self.now.host.now.inputs.now) self.now.args.now
             self.now.view status
             (outputs_of F.committed O.accepted E.accepted E.failure_count to.old) (outputs_of F.committed O.accepted E.accepted E.failure_count to.new)) }
         ensures status_bound { IfOk result (λ status. status ≤ 1) }
@@ -87,7 +87,7 @@ impl<'x, R: Threads + Wait + Sync, D: Inputs> JobsView<'x, R, D> {
         to: &mut Destinations<F, O, E>,
     ) -> Result<u8, Stop>
         requires { length selection.now ≡ length jobs }
-        ensures put { IfOk result (λ status. (status ≡ 0) × IsViewOfJobsWritten (D.contents self.now.host.now.inputs.now)
+        ensures written { IfOk result (λ status. (status ≡ 0) × IsViewOfJobsWritten (D.contents self.now.host.now.inputs.now)
             self.now.args.now self.now.view jobs (selected_job_indices selection.now)
             (outputs_of F.committed O.accepted E.accepted E.failure_count to.old) (outputs_of F.committed O.accepted E.accepted E.failure_count to.new)) }
         ensures stopped { IfErr result (IsViewFailedStop (D.contents self.now.host.now.inputs.now) self.now.args.now

@@ -56,7 +56,7 @@ impl<'x, R: Threads + Wait + Sync, D: Inputs> JobsView<'x, R, D> {
     fn count_jobs(&self, plan: &Plan, indices: &[usize]) -> Result<CountTable, Stop>
         requires within { AreJobIndices plan.now indices.now }
         requires rising { IsStrictlyIncreasing indices.now }
-        ensures counted { IfOk result (IsRunTableForView self.now.view plan.now indices.now) }
+        ensures counts { IfOk result (IsRunTableForView self.now.view plan.now indices.now) }
         ensures stopped { IfErr result (IsUncountedStop self.now.view plan.now indices.now self.now.args.now.list.now) }
     {
         match self.view {

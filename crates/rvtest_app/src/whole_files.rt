@@ -30,8 +30,8 @@ pub(crate) fn write_whole_files<F: Outputs + Drop, O: Sink + Drop, E: Sink + Dro
 ) -> Result<(), Stop>
     requires report { has_no_failure F.File.failure_count outlets.report }
     requires junit { has_no_failure F.File.failure_count outlets.junit }
-    ensures errors { to.new.errors ≡ to.old.errors }
-    ensures put { (report_path junit_path : Option (List ℕ))
+    ensures errors_unchanged { to.new.errors ≡ to.old.errors }
+    ensures out_written { (report_path junit_path : Option (List ℕ))
         → HasReceived F.pending_path F.File.accepted F.File.failure_count (F.committed to.old.files) report_path [] outlets.entry.report
         → HasReceived F.pending_path F.File.accepted F.File.failure_count (F.committed to.old.files) junit_path [] outlets.entry.junit
         → OnOk result (Appends (O.accepted to.old.out) (O.accepted to.new.out)
@@ -43,7 +43,7 @@ pub(crate) fn write_whole_files<F: Outputs + Drop, O: Sink + Drop, E: Sink + Dro
         → OnOk result (AreFilesCommitted (F.committed to.old.files) (F.committed to.new.files)
         (Some (file_at junit_path (failures_junit suite.entry.name.now (judge_view suite.entry.judge) rows)
         ++ file_at report_path (report_text rows)))) }
-    ensures part { (junit_path : Option (List ℕ))
+    ensures committed_after_error { (junit_path : Option (List ℕ))
         → HasReceived F.pending_path F.File.accepted F.File.failure_count (F.committed to.old.files) junit_path [] outlets.entry.junit
         → OnErr result (AreFilesPartlyCommitted (F.committed to.old.files) (F.committed to.new.files)
         (Some (file_at junit_path (failures_junit suite.entry.name.now (judge_view suite.entry.judge) rows)))) }

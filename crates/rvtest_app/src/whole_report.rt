@@ -43,7 +43,7 @@ pub(crate) fn read_whole_report<D: Inputs>(
     jobs: &[Job],
 ) -> Result<Rows, Stop>
     ensures whole { IfOk result (IsWholeReportAt (D.contents inputs.now) path.now jobs.now) }
-    ensures counted { IfOk result (λ rows. length rows ≡ length jobs.now) }
+    ensures same_length { IfOk result (λ rows. length rows ≡ length jobs.now) }
     ensures stopped { IfErr result (IsNotWholeReportStop (D.contents inputs.now) path.now list.now jobs.now) }
 {
     let report = read_report_file(inputs, alloc, path)?;
@@ -55,7 +55,7 @@ pub(crate) fn read_whole_report<D: Inputs>(
 
 // Returns the reason why a report is not a report of all jobs of a list; `None` if it is one.
 fn not_whole_reason<'a>(report: &'a SavedReport, jobs: &'a [Job]) -> Option<NotWholeReason<'a>>
-    requires few { length report.now.rows ≤ max_jobs }
+    requires at_most_max { length report.now.rows ≤ max_jobs }
     ensures whole { result ≡ None → IsWholeReport jobs.now report.now }
     ensures other { IfSome result (IsNotWholeBecause jobs.now report.now) }
 {

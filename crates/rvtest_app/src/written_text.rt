@@ -24,9 +24,9 @@ pub(crate) fn write_text<F: Outputs + Drop, O: Sink + Drop, E: Sink + Drop>(
 ) -> Result<(), Stop>
     ensures written { OnOk result (IsWrittenAt (Some (written_path (optional_text path.entry))) bytes.now
         (outputs_of F.committed O.accepted E.accepted E.failure_count to.old) (outputs_of F.committed O.accepted E.accepted E.failure_count to.new)) }
-    ensures errors { to.new.errors ≡ to.old.errors }
-    ensures untouched { (is_stdout (written_path (optional_text path.entry)) ≡ true) ⊎ (to.new.out ≡ to.old.out) }
-    ensures same { OnErr result (F.committed to.new.files ≡ F.committed to.old.files) }
+    ensures errors_unchanged { to.new.errors ≡ to.old.errors }
+    ensures out_unchanged { (is_stdout (written_path (optional_text path.entry)) ≡ true) ⊎ (to.new.out ≡ to.old.out) }
+    ensures nothing_committed { OnErr result (F.committed to.new.files ≡ F.committed to.old.files) }
     ensures stopped { IfErr result (IsTextNotWrittenAtStop (written_path (optional_text path.entry))) }
 {
     write_text_at(alloc, to, path.unwrap_or("-"), bytes)
@@ -41,9 +41,9 @@ fn write_text_at<F: Outputs + Drop, O: Sink + Drop, E: Sink + Drop>(
 ) -> Result<(), Stop>
     ensures written { OnOk result (IsWrittenAt (Some path.now) bytes.now
         (outputs_of F.committed O.accepted E.accepted E.failure_count to.old) (outputs_of F.committed O.accepted E.accepted E.failure_count to.new)) }
-    ensures errors { to.new.errors ≡ to.old.errors }
-    ensures untouched { (is_stdout path.now ≡ true) ⊎ (to.new.out ≡ to.old.out) }
-    ensures same { OnErr result (F.committed to.new.files ≡ F.committed to.old.files) }
+    ensures errors_unchanged { to.new.errors ≡ to.old.errors }
+    ensures out_unchanged { (is_stdout path.now ≡ true) ⊎ (to.new.out ≡ to.old.out) }
+    ensures nothing_committed { OnErr result (F.committed to.new.files ≡ F.committed to.old.files) }
     ensures stopped { IfErr result (IsTextNotWrittenAtStop path.now) }
 {
     if is_stdout(path) {
@@ -62,7 +62,7 @@ pub(crate) fn write_file<F: Outputs>(
 ) -> Result<(), Stop>
     ensures committed { OnOk result (AreFilesCommitted (F.committed files.old) (F.committed files.new)
         (Some (committed_file path.now bytes.now ∷ []))) }
-    ensures same { OnErr result (F.committed files.new ≡ F.committed files.old) }
+    ensures nothing_committed { OnErr result (F.committed files.new ≡ F.committed files.old) }
     ensures stopped { IfErr result (IsFileNotCreatedStop path.now) }
 {
     match files.create(alloc, path) {
@@ -92,7 +92,7 @@ pub(crate) fn finish_file<F: Outputs>(
     ensures committed { IfSome (F.committed files.old) (λ _. F.File.accepted file.entry.sink ≡ Some [])
         → OnOk result (AreFilesCommitted (F.committed files.old) (F.committed files.new)
         (Some (committed_file file.entry.path.now bytes.now ∷ []))) }
-    ensures same { OnErr result (F.committed files.new ≡ F.committed files.old) }
+    ensures nothing_committed { OnErr result (F.committed files.new ≡ F.committed files.old) }
     ensures stopped { IfErr result (IsFileNotCreatedStop file.entry.path.now) }
 {
     let OpenFile {
@@ -130,8 +130,8 @@ pub(crate) fn write_to_outlet<F: Outputs + Drop, O: Sink + Drop, E: Sink + Drop>
         → HasReceived F.pending_path F.File.accepted F.File.failure_count earlier path [] outlet.entry → OnOk result (IsWrittenAt path bytes.now
         (with_committed_if_reported earlier (outputs_of F.committed O.accepted E.accepted E.failure_count to.old))
         (outputs_of F.committed O.accepted E.accepted E.failure_count to.new)) }
-    ensures errors { to.new.errors ≡ to.old.errors }
-    ensures same { OnErr result (F.committed to.new.files ≡ F.committed to.old.files) }
+    ensures errors_unchanged { to.new.errors ≡ to.old.errors }
+    ensures nothing_committed { OnErr result (F.committed to.new.files ≡ F.committed to.old.files) }
     ensures stopped { IfErr result (λ stop. (stop ≡ Stop.WriteFailed) ⊎ IsFileStop (outlet_path outlet.entry) stop) }
 {
     match outlet {

@@ -21,7 +21,7 @@ returns-clause-accepted g c =
     IfOk-map c.write_accepted.result _ _
     (λ status put. record {
       after_check = outputs_of g.F.Outputs.committed g.O.Sink.accepted g.E.Sink.accepted g.E.Sink.failure_count c.checked_jobs.new.to;
-      outside = c.in_ok-selected.ensures.outside;
+      outside = c.in_ok-selected.ensures.outside_reported;
       rows = c.in_ok-rows.rows.items;
       after_run = outputs_of g.F.Outputs.committed g.O.Sink.accepted g.E.Sink.accepted g.E.Sink.failure_count c.run_selected.new.to;
       ran = rw (c.in_ok-selected.ensures.jobs, c.in_ok-selected.ensures.selection) at c.in_ok-rows.ensures.rows;
@@ -35,7 +35,7 @@ returns-clause-accepted g c =
           c.in_ok-outcomes.ensures.unchanged put.parts);
       written = put.written;
     })
-    c.write_accepted.ensures.put
+    c.write_accepted.ensures.written
 
 pub returns-clause-stopped : goal.returns-clause-stopped
 returns-clause-stopped g c =

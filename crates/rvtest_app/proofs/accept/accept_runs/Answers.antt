@@ -52,12 +52,12 @@ returns-clause-accepted g c = record {
   accepted = (refl, refl);
 }
 
-pub returns-in-Some-clause-kept : goal.returns-in-Some-clause-kept
-returns-in-Some-clause-kept g c =
+pub returns-in-Some-clause-inputs_preserved : goal.returns-in-Some-clause-inputs_preserved
+returns-in-Some-clause-inputs_preserved g c =
     ⊎_elim inl (λ apart. inr (
       c.in_ok-list.list.text.items,
       c.in_ok-list.list.jobs,
       c.in-Some.chosen.items,
       (c.in_ok-list.ensures.read, (c.in_ok-list.ensures.listed, apart)),
     ))
-    (rw c.as_slice-in-Some.ensures.value at c.accept_chosen.ensures.kept)
+    (rw c.as_slice-in-Some.ensures.value at c.accept_chosen.ensures.inputs_preserved)

@@ -5,8 +5,8 @@ use Rattle.rvtest_app.specs.AcceptStops.{IsUnverifiedStop, IsFileNotCreatedStop,
 use Rattle.rvtest_app.proofs.AcceptStops.{files_stop}
 use Rattle.rvtest_app.proofs.accept.write_accepted.Goals as goal
 
-pub returns-then-args-clause-put : goal.returns-then-args-clause-put
-returns-then-args-clause-put g c = rw c.if-args.true (record {
+pub returns-then-args-clause-written : goal.returns-then-args-clause-written
+returns-then-args-clause-written g c = rw c.if-args.true (record {
   summary = record {
     list = c.args.list.now;
     runs = c.as_slice.result;
@@ -17,12 +17,12 @@ returns-then-args-clause-put g c = rw c.if-args.true (record {
   parts = (refl, c.as_slice.ensures.value, c.as_slice-2.ensures.value, c.as_slice-3.ensures.value, refl);
   written = (
     rw (c.skipped_count.ensures, c.changed_count.ensures) at c.accept_status.ensures.value,
-    (Appends-trans _ _ _ _ _ c.in_ok-write_lines.ensures.put c.in_ok-write_count_line.ensures.put, refl, refl, refl),
+    (Appends-trans _ _ _ _ _ c.in_ok-write_lines.ensures.written c.in_ok-write_count_line.ensures.written, refl, refl, refl),
   );
 })
 
-pub returns-clause-put : goal.returns-clause-put
-returns-clause-put g c = rw c.if-args.false (record {
+pub returns-clause-written : goal.returns-clause-written
+returns-clause-written g c = rw c.if-args.false (record {
   summary = record {
     list = c.args.list.now;
     runs = c.as_slice.result;
@@ -33,7 +33,7 @@ returns-clause-put g c = rw c.if-args.false (record {
   parts = (refl, c.as_slice.ensures.value, c.as_slice-2.ensures.value, c.as_slice-3.ensures.value, refl);
   written = (
     rw c.skipped_count-2.ensures at c.accept_status-2.ensures.value,
-    Appends-trans _ _ _ _ _ c.in_ok-write_lines.ensures.put c.in_ok-write_count_line-2.ensures.put,
+    Appends-trans _ _ _ _ _ c.in_ok-write_lines.ensures.written c.in_ok-write_count_line-2.ensures.written,
     refl,
     refl,
     c.in_ok-write_accepted_files.ensures.committed,

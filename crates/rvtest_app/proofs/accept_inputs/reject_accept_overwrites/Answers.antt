@@ -14,14 +14,14 @@ returns-in_err-reject_list_overwrite-clause-stopped g c =
       inr (inl (codes "the updated list", c.in_err-reject_list_overwrite.ensures.stopped)),
     ))
 
-pub returns-clause-apart : goal.returns-clause-apart
-returns-clause-apart g c =
+pub returns-clause-inputs_preserved : goal.returns-clause-inputs_preserved
+returns-clause-inputs_preserved g c =
     let committed = g.F.Outputs.committed c.args.files.now in
     on_ok c.outside_notes.result _
     (accept_apart committed c.args.args.now c.args.jobs.now c.args.selection.now c.in_ok-reads.reads.list.identities.items
     c.in_ok-reads.reads.inputs.identities.items c.push_golden_of_selected.new.golden.items
     (rw c.new-golden.ensures.items at c.in_ok-push_golden_of_selected.ensures) c.in_ok-reads.ensures.list
     c.in_ok-reads.ensures.inputs
-    (c.in_ok-reject_list_overwrite.ensures.apart (inputs_of_accept c.args.args.now c.args.jobs.now) c.in_ok-reads.ensures.inputs)
-    (rw c.as_slice.ensures.value at c.in_ok-reject_golden_overwrites.ensures.no_list)
-    (rw c.as_slice.ensures.value at c.in_ok-reject_golden_overwrites.ensures.no_input))
+    (c.in_ok-reject_list_overwrite.ensures.is_no_input (inputs_of_accept c.args.args.now c.args.jobs.now) c.in_ok-reads.ensures.inputs)
+    (rw c.as_slice.ensures.value at c.in_ok-reject_golden_overwrites.ensures.none_is_list)
+    (rw c.as_slice.ensures.value at c.in_ok-reject_golden_overwrites.ensures.none_is_input))

@@ -16,7 +16,7 @@ loop-target-preserved g c =
           (record {
             same_target = refl;
             resolved = rw c.as_str.ensures at c.in_ok-resolved.ensures;
-            old_contents = rw c.as_str-in-loop-target.ensures at c.in_ok-old.ensures.old;
+            old_contents = rw c.as_str-in-loop-target.ensures at c.in_ok-old.ensures.contents;
           })
           c.in_ok-push_file.ensures;
       last = one_target_less contents root c.args.targets.items (into_iter_items c.loop-target.target-iterator)

@@ -16,7 +16,7 @@ returns-clause-plan g c =
       unread_entries = ap length c.unreadable_paths.ensures ∙ (rw c.new-store.ensures.nothing at gathered.faults);
       text = text;
       exit_status = judged;
-    }) c.check_plan.ensures.text c.check_plan.ensures.judged
+    }) c.check_plan.ensures.text c.check_plan.ensures.exit_status
 
 pub returns-clause-stopped : goal.returns-clause-stopped
 returns-clause-stopped g c = IfErr-map c.check_plan.result _ _ (λ stop is. inl is) c.check_plan.ensures.memory

@@ -7,11 +7,11 @@ returns-in_err-row-clause-stopped g c =
     let is = err_from_is_err_and c.from_residual.result c.from_residual.ensures.1 in
     rw (is.1, is.2) (inr c.in_err-row.ensures.stopped)
 
-pub returns-clause-put : goal.returns-clause-put
-returns-clause-put g c = record {
+pub returns-clause-written : goal.returns-clause-written
+returns-clause-written g c = record {
   console = c.as_slice.result.now;
   line = c.as_slice-2.result.now;
-  of_job = rw (c.as_slice.ensures, c.as_slice-2.ensures.value) c.in_ok-row.ensures.told;
+  of_job = rw (c.as_slice.ensures, c.as_slice-2.ensures.value) c.in_ok-row.ensures.reported;
   between = record {
     out = g.O.Sink.accepted c.write_results.new.out;
     errors = g.E.Sink.accepted c.args.to.now.errors;

@@ -3,8 +3,8 @@ use Rattle.rv_rows.specs.declared_row.Row.{Row}
 use Rattle.rvtest_app.proofs.Results.{IfOk-all}
 use Rattle.rvtest_app.proofs.console.run_job_at.Goals as goal
 
-pub returns-clause-told : goal.returns-clause-told
-returns-clause-told g c =
+pub returns-clause-reported : goal.returns-clause-reported
+returns-clause-reported g c =
     let gathered = c.in_ok-plan.ensures in
     IfOk-all c.run_planned_job.result _ _ _ _
     (λ found row line status. record {

@@ -13,7 +13,7 @@ pub loop-path-preserved : goal.loop-path-preserved
 loop-path-preserved g c = (
   one_more_table (g.D.Inputs.contents c.args.inputs.now) c.args.paths.now c.loop-path.path-index _
       c.loop-path.sum c.in_ok-sum.sum c.loop-path-test.true c.loop-path.invariant.0 c.in_ok-sum.ensures.added,
-  c.in_ok-sum.ensures.table,
+  c.in_ok-sum.ensures.valid_table,
 )
 
 pub returns-in_err-sum-clause-stopped : goal.returns-in_err-sum-clause-stopped

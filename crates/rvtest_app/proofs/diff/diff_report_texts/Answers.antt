@@ -11,4 +11,4 @@ returns-clause-diff c =
       new_is = rw (c.as_slice.ensures.value, c.requested-2.ensures.partial) at c.in_ok-new.ensures.read;
       diff = diff;
       notes_are = told;
-    })) c.diff_read_reports.ensures.diff c.diff_read_reports.ensures.noted
+    })) c.diff_read_reports.ensures.diff c.diff_read_reports.ensures.notes

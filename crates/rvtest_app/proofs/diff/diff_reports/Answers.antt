@@ -7,8 +7,8 @@ returns-in_err-found-clause-stopped g c =
     let is = err_from_is_err_and c.from_residual.result c.from_residual.ensures.1 in
     rw (is.1, is.2) (inr c.in_err-found.ensures.stopped)
 
-pub returns-clause-put : goal.returns-clause-put
-returns-clause-put g c = record {
+pub returns-clause-written : goal.returns-clause-written
+returns-clause-written g c = record {
   text = c.as_slice-2.result.now;
   notes = c.as_slice.result.now;
   diff = rw (c.as_slice-2.ensures.value, c.as_slice.ensures.value) c.in_ok-found.ensures.diff;

@@ -83,7 +83,7 @@ returns-clause-text c =
       left,
     ) at c.diff_rows.ensures.text
 
-pub returns-clause-judged : goal.returns-clause-judged
-returns-clause-judged c =
+pub returns-clause-exit_status : goal.returns-clause-exit_status
+returns-clause-exit_status c =
     rw (c.as_slice-3.ensures.value, c.in_ok-old.ensures.old, c.as_slice-4.ensures.value, c.in_ok-old.ensures.new)
-    at c.diff_rows.ensures.judged
+    at c.diff_rows.ensures.exit_status

@@ -11,8 +11,8 @@ serve-requires-clause-requested g c =
     ap (λ (s : Session). s.requested) c.limit_memory.ensures
     ∙ ap (λ (s : Session). s.requested) (opened.of_list.of_job.over (single_job [] 0 [])).session_is
 
-pub returns-in-Ok-clause-answered : goal.returns-in-Ok-clause-answered
-returns-in-Ok-clause-answered g c =
+pub returns-in-Ok-clause-served : goal.returns-in-Ok-clause-served
+returns-in-Ok-clause-served g c =
     let received = rw (c.in-Ok.is, c.limit_memory.ensures) at c.serve.ensures.heard in record {
       is_no_terminal = c.if-is_terminal.false;
       end_text = job_end_text c.in_ok-opened.opened.job.plan c.in_ok-opened.opened.job.unread.items c.in_ok-opened.opened.job.index;

@@ -6,8 +6,8 @@ use Rattle.std.specs.Str.{bytes_eq}
 use Rattle.rvtest_app.specs.HelpTopics.{keys_topic}
 use Rattle.rvtest_app.proofs.help_topic.topic_help.Goals as goal
 
-pub returns-clause-told : goal.returns-clause-told
-returns-clause-told c =
+pub returns-clause-printed : goal.returns-clause-printed
+returns-clause-printed c =
     let topic = c.args.args.topic.now in
     let alike : not (bytes_eq topic keys_topic) ≡ false = sym c.ne.ensures ∙ c.if-ne.false in (
       (bytes_eq-Decides topic keys_topic).0 (not-false (bytes_eq topic keys_topic) alike),

@@ -17,8 +17,8 @@ returns-in_err-write_merged-clause-stopped g c =
       ),
     )))
 
-pub returns-in_err-write_merged-clause-undone : goal.returns-in_err-write_merged-clause-undone
-returns-in_err-write_merged-clause-undone g c =
+pub returns-in_err-write_merged-clause-committed_after_error : goal.returns-in_err-write_merged-clause-committed_after_error
+returns-in_err-write_merged-clause-committed_after_error g c =
     let parts = rw c.as_slice.ensures.value at c.in_ok-merged.ensures.parts in
     OnErr-from c.from_residual-in_err-write_merged.result _
     (⊎_elim inl (λ committed. inr (record {
@@ -28,4 +28,4 @@ returns-in_err-write_merged-clause-undone g c =
       parts = parts;
       committed = committed;
     }))
-    c.in_err-write_merged.ensures.part)
+    c.in_err-write_merged.ensures.committed_after_error)

@@ -10,8 +10,8 @@ loop-path-preserved g c =
     (rw c.deref-path-items.ensures.value at c.loop-path-test.true) c.loop-path.invariant
     (rw c.deref-path-items.ensures.value at c.in_ok-text.ensures.read) c.in_ok-push_part_text.ensures
 
-pub returns-in_err-text-clause-unread : goal.returns-in_err-text-clause-unread
-returns-in_err-text-clause-unread g c =
+pub returns-in_err-text-clause-stopped : goal.returns-in_err-text-clause-stopped
+returns-in_err-text-clause-stopped g c =
     let error = err_from_is_err_and c.from_residual.result c.from_residual.ensures.1 in
     rw (error.1, error.2)
     (unread_part (g.D.Inputs.contents c.args.inputs.now) c.args.args.now.parts.items c.loop-path.path-index _

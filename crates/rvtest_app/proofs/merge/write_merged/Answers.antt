@@ -7,8 +7,8 @@ use Rattle.rvtest_app.proofs.Results.{OnOk-both}
 use Rattle.rvtest_app.specs.CommandOutputs.{outputs_of}
 use Rattle.rvtest_app.proofs.merge.write_merged.Goals as goal
 
-pub returns-in-Ok-clause-put : goal.returns-in-Ok-clause-put
-returns-in-Ok-clause-put g c =
+pub returns-in-Ok-clause-written : goal.returns-in-Ok-clause-written
+returns-in-Ok-clause-written g c =
     let path = g.F.Outputs.pending_path in
     let taken = g.F.File.Sink.accepted in
     let failed = g.F.File.Sink.failure_count in
@@ -17,19 +17,19 @@ returns-in-Ok-clause-put g c =
     let report_path = merged_report_path (optional_text c.args.args.now.report) junit_path in
     let report = rw c.merged_report_path.ensures at c.in_ok-outlets.ensures.report in
     let junit = c.in_ok-outlets.ensures.junit in
-    let same = ap g.F.Outputs.committed c.in-Ok.ensures.files ∙ c.in_ok-outlets.ensures.same in
+    let same = ap g.F.Outputs.committed c.in-Ok.ensures.files_unchanged ∙ c.in_ok-outlets.ensures.nothing_committed in
     let seen = rw (
       c.use_stdout.ensures,
       out_told path taken failed _ _ outlets.report _ report,
       out_told path taken failed _ _ outlets.junit _ junit,
       c.as_slice.ensures.value,
-      c.in_ok-outlets.ensures.same,
+      c.in_ok-outlets.ensures.nothing_committed,
     ) at c.in-Ok.ensures.shown in
     let out = rw (c.as_bytes.ensures.value, c.merged_suite.ensures, c.report_judge.ensures)
-    at (c.write_whole_files.ensures.put report_path junit_path (rw same report) (rw same junit)) in
+    at (c.write_whole_files.ensures.out_written report_path junit_path (rw same report) (rw same junit)) in
     let committed = rw (c.as_bytes.ensures.value, c.merged_suite.ensures, c.report_judge.ensures)
     at (c.write_whole_files.ensures.committed report_path junit_path (rw same report) (rw same junit)) in
-    let errors = c.write_whole_files.ensures.errors in
+    let errors = c.write_whole_files.ensures.errors_unchanged in
     OnOk-both c.write_whole_files.result _ _ _
     (λ p q. record {
       between = outputs_of g.F.Outputs.committed g.O.Sink.accepted g.E.Sink.accepted g.E.Sink.failure_count c.write_shown.new.to;
@@ -40,11 +40,11 @@ returns-in-Ok-clause-put g c =
     })
     out committed
 
-pub returns-in-Ok-clause-part : goal.returns-in-Ok-clause-part
-returns-in-Ok-clause-part g c =
-    let same = ap g.F.Outputs.committed c.in-Ok.ensures.files ∙ c.in_ok-outlets.ensures.same in
+pub returns-in-Ok-clause-committed_after_error : goal.returns-in-Ok-clause-committed_after_error
+returns-in-Ok-clause-committed_after_error g c =
+    let same = ap g.F.Outputs.committed c.in-Ok.ensures.files_unchanged ∙ c.in_ok-outlets.ensures.nothing_committed in
     rw same at (rw (c.as_bytes.ensures.value, c.merged_suite.ensures, c.report_judge.ensures)
-    at (c.write_whole_files.ensures.part (optional_text c.args.args.now.junit) (rw same c.in_ok-outlets.ensures.junit)))
+    at (c.write_whole_files.ensures.committed_after_error (optional_text c.args.args.now.junit) (rw same c.in_ok-outlets.ensures.junit)))
 
 pub returns-in-Ok-clause-stopped : goal.returns-in-Ok-clause-stopped
 returns-in-Ok-clause-stopped g c =

@@ -10,12 +10,12 @@ returns-in-Ok-clause-committed g c = λ had report_path junit_path report junit.
     c.args.outlets.junit _ c.args.outlets.report _ _ _ junit report c.in-Ok.ensures.junit c.in-Ok.ensures.report)
     c.commit_outlets.ensures.committed
 
-pub returns-in-Ok-clause-part : goal.returns-in-Ok-clause-part
-returns-in-Ok-clause-part g c = λ junit_path junit.
+pub returns-in-Ok-clause-committed_after_error : goal.returns-in-Ok-clause-committed_after_error
+returns-in-Ok-clause-committed_after_error g c = λ junit_path junit.
     OnErr-map c.commit_outlets.result _ _
     (first_placed g.F.Outputs.pending_path g.F.File.Sink.accepted g.F.File.Sink.failure_count _ _ junit_path c.args.outlets.junit _ _ junit
     c.in-Ok.ensures.junit)
-    c.commit_outlets.ensures.part
+    c.commit_outlets.ensures.committed_after_error
 
 pub returns-in-Ok-clause-stopped : goal.returns-in-Ok-clause-stopped
 returns-in-Ok-clause-stopped g c =

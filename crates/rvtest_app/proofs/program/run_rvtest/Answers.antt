@@ -34,12 +34,12 @@ answered g c =
           rw w.to-is (inr (inl (sym request, refl), refl, refl, refl)))
       | in-Err w ↦
           rw w.to-is (words_answered contents rest is_terminal is_colored args w.in-Err.error w.respond_to_args_error-answer.result before _
-          w.in-Err.ensures.kinds w.respond_to_args_error-answer.ensures.done w.respond_to_args_error-answer.ensures.helped (refl, refl, refl))
+          w.in-Err.ensures.kinds w.respond_to_args_error-answer.ensures.exit_status w.respond_to_args_error-answer.ensures.help_written (refl, refl, refl))
     ] in
     rw c.in-Ok.is at all
 
-pub returns-in-Ok-clause-answered : goal.returns-in-Ok-clause-answered
-returns-in-Ok-clause-answered g c low = answered g c
+pub returns-in-Ok-clause-carried_out : goal.returns-in-Ok-clause-carried_out
+returns-in-Ok-clause-carried_out g c low = answered g c
 
 pub returns-in-Ok-clause-ended : goal.returns-in-Ok-clause-ended
 returns-in-Ok-clause-ended g c = inl (answered g c)

@@ -9,11 +9,11 @@ pub returns-in-Run-clause-stopped : goal.returns-in-Run-clause-stopped
 returns-in-Run-clause-stopped g c =
     rw c.in-Run.is c.run_requested_jobs.ensures.stopped
 
-pub returns-in-Run-clause-untouched : goal.returns-in-Run-clause-untouched
-returns-in-Run-clause-untouched g c =
+pub returns-in-Run-clause-out_unchanged : goal.returns-in-Run-clause-out_unchanged
+returns-in-Run-clause-out_unchanged g c =
     rw c.in-Run.is
     (IfOk-map c.run_requested_jobs.result.1 _ _
-    (λ status was. unshown_run (g.D.Inputs.contents c.args.host.now.inputs.now) c.args.terminals.is_out_terminal _ _ was) c.run_requested_jobs.ensures.untouched)
+    (λ status was. unshown_run (g.D.Inputs.contents c.args.host.now.inputs.now) c.args.terminals.is_out_terminal _ _ was) c.run_requested_jobs.ensures.out_unchanged)
 
 pub returns-clause-stopped : goal.returns-clause-stopped
 returns-clause-stopped g c = elim c.match-request.branch [
@@ -45,8 +45,8 @@ returns-clause-stopped g c = elim c.match-request.branch [
       w.write_command_result-answer-in-Help.ensures.stopped)
 ]
 
-pub returns-clause-untouched : goal.returns-clause-untouched
-returns-clause-untouched g c = elim c.match-request.branch [
+pub returns-clause-out_unchanged : goal.returns-clause-out_unchanged
+returns-clause-out_unchanged g c = elim c.match-request.branch [
   | in-Explain w ↦ rw (w.answer-is, w.in-Explain.is) (IfOk-from w.write_command_result-answer.result _ (inl (inl refl)))
   | in-Check w ↦ rw (w.answer-is, w.in-Check.is) (IfOk-from w.write_command_result-answer-in-Check.result _ (inl (inl refl)))
   | in-List w ↦ rw (w.answer-is, w.in-List.is) (IfOk-from w.list_chosen_jobs-answer.result _ (inl (inl refl)))
@@ -54,7 +54,7 @@ returns-clause-untouched g c = elim c.match-request.branch [
   | in-Gdb w ↦
       rw (w.answer-is, w.in-Gdb.is)
       (IfOk-map w.show_job_to_gdb-answer.result _ _ (λ status done. inl (inr (done.spoken, (cause.ReplyWriteFailed, refl))))
-      w.show_job_to_gdb-answer.ensures.answered)
+      w.show_job_to_gdb-answer.ensures.served)
   | in-Accept w ↦
       rw (w.answer-is, w.in-Accept.is)
       (IfOk-map w.accept_runs-answer.result _ _ (λ status done. inl (unshown_accept _ c.args.terminals.is_out_terminal _ status _ _ done))
@@ -71,8 +71,8 @@ returns-clause-untouched g c = elim c.match-request.branch [
   | in-Counts w ↦
       rw (w.answer-is, w.to-is, w.in-Counts.is)
       (IfOk-map w.put_sum_of_tables-answer.result _ _
-      (λ status put. unshown_sum _ c.args.terminals.is_out_terminal _ status _ _ _ put w.put_sum_of_tables-answer.ensures.untouched)
-      w.put_sum_of_tables-answer.ensures.put)
+      (λ status put. unshown_sum _ c.args.terminals.is_out_terminal _ status _ _ _ put w.put_sum_of_tables-answer.ensures.out_unchanged)
+      w.put_sum_of_tables-answer.ensures.written)
   | in-Cover w ↦ rw (w.answer-is, w.in-Cover.is) (IfOk-from w.cover_requested_jobs-answer.result _ (inl (inl refl)))
   | in-Profile w ↦ rw (w.answer-is, w.in-Profile.is) (IfOk-from w.profile_requested_jobs-answer.result _ (inl (inl refl)))
   | in-Help w ↦ rw (w.answer-is, w.in-Help.is) (IfOk-from w.write_command_result-answer-in-Help.result _ (inl (inl refl)))

@@ -26,6 +26,6 @@ loop-left-preserved c =
           ∙ ap (λ top_rows. take MAX_SHOWN (inserted_by_steps row top_rows)) c.loop-left.invariant.rows
           ∙ take-ranked MAX_SHOWN row (rows_by_steps (drop left rows))
           ∙ sym (ap (take MAX_SHOWN) (rows_by_steps-more rows left row front));
-      few = c.in_ok-insert_by_steps.ensures.few;
+      few = c.in_ok-insert_by_steps.ensures.at_most_max;
       within = omega arith;
     }

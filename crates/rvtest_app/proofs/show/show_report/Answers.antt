@@ -8,12 +8,12 @@ returns-in_err-found-clause-stopped g c =
     let error = err_from_is_err_and c.from_residual-in_err-found.result c.from_residual-in_err-found.ensures.1 in
     rw (error.1, error.2) (inr (inl c.in_err-found.ensures.unread))
 
-pub returns-in_err-write_summarized_report-clause-undone : goal.returns-in_err-write_summarized_report-clause-undone
-returns-in_err-write_summarized_report-clause-undone g c =
+pub returns-in_err-write_summarized_report-clause-committed_after_error : goal.returns-in_err-write_summarized_report-clause-committed_after_error
+returns-in_err-write_summarized_report-clause-committed_after_error g c =
     OnErr-from c.from_residual-in_err-write_summarized_report.result _
     (⊎_elim inl (λ committed. inr (record {
       partial_report = c.in_ok-found.found;
       read = c.in_ok-found.ensures.read;
       committed = committed;
     }))
-    (rw c.in_ok-summarized.ensures.report at c.in_err-write_summarized_report.ensures.part))
+    (rw c.in_ok-summarized.ensures.report at c.in_err-write_summarized_report.ensures.committed_after_error))

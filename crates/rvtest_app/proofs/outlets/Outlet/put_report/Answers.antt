@@ -3,12 +3,12 @@ use Rattle.rvtest_app.proofs.PutTexts.{appends_nothing, begins_nothing}
 use Rattle.rvtest_app.proofs.Results.{OnOk-from, OnErr-from}
 use Rattle.rvtest_app.proofs.outlets.Outlet.put_report.Goals as goal
 
-pub returns-in-File-clause-out : goal.returns-in-File-clause-out
-returns-in-File-clause-out g c =
+pub returns-in-File-clause-out_written : goal.returns-in-File-clause-out_written
+returns-in-File-clause-out_written g c =
     OnOk-from c.file_result.result _ (rw c.in-File.is (appends_nothing (g.O.Sink.accepted c.args.out.now)))
 
-pub returns-in-File-clause-part : goal.returns-in-File-clause-part
-returns-in-File-clause-part g c =
+pub returns-in-File-clause-prefix_written : goal.returns-in-File-clause-prefix_written
+returns-in-File-clause-prefix_written g c =
     OnErr-from c.file_result.result _ (rw c.in-File.is (begins_nothing (g.O.Sink.accepted c.args.out.now)))
 
 pub returns-in-Stdout-clause-stopped : goal.returns-in-Stdout-clause-stopped

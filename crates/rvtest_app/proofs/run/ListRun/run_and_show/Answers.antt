@@ -32,8 +32,8 @@ returns-clause-rows g c =
     (ran_on c.rows_if_written-ran.result c.stream_rows-stream.result.2 _ c.rows_if_written-ran.ensures.rows
     (rw (c.new-batch.ensures.plan, c.new-batch.ensures.places) at c.stream_rows-stream.ensures.rows))
 
-pub returns-clause-few : goal.returns-clause-few
-returns-clause-few g c =
+pub returns-clause-row_count : goal.returns-clause-row_count
+returns-clause-row_count g c =
     ran_on c.write_totals_line-ran.result c.rows_if_written-ran.result _ c.write_totals_line-ran.ensures.rows
     (ran_on c.rows_if_written-ran.result c.stream_rows-stream.result.2 _ c.rows_if_written-ran.ensures.rows
     (rw c.new-batch.ensures.places at c.stream_rows-stream.ensures.few))
@@ -58,17 +58,17 @@ returns-clause-shown g c =
     (done_on c.rows_if_written-ran.result c.stream_rows-stream.result.2 _ c.rows_if_written-ran.ensures.rows texts))
     line)
 
-pub returns-clause-counted : goal.returns-clause-counted
-returns-clause-counted g c =
+pub returns-clause-no_failed_writes : goal.returns-clause-no_failed_writes
+returns-clause-no_failed_writes g c =
     let counted = rw c.new-out.ensures.sink at c.stream_rows-stream.ensures.counted in
     rw c.into_inner-stream.ensures
     (OnOk-both c.write_totals_line-ran.result _ _ _ (λ before after. after ∙ before)
     (done_on c.write_totals_line-ran.result c.rows_if_written-ran.result _ c.write_totals_line-ran.ensures.rows
     (done_on c.rows_if_written-ran.result c.stream_rows-stream.result.2 _ c.rows_if_written-ran.ensures.rows counted))
-    c.write_totals_line-ran.ensures.counted)
+    c.write_totals_line-ran.ensures.no_failed_writes)
 
-pub returns-clause-report : goal.returns-clause-report
-returns-clause-report g c =
+pub returns-clause-report_written : goal.returns-clause-report_written
+returns-clause-report_written g c =
     let planned = c.args.planned.now in
     let indices = planned.indices.now in
     let all = run_rows c.args.self.now.args.now.stop_after (judge_view planned.reporter.now.judge) planned.reporter.now.plan.now indices in
@@ -81,7 +81,7 @@ returns-clause-report g c =
     c.rows_if_written-ran.ensures.rows c.rows_if_written-ran.ensures.sent seen
     (λ seen. OnOk-map c.finish-sink.result.1 _ _
     (sent_to g.V.Sink.accepted g.V.Sink.failure_count g.K.StreamSpec.accepted_before g.K.StreamSpec.failure_count c.args.sink c.finish-sink.result.0 text
-    c.requires.sink (c.finish-sink.ensures.there ∙ sym c.requires.there))
+    c.requires.sink (c.finish-sink.ensures.there ∙ sym c.requires.sink_given))
     (c.finish-sink.ensures.all text
     (subst (λ (text : List ℕ). IfSome sender.outbox (λ box. IsSent g.K.StreamSpec.accepted_before (g.V.Sink.accepted box.out)
     g.K.StreamSpec.failure_count (g.V.Sink.failure_count box.out) box.failed box.buffered.items text))
@@ -89,12 +89,12 @@ returns-clause-report g c =
     seen.seen.0))))
 
 pub returns-clause-sink : goal.returns-clause-sink
-returns-clause-sink g c = c.finish-sink.ensures.there ∙ sym c.requires.there
+returns-clause-sink g c = c.finish-sink.ensures.there ∙ sym c.requires.sink_given
 
 pub returns-clause-report_failed : goal.returns-clause-report_failed
 returns-clause-report_failed g c =
     report_of_failure c.write_totals_line-ran.result c.rows_if_written-ran.result c.finish-sink.result.1 _
-    c.write_totals_line-ran.ensures.report c.rows_if_written-ran.ensures.report (rw (sym c.requires.there) at c.finish-sink.ensures.failed)
+    c.write_totals_line-ran.ensures.report c.rows_if_written-ran.ensures.report (rw (sym c.requires.sink_given) at c.finish-sink.ensures.failed)
 
 pub returns-clause-texts : goal.returns-clause-texts
 returns-clause-texts g c =
@@ -111,5 +111,5 @@ returns-clause-texts g c =
     (done_on c.rows_if_written-ran.result c.stream_rows-stream.result.2 _ c.rows_if_written-ran.ensures.rows seen)
     (λ seen. kept_known _ (row_lines_at (reporter_of planned.reporter.now)) lines judging kept.is_closed g.K.StreamSpec.keeps_failure_texts kept.texts.items
     indices all seen c.into_texts-texts.ensures.needed
-    (λ keeps. lines_of_kept c.args.self.now.args.now (reporter_of planned.reporter.now) (c.requires.keeps ∙ keeps))
+    (λ keeps. lines_of_kept c.args.self.now.args.now (reporter_of planned.reporter.now) (c.requires.stores_texts ∙ keeps))
     (rw (sym c.requires.judging) at seen.seen.1)))

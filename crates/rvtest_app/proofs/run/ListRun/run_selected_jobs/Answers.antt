@@ -33,7 +33,7 @@ returns-clause-run g c =
           c.with_budget-jobs.ensures.jobs,
         ) at found.paths;
         results_agree = rw (c.new-store.ensures.inputs, c.new-store.ensures.folder) at found.kept;
-        unread_entries = ap length c.unreadable_paths-unread.ensures ∙ rw c.new-store.ensures.nothing at found.faults;
+        unread_entries = ap length c.unreadable_paths-unread.ensures ∙ rw c.new-store.ensures.nothing at found.unreadable_count;
       };
       rows = _;
       rows_are = refl;
@@ -52,10 +52,10 @@ returns-clause-run g c =
       c.requires,
       known,
       c.requested_verbosity.ensures,
-    ) at c.run_into_files.ensures.outputs_of)
+    ) at c.run_into_files.ensures.written)
 
-pub returns-clause-undone : goal.returns-clause-undone
-returns-clause-undone g c =
+pub returns-clause-committed_after_error : goal.returns-clause-committed_after_error
+returns-clause-committed_after_error g c =
     let args = c.args.self.now.args.now in
     let plan = c.in-Ok-gather_jobs_at.plan in
     let unread = c.unreadable_paths-unread.result.now in
@@ -86,7 +86,7 @@ returns-clause-undone g c =
           c.with_budget-jobs.ensures.jobs,
         ) at found.paths;
         results_agree = rw (c.new-store.ensures.inputs, c.new-store.ensures.folder) at found.kept;
-        unread_entries = ap length c.unreadable_paths-unread.ensures ∙ rw c.new-store.ensures.nothing at found.faults;
+        unread_entries = ap length c.unreadable_paths-unread.ensures ∙ rw c.new-store.ensures.nothing at found.unreadable_count;
       };
       rows = rows;
       rows_are = refl;
@@ -94,4 +94,4 @@ returns-clause-undone g c =
           c.args.selected.context.shard c.args.selected.context.old rows (g.F.Outputs.committed c.args.to.files)
           (g.F.Outputs.committed c.run_into_files.result.0.files) told_is places_are part;
     })))
-    (c.run_into_files.ensures.part rows rows_are)
+    (c.run_into_files.ensures.committed_after_error rows rows_are)

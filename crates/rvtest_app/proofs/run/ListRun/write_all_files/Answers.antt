@@ -15,11 +15,11 @@ use Rattle.rvtest_app.specs.Outlets.{HasReceived}
 use Rattle.rvtest_app.specs.Runs.{shown_indices}
 use Rattle.rvtest_app.proofs.run.ListRun.write_all_files.Goals as goal
 
-pub write_run_files-requires-clause-counted : goal.write_run_files-requires-clause-counted
-write_run_files-requires-clause-counted g c κs within =
+pub write_run_files-requires-clause-same_length : goal.write_run_files-requires-clause-same_length
+write_run_files-requires-clause-same_length g c κs within =
     omega (
       arith,
-      c.requires.few,
+      c.requires.row_count,
       ap length c.first_jobs-first.ensures.indices,
       ap length c.as_slice.ensures,
       length-take (length c.as_slice.result.now) c.args.planned.now.indices.now,
@@ -38,11 +38,11 @@ write_counts-requires-clause-open g c κs within =
     let path = optional_text c.args.self.now.args.now.counts in (
       path,
       untold g.F.Outputs.pending_path g.F.File.Sink.accepted g.F.File.Sink.failure_count (g.F.Outputs.committed c.args.to.now.files) path
-          c.args.outlets.counts [] c.requires.taken.counts,
+          c.args.outlets.counts [] c.requires.received.counts,
     )
 
-pub returns-in_ok-write_counts-in-Ok-clause-outputs_of : goal.returns-in_ok-write_counts-in-Ok-clause-outputs_of
-returns-in_ok-write_counts-in-Ok-clause-outputs_of g c = λ before shown.
+pub returns-in_ok-write_counts-in-Ok-clause-written : goal.returns-in_ok-write_counts-in-Ok-clause-written
+returns-in_ok-write_counts-in-Ok-clause-written g c = λ before shown.
     let args = c.args.self.now.args.now in
     let reporter = c.args.planned.now.reporter.now in
     let indices = c.args.planned.now.indices.now in
@@ -56,7 +56,7 @@ returns-in_ok-write_counts-in-Ok-clause-outputs_of g c = λ before shown.
     let after = outputs_of g.F.Outputs.committed g.O.Sink.accepted g.E.Sink.accepted g.E.Sink.failure_count c.write_run_files.new.to in
     let report = subst (λ (ps : List ℕ). HasReceived g.F.Outputs.pending_path g.F.File.Sink.accepted g.F.File.Sink.failure_count
     (g.F.Outputs.committed c.args.to.now.files) report_path (streamed_rows c.args.context.old ps c.args.rows) c.args.outlets.report)
-    (sym firsts) c.requires.taken.report in
+    (sym firsts) c.requires.received.report in
     let same = placed_of_shown _ _ before start shown in
     record {
       between = with_committed_if_reported before.committed after;
@@ -64,16 +64,16 @@ returns-in_ok-write_counts-in-Ok-clause-outputs_of g c = λ before shown.
           (record {
             between = start;
             shown_written = shown;
-            out = rw (told, firsts) at (files.put report_path junit_path report c.requires.taken.junit);
-            errors_unchanged = (ap g.E.Sink.accepted files.errors, ap g.E.Sink.failure_count files.errors);
-            committed = rw (told, firsts) at (files.committed report_path junit_path report c.requires.taken.junit);
+            out = rw (told, firsts) at (files.out_written report_path junit_path report c.requires.received.junit);
+            errors_unchanged = (ap g.E.Sink.accepted files.errors_unchanged, ap g.E.Sink.failure_count files.errors_unchanged);
+            committed = rw (told, firsts) at (files.committed report_path junit_path report c.requires.received.junit);
           });
-      counts_written = rw firsts at (c.in_ok-write_counts-in-Ok.ensures.counted (optional_text args.counts) before.committed
-          (rw same at c.requires.taken.counts));
+      counts_written = rw firsts at (c.in_ok-write_counts-in-Ok.ensures.counts_written (optional_text args.counts) before.committed
+          (rw same at c.requires.received.counts));
     }
 
-pub returns-in_err-write_counts-in-Ok-clause-part : goal.returns-in_err-write_counts-in-Ok-clause-part
-returns-in_err-write_counts-in-Ok-clause-part g c =
+pub returns-in_err-write_counts-in-Ok-clause-committed_after_error : goal.returns-in_err-write_counts-in-Ok-clause-committed_after_error
+returns-in_err-write_counts-in-Ok-clause-committed_after_error g c =
     let args = c.args.self.now.args.now in
     let indices = c.args.planned.now.indices.now in
     let report_path = run_report_path args in
@@ -82,24 +82,24 @@ returns-in_err-write_counts-in-Ok-clause-part g c =
     c.first_jobs-first.ensures.indices ∙ ap (λ (rows : List Row). take (length rows) indices) c.as_slice.ensures in
     let report = subst (λ (ps : List ℕ). HasReceived g.F.Outputs.pending_path g.F.File.Sink.accepted g.F.File.Sink.failure_count
     (g.F.Outputs.committed c.args.to.now.files) report_path (streamed_rows c.args.context.old ps c.args.rows) c.args.outlets.report)
-    (sym firsts) c.requires.taken.report in
+    (sym firsts) c.requires.received.report in
     let files = rw (c.first_jobs-first.ensures.reporter, firsts)
-    at (c.in-Ok.ensures.committed report_path junit_path report c.requires.taken.junit) in
+    at (c.in-Ok.ensures.committed report_path junit_path report c.requires.received.junit) in
     OnErr-from c.from_residual.result _
     (part_of_counts args (reporter_of c.args.planned.now.reporter.now) indices c.args.context.shard c.args.context.old c.args.rows _ _ _
-    (c.in_err-write_counts-in-Ok.ensures.requested (optional_text args.counts) (g.F.Outputs.committed c.args.to.now.files) c.requires.taken.counts)
-    files c.in_err-write_counts-in-Ok.ensures.same)
+    (c.in_err-write_counts-in-Ok.ensures.path_given (optional_text args.counts) (g.F.Outputs.committed c.args.to.now.files) c.requires.received.counts)
+    files c.in_err-write_counts-in-Ok.ensures.nothing_committed)
 
 pub returns-in_err-write_counts-in-Ok-clause-stopped : goal.returns-in_err-write_counts-in-Ok-clause-stopped
 returns-in_err-write_counts-in-Ok-clause-stopped g c =
     let is = err_from_is_err_and c.from_residual.result c.from_residual.ensures.1 in
     let path = optional_text c.args.self.now.args.now.counts in
     let told = path_told g.F.Outputs.pending_path g.F.File.Sink.accepted g.F.File.Sink.failure_count _ path c.args.outlets.counts []
-    c.requires.taken.counts in
+    c.requires.received.counts in
     rw (is.1, is.2) (unput_counts c.args.self.now.args.now _ (rw told at c.in_err-write_counts-in-Ok.ensures.stopped))
 
-pub returns-in-Err-clause-part : goal.returns-in-Err-clause-part
-returns-in-Err-clause-part g c =
+pub returns-in-Err-clause-committed_after_error : goal.returns-in-Err-clause-committed_after_error
+returns-in-Err-clause-committed_after_error g c =
     let args = c.args.self.now.args.now in
     let firsts : c.first_jobs-first.result.indices.now ≡ shown_indices c.args.planned.now.indices.now c.args.rows =
     c.first_jobs-first.ensures.indices
@@ -107,7 +107,7 @@ returns-in-Err-clause-part g c =
     rw c.abandon_outlet.ensures
     (part_of_rows args (reporter_of c.args.planned.now.reporter.now) c.args.planned.now.indices.now c.args.context.shard c.args.context.old
     c.args.rows _ _
-    (rw (c.first_jobs-first.ensures.reporter, firsts) at (c.in-Err.ensures.part (optional_text args.junit) c.requires.taken.junit)))
+    (rw (c.first_jobs-first.ensures.reporter, firsts) at (c.in-Err.ensures.committed_after_error (optional_text args.junit) c.requires.received.junit)))
 
 pub returns-in-Err-clause-stopped : goal.returns-in-Err-clause-stopped
 returns-in-Err-clause-stopped g c =
@@ -115,7 +115,7 @@ returns-in-Err-clause-stopped g c =
     let report_path = run_report_path args in
     let junit_path = optional_text args.junit in
     let report = path_told g.F.Outputs.pending_path g.F.File.Sink.accepted g.F.File.Sink.failure_count _ report_path c.args.outlets.report _
-    c.requires.taken.report in
+    c.requires.received.report in
     let junit = path_told g.F.Outputs.pending_path g.F.File.Sink.accepted g.F.File.Sink.failure_count _ junit_path c.args.outlets.junit []
-    c.requires.taken.junit in
+    c.requires.received.junit in
     inl (inr (rw (report, junit) at c.in-Err.ensures.stopped))

@@ -5,27 +5,27 @@ use Rattle.rvtest_app.proofs.StopLemmas.{IfErr-map}
 use Rattle.rvtest_app.proofs.WrittenTexts.{written_nowhere, written_where_told}
 use Rattle.rvtest_app.proofs.run.ListRun.write_counts.Goals as goal
 
-pub returns-in-Nowhere-clause-counted : goal.returns-in-Nowhere-clause-counted
-returns-in-Nowhere-clause-counted g c = λ path earlier has.
+pub returns-in-Nowhere-clause-counts_written : goal.returns-in-Nowhere-clause-counts_written
+returns-in-Nowhere-clause-counts_written g c = λ path earlier has.
     no_counts_put _ path _ _ _ _ (rw c.in-Nowhere.is at has)
     (written_where_told earlier None [] _ _ (written_nowhere None [] _ refl))
 
-pub returns-in-Ok-clause-counted : goal.returns-in-Ok-clause-counted
-returns-in-Ok-clause-counted g c = λ path earlier has.
+pub returns-in-Ok-clause-counts_written : goal.returns-in-Ok-clause-counts_written
+returns-in-Ok-clause-counts_written g c = λ path earlier has.
     let given = path_given g.F.Outputs.pending_path g.F.File.Sink.accepted g.F.File.Sink.failure_count earlier path c.args.outlet [] has
     c.in_default.not-Nowhere in
     OnOk-map c.write_to_outlet.result _ _
     (counts_put _ path _ _ _ _ _ given (rw c.as_bytes.ensures.value c.in-Ok.ensures.text))
     (c.write_to_outlet.ensures.written path earlier has)
 
-pub returns-in-Ok-clause-requested : goal.returns-in-Ok-clause-requested
-returns-in-Ok-clause-requested g c = λ path earlier has.
+pub returns-in-Ok-clause-path_given : goal.returns-in-Ok-clause-path_given
+returns-in-Ok-clause-path_given g c = λ path earlier has.
     OnErr-from c.write_to_outlet.result _
     (path_given g.F.Outputs.pending_path g.F.File.Sink.accepted g.F.File.Sink.failure_count earlier path c.args.outlet [] has
     c.in_default.not-Nowhere)
 
-pub returns-in-Err-clause-requested : goal.returns-in-Err-clause-requested
-returns-in-Err-clause-requested g c = λ path earlier has.
+pub returns-in-Err-clause-path_given : goal.returns-in-Err-clause-path_given
+returns-in-Err-clause-path_given g c = λ path earlier has.
     path_given g.F.Outputs.pending_path g.F.File.Sink.accepted g.F.File.Sink.failure_count earlier path c.args.outlet [] has
     c.in_default.not-Nowhere
 

@@ -6,12 +6,12 @@ use Rattle.rvtest_app.proofs.PutTexts.{out_same, part_same, placed_same, same_ju
 use Rattle.rvtest_app.proofs.Results.{OnErr-from}
 use Rattle.rvtest_app.proofs.run.ListRun.write_run_files.Goals as goal
 
-pub returns-clause-put : goal.returns-clause-put
-returns-clause-put g c = λ report_path junit_path report junit.
+pub returns-clause-out_written : goal.returns-clause-out_written
+returns-clause-out_written g c = λ report_path junit_path report junit.
     let planned = c.args.planned.now in
     let ahead = streamed_rows c.args.context.old planned.indices.now c.args.rows in
     out_same _ _ junit_path report_path _ _ _ _
-    (rw c.report_with_context.ensures.rows at (c.in_ok-put_files.ensures.put ahead report_path junit_path report junit))
+    (rw c.report_with_context.ensures.rows at (c.in_ok-put_files.ensures.out_written ahead report_path junit_path report junit))
     (same_junit _ _ (judge_view planned.reporter.now.judge) _ _ planned.indices.now c.args.rows
     (c.as_bytes.ensures.value ∙ c.suite_name.ensures)
     refl)
@@ -30,13 +30,13 @@ returns-clause-committed g c = λ report_path junit_path report junit.
     (ap (λ rest. ahead ++ rest) (c.report_with_context.ensures.rest
     ∙ ap (λ jobs. run_report_rest c.args.context.old jobs planned.indices.now c.args.context.shard c.args.rows) c.jobs.ensures.value)
     ∙ run_report_split c.args.context.old _ planned.indices.now c.args.context.shard c.args.rows planned.rising planned.within
-    c.requires.counted)
+    c.requires.same_length)
 
-pub returns-in_err-put_files-clause-part : goal.returns-in_err-put_files-clause-part
-returns-in_err-put_files-clause-part g c = λ junit_path junit.
+pub returns-in_err-put_files-clause-committed_after_error : goal.returns-in_err-put_files-clause-committed_after_error
+returns-in_err-put_files-clause-committed_after_error g c = λ junit_path junit.
     let planned = c.args.planned.now in
     OnErr-from c.from_residual.result _
-    (part_same _ _ junit_path _ _ (rw c.report_with_context.ensures.rows at (c.in_err-put_files.ensures.part junit_path junit))
+    (part_same _ _ junit_path _ _ (rw c.report_with_context.ensures.rows at (c.in_err-put_files.ensures.committed_after_error junit_path junit))
     (same_junit _ _ (judge_view planned.reporter.now.judge) _ _ planned.indices.now c.args.rows
     (c.as_bytes.ensures.value ∙ c.suite_name.ensures)
     refl))

@@ -10,8 +10,8 @@ returns-in_err-requested-clause-stopped g c =
     let is = err_from_is_err_and c.from_residual.result c.from_residual.ensures.1 in
     rw (is.1, is.2) (inr (inl c.in_err-requested.ensures.stopped))
 
-pub returns-in-Some-clause-put : goal.returns-in-Some-clause-put
-returns-in-Some-clause-put g c =
+pub returns-in-Some-clause-written : goal.returns-in-Some-clause-written
+returns-in-Some-clause-written g c =
     IfOk-map c.write_selected.result _ _
     (λ status put. record {
       jobs = c.in_ok-requested.requested.jobs;
@@ -26,11 +26,11 @@ returns-in-Some-clause-put g c =
       written = put.1;
       exit_status = put.0;
     })
-    (rw c.as_slice-in-Some.ensures.value at c.write_selected.ensures.put)
+    (rw c.as_slice-in-Some.ensures.value at c.write_selected.ensures.written)
 
 pub returns-in-Some-clause-status_bound : goal.returns-in-Some-clause-status_bound
 returns-in-Some-clause-status_bound g c =
-    IfOk-map c.write_selected.result _ _ (λ status put. omega (arith, put.0)) c.write_selected.ensures.put
+    IfOk-map c.write_selected.result _ _ (λ status put. omega (arith, put.0)) c.write_selected.ensures.written
 
 pub returns-in-Some-clause-stopped : goal.returns-in-Some-clause-stopped
 returns-in-Some-clause-stopped g c =
@@ -46,8 +46,8 @@ returns-in-Some-clause-stopped g c =
     })))
     (rw c.as_slice-in-Some.ensures.value at c.write_selected.ensures.stopped)
 
-pub returns-clause-put : goal.returns-clause-put
-returns-clause-put g c = record {
+pub returns-clause-written : goal.returns-clause-written
+returns-clause-written g c = record {
   jobs = c.in_ok-requested.requested.jobs;
   selection = None;
   shard = c.in_ok-requested.requested.context.shard;

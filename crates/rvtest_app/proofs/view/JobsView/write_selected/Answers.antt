@@ -19,13 +19,13 @@ returns-in_err-text-clause-stopped g c =
         listed = found.jobs;
         paths = rw (c.as_slice-indices.ensures.value, c.in_ok-selected.ensures.value) at found.paths;
         results_agree = rw (c.new-store.ensures.inputs, c.new-store.ensures.folder) at found.kept;
-        unread_entries = ap length c.unreadable_paths.ensures ∙ rw c.new-store.ensures.nothing at found.faults;
+        unread_entries = ap length c.unreadable_paths.ensures ∙ rw c.new-store.ensures.nothing at found.unreadable_count;
       };
       not_made = rw (c.as_slice-indices.ensures.value, c.in_ok-selected.ensures.value) at c.in_err-text.ensures.stopped;
     })))
 
-pub returns-clause-put : goal.returns-clause-put
-returns-clause-put g c =
+pub returns-clause-written : goal.returns-clause-written
+returns-clause-written g c =
     let found = c.in_ok-plan.ensures in (
       refl,
       record {
@@ -35,7 +35,7 @@ returns-clause-put g c =
           listed = found.jobs;
           paths = rw (c.as_slice-indices.ensures.value, c.in_ok-selected.ensures.value) at found.paths;
           results_agree = rw (c.new-store.ensures.inputs, c.new-store.ensures.folder) at found.kept;
-          unread_entries = ap length c.unreadable_paths.ensures ∙ rw c.new-store.ensures.nothing at found.faults;
+          unread_entries = ap length c.unreadable_paths.ensures ∙ rw c.new-store.ensures.nothing at found.unreadable_count;
         };
         between = outputs_of g.F.Outputs.committed g.O.Sink.accepted g.E.Sink.accepted g.E.Sink.failure_count
             (record c.args.to.now { errors = c.write_message.new.errors });
