@@ -375,4 +375,4 @@ passes_after args before after bytes jobs chosen status from to index job row re
     let finds_them = finds args before after bytes jobs judged told outcome read listed store alike index job run.of at run.is
     run.accepted whole.files earlier later.plan.results accepted.ran.of_selected.planned.results_agree later.planned.results_agree files row_is in
     rw later.row_is (rw job_is (passes_over_files (acceptance_of args.ends) of.candidate.verdict job earlier later.plan run.of.row
-    row_is of.kept (λ passes. ended_well _ (sym standing_is.is ∙ passes)) whole.no_same_as finds_them))
+    row_is of.kept (λ passes. ended_well _ (sym standing_is.verdict_is ∙ passes)) whole.no_same_as finds_them))

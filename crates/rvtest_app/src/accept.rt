@@ -137,8 +137,8 @@ fn accept_chosen<
         jobs: list.jobs.as_slice(),
     };
     let runs = judge_rows(host, args, list.jobs, chosen, rows)?;
-    let outcomes = changes_of_runs(host, args, &list, runs)?;
-    write_accepted(host, args, &list, &outcomes, to)
+    let changes = changes_of_runs(host, args, &list, runs)?;
+    write_accepted(host, args, &list, &changes, to)
 }
 
 // Returns the jobs to run, or an error if a file that `accept` would write is one of its inputs or is outside of the directory.
@@ -308,18 +308,18 @@ fn changes_of_runs<R, D: Inputs>(
     list: &ListFile<'_>,
     runs: Vec<Option<JobRun>>,
 ) -> Result<AcceptChanges, Stop>
-    ensures runs { IfOk result (λ outcomes. AreSkippedFrom runs.items outcomes.new.runs.items) }
-    ensures golden_texts { IfOk result (λ outcomes. outcomes.golden_texts.items
-        ≡ golden_texts_of_runs 0 list.now.jobs.now outcomes.new.runs.items) }
-    ensures files { IfOk result (λ outcomes. AreGoldenFiles (D.contents host.now.inputs.now)
+    ensures runs { IfOk result (λ changes. AreSkippedFrom runs.items changes.new.runs.items) }
+    ensures golden_texts { IfOk result (λ changes. changes.golden_texts.items
+        ≡ golden_texts_of_runs 0 list.now.jobs.now changes.new.runs.items) }
+    ensures files { IfOk result (λ changes. AreGoldenFiles (D.contents host.now.inputs.now)
         (optional_text args.now.run.root)
-        (fold (with_target outcomes.new.runs.items outcomes.golden_texts.items) [] outcomes.golden_texts.items) outcomes.files.items) }
-    ensures edited { IfOk result (λ outcomes. IfSome outcomes.new.text
+        (fold (with_target changes.new.runs.items changes.golden_texts.items) [] changes.golden_texts.items) changes.files.items) }
+    ensures edited { IfOk result (λ changes. IfSome changes.new.text
         (λ new. (edits : List AnEdit) × (new.items ≡ edited_rest 0 list.now.text.now edits))) }
-    ensures intended { IfOk result (λ outcomes. IfSome outcomes.new.text
-        (λ text. job_list_of text.items ≡ Ok (intended_jobs list.now.jobs.now outcomes.new.runs.items))) }
-    ensures unchanged { IfOk result (λ outcomes. outcomes.new.text ≡ None
-        → intended_jobs list.now.jobs.now outcomes.new.runs.items ≡ list.now.jobs.now) }
+    ensures intended { IfOk result (λ changes. IfSome changes.new.text
+        (λ text. job_list_of text.items ≡ Ok (intended_jobs list.now.jobs.now changes.new.runs.items))) }
+    ensures unchanged { IfOk result (λ changes. changes.new.text ≡ None
+        → intended_jobs list.now.jobs.now changes.new.runs.items ≡ list.now.jobs.now) }
     ensures stopped { IfErr result
         (IsGoldenUnreadStop (D.contents host.now.inputs.now) args.now list.now.jobs.now) }
 {
@@ -340,23 +340,23 @@ fn write_accepted<'x, R, D: Inputs, F: Outputs + Drop, O: Sink + Drop, E: Sink +
     host: &Host<'_, R, D>,
     args: &AcceptArgs<'_>,
     list: &ListFile<'x>,
-    outcomes: &'x AcceptChanges,
+    changes: &'x AcceptChanges,
     to: &mut Destinations<F, O, E>,
 ) -> Result<u8, Stop>
     ensures status_bound { IfOk result (λ status. status ≤ 1) }
     ensures check_writes_nothing { args.now.check ≡ true → to.new.files ≡ to.old.files }
-    ensures written { IfOk result (λ status. AreChangesWritten args.now.check list.now outcomes.now.new.runs.items
-        outcomes.now.golden_texts.items outcomes.now.files.items outcomes.now.new status
+    ensures written { IfOk result (λ status. AreChangesWritten args.now.check list.now changes.now.new.runs.items
+        changes.now.golden_texts.items changes.now.files.items changes.now.new status
         (outputs_of F.committed O.accepted E.accepted E.failure_count to.old) (outputs_of F.committed O.accepted E.accepted E.failure_count to.new)) }
     ensures stopped { IfErr result (IsAcceptanceWriteStop (D.contents host.now.inputs.now) args.now.check
-        list.now.path.now outcomes.now.files.items) }
+        list.now.path.now changes.now.files.items) }
 {
     let summary = AcceptSummary {
         list: *list,
-        runs: outcomes.new.runs.as_slice(),
-        golden_texts: outcomes.golden_texts.as_slice(),
-        files: outcomes.files.as_slice(),
-        new: &outcomes.new,
+        runs: changes.new.runs.as_slice(),
+        golden_texts: changes.golden_texts.as_slice(),
+        files: changes.files.as_slice(),
+        new: &changes.new,
     };
     write_lines(host.alloc, &summary, &mut to.out)?;
     if args.check {
@@ -396,12 +396,12 @@ fn write_count_line<O: Sink>(
     write_results(out, line.as_slice())
 }
 
-// Returns the exit status: 0 if no job or file was skipped (`left`) and no file would change, otherwise 1.
-fn accept_status(left: usize, changed: usize) -> u8
-    ensures value { result ≡ accept_status left changed }
+// Returns the exit status: 0 if no job or file was skipped (`skipped`) and no file would change, otherwise 1.
+fn accept_status(skipped: usize, changed: usize) -> u8
+    ensures value { result ≡ accept_status skipped changed }
     ensures status_bound { result ≤ 1 }
 {
-    if left == 0 && changed == 0 {
+    if skipped == 0 && changed == 0 {
         DONE
     } else {
         SOME_FAIL

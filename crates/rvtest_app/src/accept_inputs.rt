@@ -80,13 +80,13 @@ fn inputs_of_accept<'a>(
     args: &AcceptArgs<'_>,
     jobs: &'a [Job],
 ) -> Result<Vec<InputPath<'a>>, AllocError>
-    ensures { IfOk result (λ read. input_paths read.items ≡ inputs_of_accept args.now jobs.now) }
+    ensures { IfOk result (λ inputs. input_paths inputs.items ≡ inputs_of_accept args.now jobs.now) }
 {
-    let mut read = failed_report_path(alloc, &args.run)?;
+    let mut inputs = failed_report_path(alloc, &args.run)?;
     for job in jobs {
-        push_image_path(alloc, &mut read, args.run.root, job)?;
+        push_image_path(alloc, &mut inputs, args.run.root, job)?;
     }
-    Ok(read)
+    Ok(inputs)
 }
 
 // Returns the golden files of all jobs, with their paths resolved against `root`.
@@ -95,13 +95,13 @@ fn golden_files_of_jobs<'a>(
     root: Option<&str>,
     jobs: &'a [Job],
 ) -> Result<Vec<InputPath<'a>>, AllocError>
-    ensures { IfOk result (λ read. input_paths read.items ≡ flat_map (golden_paths_of_job (optional_text root.entry)) jobs.now) }
+    ensures { IfOk result (λ inputs. input_paths inputs.items ≡ flat_map (golden_paths_of_job (optional_text root.entry)) jobs.now) }
 {
-    let mut read = Vec::new(alloc);
+    let mut golden = Vec::new(alloc);
     for job in jobs {
-        push_golden_paths(alloc, &mut read, root, job)?;
+        push_golden_paths(alloc, &mut golden, root, job)?;
     }
-    Ok(read)
+    Ok(golden)
 }
 
 // Appends the golden files of the selected jobs, with their paths resolved against `root`.
@@ -132,15 +132,15 @@ fn push_golden_of_selected<'a>(
 fn reject_list_overwrite<F: Outputs>(
     files: &F,
     alloc: Global,
-    list: &str,
+    list_path: &str,
     reads: &AcceptReads<'_>,
 ) -> Result<(), Stop>
     ensures is_no_input { (paths : List (List ℕ)) → HaveIdentities (F.committed files.now) paths reads.now.inputs
-        → OnOk result (IfSome (F.committed files.now) (λ _. IsNotAnInput paths list.now)) }
-    ensures stopped { IfErr result (IsOverwriteStop (codes "the updated list") list.now) }
+        → OnOk result (IfSome (F.committed files.now) (λ _. IsNotAnInput paths list_path.now)) }
+    ensures stopped { IfErr result (IsOverwriteStop (codes "the updated list") list_path.now) }
 {
-    reject_file_overwrite(files, alloc, "the updated list", list, &reads.inputs)?;
-    reject_file_overwrite(files, alloc, "the updated list", list, &reads.golden)
+    reject_file_overwrite(files, alloc, "the updated list", list_path, &reads.inputs)?;
+    reject_file_overwrite(files, alloc, "the updated list", list_path, &reads.golden)
 }
 
 // Returns an error if writing a golden file would overwrite the list, an input, or a golden file with another path.
@@ -154,8 +154,8 @@ fn reject_golden_overwrites<F: Outputs>(
     ensures none_is_input { OnOk result (IfSome (F.committed files.now) (λ _. list_any (is_golden_input reads.now.inputs.identities.items) golden.now ≡ false)) }
     ensures stopped { IfErr result IsAcceptOverwriteStop }
 {
-    for at in 0..golden.len() {
-        reject_golden_overwrite(files, alloc, &golden[at], reads)?;
+    for index in 0..golden.len() {
+        reject_golden_overwrite(files, alloc, &golden[index], reads)?;
     }
     Ok(())
 }
@@ -177,24 +177,26 @@ fn reject_golden_overwrite<F: Outputs>(
         Err(error) => return Err(file_error_stop(alloc, path, error)),
     };
     let replaced = replaced.as_slice();
-    reject_if_found(alloc, golden, &reads.list, reads.list.first_of(replaced))?;
+    reject_if_found(alloc, golden, &reads.list, reads.list.first_among(replaced))?;
     reject_if_found(
         alloc,
         golden,
         &reads.inputs,
-        reads.inputs.first_of(replaced),
+        reads.inputs.first_among(replaced),
     )?;
     let other = first_with_other_path(&reads.golden, replaced, path);
     reject_if_found(alloc, golden, &reads.golden, other)
 }
 
-// Returns the index of the first input whose identity is in `files` and whose path is not `path`; `None` if there is none.
-fn first_with_other_path(read: &InputFiles<'_>, files: &[Text], path: &str) -> Option<usize>
-    ensures { IfSome result (λ at. at < length read.now.paths.items) }
+// Returns the index of the first input whose identity is in `identities` and whose path is not `path`; `None` if there is none.
+fn first_with_other_path(inputs: &InputFiles<'_>, identities: &[Text], path: &str) -> Option<usize>
+    ensures { IfSome result (λ index. index < length inputs.now.paths.items) }
 {
-    for at in 0..read.identities.len() {
-        if is_among(files, &read.identities[at]) && read.paths[at].path.as_str() != path {
-            return Some(at);
+    for index in 0..inputs.identities.len() {
+        if is_among(identities, &inputs.identities[index])
+            && inputs.paths[index].path.as_str() != path
+        {
+            return Some(index);
         }
     }
     None
@@ -204,25 +206,25 @@ fn first_with_other_path(read: &InputFiles<'_>, files: &[Text], path: &str) -> O
 fn reject_if_found(
     alloc: Global,
     golden: &InputPath<'_>,
-    read: &InputFiles<'_>,
+    inputs: &InputFiles<'_>,
     first: Option<usize>,
 ) -> Result<(), Stop>
-    requires { IfSome first (λ at. at < length read.now.paths.items) }
+    requires { IfSome first (λ index. index < length inputs.now.paths.items) }
     ensures none_found { OnOk result (first ≡ None) }
     ensures stopped { IfErr result (IsOverwriteReported (output_role_text golden.now.role) (path_buf_bytes golden.now.path)) }
 {
     match first {
         None => Ok(()),
-        Some(at) => Err(golden_overwrite_stop(alloc, golden, &read.paths[at])),
+        Some(index) => Err(golden_overwrite_stop(alloc, golden, &inputs.paths[index])),
     }
 }
 
-// Returns the error that writing a golden file would overwrite the input `read`.
-fn golden_overwrite_stop(alloc: Global, golden: &InputPath<'_>, read: &InputPath<'_>) -> Stop
+// Returns the error that writing a golden file would overwrite the input `input`.
+fn golden_overwrite_stop(alloc: Global, golden: &InputPath<'_>, input: &InputPath<'_>) -> Stop
     ensures { IsOverwriteReported (output_role_text golden.now.role) (path_buf_bytes golden.now.path) result }
 {
     match output_role_text(alloc, golden.role) {
-        Ok(role) => overwrite_stop(alloc, role.as_str(), golden.path.as_str(), read),
+        Ok(role) => overwrite_stop(alloc, role.as_str(), golden.path.as_str(), input),
         Err(error) => Stop::from(error),
     }
 }

@@ -34,7 +34,7 @@ pub(crate) fn read_golden_files<D: Inputs>(
     for target in targets {
         let resolved = golden_file_path(alloc, root, target.path.as_str())?;
         let old = read_golden_file(inputs, alloc, resolved.as_str())?;
-        push_file(
+        push_golden_file(
             &mut files,
             GoldenFile {
                 target,
@@ -47,7 +47,7 @@ pub(crate) fn read_golden_files<D: Inputs>(
 }
 
 // Appends a golden file.
-fn push_file(files: &mut Vec<GoldenFile>, file: GoldenFile) -> Result<(), AllocError>
+fn push_golden_file(files: &mut Vec<GoldenFile>, file: GoldenFile) -> Result<(), AllocError>
     ensures { OnOk result (files.new.items ≡ files.old.items ++ file ∷ []) }
 {
     files.push(file)?;
@@ -127,20 +127,20 @@ fn check_unchanged<D: Inputs>(
     ensures unchanged { OnOk result (IsOldContentsAt (D.contents inputs.now) path.now (option_map (λ old. old.now) old.entry)) }
     ensures stopped { IfErr result (IsUnverifiedStop (D.contents inputs.now) path.now) }
 {
-    let found = read_golden_file(inputs, alloc, path)?;
-    if is_text(&found, old) {
+    let current = read_golden_file(inputs, alloc, path)?;
+    if contents_match(&current, old) {
         Ok(())
     } else {
         Err(changed_stop(alloc, path))
     }
 }
 
-// Whether the contents `found` equal `old`, where `None` stands for a missing file.
-fn is_text(found: &Option<Bytes>, old: Option<&[u8]>) -> bool
-    ensures { IsTrue result → found.now ≡ option_map (λ old. old.now) old.entry }
+// Whether the contents `current` equal `old`, where `None` stands for a missing file.
+fn contents_match(current: &Option<Bytes>, old: Option<&[u8]>) -> bool
+    ensures { IsTrue result → current.now ≡ option_map (λ old. old.now) old.entry }
 {
-    match (found, old) {
-        (Some(found), Some(old)) => found.as_slice() == old,
+    match (current, old) {
+        (Some(current), Some(old)) => current.as_slice() == old,
         (None, None) => true,
         _ => false,
     }
@@ -150,8 +150,8 @@ fn is_text(found: &Option<Bytes>, old: Option<&[u8]>) -> bool
 fn changed_stop(alloc: Global, path: &str) -> Stop
     ensures { IsChangedStop path.now result }
 {
-    let what = "changed since it was read; nothing was written";
-    Stop::system_failure(path_message(alloc, path, what))
+    let reason = "changed since it was read; nothing was written";
+    Stop::system_failure(path_message(alloc, path, reason))
 }
 
 /// Writes each golden file that changes, in list order, and then the list. Each file is written completely or left unchanged.
@@ -212,6 +212,6 @@ fn check_written<D: Inputs>(inputs: &D, alloc: Global, path: &str, text: &[u8]) 
 fn other_bytes_stop(alloc: Global, path: &str) -> Stop
     ensures { IsOtherBytesStop path.now result }
 {
-    let what = "does not contain what was written";
-    Stop::system_failure(path_message(alloc, path, what))
+    let reason = "does not contain what was written";
+    Stop::system_failure(path_message(alloc, path, reason))
 }

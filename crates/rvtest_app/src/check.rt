@@ -26,9 +26,9 @@ pub(crate) fn check_list<D: Inputs>(
     alloc: Global,
     args: CheckArgs<'_>,
 ) -> Result<CommandResult, Stop>
-    ensures checked { IfOk result (λ found. IsCheckOutputAt (D.contents inputs.now) args.entry
-        found.text.items found.status) }
-    ensures status_bound { IfOk result (λ found. found.status ≤ 2) }
+    ensures checked { IfOk result (λ output. IsCheckOutputAt (D.contents inputs.now) args.entry
+        output.text.items output.status) }
+    ensures status_bound { IfOk result (λ output. output.status ≤ 2) }
     ensures stopped { IfErr result (IsCheckStop (D.contents inputs.now) args.entry) }
 {
     let text = read_list_text(inputs, alloc, args.list)?;
@@ -42,11 +42,11 @@ fn check_list_text<D: Inputs>(
     args: CheckArgs<'_>,
     text: &[u8],
 ) -> Result<CommandResult, Stop>
-    ensures check { IfOk result (λ found. IsCheckOutputOf
+    ensures check { IfOk result (λ output. IsCheckOutputOf
         (contents_below (optional_text args.entry.root) (D.contents inputs.now))
         (optional_text args.entry.root) (list_faults text.now)
-        args.entry.list.now text.now found.text.items found.status) }
-    ensures status_bound { IfOk result (λ found. found.status ≤ 2) }
+        args.entry.list.now text.now output.text.items output.status) }
+    ensures status_bound { IfOk result (λ output. output.status ≤ 2) }
     ensures stopped { IfErr result (IsListFaultStop args.entry.list.now text.now) }
 {
     let faults = read_faults(alloc, text)?;
@@ -67,10 +67,10 @@ fn check_files<D: Inputs>(
     args: CheckArgs<'_>,
     text: &[u8],
 ) -> Result<CommandResult, Stop>
-    ensures plan { IfOk result (λ found. IsPlanCheckOf
+    ensures plan { IfOk result (λ output. IsPlanCheckOf
         (contents_below (optional_text args.entry.root) (D.contents inputs.now))
-        (optional_text args.entry.root) args.entry.list.now text.now found.text.items found.status) }
-    ensures status_bound { IfOk result (λ found. found.status ≤ 2) }
+        (optional_text args.entry.root) args.entry.list.now text.now output.text.items output.status) }
+    ensures status_bound { IfOk result (λ output. output.status ≤ 2) }
     ensures stopped { IfErr result (IsListFaultStop args.entry.list.now text.now) }
 {
     let jobs = parse_list(alloc, args.list, text)?;
@@ -88,10 +88,10 @@ fn check_plan(
     plan: &Plan,
     unread: &[UnreadablePath],
 ) -> Result<CommandResult, Stop>
-    ensures status_bound { IfOk result (λ found. found.status ≤ 2) }
-    ensures text { IfOk result (λ found. found.text.items
+    ensures status_bound { IfOk result (λ output. output.status ≤ 2) }
+    ensures text { IfOk result (λ output. output.text.items
         ≡ check_text args.entry.list.now text.now (optional_text args.entry.root) plan.now unread.now) }
-    ensures exit_status { IfOk result (λ found. found.status ≡ check_status (refused_job_count plan.now)) }
+    ensures exit_status { IfOk result (λ output. output.status ≡ check_status (refused_job_count plan.now)) }
     ensures memory { IfErr result (λ stop. stop ≡ Stop.OutOfMemory) }
 {
     let lines = job_begin_lines(alloc, text)?;

@@ -33,7 +33,7 @@ pub(crate) struct CheckedList<'a> {
 // An expectation file of a job: its contents as the plan has them, and its path; both are `None` if the job names no file.
 #[derive(Clone, Copy)]
 struct Reference<'a> {
-    kept: Option<&'a Kept>,
+    contents: Option<&'a Kept>,
     path: Option<&'a str>,
 }
 
@@ -99,12 +99,12 @@ impl<'a> CheckedList<'a> {
         self.push_image_if_refused(alloc, text, index)?;
         let job = self.plan.job(index);
         let signature = Reference {
-            kept: self.plan.reference(index),
+            contents: self.plan.reference(index),
             path: reference_path(job),
         };
         self.push_reference_if_unread(alloc, text, index, signature)?;
         let console = Reference {
-            kept: self.plan.console_reference(index),
+            contents: self.plan.console_reference(index),
             path: console_path(job),
         };
         self.push_reference_if_unread(alloc, text, index, console)
@@ -144,10 +144,10 @@ impl<'a> CheckedList<'a> {
         requires { index < length self.now.plan.now.jobs }
         ensures { OnOk result ((d : AJob) → text.new.items ≡ text.old.items ++ unread_reference_text
             self.now.path.now self.now.lines.now self.now.unread.now index
-            (slice_index_or self.now.plan.now.jobs index d) (option_map (λ kept. kept.now) file.entry.kept)
+            (slice_index_or self.now.plan.now.jobs index d) (option_map (λ contents. contents.now) file.entry.contents)
             (option_map (λ path. path.now) file.entry.path)) }
     {
-        match (file.kept, file.path) {
+        match (file.contents, file.path) {
             (Some(Kept::Unreadable), Some(path)) => {
                 let reason = unread_file_text(alloc, self.unread, path)?;
                 self.push_refused_file(text, index, Refusal::ReferenceUnreadable, Some(reason))

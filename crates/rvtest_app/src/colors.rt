@@ -47,10 +47,10 @@ fn colors_unless_stdout_used(uses_stdout: bool, colors: Colors) -> Colors
 }
 
 // Returns the colours that the value of `--color` requests: `always`, `never`, or otherwise coloured results only on a terminal.
-fn colors_of_value(word: Option<&str>, is_terminal: bool) -> Colors
-    ensures { result ≡ colors_of_value (optional_text word.entry) is_terminal }
+fn colors_of_value(value: Option<&str>, is_terminal: bool) -> Colors
+    ensures { result ≡ colors_of_value (optional_text value.entry) is_terminal }
 {
-    match word {
+    match value {
         Some("always") => Colors::Colored,
         Some("never") => Colors::Plain,
         _ => terminal_colors(is_terminal),

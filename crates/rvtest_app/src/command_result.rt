@@ -18,19 +18,19 @@ pub(crate) struct CommandResult {
 /// Writes the output of a command to standard output, and returns its exit status.
 pub(crate) fn write_command_result<O: Sink>(
     out: &mut O,
-    found: Result<CommandResult, Stop>,
+    outcome: Result<CommandResult, Stop>,
 ) -> Result<u8, Stop>
-    ensures written { IfOk result (λ status. MatchResult found (λ found. (status ≡ found.status)
-        × Appends (O.accepted out.old) (O.accepted out.new) found.text.items) (λ stop. ⊥)) }
+    ensures written { IfOk result (λ status. MatchResult output (λ output. (status ≡ output.status)
+        × Appends (O.accepted out.old) (O.accepted out.new) output.text.items) (λ stop. ⊥)) }
     ensures no_failed_writes { OnOk result (O.failure_count out.new ≡ O.failure_count out.old) }
-    ensures prefix_written { OnErr result (MatchResult found
-        (λ found. AppendsPrefix (O.accepted out.old) (O.accepted out.new) found.text.items)
+    ensures prefix_written { OnErr result (MatchResult output
+        (λ output. AppendsPrefix (O.accepted out.old) (O.accepted out.new) output.text.items)
         (λ stop. O.accepted out.new ≡ O.accepted out.old)) }
-    ensures failures_counted { IfErr result (λ _. MatchResult found
+    ensures failures_counted { IfErr result (λ _. MatchResult output
         (λ _. O.failure_count out.new ≡ one_more (O.failure_count out.old)) (λ _. O.failure_count out.new ≡ O.failure_count out.old)) }
-    ensures stopped { IfErr result (λ stop. MatchResult found (λ _. stop ≡ Stop.WriteFailed) (λ found_stop. stop ≡ found_stop)) }
+    ensures stopped { IfErr result (λ stop. MatchResult output (λ _. stop ≡ Stop.WriteFailed) (λ error. stop ≡ error)) }
 {
-    let CommandResult { text, status } = found?;
+    let CommandResult { text, status } = outcome?;
     write_results(out, text.as_slice())?;
     Ok(status)
 }

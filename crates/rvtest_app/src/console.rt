@@ -35,7 +35,7 @@ struct ReportedRow {
 
 /// Runs the job with the requested name, and writes its console to standard output and the line about it to standard error. The status is 0
 /// if the job passed, and otherwise 1.
-pub(crate) fn put_job_console<D: Inputs, F: Outputs + Drop, O: Sink + Drop, E: Sink + Drop>(
+pub(crate) fn write_job_console<D: Inputs, F: Outputs + Drop, O: Sink + Drop, E: Sink + Drop>(
     inputs: &D,
     alloc: Global,
     args: ConsoleArgs<'_>,
@@ -59,9 +59,9 @@ fn run_named_job<D: Inputs>(
     alloc: Global,
     args: ConsoleArgs<'_>,
 ) -> Result<ReportedRow, Stop>
-    ensures reported { IfOk result (λ told. IsConsoleAt (D.contents inputs.now) args.entry
-        told.row.console told.line.items told.status) }
-    ensures status_bound { IfOk result (λ told. told.status ≤ 1) }
+    ensures reported { IfOk result (λ reported. IsConsoleAt (D.contents inputs.now) args.entry
+        reported.row.console reported.line.items reported.status) }
+    ensures status_bound { IfOk result (λ reported. reported.status ≤ 1) }
     ensures stopped { IfErr result (IsConsoleStop (D.contents inputs.now) args.entry) }
 {
     let text = read_list_text(inputs, alloc, args.list)?;
@@ -75,10 +75,10 @@ fn run_job_of_text<D: Inputs>(
     args: ConsoleArgs<'_>,
     text: &[u8],
 ) -> Result<ReportedRow, Stop>
-    ensures reported { IfOk result (λ told.
+    ensures reported { IfOk result (λ reported.
         IsConsoleOf (contents_below (optional_text args.entry.root) (D.contents inputs.now))
-        text.now args.entry.name.now told.row.console told.line.items told.status) }
-    ensures status_bound { IfOk result (λ told. told.status ≤ 1) }
+        text.now args.entry.name.now reported.row.console reported.line.items reported.status) }
+    ensures status_bound { IfOk result (λ reported. reported.status ≤ 1) }
     ensures stopped { IfErr result (IsNoJobStop args.entry.list.now text.now args.entry.name.now) }
 {
     let NamedJob { jobs, index } = find_named_job(alloc, args.list, args.name, text)?;
@@ -94,10 +94,10 @@ fn run_job_at<D: Inputs>(
     index: usize,
 ) -> Result<ReportedRow, Stop>
     requires { index < length jobs }
-    ensures reported { IfOk result (λ told.
+    ensures reported { IfOk result (λ reported.
         IsJobConsole (contents_below (optional_text args.entry.root) (D.contents inputs.now))
-        jobs index told.row.console told.line.items told.status) }
-    ensures status_bound { IfOk result (λ told. told.status ≤ 1) }
+        jobs index reported.row.console reported.line.items reported.status) }
+    ensures status_bound { IfOk result (λ reported. reported.status ≤ 1) }
     ensures memory { IfErr result (λ stop. stop ≡ Stop.OutOfMemory) }
 {
     let indices = vec![in alloc; index; 1]?;
@@ -114,13 +114,13 @@ fn run_planned_job(
     index: usize,
 ) -> Result<ReportedRow, Stop>
     requires { index < length plan.now.jobs }
-    ensures row { IfOk result (λ told. (d : AJob) → told.row ≡ row_of plan.now (slice_index_or plan.now.jobs index d)) }
-    ensures line { IfOk result (λ told. (d : AJob) → told.line.items
+    ensures row { IfOk result (λ reported. (d : AJob) → reported.row ≡ row_of plan.now (slice_index_or plan.now.jobs index d)) }
+    ensures line { IfOk result (λ reported. (d : AJob) → reported.line.items
         ≡ row_line plan.now unread.now (judge_by_rule Strict) (slice_index_or plan.now.jobs index d)
         (row_of plan.now (slice_index_or plan.now.jobs index d))) }
-    ensures status { IfOk result (λ told. (d : AJob) → told.status
+    ensures status { IfOk result (λ reported. (d : AJob) → reported.status
         ≡ passing_status (has_passed Strict (row_of plan.now (slice_index_or plan.now.jobs index d)))) }
-    ensures status_bound { IfOk result (λ told. told.status ≤ 1) }
+    ensures status_bound { IfOk result (λ reported. reported.status ≤ 1) }
     ensures memory { IfErr result (λ stop. stop ≡ Stop.OutOfMemory) }
 {
     let row = row_at(alloc, plan, index)?;

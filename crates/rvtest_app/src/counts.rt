@@ -26,7 +26,7 @@ use rvtest_cli::CountsArgs;
 use std::alloc::{AllocError, Global};
 
 /// Adds up the tables of counts at the paths in the arguments, and writes the sum. The status is 0.
-pub(crate) fn put_sum_of_tables<D: Inputs, F: Outputs + Drop, O: Sink + Drop, E: Sink + Drop>(
+pub(crate) fn write_sum_of_tables<D: Inputs, F: Outputs + Drop, O: Sink + Drop, E: Sink + Drop>(
     inputs: &D,
     alloc: Global,
     args: &CountsArgs<'_>,
@@ -60,12 +60,12 @@ fn reject_sum_overwrite<F: Outputs>(
     ensures inputs_preserved { OnOk result (IfSome (F.committed files.now) (λ _. IsSumFileNotAnInput args.now)) }
     ensures stopped { IfErr result (IsSumOverwriteStop args.now) }
 {
-    let read = identified_files(
+    let inputs = identified_files(
         files,
         alloc,
         inputs_of_args(alloc, args.tables.as_slice(), "the table")?,
     )?;
-    reject_option_overwrite(files, alloc, "--out", args.out, &read)
+    reject_option_overwrite(files, alloc, "--out", args.out, &inputs)
 }
 
 // Returns the sum of the tables of counts at these paths.
@@ -122,8 +122,8 @@ fn read_error_stop(alloc: Global, path: &str, error: ReadError) -> Stop
     match error {
         ReadError::OutOfMemory => Stop::OutOfMemory,
         ReadError::Line(line) => {
-            let what = ": invalid line in a table of counts\n";
-            Stop::rejection(path_number_message(alloc, path, ":", line, what))
+            let reason = ": invalid line in a table of counts\n";
+            Stop::rejection(path_number_message(alloc, path, ":", line, reason))
         }
         ReadError::Truncated => {
             Stop::rejection(path_message(alloc, path, "the table is truncated"))
@@ -169,21 +169,21 @@ fn two_names_message(alloc: Global, path: &str, function: u32) -> Result<Vec<u8>
     )
 }
 
-// Returns the message that a count at `address` no longer fits in 64 bits if the table at the path is added; `what` names the count.
+// Returns the message that a count at `address` no longer fits in 64 bits if the table at the path is added; `count_name` names the count.
 fn count_overflow_message<'a>(
     alloc: Global,
     path: &'a str,
-    what: &'a str,
+    count_name: &'a str,
     address: u32,
 ) -> Result<Vec<u8>, AllocError>
-    ensures { IfOk result (λ text. text.items ≡ count_overflow_message path.now what.now address) }
+    ensures { IfOk result (λ text. text.items ≡ count_overflow_message path.now count_name.now address) }
 {
     text_of_spans(
         alloc,
         &[
             Span::Text("rvtest: "),
             Span::Printable(path.as_bytes()),
-            Span::Text(what),
+            Span::Text(count_name),
             Span::Word(address),
             Span::Text(" does not fit in 64 bits\n"),
         ],

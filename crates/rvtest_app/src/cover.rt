@@ -33,5 +33,5 @@ pub(crate) fn cover_requested_jobs<
         args: &args.run,
         view: View::Cover { csv: args.csv },
     };
-    view.put(ChoosingCommand::Cover, to)
+    view.write_view(ChoosingCommand::Cover, to)
 }

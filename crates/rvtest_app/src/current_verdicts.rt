@@ -80,7 +80,7 @@ impl<'x, D: Inputs> CurrentFiles<'x, D> {
     {
         let console = self.golden_text(path_to_read(job, row, console_path(job)))?;
         let signature = self.golden_text(path_to_read(job, row, signature_path(job)))?;
-        self.verdict_with_golden_files(job, row, text_of(&console), text_of(&signature))
+        self.verdict_with_golden_files(job, row, slice_of_text(&console), slice_of_text(&signature))
     }
 
     // Returns the verdict on a job, given the contents of its golden files.
@@ -128,14 +128,14 @@ impl<'x, D: Inputs> CurrentFiles<'x, D> {
             (option_map (λ path. path.now) path.entry) (option_map (λ bytes. bytes.items) text)) }
     {
         match path {
-            Some(path) => self.text_of_path(path),
+            Some(path) => self.text_at_path(path),
             None => Ok(None),
         }
     }
 
     // Returns the contents of the golden file at a path, resolved against the `--root` directory; `None` if it cannot be read or is too
     // long.
-    fn text_of_path(&self, path: &str) -> Result<Option<Vec<u8>>, AllocError>
+    fn text_at_path(&self, path: &str) -> Result<Option<Vec<u8>>, AllocError>
         ensures { IfOk result (λ text. AreContentsUpToLimit (D.contents self.now.inputs.now)
             (resolved_path (optional_text self.now.root) path.now) (option_map (λ bytes. bytes.items) text)) }
     {
@@ -199,7 +199,7 @@ fn signature_path(job: &Job) -> Option<&str>
 }
 
 // Returns the bytes of a text as a slice; `None` if there is no text.
-fn text_of(bytes: &Option<Vec<u8>>) -> Option<&[u8]>
+fn slice_of_text(bytes: &Option<Vec<u8>>) -> Option<&[u8]>
     ensures { option_map (λ bytes. bytes.now) result ≡ option_map (λ bytes. bytes.items) bytes.now }
 {
     match bytes {

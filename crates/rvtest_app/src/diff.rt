@@ -26,7 +26,7 @@ use std::alloc::{AllocError, Global};
 // The differences of two reports with the exit status, and the notes about truncated reports.
 #[derive(Drop)]
 struct NotedDiff {
-    found: CommandResult,
+    output: CommandResult,
     notes: Vec<u8>,
 }
 
@@ -44,10 +44,10 @@ pub(crate) fn diff_reports<D: Inputs, F: Outputs + Drop, O: Sink + Drop, E: Sink
     ensures stopped { IfErr result (λ stop. (stop ≡ WriteFailed)
         ⊎ IsDiffAtStop (D.contents inputs.now) args.entry stop) }
 {
-    let NotedDiff { found, notes } = diff_of_files(inputs, alloc, args)?;
+    let NotedDiff { output, notes } = diff_of_files(inputs, alloc, args)?;
     write_message(&mut to.errors, notes.as_slice());
-    write_results(&mut to.out, found.text.as_slice())?;
-    Ok(found.status)
+    write_results(&mut to.out, output.text.as_slice())?;
+    Ok(output.status)
 }
 
 // Returns the differences between the reports at the two paths in the arguments, with the notes about truncated reports.
@@ -57,8 +57,8 @@ fn diff_of_files<D: Inputs>(
     args: DiffArgs<'_>,
 ) -> Result<NotedDiff, Stop>
     ensures diff { IfOk result (λ noted. IsDiffAt (D.contents inputs.now) args.entry
-        noted.found.text.items noted.notes.items noted.found.status) }
-    ensures status_bound { IfOk result (λ noted. noted.found.status ≤ 1) }
+        noted.output.text.items noted.notes.items noted.output.status) }
+    ensures status_bound { IfOk result (λ noted. noted.output.status ≤ 1) }
     ensures stopped { IfErr result (IsDiffAtStop (D.contents inputs.now) args.entry) }
 {
     let old = read_result_file(inputs, alloc, args.old)?;
@@ -75,18 +75,18 @@ fn diff_report_texts(
     new: Result<Vec<u8>, Stop>,
 ) -> Result<NotedDiff, Stop>
     ensures diff { IfOk result (λ noted. MatchResult new (λ new. IsDiffOf args.entry old.now new.items
-        noted.found.text.items noted.notes.items noted.found.status) (λ stop. ⊥)) }
+        noted.output.text.items noted.notes.items noted.output.status) (λ stop. ⊥)) }
     ensures stopped { IfErr result (IsDiffStop args.entry old.now new) }
-    ensures status_bound { IfOk result (λ noted. noted.found.status ≤ 1) }
+    ensures status_bound { IfOk result (λ noted. noted.output.status ≤ 1) }
 {
-    let old = parse_requested_report(alloc, requested(args.old, args), old)?;
+    let old = parse_requested_report(alloc, requested_report(args.old, args), old)?;
     let new_text = new?;
-    let new = parse_requested_report(alloc, requested(args.new, args), new_text.as_slice())?;
+    let new = parse_requested_report(alloc, requested_report(args.new, args), new_text.as_slice())?;
     diff_read_reports(alloc, args, old, new)
 }
 
 // Returns the request to read the report at `path`, which may be truncated if `--partial` is given.
-fn requested<'a>(path: &'a str, args: DiffArgs<'_>) -> RequestedReport<'a>
+fn requested_report<'a>(path: &'a str, args: DiffArgs<'_>) -> RequestedReport<'a>
     ensures path { result.path.now ≡ path.entry.now }
     ensures partial { result.partial ≡ args.entry.partial }
 {
@@ -106,17 +106,17 @@ fn diff_read_reports(
     requires old { length old.report.rows < 2 ^ 32 }
     requires new { length new.report.rows < 2 ^ 32 }
     ensures diff { IfOk result (λ noted. IsDiffOfReports (requested_comparison args.entry.steps args.entry.slower)
-        old.report new.report noted.found.text.items noted.found.status) }
+        old.report new.report noted.output.text.items noted.output.status) }
     ensures notes { IfOk result (λ noted. noted.notes.items
         ≡ truncation_note args.entry.old.now old ++ truncation_note args.entry.new.now new) }
-    ensures status_bound { IfOk result (λ noted. noted.found.status ≤ 1) }
+    ensures status_bound { IfOk result (λ noted. noted.output.status ≤ 1) }
     ensures memory { IfErr result (λ stop. stop ≡ OutOfMemory) }
 {
     let mut notes = truncation_note(alloc, args.old, &old)?;
     notes.extend_from_slice(truncation_note(alloc, args.new, &new)?.as_slice())?;
     let compare = requested_comparison(args.steps, args.slower);
-    let found = diff_saved_reports(alloc, compare, old.report, new.report)?;
-    Ok(NotedDiff { found, notes })
+    let output = diff_saved_reports(alloc, compare, old.report, new.report)?;
+    Ok(NotedDiff { output, notes })
 }
 
 // Returns the differences between the compared rows of two reports, and the exit status.
@@ -128,10 +128,10 @@ fn diff_saved_reports(
 ) -> Result<CommandResult, Stop>
     requires old { length old.rows < 2 ^ 32 }
     requires new { length new.rows < 2 ^ 32 }
-    ensures status_bound { IfOk result (λ found. found.status ≤ 1) }
-    ensures text { IfOk result (λ found. found.text.items
+    ensures status_bound { IfOk result (λ output. output.status ≤ 1) }
+    ensures text { IfOk result (λ output. output.text.items
         ≡ diff_text compare (compared_rows new old) (compared_rows old new) (uncompared_row_count old new)) }
-    ensures exit_status { IfOk result (λ found. found.status
+    ensures exit_status { IfOk result (λ output. output.status
         ≡ diff_status (difference_counts compare (compared_rows new old) (compared_rows old new))) }
     ensures memory { IfErr result (λ stop. stop ≡ OutOfMemory) }
 {
@@ -200,10 +200,10 @@ fn diff_rows(
 ) -> Result<CommandResult, Stop>
     requires old { length compared.old.now < 2 ^ 32 }
     requires new { length compared.new.now < 2 ^ 32 }
-    ensures status_bound { IfOk result (λ found. found.status ≤ 1) }
-    ensures text { IfOk result (λ found. found.text.items
+    ensures status_bound { IfOk result (λ output. output.status ≤ 1) }
+    ensures text { IfOk result (λ output. output.text.items
         ≡ diff_text compare compared.entry.old.now compared.entry.new.now compared.entry.not_compared) }
-    ensures exit_status { IfOk result (λ found. found.status
+    ensures exit_status { IfOk result (λ output. output.status
         ≡ diff_status (difference_counts compare compared.entry.old.now compared.entry.new.now)) }
     ensures memory { IfErr result (λ stop. stop ≡ OutOfMemory) }
 {

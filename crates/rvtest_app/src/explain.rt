@@ -29,9 +29,9 @@ pub(crate) fn explain_named_job<D: Inputs>(
     alloc: Global,
     args: ExplainArgs<'_>,
 ) -> Result<CommandResult, Stop>
-    ensures explained { IfOk result (λ found. IsExplanationAt (D.contents inputs.now) args.entry
-        found.text.items found.status) }
-    ensures status_bound { IfOk result (λ found. found.status ≤ 1) }
+    ensures explained { IfOk result (λ output. IsExplanationAt (D.contents inputs.now) args.entry
+        output.text.items output.status) }
+    ensures status_bound { IfOk result (λ output. output.status ≤ 1) }
     ensures stopped { IfErr result (IsExplainStop (D.contents inputs.now) args.entry) }
 {
     let text = read_list_text(inputs, alloc, args.list)?;
@@ -45,9 +45,9 @@ fn explain_job_of_text<D: Inputs>(
     args: ExplainArgs<'_>,
     text: &[u8],
 ) -> Result<CommandResult, Stop>
-    ensures explanation { IfOk result (λ found. IsExplanationOf (D.contents inputs.now) args.entry text.now
-        found.text.items found.status) }
-    ensures status_bound { IfOk result (λ found. found.status ≤ 1) }
+    ensures explanation { IfOk result (λ output. IsExplanationOf (D.contents inputs.now) args.entry text.now
+        output.text.items output.status) }
+    ensures status_bound { IfOk result (λ output. output.status ≤ 1) }
     ensures stopped { IfErr result (IsNoJobStop args.entry.list.now text.now args.entry.name.now) }
 {
     let NamedJob { jobs, index } = find_named_job(alloc, args.list, args.name, text)?;
@@ -63,10 +63,10 @@ fn explain_job_at<D: Inputs>(
     index: usize,
 ) -> Result<CommandResult, Stop>
     requires { index < length jobs }
-    ensures explained { IfOk result (λ found.
+    ensures explained { IfOk result (λ output.
         IsJobExplained (contents_below (optional_text args.entry.root) (D.contents inputs.now))
-        (with_budget args.entry.budget jobs) index args.entry.last found.text.items found.status) }
-    ensures status_bound { IfOk result (λ found. found.status ≤ 1) }
+        (with_budget args.entry.budget jobs) index args.entry.last output.text.items output.status) }
+    ensures status_bound { IfOk result (λ output. output.status ≤ 1) }
     ensures memory { IfErr result (λ stop. stop ≡ Stop.OutOfMemory) }
 {
     let indices = vec![in alloc; index; 1]?;
@@ -85,11 +85,11 @@ fn explain_planned_job(
     last: u32,
 ) -> Result<CommandResult, Stop>
     requires { index < length plan.now.jobs }
-    ensures text { IfOk result (λ found. IsTextExplaining plan.now unread.now index last found.text.items) }
-    ensures status { IfOk result (λ found. (d : AJob) → found.status
+    ensures text { IfOk result (λ output. IsTextExplaining plan.now unread.now index last output.text.items) }
+    ensures status { IfOk result (λ output. (d : AJob) → output.status
         ≡ passing_status (has_passed Strict
         (row_of plan.now (slice_index_or plan.now.jobs index d)))) }
-    ensures status_bound { IfOk result (λ found. found.status ≤ 1) }
+    ensures status_bound { IfOk result (λ output. output.status ≤ 1) }
     ensures memory { IfErr result (λ stop. stop ≡ Stop.OutOfMemory) }
 {
     let row = row_at(alloc, plan, index)?;
@@ -101,9 +101,9 @@ fn explain_planned_job(
         last: None,
     };
     let budget_use = budget_use_at(alloc, plan, index, &row)?;
-    let way = TraceOptions { last, budget_use };
+    let options = TraceOptions { last, budget_use };
     let mut text = Vec::new(alloc);
-    reporter.push_job_explanation(alloc, index, &row, &way, &mut text)?;
+    reporter.push_job_explanation(alloc, index, &row, &options, &mut text)?;
     let status = passing_status(has_passed(Rule::Strict, &row));
     Ok(CommandResult { text, status })
 }

@@ -73,14 +73,14 @@ pub(crate) fn show_job_to_gdb<
     let opened = session_of_named_job(host.inputs, alloc, args)?;
     let JobSession { mut session, job } = opened;
     limit_memory(alloc, &mut session, args.memory);
-    let means = SessionContext {
+    let context = SessionContext {
         rt: host.rt,
         alloc,
         end: &job,
     };
-    match serve(&means, &mut session, input, &mut to.out) {
+    match serve(&context, &mut session, input, &mut to.out) {
         Ok(()) => Ok(DONE),
-        Err(broken) => Err(session_error_stop(alloc, broken)),
+        Err(error) => Err(session_error_stop(alloc, error)),
     }
 }
 
@@ -97,16 +97,16 @@ fn limit_memory(alloc: Global, session: &mut Session, megabytes: Option<u32>)
 fn no_gdb_stop(alloc: Global) -> Stop
     ensures { IsNoGdbStop result }
 {
-    let how =
+    let reason =
         "expected gdb, found a terminal; run gdb-multiarch -ex 'target remote | rvtest gdb LIST NAME'";
-    Stop::rejection(path_message(alloc, "standard output", how))
+    Stop::rejection(path_message(alloc, "standard output", reason))
 }
 
 // Returns the stop for an error of the session.
-fn session_error_stop(alloc: Global, broken: SessionError) -> Stop
-    ensures { IsSessionErrorStop broken result }
+fn session_error_stop(alloc: Global, error: SessionError) -> Stop
+    ensures { IsSessionErrorStop error result }
 {
-    match broken {
+    match error {
         SessionError::OutOfMemory => Stop::OutOfMemory,
         SessionError::ReplyWriteFailed => Stop::WriteFailed,
         SessionError::ReadFailed(reason) => {
@@ -186,7 +186,7 @@ fn session_of_plan(
     root: Option<&str>,
 ) -> Result<Option<Session>, AllocError>
     requires { index < length plan.now.jobs }
-    ensures { IfOk result (λ found. (d : AJob) → MatchOption found
+    ensures { IfOk result (λ session. (d : AJob) → MatchOption session
         (is_ok (start_state_in plan.now.results (slice_index_or plan.now.jobs index d)) ≡ false)
         (IsSessionOf plan.now.results (slice_index_or plan.now.jobs index d)
         (resolved_path (optional_text root.entry) (slice_index_or plan.now.jobs index d).image))) }

@@ -13,7 +13,7 @@ use std::alloc::{AllocError, Global};
 
 /// Returns the help about the keys of a job list if the topic is `keys`, and an error for any other topic.
 pub(crate) fn topic_help(alloc: Global, args: HelpArgs<'_>) -> Result<CommandResult, Stop>
-    ensures printed { IfOk result (λ found. IsTopicPrinted args.entry.topic.now found.text.items found.status) }
+    ensures printed { IfOk result (λ output. IsTopicPrinted args.entry.topic.now output.text.items output.status) }
     ensures stopped { IfErr result (IsNoTopicStop args.entry.topic.now) }
 {
     if args.topic != "keys" {
@@ -33,7 +33,7 @@ fn no_topic_stop(alloc: Global, topic: &str) -> Stop
 
 // Returns the message about an unknown topic.
 fn no_topic_message(alloc: Global, topic: &str) -> Result<Vec<u8>, AllocError>
-    ensures { IfOk result (λ told. told.items ≡ no_topic_message topic.now) }
+    ensures { IfOk result (λ message. message.items ≡ no_topic_message topic.now) }
 {
     text_of_spans(
         alloc,

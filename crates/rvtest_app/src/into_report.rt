@@ -34,22 +34,22 @@ impl<'a> IntoRows<'a> {
     {
         let IntoRows { chosen, old, .. } = self;
         let ChosenRows { indices, rows, .. } = chosen;
-        let mut whole = old.into_vec();
-        replace_rows_at(&mut whole, indices, rows.into_vec());
-        Rows::new(whole)
+        let mut all_rows = old.into_vec();
+        replace_rows_at(&mut all_rows, indices, rows.into_vec());
+        Rows::new(all_rows)
     }
 }
 
-// Replaces the rows of `whole` at the indices `indices`, in order, by `rows`.
-fn replace_rows_at(whole: &mut Vec<Row>, indices: &[usize], rows: Vec<Row>)
-    requires within { All (λ index. index < vec_len whole.old) indices.now }
+// Replaces the rows of `all_rows` at the indices `indices`, in order, by `rows`.
+fn replace_rows_at(all_rows: &mut Vec<Row>, indices: &[usize], rows: Vec<Row>)
+    requires within { All (λ index. index < vec_len all_rows.old) indices.now }
     requires same_length { length indices.now ≡ vec_len rows }
-    ensures { whole.new.items ≡ merged_rows indices.now rows.items whole.old.items }
+    ensures { all_rows.new.items ≡ merged_rows indices.now rows.items all_rows.old.items }
 {
-    let mut at = 0;
+    let mut next = 0;
     for row in rows {
-        whole[indices[at]] = row;
-        at += 1;
+        all_rows[indices[next]] = row;
+        next += 1;
     }
 }
 

@@ -7,10 +7,10 @@ ghost use Rattle.rvtest_app.specs.JunitTexts.{junit_class, suite_name};
 use std::path::Path;
 
 /// Returns the name of the JUnit suite: the requested name, or else the last component of the path without its extension.
-pub(crate) fn suite_name<'a>(args: Option<&'a str>, path: &'a str) -> &'a str
-    ensures { result.now ≡ suite_name (optional_text args.entry) path.entry.now }
+pub(crate) fn suite_name<'a>(requested: Option<&'a str>, path: &'a str) -> &'a str
+    ensures { result.now ≡ suite_name (optional_text requested.entry) path.entry.now }
 {
-    match args {
+    match requested {
         Some(name) => name,
         None => junit_class(path),
     }

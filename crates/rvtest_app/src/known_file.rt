@@ -31,16 +31,16 @@ pub(crate) fn requested_known_jobs<D: Inputs>(
     }
 }
 
-// Reads the file of known failures at `path`, and returns which of the jobs it lists; `list` is the path of the job list.
+// Reads the file of known failures at `path`, and returns which of the jobs it lists; `list_path` is the path of the job list.
 fn read_known_file<D: Inputs>(
     inputs: &D,
     alloc: Global,
     path: &str,
-    list: &str,
+    list_path: &str,
     jobs: &[Job],
 ) -> Result<KnownJobs, Stop>
     ensures known { IfOk result (IsKnownFile (D.contents inputs.now) path.now jobs.now) }
-    ensures stopped { IfErr result (IsKnownFileStop (D.contents inputs.now) path.now list.now jobs.now) }
+    ensures stopped { IfErr result (IsKnownFileStop (D.contents inputs.now) path.now list_path.now jobs.now) }
 {
     let text = read_list_text(inputs, alloc, path)?;
     let names = job_names(alloc, jobs)?;
@@ -49,7 +49,7 @@ fn read_known_file<D: Inputs>(
             let path = Text::copy(alloc, path)?;
             Ok(KnownJobs { path, jobs })
         }
-        Err(fault) => Err(Stop::rejection(known_fault_message(alloc, path, list, &fault))),
+        Err(fault) => Err(Stop::rejection(known_fault_message(alloc, path, list_path, &fault))),
     }
 }
 
@@ -68,10 +68,10 @@ fn job_names(alloc: Global, jobs: &[Job]) -> Result<Vec<&str>, AllocError>
 fn known_fault_message(
     alloc: Global,
     path: &str,
-    list: &str,
+    list_path: &str,
     fault: &KnownFault,
 ) -> Result<Vec<u8>, AllocError>
-    ensures { IfOk result (λ message. message.items ≡ known_fault_message path.now list.now fault.now) }
+    ensures { IfOk result (λ message. message.items ≡ known_fault_message path.now list_path.now fault.now) }
 {
     let mut message = Vec::new(alloc);
     push_spans(
@@ -84,19 +84,19 @@ fn known_fault_message(
             Span::Text(": "),
         ],
     )?;
-    push_known_fault(&mut message, list, fault.name.as_slice(), fault.kind)?;
+    push_known_fault(&mut message, list_path, fault.name.as_slice(), fault.kind)?;
     push_text(&mut message, "\n")?;
     Ok(message)
 }
 
-// Appends the text of an error in the file of known failures, about the job name `name`; `list` is the path of the job list.
+// Appends the text of an error in the file of known failures, about the job name `name`; `list_path` is the path of the job list.
 fn push_known_fault<'a>(
     message: &mut Vec<u8>,
-    list: &'a str,
+    list_path: &'a str,
     name: &'a [u8],
     kind: KnownFaultKind,
 ) -> Result<(), AllocError>
-    ensures { OnOk result (message.new.items ≡ message.old.items ++ known_fault_text list.now name.now kind) }
+    ensures { OnOk result (message.new.items ≡ message.old.items ++ known_fault_text list_path.now name.now kind) }
 {
     match kind {
         KnownFaultKind::InvalidName => push_spans(
@@ -121,7 +121,7 @@ fn push_known_fault<'a>(
                 Span::Text("no job named \""),
                 Span::Value(name),
                 Span::Text("\" in "),
-                Span::Printable(list.as_bytes()),
+                Span::Printable(list_path.as_bytes()),
             ],
         ),
     }

@@ -77,13 +77,13 @@ fn reject_merge_overwrites<F: Outputs>(
     ensures inputs_preserved { OnOk result (IfSome (F.committed files.now) (λ _. AreMergeFilesNotInputs args.now)) }
     ensures stopped { IfErr result (IsMergeOverwriteStop args.now) }
 {
-    let read = identified_files(
+    let inputs = identified_files(
         files,
         alloc,
         inputs_of_args(alloc, args.parts.as_slice(), "the part")?,
     )?;
-    reject_option_overwrite(files, alloc, "--report", args.report, &read)?;
-    reject_option_overwrite(files, alloc, "--junit", args.junit, &read)
+    reject_option_overwrite(files, alloc, "--report", args.report, &inputs)?;
+    reject_option_overwrite(files, alloc, "--junit", args.junit, &inputs)
 }
 
 // Returns the path of the merged report: by default standard output, unless the JUnit XML goes there.
@@ -221,10 +221,10 @@ fn merge_error_stop(alloc: Global, args: &MergeArgs<'_>, texts: &[&[u8]], error:
                 &[Span::Text("rvtest: expected at least one part\n")],
             ))
         }
-        MergeError::Text(at, flaw) => {
+        MergeError::Text(index, flaw) => {
             let part = Part {
-                path: part_path(args, at),
-                text: part_text(texts, at),
+                path: part_path(args, index),
+                text: part_text(texts, index),
             };
             Stop::rejection(part_flaw_message(alloc, args, part, flaw))
         }
@@ -247,21 +247,25 @@ fn missing_shard_message(alloc: Global, number: usize) -> Result<Vec<u8>, AllocE
     )
 }
 
-// Returns the path of the part at index `at`; "a part" if there is no such index.
-fn part_path<'a>(args: &MergeArgs<'a>, at: usize) -> &'a str
-    ensures { result.now ≡ part_path args.now.parts.items at }
+// Returns the path of the part at index `index`; "a part" if there is no such index.
+fn part_path<'a>(args: &MergeArgs<'a>, index: usize) -> &'a str
+    ensures { result.now ≡ part_path args.now.parts.items index }
 {
-    match args.parts.get(at) {
+    match args.parts.get(index) {
         Some(path) => path,
         None => "a part",
     }
 }
 
-// Returns the text of the part at index `at`; empty if there is no such index.
-fn part_text<'a>(texts: &[&'a [u8]], at: usize) -> &'a [u8]
-    ensures { result.now ≡ nth_text (bytes_of_texts texts.now) at }
+// Returns the text of the part at index `index`; empty if there is no such index.
+fn part_text<'a>(texts: &[&'a [u8]], index: usize) -> &'a [u8]
+    ensures { result.now ≡ nth_text (bytes_of_texts texts.now) index }
 {
-    if at < texts.len() { texts[at] } else { &[] }
+    if index < texts.len() {
+        texts[index]
+    } else {
+        &[]
+    }
 }
 
 // The path and text of a part.
@@ -278,7 +282,7 @@ fn part_flaw_message(
     part: Part<'_>,
     flaw: Flaw,
 ) -> Result<Vec<u8>, AllocError>
-    ensures { IfOk result (λ told. told.items
+    ensures { IfOk result (λ message. message.items
         ≡ flaw_message args.now.parts.items part.entry.path.now part.entry.text.now flaw) }
 {
     let Part { path, text } = part;
@@ -327,27 +331,27 @@ fn part_flaw_message(
     }
 }
 
-// Returns the message that the part at `path` belongs to another run than the first part; `what` says how they differ.
+// Returns the message that the part at `path` belongs to another run than the first part; `difference` says how they differ.
 fn other_run_message(
     alloc: Global,
     args: &MergeArgs<'_>,
     path: &str,
-    what: &str,
+    difference: &str,
 ) -> Result<Vec<u8>, AllocError>
-    ensures { IfOk result (λ text. text.items ≡ other_run_message args.now.parts.items path.now what.now) }
+    ensures { IfOk result (λ text. text.items ≡ other_run_message args.now.parts.items path.now difference.now) }
 {
-    two_parts_message(alloc, path, what, part_path(args, 0), "\"\n")
+    two_parts_message(alloc, path, difference, part_path(args, 0), "\"\n")
 }
 
-// Returns a message about two parts: `path`, the rejected part; `what`, the error; `other`, the path of the other part; and `end`.
+// Returns a message about two parts: `path`, the rejected part; `flaw_text`, the error; `other_path`, the path of the other part; and `end`.
 fn two_parts_message<'a>(
     alloc: Global,
     path: &'a str,
-    what: &'a str,
-    other: &'a str,
+    flaw_text: &'a str,
+    other_path: &'a str,
     end: &'a str,
 ) -> Result<Vec<u8>, AllocError>
-    ensures { IfOk result (λ text. text.items ≡ two_parts_message path.now what.now other.now end.now) }
+    ensures { IfOk result (λ text. text.items ≡ two_parts_message path.now flaw_text.now other_path.now end.now) }
 {
     text_of_spans(
         alloc,
@@ -355,8 +359,8 @@ fn two_parts_message<'a>(
             Span::Text("rvtest: "),
             Span::Printable(path.as_bytes()),
             Span::Text(": "),
-            Span::Text(what),
-            Span::Printable(other.as_bytes()),
+            Span::Text(flaw_text),
+            Span::Printable(other_path.as_bytes()),
             Span::Text(end),
         ],
     )

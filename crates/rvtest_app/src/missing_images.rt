@@ -35,27 +35,27 @@ pub(crate) fn missing_images_note(
 
 /// Appends the line of `check` that no image was found, if every image is missing; otherwise nothing.
 pub(crate) fn push_missing_images_line(
-    told: &mut Vec<u8>,
+    text: &mut Vec<u8>,
     plan: &Plan,
     unread: &[UnreadablePath],
     root: Option<&str>,
 ) -> Result<(), AllocError>
-    ensures { OnOk result (told.new.items
-        ≡ told.old.items ++ missing_images_line plan.now.jobs unread.now (optional_text root.entry)) }
+    ensures { OnOk result (text.new.items
+        ≡ text.old.items ++ missing_images_line plan.now.jobs unread.now (optional_text root.entry)) }
 {
     if are_images_missing(plan, unread) {
-        push_paths_line(told, root)?;
+        push_paths_line(text, root)?;
     }
     Ok(())
 }
 
 // Appends a line that no image was found, with the directory against which relative paths are resolved.
-fn push_paths_line(told: &mut Vec<u8>, root: Option<&str>) -> Result<(), AllocError>
-    ensures { OnOk result (told.new.items ≡ told.old.items ++ line (no_image_found_text (optional_text root.entry))) }
+fn push_paths_line(text: &mut Vec<u8>, root: Option<&str>) -> Result<(), AllocError>
+    ensures { OnOk result (text.new.items ≡ text.old.items ++ line (no_image_found_text (optional_text root.entry))) }
 {
     match root {
         Some(root) => push_spans(
-            told,
+            text,
             &[
                 Span::Text("no image was found: relative paths are resolved against "),
                 Span::Printable(root.as_bytes()),
@@ -63,7 +63,7 @@ fn push_paths_line(told: &mut Vec<u8>, root: Option<&str>) -> Result<(), AllocEr
             ],
         ),
         None => push_text(
-            told,
+            text,
             "no image was found: relative paths are resolved against the current directory; use --root DIR to resolve them against DIR\n",
         ),
     }
@@ -96,12 +96,12 @@ fn unread_path<'a>(unread: &'a [UnreadablePath], path: &str) -> Option<&'a Unrea
     unread.iter().find(|one| path == one.path.as_str())
 }
 
-// Whether `note` is present, and says that the path could not be read because there is no such file.
-fn is_reported_missing(note: Option<&UnreadablePath>) -> bool
-    ensures { result ≡ is_reported_missing (option_map (λ one. one.now) note.entry) }
+// Whether `entry` is present, and says that the path could not be read because there is no such file.
+fn is_reported_missing(entry: Option<&UnreadablePath>) -> bool
+    ensures { result ≡ is_reported_missing (option_map (λ unreadable. unreadable.now) entry.entry) }
 {
-    match note {
-        Some(one) => is_not_found(one.reason),
+    match entry {
+        Some(unreadable) => is_not_found(unreadable.reason),
         None => false,
     }
 }

@@ -18,22 +18,22 @@ pub(crate) struct NamedJob {
     pub(crate) index: usize,
 }
 
-/// Parses the text of a list, and returns its jobs and the index of the first job with this name. `list` is the path of the list.
+/// Parses the text of a list, and returns its jobs and the index of the first job with this name. `list_path` is the path of the list.
 pub(crate) fn find_named_job(
     alloc: Global,
-    list: &str,
+    list_path: &str,
     name: &str,
     text: &[u8],
 ) -> Result<NamedJob, Stop>
     ensures listed { IfOk result (λ named. job_list_of text.now ≡ Ok named.jobs) }
     ensures first { IfOk result (λ named. IsFirstJobNamed named.jobs name.now named.index) }
     ensures within { IfOk result (λ named. named.index < length named.jobs) }
-    ensures stopped { IfErr result (IsNoJobStop list.now text.now name.now) }
+    ensures stopped { IfErr result (IsNoJobStop list_path.now text.now name.now) }
 {
-    let jobs = parse_list(alloc, list, text)?;
+    let jobs = parse_list(alloc, list_path, text)?;
     match named_job_index(jobs.as_slice(), name) {
         Some(index) => Ok(NamedJob { jobs, index }),
-        None => Err(unknown_name_stop(alloc, list, jobs.as_slice(), name)),
+        None => Err(unknown_name_stop(alloc, list_path, jobs.as_slice(), name)),
     }
 }
 

@@ -21,7 +21,7 @@ pub(crate) fn identified_files<'a, F: Outputs>(
     alloc: Global,
     paths: Vec<InputPath<'a>>,
 ) -> Result<InputFiles<'a>, AllocError>
-    ensures { IfOk result (λ read. HaveIdentities (F.committed files.now) (input_paths paths.entry.items) read) }
+    ensures { IfOk result (λ inputs. HaveIdentities (F.committed files.now) (input_paths paths.entry.items) inputs) }
 {
     let identities = file_identities(files, alloc, paths.as_slice())?;
     Ok(InputFiles { paths, identities })
@@ -33,14 +33,14 @@ fn file_identities<F: Outputs>(
     alloc: Global,
     paths: &[InputPath<'_>],
 ) -> Result<Vec<Text>, AllocError>
-    ensures same_length { IfOk result (λ found. length found.items ≡ length paths.now) }
-    ensures are_paths { IfOk result (λ found. IfSome (F.committed files.now) (λ _. found.items ≡ input_paths paths.now)) }
+    ensures same_length { IfOk result (λ identities. length identities.items ≡ length paths.now) }
+    ensures are_paths { IfOk result (λ identities. IfSome (F.committed files.now) (λ _. identities.items ≡ input_paths paths.now)) }
 {
-    let mut found = Vec::new(alloc);
+    let mut identities = Vec::new(alloc);
     for at in 0..paths.len() {
-        found.push(files.identity(alloc, paths[at].path.as_str())?)?;
+        identities.push(files.identity(alloc, paths[at].path.as_str())?)?;
     }
-    Ok(found)
+    Ok(identities)
 }
 
 /// Returns an error if an option names a file that would overwrite an input.
@@ -49,14 +49,14 @@ pub(crate) fn reject_option_overwrite<F: Outputs>(
     alloc: Global,
     option: &str,
     path: Option<&str>,
-    read: &InputFiles<'_>,
+    inputs: &InputFiles<'_>,
 ) -> Result<(), Stop>
-    ensures is_no_input { (paths : List (List ℕ)) → HaveIdentities (F.committed files.now) paths read.now
+    ensures is_no_input { (paths : List (List ℕ)) → HaveIdentities (F.committed files.now) paths inputs.now
         → OnOk result (IfSome (F.committed files.now) (λ _. IsNotAnInputIfFile paths (optional_text path.entry))) }
     ensures stopped { IfErr result (IsOptionOverwriteStop option.now (optional_text path.entry)) }
 {
     match path {
-        Some(path) if !is_stdout(path) => reject_file_overwrite(files, alloc, option, path, read),
+        Some(path) if !is_stdout(path) => reject_file_overwrite(files, alloc, option, path, inputs),
         _ => Ok(()),
     }
 }
@@ -67,9 +67,9 @@ pub(crate) fn reject_file_overwrite<F: Outputs>(
     alloc: Global,
     option: &str,
     path: &str,
-    read: &InputFiles<'_>,
+    inputs: &InputFiles<'_>,
 ) -> Result<(), Stop>
-    ensures is_no_input { (paths : List (List ℕ)) → HaveIdentities (F.committed files.now) paths read.now
+    ensures is_no_input { (paths : List (List ℕ)) → HaveIdentities (F.committed files.now) paths inputs.now
         → OnOk result (IfSome (F.committed files.now) (λ _. IsNotAnInput paths path.now)) }
     ensures stopped { IfErr result (IsOverwriteStop option.now path.now) }
 {
@@ -77,59 +77,61 @@ pub(crate) fn reject_file_overwrite<F: Outputs>(
         Ok(replaced) => replaced,
         Err(error) => return Err(file_error_stop(alloc, path, error)),
     };
-    match read.first_of(replaced.as_slice()) {
+    match inputs.first_among(replaced.as_slice()) {
         None => Ok(()),
-        Some(at) => Err(overwrite_stop(alloc, option, path, &read.paths[at])),
+        Some(index) => Err(overwrite_stop(alloc, option, path, &inputs.paths[index])),
     }
 }
 
 impl<'a> InputFiles<'a> {
-    /// Returns the index of the first input whose identity is in `files`; `None` if there is none.
-    pub(crate) fn first_of(&self, files: &[Text]) -> Option<usize>
-        ensures within { IfSome result (λ at. at < length self.now.identities.items) }
-        ensures none { result ≡ None → list_any (is_among files.now) self.now.identities.items ≡ false }
+    /// Returns the index of the first input whose identity is in `identities`; `None` if there is none.
+    pub(crate) fn first_among(&self, identities: &[Text]) -> Option<usize>
+        ensures within { IfSome result (λ index. index < length self.now.identities.items) }
+        ensures none { result ≡ None → list_any (is_among identities.now) self.now.identities.items ≡ false }
     {
-        for at in 0..self.identities.len() {
-            if is_among(files, &self.identities[at]) {
-                return Some(at);
+        for index in 0..self.identities.len() {
+            if is_among(identities, &self.identities[index]) {
+                return Some(index);
             }
         }
         None
     }
 }
 
-/// Whether `identity`, which the system gives a file, is in `files`.
-pub(crate) fn is_among(files: &[Text], identity: &Text) -> bool
-    ensures { result ≡ is_among files.now identity.now }
+/// Whether `identity`, which the system gives a file, is in `identities`.
+pub(crate) fn is_among(identities: &[Text], identity: &Text) -> bool
+    ensures { result ≡ is_among identities.now identity.now }
 {
-    files.iter().any(|file| file.as_str() == identity.as_str())
+    identities
+        .iter()
+        .any(|file| file.as_str() == identity.as_str())
 }
 
-/// Returns the error that `option`, with this path, would overwrite the input `read`.
+/// Returns the error that `option`, with this path, would overwrite the input `input`.
 pub(crate) fn overwrite_stop<'a>(
     alloc: Global,
     option: &'a str,
     path: &'a str,
-    read: &InputPath<'_>,
+    input: &InputPath<'_>,
 ) -> Stop
     ensures { IsOverwriteReported option.entry.now path.entry.now result }
 {
-    Stop::rejection(overwrite_message(alloc, option, path, read))
+    Stop::rejection(overwrite_message(alloc, option, path, input))
 }
 
-// Returns the message that `option`, with this path, would overwrite the input `read`.
+// Returns the message that `option`, with this path, would overwrite the input `input`.
 fn overwrite_message<'a>(
     alloc: Global,
     option: &'a str,
     path: &'a str,
-    read: &InputPath<'_>,
+    input: &InputPath<'_>,
 ) -> Result<Vec<u8>, AllocError>
     ensures { IfOk result (λ text. text.items
-        ≡ overwrite_message option.entry.now path.entry.now (input_role_text read.now.role) (path_buf_bytes read.now.path)) }
+        ≡ overwrite_message option.entry.now path.entry.now (input_role_text input.now.role) (path_buf_bytes input.now.path)) }
 {
     let mut text = overwrite_prefix(alloc, option, path)?;
-    push_role(&mut text, read.role)?;
-    push_input_path(&mut text, read.path.as_str())?;
+    push_input_role(&mut text, input.role)?;
+    push_input_path(&mut text, input.path.as_str())?;
     Ok(text)
 }
 
@@ -154,17 +156,17 @@ fn overwrite_prefix<'a>(
 }
 
 // Appends how a message refers to an input: by its placeholder in the usage, such as LIST, or by the key of the job that names it.
-fn push_role(text: &mut Vec<u8>, role: InputRole<'_>) -> Result<(), AllocError>
+fn push_input_role(text: &mut Vec<u8>, role: InputRole<'_>) -> Result<(), AllocError>
     ensures { OnOk result (text.new.items ≡ text.old.items ++ input_role_text role.entry) }
 {
     match role {
         InputRole::Word(word) => push_text(text, word),
-        InputRole::JobFile { key, job } => push_job_file(text, key, job),
+        InputRole::JobFile { key, job } => push_job_input_text(text, key, job),
     }
 }
 
 // Appends how a message refers to an input that a job names: by the key and the job's name.
-fn push_job_file<'a>(text: &mut Vec<u8>, key: &'a str, job: &'a str) -> Result<(), AllocError>
+fn push_job_input_text<'a>(text: &mut Vec<u8>, key: &'a str, job: &'a str) -> Result<(), AllocError>
     ensures { OnOk result (text.new.items ≡ text.old.items ++ job_input_text key.now job.now) }
 {
     push_spans(
@@ -196,15 +198,15 @@ fn push_input_path(text: &mut Vec<u8>, path: &str) -> Result<(), AllocError>
 /// Appends the input that `role` describes, with its path resolved against `root` if given.
 pub(crate) fn push_input<'a>(
     alloc: Global,
-    read: &mut Vec<InputPath<'a>>,
+    inputs: &mut Vec<InputPath<'a>>,
     root: Option<&str>,
     path: &str,
     role: InputRole<'a>,
 ) -> Result<(), AllocError>
-    ensures { OnOk result (input_paths read.new.items ≡ input_paths read.old.items ++ resolved_path (optional_text root.entry) path.now ∷ []) }
+    ensures { OnOk result (input_paths inputs.new.items ≡ input_paths inputs.old.items ++ resolved_path (optional_text root.entry) path.now ∷ []) }
 {
     let path = resolved_path(alloc, root, path)?;
-    read.push(InputPath { path, role })?;
+    inputs.push(InputPath { path, role })?;
     Ok(())
 }
 
@@ -214,11 +216,11 @@ pub(crate) fn inputs_of_args<'a>(
     paths: &[&str],
     word: &'a str,
 ) -> Result<Vec<InputPath<'a>>, AllocError>
-    ensures { IfOk result (λ read. input_paths read.items ≡ map (λ path. path.now) paths.now) }
+    ensures { IfOk result (λ inputs. input_paths inputs.items ≡ map (λ path. path.now) paths.now) }
 {
-    let mut read = Vec::new(alloc);
+    let mut inputs = Vec::new(alloc);
     for path in paths {
-        push_input(alloc, &mut read, None, path, InputRole::Word(word))?;
+        push_input(alloc, &mut inputs, None, path, InputRole::Word(word))?;
     }
-    Ok(read)
+    Ok(inputs)
 }

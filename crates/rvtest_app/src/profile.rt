@@ -35,7 +35,7 @@ pub(crate) fn profile_requested_jobs<
         args: &args.run,
         view: View::Profile(profile_format(args)),
     };
-    view.put(ChoosingCommand::Profile, to)
+    view.write_view(ChoosingCommand::Profile, to)
 }
 
 // Returns the format of a profile: whether it is CSV, and the largest number of functions of each image.

@@ -14,8 +14,8 @@ use crate::accept::accept_runs;
 use crate::check::check_list;
 use crate::colors::requested_colors;
 use crate::command_result::write_command_result;
-use crate::console::put_job_console;
-use crate::counts::put_sum_of_tables;
+use crate::console::write_job_console;
+use crate::counts::write_sum_of_tables;
 use crate::cover::cover_requested_jobs;
 use crate::destinations::Destinations;
 use crate::diff::diff_reports;
@@ -75,18 +75,18 @@ where
         (IsProgramStop (D.contents host.now.inputs.now) terminals.is_out_terminal (map T.text args.entry.now))
         result.1 (outputs_of F.committed O.accepted E.accepted E.failure_count result.0) }
 {
-    let (mut to, answer) = match read_words(host.alloc, args) {
+    let (mut to, outcome) = match read_words(host.alloc, args) {
         Ok(Some(request)) => {
             run_in_colors::<Brand, R, D, F, O, E, P, I>(host, request, to, terminals, input)
         }
         Ok(None) => (to, Ok(REJECTED)),
         Err(error) => {
             let mut to = to;
-            let answer = respond_to_args_error(&mut to.out, error);
-            (to, answer)
+            let outcome = respond_to_args_error(&mut to.out, error);
+            (to, outcome)
         }
     };
-    match answer {
+    match outcome {
         Ok(status) => (to, status),
         Err(stop) => {
             let is_out_closed = to.out.is_closed();
@@ -130,22 +130,25 @@ where
     let Destinations { files, out, errors } = to;
     let out = ColorSink::<J, O>::new(out, colors);
     let to = Destinations { files, out, errors };
-    let (to, answer) = run_subcommand(host, request, to, terminals, input);
+    let (to, outcome) = run_subcommand(host, request, to, terminals, input);
     let Destinations { files, out, errors } = to;
-    let (out, whole) = out.finish();
+    let (out, finish_result) = out.finish();
     let to = Destinations { files, out, errors };
-    (to, outcome_if_written(answer, whole))
+    (to, outcome_if_written(outcome, finish_result))
 }
 
 // Returns the result of the command, or an error if it succeeded but its coloured results were not written completely.
-fn outcome_if_written(answer: Result<u8, Stop>, whole: Result<(), SinkFailed>) -> Result<u8, Stop>
+fn outcome_if_written(
+    outcome: Result<u8, Stop>,
+    finish_result: Result<(), SinkFailed>,
+) -> Result<u8, Stop>
     ensures { MatchResult answer
         (λ status. MatchResult whole (λ _. result ≡ Ok status) (λ _. result ≡ Err Stop.WriteFailed))
         (λ stop. result ≡ Err stop) }
 {
-    match (answer, whole) {
+    match (outcome, finish_result) {
         (Ok(_), Err(SinkFailed)) => Err(Stop::WriteFailed),
-        (answer, _) => answer,
+        (outcome, _) => outcome,
     }
 }
 
@@ -179,13 +182,13 @@ where
 {
     let (inputs, alloc) = (host.inputs, host.alloc);
     let mut to = to;
-    let answer = match request {
+    let outcome = match request {
         Request::Run(args) => return run_requested_jobs(host, &args, to, terminals),
         Request::Explain(args) => {
             write_command_result(&mut to.out, explain_named_job(inputs, alloc, args))
         }
         Request::List(args) => list_chosen_jobs(inputs, alloc, &args, &mut to),
-        Request::Console(args) => put_job_console(inputs, alloc, args, &mut to),
+        Request::Console(args) => write_job_console(inputs, alloc, args, &mut to),
         Request::Gdb(args) => {
             show_job_to_gdb(host, args, terminals.is_out_terminal, input, &mut to)
         }
@@ -194,12 +197,12 @@ where
         Request::Merge(args) => merge_reports(inputs, alloc, &args, &mut to),
         Request::Diff(args) => diff_reports(inputs, alloc, args, &mut to),
         Request::Show(args) => show_report(inputs, alloc, args, &mut to),
-        Request::Counts(args) => put_sum_of_tables(inputs, alloc, &args, &mut to),
+        Request::Counts(args) => write_sum_of_tables(inputs, alloc, &args, &mut to),
         Request::Cover(args) => cover_requested_jobs(host, &args, &mut to),
         Request::Profile(args) => profile_requested_jobs(host, &args, &mut to),
         Request::Help(args) => write_command_result(&mut to.out, topic_help(alloc, args)),
     };
-    (to, answer)
+    (to, outcome)
 }
 
 /// Reports that the program cannot get its arguments: memory ran out, or an argument is not UTF-8. Returns the exit status.

@@ -55,12 +55,12 @@ fn inputs_of_run<'a>(
     args: &RunArgs<'_>,
     jobs: &'a [Job],
 ) -> Result<Vec<InputPath<'a>>, AllocError>
-    ensures { IfOk result (λ read. input_paths read.items ≡ inputs_of_run args.now jobs.now) }
+    ensures { IfOk result (λ inputs. input_paths inputs.items ≡ inputs_of_run args.now jobs.now) }
 {
-    let mut read = Vec::new(alloc);
+    let mut inputs = Vec::new(alloc);
     push_input(
         alloc,
-        &mut read,
+        &mut inputs,
         None,
         args.list,
         InputRole::Word("the job list"),
@@ -68,57 +68,57 @@ fn inputs_of_run<'a>(
     if let Some(known) = args.known {
         push_input(
             alloc,
-            &mut read,
+            &mut inputs,
             None,
             known,
             InputRole::Word("the file of --known"),
         )?;
     }
     for job in jobs {
-        push_job_paths(alloc, &mut read, args.root, job)?;
+        push_job_paths(alloc, &mut inputs, args.root, job)?;
     }
-    Ok(read)
+    Ok(inputs)
 }
 
 // Appends the path of the job's image and the paths of its golden files, resolved against `root`.
 fn push_job_paths<'a>(
     alloc: Global,
-    read: &mut Vec<InputPath<'a>>,
+    inputs: &mut Vec<InputPath<'a>>,
     root: Option<&str>,
     job: &'a Job,
 ) -> Result<(), AllocError>
-    ensures { OnOk result (input_paths read.new.items ≡ input_paths read.old.items ++ paths_of_job (optional_text root.entry) job.now) }
+    ensures { OnOk result (input_paths inputs.new.items ≡ input_paths inputs.old.items ++ paths_of_job (optional_text root.entry) job.now) }
 {
-    push_image_path(alloc, read, root, job)?;
-    push_golden_paths(alloc, read, root, job)
+    push_image_path(alloc, inputs, root, job)?;
+    push_golden_paths(alloc, inputs, root, job)
 }
 
 /// Appends the path of the job's image, resolved against `root`.
 pub(crate) fn push_image_path<'a>(
     alloc: Global,
-    read: &mut Vec<InputPath<'a>>,
+    inputs: &mut Vec<InputPath<'a>>,
     root: Option<&str>,
     job: &'a Job,
 ) -> Result<(), AllocError>
-    ensures { OnOk result (input_paths read.new.items
-        ≡ input_paths read.old.items ++ resolved_path (optional_text root.entry) job.now.image ∷ []) }
+    ensures { OnOk result (input_paths inputs.new.items
+        ≡ input_paths inputs.old.items ++ resolved_path (optional_text root.entry) job.now.image ∷ []) }
 {
     let role = InputRole::JobFile {
         key: "image",
         job: job.name.as_str(),
     };
-    push_input(alloc, read, root, job.image.as_str(), role)
+    push_input(alloc, inputs, root, job.image.as_str(), role)
 }
 
 /// Appends the paths of the job's golden files, resolved against `root`: first the signature, then the console.
 pub(crate) fn push_golden_paths<'a>(
     alloc: Global,
-    read: &mut Vec<InputPath<'a>>,
+    inputs: &mut Vec<InputPath<'a>>,
     root: Option<&str>,
     job: &'a Job,
 ) -> Result<(), AllocError>
-    ensures { OnOk result (input_paths read.new.items
-        ≡ input_paths read.old.items ++ golden_paths_of_job (optional_text root.entry) job.now) }
+    ensures { OnOk result (input_paths inputs.new.items
+        ≡ input_paths inputs.old.items ++ golden_paths_of_job (optional_text root.entry) job.now) }
 {
     let name = job.name.as_str();
     if let Some(path) = &job.expect_signature {
@@ -126,14 +126,14 @@ pub(crate) fn push_golden_paths<'a>(
             key: "expect_signature",
             job: name,
         };
-        push_input(alloc, read, root, path.as_str(), signature)?;
+        push_input(alloc, inputs, root, path.as_str(), signature)?;
     }
     if let Some(path) = golden_console_path(job) {
         let console = InputRole::JobFile {
             key: "expect_console_file",
             job: name,
         };
-        push_input(alloc, read, root, path, console)?;
+        push_input(alloc, inputs, root, path, console)?;
     }
     Ok(())
 }
@@ -153,19 +153,19 @@ pub(crate) fn failed_report_path<'a>(
     alloc: Global,
     args: &RunArgs<'_>,
 ) -> Result<Vec<InputPath<'a>>, AllocError>
-    ensures { IfOk result (λ read. input_paths read.items ≡ failed_report_path args.now) }
+    ensures { IfOk result (λ inputs. input_paths inputs.items ≡ failed_report_path args.now) }
 {
-    let mut read = Vec::new(alloc);
+    let mut inputs = Vec::new(alloc);
     if let Some(failed) = args.failed {
         push_input(
             alloc,
-            &mut read,
+            &mut inputs,
             None,
             failed,
             InputRole::Word("the report of --failed"),
         )?;
     }
-    Ok(read)
+    Ok(inputs)
 }
 
 // Returns the paths of the reports that a run reads, of `--failed` and of `--into`.
@@ -173,17 +173,17 @@ fn report_paths_of_run<'a>(
     alloc: Global,
     args: &RunArgs<'_>,
 ) -> Result<Vec<InputPath<'a>>, AllocError>
-    ensures { IfOk result (λ read. input_paths read.items ≡ report_paths_of_run args.now) }
+    ensures { IfOk result (λ inputs. input_paths inputs.items ≡ report_paths_of_run args.now) }
 {
-    let mut read = failed_report_path(alloc, args)?;
+    let mut inputs = failed_report_path(alloc, args)?;
     if let Some(into) = args.into {
         push_input(
             alloc,
-            &mut read,
+            &mut inputs,
             None,
             into,
             InputRole::Word("the report of --into"),
         )?;
     }
-    Ok(read)
+    Ok(inputs)
 }

@@ -26,7 +26,7 @@ use crate::file_texts::FileTexts;
 use crate::into_report::{ReportContext, run_report_path, uses_run_stdout};
 use crate::junit_class::suite_name;
 use crate::outlets::{Outlets, abandon_outlet};
-use crate::output_writes::put_files;
+use crate::output_writes::write_files;
 use crate::planned_run::PlannedRun;
 use crate::report_row_reporter::ReportRowReporter;
 use crate::report_texts::report_with_context;
@@ -95,12 +95,12 @@ impl<'x, R: Threads + Wait + Sync + Clock, D: Inputs> ListRun<'x, R, D> {
         let (report, sink) = report.split_sink();
         let Destinations { files, out, errors } = to;
         if uses_run_stdout(args) {
-            let shown = RunDisplay {
+            let display = RunDisplay {
                 stream: errors,
                 is_terminal: terminals.is_errors_terminal,
             };
             let (errors, sink, run) = self.run_and_show::<Brand, F::File, E, P>(
-                planned, shown, &rows, sink, terminals,
+                planned, display, &rows, sink, terminals,
             );
             let outlets = RunOutlets {
                 report: report.with_sink(sink),
@@ -110,12 +110,12 @@ impl<'x, R: Threads + Wait + Sync + Clock, D: Inputs> ListRun<'x, R, D> {
             let to = Destinations { files, out, errors };
             self.finish_run(planned, context, run, outlets, to)
         } else {
-            let shown = RunDisplay {
+            let display = RunDisplay {
                 stream: out,
                 is_terminal: terminals.is_out_terminal,
             };
             let (out, sink, run) = self.run_and_show::<Brand, F::File, O, P>(
-                planned, shown, &rows, sink, terminals,
+                planned, display, &rows, sink, terminals,
             );
             let outlets = RunOutlets {
                 report: report.with_sink(sink),
@@ -270,7 +270,7 @@ impl<'x, R: Threads + Wait + Sync + Clock, D: Inputs> ListRun<'x, R, D> {
     {
         let (reporter, indices) = (planned.reporter, planned.indices);
         let status = rows_status(&reporter.judge, rows.as_slice());
-        let told = TextReporter {
+        let failures_reporter = TextReporter {
             verbosity: Verbosity::Failures,
             ..*reporter
         };
@@ -284,12 +284,12 @@ impl<'x, R: Threads + Wait + Sync + Clock, D: Inputs> ListRun<'x, R, D> {
                 name: suite_name(self.args.suite, self.args.list).as_bytes(),
                 judge: reporter.judge,
             },
-            reporter: &told,
+            reporter: &failures_reporter,
             indices,
             report: report_with_context(chosen, context),
             texts: texts.as_slice(),
         };
-        put_files(self.host.alloc, to, outlets, texts)?;
+        write_files(self.host.alloc, to, outlets, texts)?;
         Ok(status)
     }
 }

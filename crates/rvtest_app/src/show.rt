@@ -60,9 +60,9 @@ pub(crate) fn show_report<D: Inputs, F: Outputs + Drop, O: Sink + Drop, E: Sink 
         path: args.report,
         partial: args.partial,
     };
-    let found = read_requested_report(inputs, alloc, requested)?;
-    let note = truncation_note(alloc, args.report, &found)?;
-    let summarized = summarize_report(alloc, args, found.report)?;
+    let partial_report = read_requested_report(inputs, alloc, requested)?;
+    let note = truncation_note(alloc, args.report, &partial_report)?;
+    let summarized = summarize_report(alloc, args, partial_report.report)?;
     write_message(&mut to.errors, note.as_slice());
     let status = summarized.status;
     write_summarized_report(alloc, args, summarized, to)?;
@@ -78,12 +78,12 @@ fn reject_show_overwrite<F: Outputs>(
     ensures inputs_preserved { OnOk result (IfSome (F.committed files.now) (λ _. IsShowFileNotAnInput args.now)) }
     ensures stopped { IfErr result (IsShowOverwriteStop args.now) }
 {
-    let read = identified_files(
+    let inputs = identified_files(
         files,
         alloc,
         inputs_of_args(alloc, &[args.report], "the report")?,
     )?;
-    reject_option_overwrite(files, alloc, "--junit", args.junit, &read)
+    reject_option_overwrite(files, alloc, "--junit", args.junit, &inputs)
 }
 
 // Returns the report together with its summary and the exit status.

@@ -59,7 +59,7 @@ impl<'x, R: Threads + Wait + Sync + Clock, D: Inputs> ListRun<'x, R, D> {
     >(
         &self,
         planned: &PlannedRun<'m>,
-        shown: RunDisplay<W>,
+        display: RunDisplay<W>,
         rows: &ReportRowReporter,
         sink: Option<V>,
         terminals: Terminals<P>,
@@ -72,12 +72,12 @@ impl<'x, R: Threads + Wait + Sync + Clock, D: Inputs> ListRun<'x, R, D> {
         ensures rows { IfOk result.2.ran (λ rows. rows ≡ run_rows self.now.args.now.stop_after
             (judge_view planned.now.reporter.now.judge) planned.now.reporter.now.plan.now planned.now.indices.now) }
         ensures row_count { IfOk result.2.ran (λ rows. length rows ≤ length planned.now.indices.now) }
-        ensures shown { OnOk result.2.ran (Appends (W.accepted shown.stream) (W.accepted result.0)
+        ensures shown { OnOk result.2.ran (Appends (W.accepted display.stream) (W.accepted result.0)
             (run_output_text (row_lines_at (reporter_of planned.now.reporter.now))
             (judge_view planned.now.reporter.now.judge) planned.now.reporter.now.plan.now planned.now.indices.now
             (run_rows self.now.args.now.stop_after (judge_view planned.now.reporter.now.judge)
             planned.now.reporter.now.plan.now planned.now.indices.now))) }
-        ensures no_failed_writes { OnOk result.2.ran (W.failure_count result.0 ≡ W.failure_count shown.stream) }
+        ensures no_failed_writes { OnOk result.2.ran (W.failure_count result.0 ≡ W.failure_count display.stream) }
         ensures report_written { OnOk result.2.ran (AreRowsWritten V.accepted V.failure_count sink result.1
             (joined_row_texts (report_row_text rows.now.is_streaming) planned.now.indices.now (run_rows self.now.args.now.stop_after
             (judge_view planned.now.reporter.now.judge) planned.now.reporter.now.plan.now planned.now.indices.now))) }
@@ -93,7 +93,7 @@ impl<'x, R: Threads + Wait + Sync + Clock, D: Inputs> ListRun<'x, R, D> {
         let RunDisplay {
             stream,
             is_terminal,
-        } = shown;
+        } = display;
         let out = TerminalSink::new(rt, alloc, stream, is_terminal, &progress);
         let output = ReporterOutput {
             reporter: &counting,

@@ -49,7 +49,7 @@ pub(crate) struct JobsView<'x, R, D> {
 impl<'x, R: Threads + Wait + Sync, D: Inputs> JobsView<'x, R, D> {
     /// Writes the coverage or the profile of the requested jobs, from a run or from a table of counts. The status is 0. If the arguments
     /// are rejected, the error shows the usage of `command`.
-    pub(crate) fn put<F: Outputs + Drop, O: Sink + Drop, E: Sink + Drop>(
+    pub(crate) fn write_view<F: Outputs + Drop, O: Sink + Drop, E: Sink + Drop>(
         &self,
         command: ChoosingCommand,
         to: &mut Destinations<F, O, E>,

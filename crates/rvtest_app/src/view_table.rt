@@ -146,19 +146,19 @@ fn has_counts_for(view: View, table: &CountTable) -> bool
     }
 }
 
-// Returns the message that the table at `table` has counts of another image at `path` than the selected jobs use.
+// Returns the message that the table at `table_path` has counts of another image at `path` than the selected jobs use.
 fn other_image_message<'a>(
     alloc: Global,
-    table: &'a str,
+    table_path: &'a str,
     path: &'a str,
 ) -> Result<Vec<u8>, AllocError>
-    ensures { IfOk result (λ text. text.items ≡ other_image_message table.now path.now) }
+    ensures { IfOk result (λ text. text.items ≡ other_image_message table_path.now path.now) }
 {
     text_of_spans(
         alloc,
         &[
             Span::Text("rvtest: "),
-            Span::Printable(table.as_bytes()),
+            Span::Printable(table_path.as_bytes()),
             Span::Text(": "),
             Span::Printable(path.as_bytes()),
             Span::Text(": counted with a different image than the selected jobs use\n"),
@@ -170,6 +170,6 @@ fn other_image_message<'a>(
 fn no_stacks_message(alloc: Global, path: &str) -> Result<Vec<u8>, AllocError>
     ensures { IfOk result (λ text. text.items ≡ no_stacks_message path.now) }
 {
-    let what = "the table has no stacks: write one with rvtest run LIST --counts FILE --stacks";
-    path_message(alloc, path, what)
+    let reason = "the table has no stacks: write one with rvtest run LIST --counts FILE --stacks";
+    path_message(alloc, path, reason)
 }

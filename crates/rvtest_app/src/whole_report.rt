@@ -34,22 +34,22 @@ pub(crate) struct NameMismatch<'a> {
 
 const EXPECTED_WHOLE_REPORT: &str = ": --into expects a report of the whole list\n";
 
-/// Returns the rows of the report at `path`, which must have one row for each job of the list at `list`, in list order.
+/// Returns the rows of the report at `path`, which must have one row for each job of the list at `list_path`, in list order.
 pub(crate) fn read_whole_report<D: Inputs>(
     inputs: &D,
     alloc: Global,
     path: &str,
-    list: &str,
+    list_path: &str,
     jobs: &[Job],
 ) -> Result<Rows, Stop>
     ensures whole { IfOk result (IsWholeReportAt (D.contents inputs.now) path.now jobs.now) }
     ensures same_length { IfOk result (λ rows. length rows ≡ length jobs.now) }
-    ensures stopped { IfErr result (IsNotWholeReportStop (D.contents inputs.now) path.now list.now jobs.now) }
+    ensures stopped { IfErr result (IsNotWholeReportStop (D.contents inputs.now) path.now list_path.now jobs.now) }
 {
     let report = read_report_file(inputs, alloc, path)?;
     match not_whole_reason(&report, jobs) {
         None => Ok(report.rows),
-        Some(other) => Err(Stop::rejection(not_whole_message(alloc, path, list, other))),
+        Some(reason) => Err(Stop::rejection(not_whole_message(alloc, path, list_path, reason))),
     }
 }
 
@@ -90,11 +90,11 @@ fn first_name_mismatch<'a>(rows: &'a [Row], jobs: &'a [Job]) -> Option<NameMisma
     ensures first { IfSome result (IsFirstNameMismatch (row_names rows.now) (job_names jobs.now)) }
 {
     for index in 0..rows.len() {
-        let (met, listed) = (rows[index].name.as_str(), jobs[index].name.as_str());
-        if met != listed {
+        let (in_report, listed) = (rows[index].name.as_str(), jobs[index].name.as_str());
+        if in_report != listed {
             return Some(NameMismatch {
                 number: index + 1,
-                in_report: met,
+                in_report,
                 listed,
             });
         }
@@ -102,19 +102,21 @@ fn first_name_mismatch<'a>(rows: &'a [Row], jobs: &'a [Job]) -> Option<NameMisma
     None
 }
 
-// Returns the message that the report at `path` is not a report of all jobs of the list at `list`, with the reason.
+// Returns the message that the report at `path` is not a report of all jobs of the list at `list_path`, with the reason.
 fn not_whole_message<'a>(
     alloc: Global,
     path: &'a str,
-    list: &'a str,
-    other: NotWholeReason<'a>,
+    list_path: &'a str,
+    reason: NotWholeReason<'a>,
 ) -> Result<Vec<u8>, AllocError>
-    ensures { IfOk result (λ text. text.items ≡ not_whole_message path.now list.now other.entry) }
+    ensures { IfOk result (λ text. text.items ≡ not_whole_message path.now list_path.now reason.entry) }
 {
-    match other {
+    match reason {
         NotWholeReason::Partial(rows, jobs) => partial_report_message(alloc, path, rows, jobs),
-        NotWholeReason::RowCount(rows, jobs) => row_count_message(alloc, path, list, rows, jobs),
-        NotWholeReason::Name(name) => name_mismatch_message(alloc, path, list, name),
+        NotWholeReason::RowCount(rows, jobs) => row_count_message(
+            alloc, path, list_path, rows, jobs,
+        ),
+        NotWholeReason::Name(name) => name_mismatch_message(alloc, path, list_path, name),
     }
 }
 
@@ -142,15 +144,15 @@ fn partial_report_message<'a>(
     )
 }
 
-// Returns the message that the report at `path` has `rows` rows, but the list at `list` has `jobs` jobs.
+// Returns the message that the report at `path` has `rows` rows, but the list at `list_path` has `jobs` jobs.
 fn row_count_message<'a>(
     alloc: Global,
     path: &'a str,
-    list: &'a str,
+    list_path: &'a str,
     rows: usize,
     jobs: usize,
 ) -> Result<Vec<u8>, AllocError>
-    ensures { IfOk result (λ text. text.items ≡ row_count_message path.now list.now rows jobs) }
+    ensures { IfOk result (λ text. text.items ≡ row_count_message path.now list_path.now rows jobs) }
 {
     text_of_spans(
         alloc,
@@ -160,7 +162,7 @@ fn row_count_message<'a>(
             Span::Text(": has "),
             Span::Count(rows as u64, "row"),
             Span::Text(", but "),
-            Span::Printable(list.as_bytes()),
+            Span::Printable(list_path.as_bytes()),
             Span::Text(" has "),
             Span::Count(jobs as u64, "job"),
             Span::Text(EXPECTED_WHOLE_REPORT),
@@ -168,15 +170,15 @@ fn row_count_message<'a>(
     )
 }
 
-// Returns the message that the job with this number has different names in the report at `path` and in the list at `list`.
+// Returns the message that the job with this number has different names in the report at `path` and in the list at `list_path`.
 fn name_mismatch_message<'a>(
     alloc: Global,
     path: &'a str,
-    list: &'a str,
+    list_path: &'a str,
     name: NameMismatch<'a>,
 ) -> Result<Vec<u8>, AllocError>
     ensures { IfOk result (λ text. text.items
-        ≡ name_mismatch_message path.now list.now name.entry.number name.entry.in_report.now name.entry.listed.now) }
+        ≡ name_mismatch_message path.now list_path.now name.entry.number name.entry.in_report.now name.entry.listed.now) }
 {
     text_of_spans(
         alloc,
@@ -190,7 +192,7 @@ fn name_mismatch_message<'a>(
             Span::Text("\", but \""),
             Span::Text(name.listed),
             Span::Text("\" in "),
-            Span::Printable(list.as_bytes()),
+            Span::Printable(list_path.as_bytes()),
             Span::Text(EXPECTED_WHOLE_REPORT),
         ],
     )

@@ -12,7 +12,7 @@ returns-then-args-clause-written g c = rw c.if-args.true (record {
     runs = c.as_slice.result;
     golden_texts = c.as_slice-2.result;
     files = c.as_slice-3.result;
-    new = record { ref_ptr = c.args.outcomes.ref_ptr; now = c.args.outcomes.now.new };
+    new = record { ref_ptr = c.args.changes.ref_ptr; now = c.args.changes.now.new };
   };
   parts = (refl, c.as_slice.ensures.value, c.as_slice-2.ensures.value, c.as_slice-3.ensures.value, refl);
   written = (
@@ -28,7 +28,7 @@ returns-clause-written g c = rw c.if-args.false (record {
     runs = c.as_slice.result;
     golden_texts = c.as_slice-2.result;
     files = c.as_slice-3.result;
-    new = record { ref_ptr = c.args.outcomes.ref_ptr; now = c.args.outcomes.now.new };
+    new = record { ref_ptr = c.args.changes.ref_ptr; now = c.args.changes.now.new };
   };
   parts = (refl, c.as_slice.ensures.value, c.as_slice-2.ensures.value, c.as_slice-3.ensures.value, refl);
   written = (
@@ -48,7 +48,7 @@ returns-in_err-write_accepted_files-clause-stopped g c =
     (inr (inr (
       c.if-args.false,
       files_stop IsFileNotCreatedStop (IsFileNotWrittenStop (g.D.Inputs.contents c.args.host.now.inputs.now))
-          c.args.list.now.path.now c.args.outcomes.now.files.items _ (λ path made. inl made)
+          c.args.list.now.path.now c.args.changes.now.files.items _ (λ path made. inl made)
           (rw c.as_slice-3.ensures.value at c.in_err-write_accepted_files.ensures.stopped),
     )))
 
@@ -60,7 +60,7 @@ returns-in_err-check_written_files-clause-stopped g c =
     (inr (inr (
       c.if-args.false,
       files_stop (IsUnverifiedStop (g.D.Inputs.contents c.args.host.now.inputs.now))
-          (IsFileNotWrittenStop (g.D.Inputs.contents c.args.host.now.inputs.now)) c.args.list.now.path.now c.args.outcomes.now.files.items _
+          (IsFileNotWrittenStop (g.D.Inputs.contents c.args.host.now.inputs.now)) c.args.list.now.path.now c.args.changes.now.files.items _
           (λ path checked. inr checked)
           (rw c.as_slice-3.ensures.value at c.in_err-check_written_files.ensures),
     )))
@@ -73,7 +73,7 @@ returns-in_err-check_files_are_unchanged-clause-stopped g c =
     (inr (inr (
       c.if-args.false,
       files_stop (IsUnverifiedStop (g.D.Inputs.contents c.args.host.now.inputs.now))
-          (IsFileNotWrittenStop (g.D.Inputs.contents c.args.host.now.inputs.now)) c.args.list.now.path.now c.args.outcomes.now.files.items _
+          (IsFileNotWrittenStop (g.D.Inputs.contents c.args.host.now.inputs.now)) c.args.list.now.path.now c.args.changes.now.files.items _
           (λ path checked. inr checked)
           (rw c.as_slice-3.ensures.value at c.in_err-check_files_are_unchanged.ensures),
     )))

@@ -11,14 +11,14 @@ loop-target-preserved g c =
     let rest = c.in-Some.ensures.steps.0 in
     record {
       goes = one_more_file contents root c.args.targets.items (into_iter_items c.loop-target.target-iterator)
-          (into_iter_items c.next.new.self) c.in-Some.target c.loop-target.files.items c.push_file.new.files.items _
+          (into_iter_items c.next.new.self) c.in-Some.target c.loop-target.files.items c.push_golden_file.new.files.items _
           c.loop-target.invariant.goes rest
           (record {
             same_target = refl;
             resolved = rw c.as_str.ensures at c.in_ok-resolved.ensures;
             old_contents = rw c.as_str-in-loop-target.ensures at c.in_ok-old.ensures.contents;
           })
-          c.in_ok-push_file.ensures;
+          c.in_ok-push_golden_file.ensures;
       last = one_target_less contents root c.args.targets.items (into_iter_items c.loop-target.target-iterator)
           (into_iter_items c.next.new.self) c.in-Some.target c.loop-target.invariant.last rest;
       counted = omega (arith, c.in-Some.ensures.steps.1, c.loop-target.invariant.counted, ap length rest);

@@ -9,7 +9,7 @@ pub serve-requires-clause-requested : goal.serve-requires-clause-requested
 serve-requires-clause-requested g c =
     let opened = c.in_ok-opened.ensures.opened in λ lifetimes outlive.
     ap (λ (s : Session). s.requested) c.limit_memory.ensures
-    ∙ ap (λ (s : Session). s.requested) (opened.of_list.of_job.over (single_job [] 0 [])).session_is
+    ∙ ap (λ (s : Session). s.requested) (opened.of_list.of_job.session_of_job (single_job [] 0 [])).session_is
 
 pub returns-in-Ok-clause-served : goal.returns-in-Ok-clause-served
 returns-in-Ok-clause-served g c =
@@ -41,7 +41,7 @@ pub returns-clause-stopped : goal.returns-clause-stopped
 returns-clause-stopped g c = inr (
   c.if-is_terminal.false,
   (
-    c.in-Err.broken,
+    c.in-Err.error,
     (
       c.session_error_stop.ensures,
       (rw c.in-Err.is at c.serve.ensures.failed, rw c.in-Err.is at c.serve.ensures.no_failures),

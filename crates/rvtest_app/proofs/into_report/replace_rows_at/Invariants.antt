@@ -6,8 +6,8 @@ use Rattle.rvtest_app.proofs.into_report.replace_rows_at.Given as goal
 
 abbrev pub invariant-loop-row : goal.invariant-loop-row
 invariant-loop-row l = record {
-  put : merged_rows (drop l.at l.indices) (into_iter_items l.row-iterator) l.whole.items
-      ≡ merged_rows l.indices l.fn.rows.items l.initial.whole.items;
-  long : vec_len l.whole ≡ vec_len l.initial.whole;
-  left : l.at + into_iter_len l.row-iterator ≡ length l.indices;
+  put : merged_rows (drop l.next l.indices) (into_iter_items l.row-iterator) l.all_rows.items
+      ≡ merged_rows l.indices l.fn.rows.items l.initial.all_rows.items;
+  long : vec_len l.all_rows ≡ vec_len l.initial.all_rows;
+  left : l.next + into_iter_len l.row-iterator ≡ length l.indices;
 }

@@ -9,5 +9,5 @@ four_told a b c d = simp (append_assoc, append-nil)
 pub returns-in-UnknownJob : goal.returns-in-UnknownJob
 returns-in-UnknownJob c =
     rw c.in-UnknownJob.is
-    (told _ _ _ _ _ (four_told (codes "no job named \"") (printable_value c.args.name.now) (codes "\" in ") (printable_text c.args.list.now))
+    (told _ _ _ _ _ (four_told (codes "no job named \"") (printable_value c.args.name.now) (codes "\" in ") (printable_text c.args.list_path.now))
     (rw c.as_bytes.ensures.value at c.push_spans-in-UnknownJob.ensures))

@@ -33,8 +33,8 @@ answered g c =
           (let request = rw w.in-Ok-None.field-0-is at w.in-Ok-None.ensures.value in
           rw w.to-is (inr (inl (sym request, refl), refl, refl, refl)))
       | in-Err w ↦
-          rw w.to-is (words_answered contents rest is_terminal is_colored args w.in-Err.error w.respond_to_args_error-answer.result before _
-          w.in-Err.ensures.kinds w.respond_to_args_error-answer.ensures.exit_status w.respond_to_args_error-answer.ensures.help_written (refl, refl, refl))
+          rw w.to-is (words_answered contents rest is_terminal is_colored args w.in-Err.error w.respond_to_args_error-outcome.result before _
+          w.in-Err.ensures.kinds w.respond_to_args_error-outcome.ensures.exit_status w.respond_to_args_error-outcome.ensures.help_written (refl, refl, refl))
     ] in
     rw c.in-Ok.is at all
 
@@ -57,12 +57,12 @@ returns-clause-ended g c =
       | in-Ok-None w ↦ rw w.to-is tt
       | in-Err w ↦
           rw w.to-is (words_stop contents is_terminal args _ _ _ _ w.in-Err.ensures.kinds w.in-Err.ensures.misused
-          w.respond_to_args_error-answer.ensures.stopped)
+          w.respond_to_args_error-outcome.ensures.stopped)
     ] in
     let before = outputs_of g.F.Outputs.committed g.O.Sink.accepted g.E.Sink.accepted g.E.Sink.failure_count c.match-read_words.to.0 in
     inr (
-      c.in-Err-answer.stop,
-      rw c.in-Err-answer.is at stopped,
+      c.in-Err-outcome.stop,
+      rw c.in-Err-outcome.is at stopped,
       rw c.is_closed-is_out_closed.ensures at c.put_end_message-status.ensures.status,
       (before, (refl, rw c.is_closed-is_out_closed.ensures at c.put_end_message-status.ensures.told, refl)),
     )

@@ -18,62 +18,62 @@ returns-in-Run-clause-out_unchanged g c =
 pub returns-clause-stopped : goal.returns-clause-stopped
 returns-clause-stopped g c = elim c.match-request.branch [
   | in-Explain w ↦
-      rw (w.answer-is, w.in-Explain.is)
+      rw (w.outcome-is, w.in-Explain.is)
       (put_or_found w.explain_named_job.result _ _ w.explain_named_job.ensures.stopped
-      w.write_command_result-answer.ensures.stopped)
+      w.write_command_result-outcome.ensures.stopped)
   | in-Check w ↦
-      rw (w.answer-is, w.in-Check.is)
+      rw (w.outcome-is, w.in-Check.is)
       (put_or_found w.check_list.result _ _ w.check_list.ensures.stopped
-      w.write_command_result-answer-in-Check.ensures.stopped)
-  | in-List w ↦ rw (w.answer-is, w.in-List.is) w.list_chosen_jobs-answer.ensures.stopped
-  | in-Console w ↦ rw (w.answer-is, w.in-Console.is) w.put_job_console-answer.ensures.stopped
+      w.write_command_result-outcome-in-Check.ensures.stopped)
+  | in-List w ↦ rw (w.outcome-is, w.in-List.is) w.list_chosen_jobs-outcome.ensures.stopped
+  | in-Console w ↦ rw (w.outcome-is, w.in-Console.is) w.write_job_console-outcome.ensures.stopped
   | in-Gdb w ↦
-      rw (w.answer-is, w.in-Gdb.is)
-      (IfErr-map w.show_job_to_gdb-answer.result _ _ (gdb_stop _ _ _ _ _ _ _) w.show_job_to_gdb-answer.ensures.stopped)
-  | in-Accept w ↦ rw (w.answer-is, w.in-Accept.is) w.accept_runs-answer.ensures.stopped
-  | in-Merge w ↦ rw (w.answer-is, w.in-Merge.is) w.merge_reports-answer.ensures.stopped
+      rw (w.outcome-is, w.in-Gdb.is)
+      (IfErr-map w.show_job_to_gdb-outcome.result _ _ (gdb_stop _ _ _ _ _ _ _) w.show_job_to_gdb-outcome.ensures.stopped)
+  | in-Accept w ↦ rw (w.outcome-is, w.in-Accept.is) w.accept_runs-outcome.ensures.stopped
+  | in-Merge w ↦ rw (w.outcome-is, w.in-Merge.is) w.merge_reports-outcome.ensures.stopped
   | in-Diff w ↦
-      rw (w.answer-is, w.in-Diff.is)
-      w.diff_reports-answer.ensures.stopped
-  | in-Show w ↦ rw (w.answer-is, w.in-Show.is) w.show_report-answer.ensures.stopped
-  | in-Counts w ↦ rw (w.answer-is, w.in-Counts.is) w.put_sum_of_tables-answer.ensures.stopped
-  | in-Cover w ↦ rw (w.answer-is, w.in-Cover.is) w.cover_requested_jobs-answer.ensures.stopped
-  | in-Profile w ↦ rw (w.answer-is, w.in-Profile.is) w.profile_requested_jobs-answer.ensures.stopped
+      rw (w.outcome-is, w.in-Diff.is)
+      w.diff_reports-outcome.ensures.stopped
+  | in-Show w ↦ rw (w.outcome-is, w.in-Show.is) w.show_report-outcome.ensures.stopped
+  | in-Counts w ↦ rw (w.outcome-is, w.in-Counts.is) w.write_sum_of_tables-outcome.ensures.stopped
+  | in-Cover w ↦ rw (w.outcome-is, w.in-Cover.is) w.cover_requested_jobs-outcome.ensures.stopped
+  | in-Profile w ↦ rw (w.outcome-is, w.in-Profile.is) w.profile_requested_jobs-outcome.ensures.stopped
   | in-Help w ↦
-      rw (w.answer-is, w.in-Help.is)
+      rw (w.outcome-is, w.in-Help.is)
       (put_or_found w.topic_help.result _ _ w.topic_help.ensures.stopped
-      w.write_command_result-answer-in-Help.ensures.stopped)
+      w.write_command_result-outcome-in-Help.ensures.stopped)
 ]
 
 pub returns-clause-out_unchanged : goal.returns-clause-out_unchanged
 returns-clause-out_unchanged g c = elim c.match-request.branch [
-  | in-Explain w ↦ rw (w.answer-is, w.in-Explain.is) (IfOk-from w.write_command_result-answer.result _ (inl (inl refl)))
-  | in-Check w ↦ rw (w.answer-is, w.in-Check.is) (IfOk-from w.write_command_result-answer-in-Check.result _ (inl (inl refl)))
-  | in-List w ↦ rw (w.answer-is, w.in-List.is) (IfOk-from w.list_chosen_jobs-answer.result _ (inl (inl refl)))
-  | in-Console w ↦ rw (w.answer-is, w.in-Console.is) (IfOk-from w.put_job_console-answer.result _ (inl (inl refl)))
+  | in-Explain w ↦ rw (w.outcome-is, w.in-Explain.is) (IfOk-from w.write_command_result-outcome.result _ (inl (inl refl)))
+  | in-Check w ↦ rw (w.outcome-is, w.in-Check.is) (IfOk-from w.write_command_result-outcome-in-Check.result _ (inl (inl refl)))
+  | in-List w ↦ rw (w.outcome-is, w.in-List.is) (IfOk-from w.list_chosen_jobs-outcome.result _ (inl (inl refl)))
+  | in-Console w ↦ rw (w.outcome-is, w.in-Console.is) (IfOk-from w.write_job_console-outcome.result _ (inl (inl refl)))
   | in-Gdb w ↦
-      rw (w.answer-is, w.in-Gdb.is)
-      (IfOk-map w.show_job_to_gdb-answer.result _ _ (λ status done. inl (inr (done.spoken, (cause.ReplyWriteFailed, refl))))
-      w.show_job_to_gdb-answer.ensures.served)
+      rw (w.outcome-is, w.in-Gdb.is)
+      (IfOk-map w.show_job_to_gdb-outcome.result _ _ (λ status done. inl (inr (done.is_no_terminal, (cause.ReplyWriteFailed, refl))))
+      w.show_job_to_gdb-outcome.ensures.served)
   | in-Accept w ↦
-      rw (w.answer-is, w.in-Accept.is)
-      (IfOk-map w.accept_runs-answer.result _ _ (λ status done. inl (unshown_accept _ c.args.terminals.is_out_terminal _ status _ _ done))
-      w.accept_runs-answer.ensures.accepted)
+      rw (w.outcome-is, w.in-Accept.is)
+      (IfOk-map w.accept_runs-outcome.result _ _ (λ status done. inl (unshown_accept _ c.args.terminals.is_out_terminal _ status _ _ done))
+      w.accept_runs-outcome.ensures.accepted)
   | in-Merge w ↦
-      rw (w.answer-is, w.in-Merge.is)
-      (IfOk-map w.merge_reports-answer.result _ _ (λ status done. inl (unshown_merge _ c.args.terminals.is_out_terminal _ status _ _ done))
-      w.merge_reports-answer.ensures.merged)
-  | in-Diff w ↦ rw (w.answer-is, w.in-Diff.is) (IfOk-from w.diff_reports-answer.result _ (inl (inl refl)))
+      rw (w.outcome-is, w.in-Merge.is)
+      (IfOk-map w.merge_reports-outcome.result _ _ (λ status done. inl (unshown_merge _ c.args.terminals.is_out_terminal _ status _ _ done))
+      w.merge_reports-outcome.ensures.merged)
+  | in-Diff w ↦ rw (w.outcome-is, w.in-Diff.is) (IfOk-from w.diff_reports-outcome.result _ (inl (inl refl)))
   | in-Show w ↦
-      rw (w.answer-is, w.in-Show.is)
-      (IfOk-map w.show_report-answer.result _ _ (λ status done. inl (unshown_report _ c.args.terminals.is_out_terminal _ status _ _ done))
-      w.show_report-answer.ensures.shown)
+      rw (w.outcome-is, w.in-Show.is)
+      (IfOk-map w.show_report-outcome.result _ _ (λ status done. inl (unshown_report _ c.args.terminals.is_out_terminal _ status _ _ done))
+      w.show_report-outcome.ensures.shown)
   | in-Counts w ↦
-      rw (w.answer-is, w.to-is, w.in-Counts.is)
-      (IfOk-map w.put_sum_of_tables-answer.result _ _
-      (λ status put. unshown_sum _ c.args.terminals.is_out_terminal _ status _ _ _ put w.put_sum_of_tables-answer.ensures.out_unchanged)
-      w.put_sum_of_tables-answer.ensures.written)
-  | in-Cover w ↦ rw (w.answer-is, w.in-Cover.is) (IfOk-from w.cover_requested_jobs-answer.result _ (inl (inl refl)))
-  | in-Profile w ↦ rw (w.answer-is, w.in-Profile.is) (IfOk-from w.profile_requested_jobs-answer.result _ (inl (inl refl)))
-  | in-Help w ↦ rw (w.answer-is, w.in-Help.is) (IfOk-from w.write_command_result-answer-in-Help.result _ (inl (inl refl)))
+      rw (w.outcome-is, w.to-is, w.in-Counts.is)
+      (IfOk-map w.write_sum_of_tables-outcome.result _ _
+      (λ status put. unshown_sum _ c.args.terminals.is_out_terminal _ status _ _ _ put w.write_sum_of_tables-outcome.ensures.out_unchanged)
+      w.write_sum_of_tables-outcome.ensures.written)
+  | in-Cover w ↦ rw (w.outcome-is, w.in-Cover.is) (IfOk-from w.cover_requested_jobs-outcome.result _ (inl (inl refl)))
+  | in-Profile w ↦ rw (w.outcome-is, w.in-Profile.is) (IfOk-from w.profile_requested_jobs-outcome.result _ (inl (inl refl)))
+  | in-Help w ↦ rw (w.outcome-is, w.in-Help.is) (IfOk-from w.write_command_result-outcome-in-Help.result _ (inl (inl refl)))
 ]

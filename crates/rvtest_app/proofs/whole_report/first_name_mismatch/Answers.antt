@@ -28,10 +28,10 @@ loop-index-preserved c =
     let rows = c.args.rows.now in
     let jobs = c.args.jobs.now in
     let index = c.loop-index.index in
-    let name = c.as_str-met.result.now in
+    let name = c.as_str-in_report.result.now in
     let within = c.loop-index-test.true in
     let met = get_or-map (λ (row : Row). row.name) rows index c.index-rows-index.result name within
-    ∙ sym c.as_str-met.ensures in
+    ∙ sym c.as_str-in_report.ensures in
     let among : index < length jobs = omega (arith, within, c.requires) in
     let same = same_bytes name c.as_str-listed.result.now (sym c.ne.ensures ∙ c.if-ne.false) in
     let listed = get_or-map (λ (job : Job). job.name) jobs index c.index-jobs-index.result name among

@@ -14,5 +14,5 @@ eleven_told a1 a2 a3 a4 a5 a6 a7 a8 a9 a10 a11 = simp (append_assoc, append-nil)
 pub returns : goal.returns
 returns c =
     IfOk-map c.text_of_spans.result _ _
-    (λ text is. is ∙ eleven_told (codes "rvtest: ") (printable_text c.args.path.now) (codes ": job ") (decimal c.args.name.number) (codes " is \"") c.args.name.in_report.now (codes "\", but \"") c.args.name.listed.now (codes "\" in ") (printable_text c.args.list.now) expected_whole_report)
+    (λ text is. is ∙ eleven_told (codes "rvtest: ") (printable_text c.args.path.now) (codes ": job ") (decimal c.args.name.number) (codes " is \"") c.args.name.in_report.now (codes "\", but \"") c.args.name.listed.now (codes "\" in ") (printable_text c.args.list_path.now) expected_whole_report)
     (rw (c.as_bytes.ensures.value, c.as_bytes-2.ensures.value) at c.text_of_spans.ensures)

@@ -14,5 +14,5 @@ nine_told a1 a2 a3 a4 a5 a6 a7 a8 a9 = simp (append_assoc, append-nil)
 pub returns : goal.returns
 returns c =
     IfOk-map c.text_of_spans.result _ _
-    (λ text is. is ∙ nine_told (codes "rvtest: ") (printable_text c.args.path.now) (codes ": has ") (count_text c.args.rows (codes "row")) (codes ", but ") (printable_text c.args.list.now) (codes " has ") (count_text c.args.jobs (codes "job")) expected_whole_report)
+    (λ text is. is ∙ nine_told (codes "rvtest: ") (printable_text c.args.path.now) (codes ": has ") (count_text c.args.rows (codes "row")) (codes ", but ") (printable_text c.args.list_path.now) (codes " has ") (count_text c.args.jobs (codes "job")) expected_whole_report)
     (rw (c.as_bytes.ensures.value, c.as_bytes-2.ensures.value) at c.text_of_spans.ensures)

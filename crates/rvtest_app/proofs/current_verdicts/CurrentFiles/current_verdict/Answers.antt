@@ -9,6 +9,6 @@ returns g c = IfOk-map c.verdict_with_golden_files.result _ _
       signature = option_map (λ bytes. bytes.items) c.in_ok-signature.signature;
       console_read = rw (c.path_to_read.ensures, c.console_path.ensures) at c.in_ok-console.ensures;
       signature_read = rw (c.path_to_read-2.ensures, c.signature_path.ensures) at c.in_ok-signature.ensures;
-      verdict_is = rw (c.text_of.ensures, c.text_of-2.ensures) at is;
+      verdict_is = rw (c.slice_of_text.ensures, c.slice_of_text-2.ensures) at is;
     })
     c.verdict_with_golden_files.ensures

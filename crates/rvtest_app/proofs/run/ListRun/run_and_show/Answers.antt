@@ -50,7 +50,7 @@ returns-clause-shown g c =
     at c.stream_rows-stream.ensures.all in
     let line = rw (c.new-batch.ensures.plan, c.new-batch.ensures.places) at c.write_totals_line-ran.ensures.line in
     rw c.into_inner-stream.ensures
-    (shown_whole c.write_totals_line-ran.result (taken c.args.shown.stream) (taken c.stream_rows-stream.result.0.sink)
+    (shown_whole c.write_totals_line-ran.result (taken c.args.display.stream) (taken c.stream_rows-stream.result.0.sink)
     (taken c.write_totals_line-ran.new.out.sink) (joined_row_texts (row_lines_at (reporter_of planned.reporter.now)) indices all)
     (λ (rows : List Row). run_totals_line judging plan indices rows (length indices - length rows)) all
     (returns-clause-rows g c)

@@ -1,4 +1,4 @@
-use Rattle.rvtest_app.proofs.current_verdicts.CurrentFiles.text_of_path.Goals as goal
+use Rattle.rvtest_app.proofs.current_verdicts.CurrentFiles.text_at_path.Goals as goal
 
 pub returns : goal.returns
 returns g c = rw (c.as_str.ensures, c.in_ok-resolved.ensures) at c.text_at.ensures

@@ -3,7 +3,7 @@ use Rattle.std.proofs.lemmas.Result.{err_from_is_err_and}
 use Rattle.rvtest_app.specs.CommandOutputs.{outputs_of}
 use Rattle.rvtest_app.proofs.Results.{IfOk-map}
 use Rattle.rvtest_app.proofs.StopLemmas.{IfErr-map}
-use Rattle.rvtest_app.proofs.view.JobsView.put.Goals as goal
+use Rattle.rvtest_app.proofs.view.JobsView.write_view.Goals as goal
 
 pub returns-in_err-requested-clause-stopped : goal.returns-in_err-requested-clause-stopped
 returns-in_err-requested-clause-stopped g c =
