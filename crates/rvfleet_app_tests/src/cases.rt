@@ -8,7 +8,7 @@
 //! (`0`), everything except the writes (`1`), only the status, the error output and the standard output (`2`), or a summary, given as the
 //! words that select the lines of a report.
 
-use crate::forms::{numbered, part, written};
+use crate::forms::{form_text, numbered, part};
 use crate::sample_store::SampleStore;
 use crate::testing::Streams;
 use samples::{agree, cell_of, has_lines, numbers};
