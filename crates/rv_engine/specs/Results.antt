@@ -65,9 +65,9 @@ HasReceivedUntil is_result jobs group has_received stops next (Some Failed) = Ha
 -- the invariant under the lock of a run: unless the run has ended, the listener has received the results of all chunks before `next`; and
 -- each pending entry has the results of the chunk with the number that is its index
 pub record IsInOrder {H : Type 0} (is_result : ℕ → H → Type 0) (jobs group : ℕ) (has_received : List H → Type 0) (stops : Type 0)
-    (next : ℕ) (ended : Option End) (pending : List (Option (Vec H Global))) : Type 0 where
+    (next : ℕ) (ended : Option End) (entries : List (Option (Vec H Global))) : Type 0 where
   pub received : HasReceivedUntil is_result jobs group has_received stops next ended
-  pub pending : ArePending is_result jobs group pending
+  pub pending : ArePending is_result jobs group entries
 
 -- with `Continue`, a listener has received the results of all chunks before `next`; with `Stop`, it has received the results of some number
 -- of first jobs and stopped the run

@@ -62,7 +62,7 @@ judgement judging row = judgement_by_known judging.known (has_passed judging.rul
 abbrev pub is_failing : JudgementView → Bool
 is_failing passed = false
 is_failing failed = true
-is_failing (known_jobs reason) = false
+is_failing (known reason) = false
 is_failing (now_passes path) = true
 
 -- whether a row with this judgement passed and is not listed as a known failure
@@ -72,7 +72,7 @@ is_passed _ = false
 
 -- whether a row with this judgement failed and is listed as a known failure
 abbrev pub is_known_failure : JudgementView → Bool
-is_known_failure (known_jobs reason) = true
+is_known_failure (known reason) = true
 is_known_failure _ = false
 
 -- whether a row with this judgement failed and is not listed as a known failure

@@ -89,6 +89,6 @@ pub record MovesCounts (before : List WalkNode) (old : PreorderBuilder) (after :
   pub all_steps : spots.all_steps new.nodes.items + all_steps after ≡ spots.all_steps old.nodes.items + all_steps before
 
 -- no counts were moved: `new` has the preorder nodes of `old`, and its path and its trail agree with the nodes
-pub record ReturnsToParent (nodes : List WalkNode) (old new : PreorderBuilder) : Type 0 where
-  pub is_preorder : IsPreorderBuilder nodes new
+pub record ReturnsToParent (walked : List WalkNode) (old new : PreorderBuilder) : Type 0 where
+  pub is_preorder : IsPreorderBuilder walked new
   pub nodes : new.nodes.items ≡ old.nodes.items
