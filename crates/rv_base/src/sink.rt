@@ -35,8 +35,8 @@ pub trait Sink {
 /// Writes all of `bytes` to a sink. If a write fails, the bytes of the earlier writes have been accepted, and no further write is tried.
 pub fn put_all<W: Sink>(out: &mut W, bytes: &[u8]) -> Result<(), SinkFailed>
     ensures appended { OnOk result (Appends (W.accepted out.old) (W.accepted out.new) bytes.now) }
-    ensures counted { OnOk result (W.failure_count out.new ≡ W.failure_count out.old) }
-    ensures part { OnErr result (AppendsPrefix (W.accepted out.old) (W.accepted out.new) bytes.now) }
+    ensures no_failures { OnOk result (W.failure_count out.new ≡ W.failure_count out.old) }
+    ensures prefix { OnErr result (AppendsPrefix (W.accepted out.old) (W.accepted out.new) bytes.now) }
     ensures failure { OnErr result (W.failure_count out.new ≡ one_more (W.failure_count out.old)) }
 {
     let mut offset = 0;

@@ -43,7 +43,7 @@ pub(crate) fn subtrees_of(alloc: Global, nodes: &[CallNode]) -> Result<Vec<Subtr
 fn subtree_at(nodes: &[CallNode], index: usize, later: &[Subtree]) -> Subtree
     requires within { index < length nodes.now }
     requires steps { all_steps nodes.now < 2 ^ 64 }
-    requires behind { reverse later.now ≡ subtrees_from (index + 1) (drop (index + 1) nodes.now) }
+    requires later { reverse later.now ≡ subtrees_from (index + 1) (drop (index + 1) nodes.now) }
     ensures { result ∷ subtrees_from (index + 1) (drop (index + 1) nodes.now) ≡ subtrees_from index (drop index nodes.now) }
 {
     let node = nodes[index];

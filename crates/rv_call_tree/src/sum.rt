@@ -38,7 +38,7 @@ pub fn sum_of_call_trees(
     requires b { IsTree b.now }
     ensures value { IfOk result (λ sum. IsSumOfCallTrees a.now b.now sum) }
     ensures fits { IfOk result (λ sum. AllByRecursion FitsFields sum) }
-    ensures refused { IfErr result (λ error. IsOverflowOfTrees error a.now b.now) }
+    ensures error { IfErr result (λ error. IsOverflowOfTrees error a.now b.now) }
 {
     let mut sums = Vec::new(alloc);
     let mut from_a = 0;
@@ -74,7 +74,7 @@ fn next_node(a: &[CallNode], b: &[CallNode]) -> Result<NextNode, CallTreeSumErro
     requires { 0 < length a.now + length b.now }
     ensures value { IfOk result (λ next. next ≡ next_of a.now b.now) }
     ensures fits { IfOk result (λ next. FitsFields next.node) }
-    ensures refused { IfErr result (λ error. IsOverflowOfFirstNodes error a.now b.now) }
+    ensures error { IfErr result (λ error. IsOverflowOfFirstNodes error a.now b.now) }
 {
     if b.is_empty() {
         return Ok(node_of_first(a[0]));
@@ -127,7 +127,7 @@ fn node_of_second(node: CallNode) -> NextNode
 fn sum_of_nodes(node: CallNode, other: CallNode) -> Result<NextNode, CallTreeSumError>
     ensures value { IfOk result (λ next. next ≡ sum_of_nodes node other) }
     ensures fits { IfOk result (λ next. FitsFields next.node) }
-    ensures refused { IfErr result (λ error. IsOverflowOfNodes error node other) }
+    ensures error { IfErr result (λ error. IsOverflowOfNodes error node other) }
 {
     match (
         node.calls.checked_add(other.calls),

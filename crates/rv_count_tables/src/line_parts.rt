@@ -22,7 +22,7 @@ pub(crate) fn leading_bytes(text: &[u8], count: usize) -> &[u8]
 
 /// Returns the index of the first occurrence of a byte, or the length of the text if it does not occur.
 pub(crate) fn index_of_byte(byte: u8, text: &[u8]) -> usize
-    ensures place { result ≡ index_of_byte byte text.now }
+    ensures index { result ≡ index_of_byte byte text.now }
     ensures within { result ≤ length text.now }
 {
     for (place, b) in text.iter().enumerate() {

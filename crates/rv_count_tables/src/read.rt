@@ -41,13 +41,13 @@ impl From<AllocError> for ReadError {
 /// Parses the text of a table, or returns the error of its first invalid line. Allocates the table, and one line at a time.
 pub fn read_table(alloc: Global, bytes: &[u8]) -> Result<CountTable, ReadError>
     // The result is a valid table with this text.
-    ensures found { IfOk result (λ table. IsValidTable table) }
+    ensures table { IfOk result (λ table. IsValidTable table) }
     ensures text { IfOk result (λ table. table_text table ≡ bytes.now) }
     // Every valid table with this text is the result.
-    ensures only { (table : Counted) → IsValidTable table → table_text table ≡ bytes.now
+    ensures accepts { (table : Counted) → IsValidTable table → table_text table ≡ bytes.now
         → IsOkOrOutOfMemory table result }
     // Some table begins with the lines before the reported one, and none with those lines and the reported one.
-    ensures least { IfErr result (λ error. IsFirstError error bytes.now) }
+    ensures first_error { IfErr result (λ error. IsFirstError error bytes.now) }
 {
     if whole_line(bytes) != "rvcounts 1\n".as_bytes() {
         return Err(read_error_at(bytes, 0));

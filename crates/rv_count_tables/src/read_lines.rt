@@ -74,7 +74,7 @@ fn read_image(
     text: &[u8],
     earlier: &[ImageCounts],
 ) -> Result<Option<ParsedImage>, AllocError>
-    ensures found { IfOk result (λ read. IfSome read (IsParsedImage (last_digest None earlier.now) text.now)) }
+    ensures image { IfOk result (λ read. IfSome read (IsParsedImage (last_digest None earlier.now) text.now)) }
     ensures none { IfOk result (λ read. IfNone read (IsNotAnImage (last_digest None earlier.now) (whole_line text.now))) }
 {
     let line = whole_line(text);
@@ -138,7 +138,7 @@ fn parse_address_line(
     line: &[u8],
     lowest: u64,
 ) -> Result<Option<AddressCounts>, AllocError>
-    ensures counted { IfOk result (λ read. IfSome read IsValidCount) }
+    ensures valid { IfOk result (λ read. IfSome read IsValidCount) }
     ensures low { IfOk result (λ read. IfSome read (λ c. lowest ≤ c.address)) }
     ensures line { IfOk result (λ read. IfSome read (λ c. line.now ≡ address_line c)) }
     ensures none { IfOk result (λ read. IfNone read (IsNotAnAddress lowest line.now)) }
@@ -220,7 +220,7 @@ pub(crate) fn runs_of_last_line(
     line: &[u8],
     image_count: usize,
 ) -> Result<Option<u64>, AllocError>
-    ensures few { image_count < 2 ^ 64 }
+    ensures count_fits { image_count < 2 ^ 64 }
     ensures fits { IfOk result (λ read. IfSome read (λ runs. runs < 2 ^ 64)) }
     ensures line { IfOk result (λ read. IfSome read (λ runs. line.now ≡ last_line image_count runs)) }
     ensures none { IfOk result (λ read. IfNone read ((runs : ℕ) → runs < 2 ^ 64 → line.now ≡ last_line image_count runs → ⊥)) }

@@ -76,8 +76,8 @@ fn next_node(
     names: &NamesByFunction,
 ) -> Result<Option<NamedCallNode>, AllocError>
     ensures node { (text : List ℕ) → line.now ≡ whole_line text → IfOk result (λ read. IfSome read IsValidNamedNode) }
-    ensures stands { IfOk result (λ read. IfSome read (λ n. FollowsInPreorder previous_path.now n.node)) }
-    ensures agrees { IfOk result (λ read. IfSome read (λ n. AgreesWithName n.name (name_of n.node.function names.now))) }
+    ensures preorder { IfOk result (λ read. IfSome read (λ n. FollowsInPreorder previous_path.now n.node)) }
+    ensures name { IfOk result (λ read. IfSome read (λ n. AgreesWithName n.name (name_of n.node.function names.now))) }
     ensures line { IfOk result (λ read. IfSome read (λ n. line.now ≡ node_line n)) }
     ensures none { IfOk result (λ read. IfNone read (IsNotANode names.now previous_path.now line.now)) }
 {

@@ -58,7 +58,7 @@ pub fn sum_of_tables(alloc: Global, a: &CountTable, b: &CountTable) -> Result<Co
     requires a { IsValidTable a.now }
     requires b { IsValidTable b.now }
     ensures value { IfOk result (λ sum. IsSumOfTables a.now b.now sum) }
-    ensures refused { IfErr result (λ error. HaveNoSum error a.now b.now) }
+    ensures error { IfErr result (λ error. HaveNoSum error a.now b.now) }
 {
     let runs = a.runs.checked_add(b.runs).ok_or(SumError::Runs)?;
     let images = sum_of_images(alloc, a.images.as_slice(), b.images.as_slice())?;
@@ -71,7 +71,7 @@ pub fn add_table(alloc: Global, sum: CountTable, table: CountTable) -> Result<Co
     requires sum { IsValidTable sum }
     requires table { IsValidTable table }
     ensures value { IfOk result (λ total. IsSumOfTables sum table total) }
-    ensures refused { IfErr result (λ error. HaveNoSum error sum table) }
+    ensures error { IfErr result (λ error. HaveNoSum error sum table) }
 {
     let runs = sum.runs.checked_add(table.runs).ok_or(SumError::Runs)?;
     let images = add_images(alloc, sum.images, table.images)?;

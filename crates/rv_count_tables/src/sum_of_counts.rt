@@ -22,7 +22,7 @@ pub(crate) fn sum_of_counts(
     requires a { AreValidCounts a.now }
     requires b { AreValidCounts b.now }
     ensures value { IfOk result (λ sum. IsSumOfCounts a.now b.now sum) }
-    ensures refused { IfErr result (λ error. CountsHaveNoSum error a.now b.now) }
+    ensures error { IfErr result (λ error. CountsHaveNoSum error a.now b.now) }
 {
     let mut sums = Vec::new(alloc);
     let mut from_a = 0;
@@ -48,9 +48,9 @@ pub(crate) struct NextCount {
 fn next_count(a: &[AddressCounts], b: &[AddressCounts]) -> Result<NextCount, SumError>
     requires a { AllByRecursion IsValidCount a.now }
     requires b { AllByRecursion IsValidCount b.now }
-    requires some { 0 < length a.now + length b.now }
+    requires not_both_empty { 0 < length a.now + length b.now }
     ensures value { IfOk result (λ next. IsNextCount a.now b.now next) }
-    ensures refused { IfErr result (λ error. CountsHaveNoSum error a.now b.now) }
+    ensures error { IfErr result (λ error. CountsHaveNoSum error a.now b.now) }
 {
     if b.is_empty() {
         return Ok(count_of_first(a[0]));

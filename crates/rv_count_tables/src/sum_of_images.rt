@@ -26,7 +26,7 @@ pub(crate) fn sum_of_images(
     requires a { AllByRecursion IsValidImage a.now }
     requires b { AllByRecursion IsValidImage b.now }
     ensures value { IfOk result (λ sum. ImagesAddUp a.now b.now sum) }
-    ensures refused { IfErr result (λ error. ImagesHaveNoSum error a.now b.now) }
+    ensures error { IfErr result (λ error. ImagesHaveNoSum error a.now b.now) }
 {
     let mut sums = Vec::new(alloc);
     let mut from_a = 0;
@@ -45,7 +45,7 @@ pub(crate) fn add_images(alloc: Global, a: Images, b: Images) -> Result<Images, 
     requires a { AllByRecursion IsValidImage a }
     requires b { AllByRecursion IsValidImage b }
     ensures value { IfOk result (λ sum. ImagesAddUp a b sum) }
-    ensures refused { IfErr result (λ error. ImagesHaveNoSum error a b) }
+    ensures error { IfErr result (λ error. ImagesHaveNoSum error a b) }
 {
     if a.as_slice().is_empty() {
         return Ok(b);
@@ -68,9 +68,9 @@ pub(crate) struct NextImage {
 fn next_image(alloc: Global, a: &[ImageCounts], b: &[ImageCounts]) -> Result<NextImage, SumError>
     requires a { AllByRecursion IsValidImage a.now }
     requires b { AllByRecursion IsValidImage b.now }
-    requires some { 0 < length a.now + length b.now }
+    requires not_both_empty { 0 < length a.now + length b.now }
     ensures value { IfOk result (λ next. IsNextImage a.now b.now next) }
-    ensures refused { IfErr result (λ error. ImagesHaveNoSum error a.now b.now) }
+    ensures error { IfErr result (λ error. ImagesHaveNoSum error a.now b.now) }
 {
     if b.is_empty() {
         return image_of_first(alloc, &a[0]);
@@ -97,7 +97,7 @@ fn next_image(alloc: Global, a: &[ImageCounts], b: &[ImageCounts]) -> Result<Nex
 // Returns a copy of an image as the next image of a sum, which only the first list has.
 fn image_of_first(alloc: Global, image: &ImageCounts) -> Result<NextImage, SumError>
     ensures value { IfOk result (λ next. next ≡ record { image = image.now; count_in_a = 1; count_in_b = 0 }) }
-    ensures refused { IfErr result (λ error. error ≡ OutOfMemory) }
+    ensures error { IfErr result (λ error. error ≡ OutOfMemory) }
 {
     let image = copy_of_image(alloc, image)?;
     Ok(NextImage {
@@ -110,7 +110,7 @@ fn image_of_first(alloc: Global, image: &ImageCounts) -> Result<NextImage, SumEr
 // Returns a copy of an image as the next image of a sum, which only the second list has.
 fn image_of_second(alloc: Global, image: &ImageCounts) -> Result<NextImage, SumError>
     ensures value { IfOk result (λ next. next ≡ record { image = image.now; count_in_a = 0; count_in_b = 1 }) }
-    ensures refused { IfErr result (λ error. error ≡ OutOfMemory) }
+    ensures error { IfErr result (λ error. error ≡ OutOfMemory) }
 {
     let image = copy_of_image(alloc, image)?;
     Ok(NextImage {
@@ -136,9 +136,9 @@ fn sum_of_image(alloc: Global, a: &ImageCounts, b: &ImageCounts) -> Result<Image
     ensures counts { IfOk result (λ sum. IsSumOfCounts a.now.addresses b.now.addresses sum.addresses) }
     ensures names { IfOk result (λ sum. IsSumOfNames a.now.functions b.now.functions sum.functions) }
     ensures names_of_nodes { IfOk result (λ sum. AreNamesOf sum.nodes sum.functions) }
-    ensures tree { IfOk result (λ sum. AreValidNodes sum.nodes) }
+    ensures valid_nodes { IfOk result (λ sum. AreValidNodes sum.nodes) }
     ensures nodes { IfOk result (λ sum. IsSumOfCallTrees a.now.nodes b.now.nodes sum.nodes) }
-    ensures refused { IfErr result (λ error. ImageHasNoSum error a.now b.now) }
+    ensures error { IfErr result (λ error. ImageHasNoSum error a.now b.now) }
 {
     let addresses = sum_of_counts(alloc, a.addresses.as_slice(), b.addresses.as_slice())?;
     let digest = Digest::new(copy_of(alloc, a.digest.as_slice())?);

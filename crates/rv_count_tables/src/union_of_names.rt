@@ -23,7 +23,7 @@ pub(crate) fn union_of_names(
     requires a { AreValidNames a.now }
     requires b { AreValidNames b.now }
     ensures value { IfOk result (λ sum. IsSumOfNames a.now b.now sum) }
-    ensures refused { IfErr result (λ error. IsErrorOfNames error a.now b.now) }
+    ensures error { IfErr result (λ error. IsErrorOfNames error a.now b.now) }
 {
     let mut sums = Vec::new(alloc);
     let mut from_a = 0;
@@ -50,9 +50,9 @@ pub(crate) struct NextName {
 fn next_name(alloc: Global, a: &[FunctionName], b: &[FunctionName]) -> Result<NextName, SumError>
     requires a { AllByRecursion IsValidName a.now }
     requires b { AllByRecursion IsValidName b.now }
-    requires some { 0 < length a.now + length b.now }
+    requires not_both_empty { 0 < length a.now + length b.now }
     ensures value { IfOk result (λ next. IsNextName a.now b.now next) }
-    ensures refused { IfErr result (λ error. IsErrorOfNames error a.now b.now) }
+    ensures error { IfErr result (λ error. IsErrorOfNames error a.now b.now) }
 {
     if b.is_empty() {
         return name_of_first(alloc, &a[0]);
@@ -89,7 +89,7 @@ fn have_equal_names(a: &FunctionName, b: &FunctionName) -> bool
 // Returns a copy of a name as the next name of a sum, which only the first list has.
 fn name_of_first(alloc: Global, name: &FunctionName) -> Result<NextName, SumError>
     ensures value { IfOk result (λ next. next ≡ record { name = name.now; count_in_a = 1; count_in_b = 0 }) }
-    ensures refused { IfErr result (λ error. error ≡ OutOfMemory) }
+    ensures error { IfErr result (λ error. error ≡ OutOfMemory) }
 {
     let name = copy_of_name(alloc, name)?;
     Ok(NextName {
@@ -102,7 +102,7 @@ fn name_of_first(alloc: Global, name: &FunctionName) -> Result<NextName, SumErro
 // Returns a copy of a name as the next name of a sum, which only the second list has.
 fn name_of_second(alloc: Global, name: &FunctionName) -> Result<NextName, SumError>
     ensures value { IfOk result (λ next. next ≡ record { name = name.now; count_in_a = 0; count_in_b = 1 }) }
-    ensures refused { IfErr result (λ error. error ≡ OutOfMemory) }
+    ensures error { IfErr result (λ error. error ≡ OutOfMemory) }
 {
     let name = copy_of_name(alloc, name)?;
     Ok(NextName {

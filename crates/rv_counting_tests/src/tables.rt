@@ -88,7 +88,7 @@ fn selection_of(alloc: Global, choice: &str) -> Result<Vec<bool>, AllocError> {
 // Returns the indices of the selected jobs of a plan.
 fn selected_indices_of(alloc: Global, plan: &Plan, choice: &str) -> Result<Vec<usize>, Fail>
     ensures within { IfOk result (λ places. AreJobIndices plan.now places.items) }
-    ensures rising { IfOk result (λ places. IsStrictlyIncreasing places.items) }
+    ensures increasing { IfOk result (λ places. IsStrictlyIncreasing places.items) }
 {
     let marks = selection_of(alloc, choice)?;
     if marks.len() != plan.jobs() {

@@ -17,15 +17,15 @@ pub fn functions_by_address<'a>(
 ) -> Result<Vec<Function<'a>>, AllocError>
     requires image { IsImageOf file.now image.now }
     requires small { length file.now ≤ 0x100_0000 }
-    ensures once { IfOk result (λ found. IsEachOnce (functions image.now file.now) (map view_of_function found.items)) }
-    ensures few { IfOk result (λ found. code_bytes (map view_of_function found.items) < 2 ^ 64) }
+    ensures each_once { IfOk result (λ found. IsEachOnce (functions image.now file.now) (map view_of_function found.items)) }
+    ensures fits { IfOk result (λ found. code_bytes (map view_of_function found.items) < 2 ^ 64) }
 {
     each_address_once(functions(alloc, image, file)?)
 }
 
 /// Returns the functions sorted by address. Of several functions at one address, only the first in the list is returned.
 pub fn each_address_once(mut functions: Vec<Function<'_>>) -> Result<Vec<Function<'_>>, AllocError>
-    ensures once { IfOk result (λ found. IsEachOnce (map view_of_function functions.entry.items) (map view_of_function found.items)) }
+    ensures each_once { IfOk result (λ found. IsEachOnce (map view_of_function functions.entry.items) (map view_of_function found.items)) }
     ensures fewer { IfOk result (λ found. code_bytes (map view_of_function found.items) ≤ code_bytes (map view_of_function functions.entry.items)) }
 {
     functions.sort_by_key(|function| function.address)?;

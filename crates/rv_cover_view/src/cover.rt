@@ -16,8 +16,8 @@ use std::alloc::{AllocError, Global};
 /// Returns the coverage of functions: how many ran, and how many of their instructions and conditional branches were executed. Takes one
 /// search among the counts for each function and each encoding.
 pub fn cover_of_functions(functions: &[Function<'_>], counts: &[AddressCounts]) -> CoverageTotals
-    requires rising { increase_from 0 counts.now ≡ true }
-    requires few { code_bytes (map view_of_function functions.now) < 2 ^ 64 }
+    requires increasing { increase_from 0 counts.now ≡ true }
+    requires fits { code_bytes (map view_of_function functions.now) < 2 ^ 64 }
     ensures { result ≡ totals_of counts.now (map view_of_function functions.now) }
 {
     CoverageTotals {
@@ -61,8 +61,8 @@ fn functions_run(functions: &[Function<'_>], counts: &[AddressCounts]) -> u64
 
 // Returns the total coverage of the code of all functions.
 fn coverage_of_functions(functions: &[Function<'_>], counts: &[AddressCounts]) -> CodeTotals
-    requires rising { increase_from 0 counts.now ≡ true }
-    requires few { code_bytes (map view_of_function functions.now) < 2 ^ 64 }
+    requires increasing { increase_from 0 counts.now ≡ true }
+    requires fits { code_bytes (map view_of_function functions.now) < 2 ^ 64 }
     ensures { result ≡ totals_of_codes counts.now (flat_map codes_of (map view_of_function functions.now)) }
 {
     let mut totals = CodeTotals::none();

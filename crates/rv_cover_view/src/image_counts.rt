@@ -69,7 +69,7 @@ fn has_path(table: &CountTable, path: &[u8]) -> bool
 pub(crate) fn counts_of<'t>(table: &'t CountTable, bytes: &[u8]) -> &'t [AddressCounts]
     requires { IsValidTable table.now }
     ensures counts { result.now ≡ counts_of table.now bytes.now }
-    ensures rising { increase_from 0 result.now ≡ true }
+    ensures increasing { increase_from 0 result.now ≡ true }
 {
     match entry_of_image(table, bytes) {
         Some(entry) => entry.addresses.as_slice(),

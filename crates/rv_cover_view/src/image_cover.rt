@@ -34,7 +34,7 @@ pub fn cover_of_image<'a>(
 ) -> Result<ImageCover<'a>, AllocError>
     requires image { IsImageOf file.now image.now }
     requires small { length file.now ≤ 0x100_0000 }
-    requires rising { increase_from 0 counts.now ≡ true }
+    requires increasing { increase_from 0 counts.now ≡ true }
     ensures { IfOk result (IsCoverOf path.now image.now file.now counts.now) }
 {
     let functions = functions_by_address(alloc, image, file)?;

@@ -117,7 +117,7 @@ fn sorted_symbols(
 ) -> Result<Vec<CodeSymbol>, AllocError>
     requires { length table.now < 2 ^ 32 }
     ensures symbols { IfOk result (λ symbols. AreCodeSymbols table.now strings.now (symbol_count table.now) symbols.items) }
-    ensures rising { IfOk result (λ symbols. IsNonDecreasingBy (λ s. s.rank) symbols.items) }
+    ensures sorted { IfOk result (λ symbols. IsNonDecreasingBy (λ s. s.rank) symbols.items) }
 {
     let mut symbols = code_symbols(alloc, table, strings)?;
     symbols.sort_unstable_by_key(|symbol| symbol.rank);

@@ -73,7 +73,7 @@ fn push_function<'a>(
     strings: &'a [u8],
 ) -> Result<(), AllocError>
     requires in_file { list_all (is_in_file (length file.now)) segments.now ≡ true }
-    requires sized { is_sized_function strings.now symbol.now ≡ true }
+    requires has_size { is_sized_function strings.now symbol.now ≡ true }
     ensures { OnOk result (map (λ f. (f.name.now, (f.address, f.code.now))) found.new.items
         ≡ map (λ f. (f.name.now, (f.address, f.code.now))) found.old.items
         ++ filter_map (function_of_symbol segments.now file.now strings.now) (symbol.now ∷ [])) }
@@ -104,7 +104,7 @@ impl Symbol {
     // Returns the symbol's bytes in the first executable segment that has them all, or `None` if there is none.
     fn code<'a>(&self, segments: &[Segment], file: &'a [u8]) -> Option<&'a [u8]>
         requires in_file { list_all (is_in_file (length file.now)) segments.now ≡ true }
-        requires sized { 0 < self.now.size }
+        requires has_size { 0 < self.now.size }
         ensures { option_map (λ code. code.now) result ≡ code_of_symbol segments.now file.now self.now }
     {
         let segment = self.code_segment(segments)?;

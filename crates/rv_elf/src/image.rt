@@ -86,7 +86,7 @@ fn read_image_after_header(alloc: Global, file: &[u8], isa: Isa) -> Result<Image
 #[tactic(auto, unfolding(crate::specs::ImageChecks::segments_and_entry_check))]
 fn check_segments_and_entry(file: &[u8], kept: &[Segment], isa: Isa) -> Result<(), ImageError>
     requires header { 52 ≤ length file.now }
-    requires read { kept.now ≡ segments file.now }
+    requires segments { kept.now ≡ segments file.now }
     ensures { result ≡ segments_and_entry_check isa file.now }
 {
     let entry = word_field(file, E_ENTRY);

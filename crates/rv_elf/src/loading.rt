@@ -24,7 +24,7 @@ pub enum LoadAt {
 #[tactic(auto, unfolding(crate::specs::Loading::map_check))]
 pub fn check_map(image: &Image, map: &Map, load_at: LoadAt) -> Result<(), ImageError>
     ensures value { result ≡ map_check image.now.segments map.now load_at }
-    ensures once { OnOk result ((a : ℕ) → count_by (segment_fills load_at a) image.now.segments ≤ 1) }
+    ensures no_address_twice { OnOk result ((a : ℕ) → count_by (segment_fills load_at a) image.now.segments ≤ 1) }
 {
     let segments = image.segments.as_slice();
     if !all_segments_fit(segments, map, load_at) {
@@ -128,7 +128,7 @@ pub fn segments_overlap(load_at: LoadAt, one: &Segment, other: &Segment) -> bool
 
 // Writes the file bytes of a segment at its load address.
 fn write_segment(segment: &Segment, file: &[u8], load_at: LoadAt, bus: &mut Bus)
-    requires inside { 0 < segment.now.filesz
+    requires in_file { 0 < segment.now.filesz
         → segment.now.offset + segment.now.filesz ≤ length file.now }
     requires fits { IsTrue
         (is_in_one_region bus.old.regions (load_address load_at segment.now) segment.now.filesz) }

@@ -85,8 +85,8 @@ fn program_headers_at(
     offset: usize,
     count: usize,
 ) -> Result<Vec<ProgramHeader>, AllocError>
-    requires room { 0 < count → offset + 32 * count ≤ length file.now }
-    requires few { count ≤ 64 }
+    requires in_file { 0 < count → offset + 32 * count ≤ length file.now }
+    requires at_most_64 { count ≤ 64 }
     ensures { IfOk result (λ v. v.items
         ≡ map (λ k. program_header_at file.now (offset + 32 * k)) (range_with_len 0 count)) }
 {

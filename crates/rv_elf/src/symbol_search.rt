@@ -150,7 +150,7 @@ impl Symbol {
     /// Returns the precedence of the symbol: 2 for a function, 1 for an object and 0 for any other.
     pub(crate) fn precedence(&self) -> u8
         ensures value { result ≡ precedence self.now }
-        ensures few { result ≤ 2 }
+        ensures at_most_2 { result ≤ 2 }
     {
         if self.is_function() {
             2

@@ -40,7 +40,7 @@ const MAX_SIGNATURE_SIZE: u32 = 0x4_0000;
 /// any name that no defined symbol has, [`ImageError::NoBegin`].
 pub fn find_symbol(image: &Image, file: &[u8], name: &[u8]) -> Result<u32, ImageError>
     requires image { IsImageOf file.now image.now }
-    requires named { 0 < length name.now }
+    requires not_empty { 0 < length name.now }
     ensures { result ≡ symbol_of file.now name.now }
 {
     let _ = image;
@@ -76,10 +76,10 @@ fn is_bad_signature_range(begin: u32, end: u32, map: &Map) -> bool
 /// Returns the bytes of the file's first symbol table and of its string table, or the first error of these tables that applies.
 pub(crate) fn symbol_and_string_bytes(file: &[u8]) -> Result<(&[u8], &[u8]), ImageError>
     requires { 52 ≤ length file.now }
-    ensures checked { MatchResult result (λ _. symbol_tables_check file.now ≡ accepted)
+    ensures check { MatchResult result (λ _. symbol_tables_check file.now ≡ accepted)
         (λ e. symbol_tables_check file.now ≡ Err e) }
-    ensures there { IfOk result (λ t. symbol_and_string_bytes file.now ≡ Some (t.0.now, t.1.now)) }
-    ensures few { IfOk result (λ t. length t.0.now < 2 ^ 32) }
+    ensures bytes { IfOk result (λ t. symbol_and_string_bytes file.now ≡ Some (t.0.now, t.1.now)) }
+    ensures fits_32_bits { IfOk result (λ t. length t.0.now < 2 ^ 32) }
 {
     if has_bad_section_table(file) {
         return Err(ImageError::SectionTable);

@@ -36,7 +36,7 @@ pub(crate) fn reason_text(line: &[u8]) -> &[u8]
 
 // Returns the index of the first `#` in a line, or the length of the line if there is none.
 fn hash_index(line: &[u8]) -> usize
-    ensures place { result ≡ position_or_len is_hash line.now }
+    ensures index { result ≡ position_or_len is_hash line.now }
     ensures within { result ≤ length line.now }
 {
     match first_hash(line) {

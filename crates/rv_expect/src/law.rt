@@ -55,7 +55,7 @@ pub fn nothing_is_unmet_where_a_job_passes()
 /// does not hold by the definitions of the verdict, given the plan's contents of the job's files and the outcome of the job that its
 /// `same_as` names. No expectation is reported if and only if the job passes.
 pub fn unmet_of_a_plan_is_what_does_not_hold()
-    ensures told { (plan : PlanView) (job : Job)
+    ensures reported { (plan : PlanView) (job : Job)
         → IsTrue (did_run (row_of plan job).ending)
         → AllByRecursion IsWord (signature_words_or_empty (row_of plan job).signature)
         → ReportsUnmetExpectations (unmet_expectations_in plan job (row_of plan job)) job

@@ -29,7 +29,7 @@ impl<W: Write + Drop> Sink for FileSink<W> {
         ensures within { IfOk result (λ count. (1 ≤ count) × (count ≤ length bytes.now)) }
         ensures written { IfOk result (λ count. Appends (W.contents self.old.stream.stream)
             (W.contents self.new.stream.stream) (take count bytes.now)) }
-        ensures part { OnErr result (AppendsPrefix (W.contents self.old.stream.stream)
+        ensures prefix { OnErr result (AppendsPrefix (W.contents self.old.stream.stream)
             (W.contents self.new.stream.stream) bytes.now) }
         ensures counted { IfOk result (λ _. self.new.stream.failures ≡ self.old.stream.failures) }
         ensures failure { IfErr result

@@ -83,9 +83,9 @@ impl<'a, R: Files> FileStore<'a, R> {
         ensures opened { IfOk result (λ bytes. (file : R.File)
             × IfSome (R.File.remaining file) (λ known. bytes.items ≡ known)) }
         ensures within { IfOk result (λ bytes. length bytes.items ≤ max_file_size) }
-        ensures long { IfErr result (λ error. error ≡ ReadError.TooLong → (file : R.File)
+        ensures too_long { IfErr result (λ error. error ≡ ReadError.TooLong → (file : R.File)
             × IfSome (R.File.remaining file) (λ known. max_file_size < length known)) }
-        ensures counted { MatchResult result (λ _. self.new.faults ≡ self.old.faults)
+        ensures faults_counted { MatchResult result (λ _. self.new.faults ≡ self.old.faults)
             (λ error. self.new.faults ≡ faults_after error self.old.faults) }
     {
         match read_file(self.files, alloc, path) {
@@ -96,7 +96,7 @@ impl<'a, R: Files> FileStore<'a, R> {
 
     // Counts an unreadable file, and returns the error for it.
     fn count_fault(&mut self) -> ReadError
-        ensures counted { self.new.faults ≡ one_more self.old.faults }
+        ensures one_more_fault { self.new.faults ≡ one_more self.old.faults }
         ensures value { result ≡ ReadError.Unreadable }
     {
         self.faults = self.faults.saturating_add(1);
@@ -129,7 +129,7 @@ pub(crate) fn read_file<R: Files>(
     ensures opened { IfOk result (λ bytes. (file : R.File)
         × IfSome (R.File.remaining file) (λ known. bytes.items ≡ known)) }
     ensures within { IfOk result (λ bytes. length bytes.items ≤ max_file_size) }
-    ensures long { IfErr result (λ error. error ≡ ReadWholeError.TooLong → (file : R.File)
+    ensures too_long { IfErr result (λ error. error ≡ ReadWholeError.TooLong → (file : R.File)
         × IfSome (R.File.remaining file) (λ known. max_file_size < length known)) }
 {
     match fs::open(files, path) {
@@ -140,10 +140,10 @@ pub(crate) fn read_file<R: Files>(
 
 /// Returns the remaining bytes of a reader, or an error if there are more than 16,777,216. At most one byte more than that is read.
 pub fn read_whole<R: Read>(alloc: Global, file: &mut R) -> Result<Vec<u8>, ReadWholeError>
-    ensures whole { IfOk result (λ bytes. IfSome (R.remaining file.old)
+    ensures contents { IfOk result (λ bytes. IfSome (R.remaining file.old)
         (λ known. bytes.items ≡ known)) }
     ensures within { IfOk result (λ bytes. length bytes.items ≤ max_file_size) }
-    ensures long { IfErr result
+    ensures too_long { IfErr result
         (λ error. error ≡ ReadWholeError.TooLong → IfSome (R.remaining file.old)
         (λ known. max_file_size < length known)) }
 {

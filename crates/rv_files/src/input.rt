@@ -38,7 +38,7 @@ pub fn read_at_most<R: Read>(
 ) -> Result<Vec<u8>, InputError>
     ensures value { IfOk result (λ bytes. IfSome (R.remaining input.old)
         (λ known. bytes.items ≡ take limit known)) }
-    ensures taken { IfOk result
+    ensures consumed { IfOk result
         (λ bytes. Consumes (R.remaining input.old) (R.remaining input.new) bytes.items) }
     ensures within { IfOk result (λ bytes. length bytes.items ≤ limit) }
 {

@@ -65,9 +65,9 @@ pub fn read_whole_up_to<D: Inputs>(
 ) -> Result<Option<Vec<u8>>, InputError>
     requires { limit + 1 < 2 ^ 64 }
     ensures within { IfOk result (λ read. IfSome read (λ bytes. length bytes.items ≤ limit)) }
-    ensures whole { IfOk result (λ read. IfSome read (λ bytes. IfSome (D.contents inputs.now)
+    ensures contents { IfOk result (λ read. IfSome read (λ bytes. IfSome (D.contents inputs.now)
         (λ files. files path.now ≡ Some bytes.items))) }
-    ensures long { IfOk result (λ read. IfNone read (IfSome (D.contents inputs.now)
+    ensures too_long { IfOk result (λ read. IfNone read (IfSome (D.contents inputs.now)
         (λ files. IsSomeAnd (files path.now) (λ bytes. limit < length bytes)))) }
     ensures missing { IfErr result (λ error. error ≢ InputError.OutOfMemory → IfSome (D.contents inputs.now)
         (λ files. files path.now ≡ None)) }

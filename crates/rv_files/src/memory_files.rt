@@ -110,7 +110,7 @@ impl MemoryOutputs {
     /// Returns outputs without files that allow `steps` steps and reject all later ones. Creating, syncing and placing a file are one step
     /// each. Does not allocate.
     pub fn with_steps(alloc: Global, steps: u64) -> MemoryOutputs
-        ensures nothing { result.committed.items ≡ [] }
+        ensures nothing_committed { result.committed.items ≡ [] }
         ensures steps { result.steps_left ≡ steps }
     {
         MemoryOutputs {
@@ -128,8 +128,8 @@ impl MemoryOutputs {
 
     // Uses up one of the allowed steps, or returns an error if none is left.
     fn take_step(&mut self) -> Result<(), FileError>
-        ensures same { self.new.committed ≡ self.old.committed }
-        ensures taken { MatchResult result (λ _. self.new.steps_left + 1 ≡ self.old.steps_left)
+        ensures committed_unchanged { self.new.committed ≡ self.old.committed }
+        ensures one_step_fewer { MatchResult result (λ _. self.new.steps_left + 1 ≡ self.old.steps_left)
             (λ error. (self.old.steps_left ≡ 0) × (error ≡ FileError.Failed ErrorKind.StorageFull)) }
     {
         match self.steps_left.checked_sub(1) {

@@ -44,9 +44,9 @@ impl<W: Write + Drop> PipeSink<W> {
 
     // Counts a failed write, and records whether it failed because the pipe has no readers left.
     fn record_failure(&mut self, reason: ErrorKind) -> SinkFailed
-        ensures counted { self.new.failures ≡ one_more self.old.failures }
+        ensures one_more_failure { self.new.failures ≡ one_more self.old.failures }
         ensures closed { self.new.is_closed ≡ (self.old.is_closed || is_broken_pipe reason) }
-        ensures same { self.new.stream ≡ self.old.stream }
+        ensures stream_unchanged { self.new.stream ≡ self.old.stream }
     {
         self.failures = self.failures.saturating_add(1);
         self.is_closed = self.is_closed || is_broken_pipe(reason);
@@ -71,7 +71,7 @@ impl<W: Write + Drop> Sink for PipeSink<W> {
         ensures within { IfOk result (λ count. (1 ≤ count) × (count ≤ length bytes.now)) }
         ensures written { IfOk result (λ count. Appends (W.contents self.old.stream)
             (W.contents self.new.stream) (take count bytes.now)) }
-        ensures part { OnErr result
+        ensures prefix { OnErr result
             (AppendsPrefix (W.contents self.old.stream) (W.contents self.new.stream) bytes.now) }
         ensures counted { IfOk result (λ _. self.new.failures ≡ self.old.failures) }
         ensures failure { IfErr result (λ _. self.new.failures ≡ one_more self.old.failures) }
@@ -103,7 +103,7 @@ impl<W: Write + Drop> Closable for PipeSink<W> {
 fn write_and_flush<W: Write>(stream: &mut W, bytes: &[u8]) -> Result<usize, ErrorKind>
     ensures within { IfOk result (λ count. (1 ≤ count) × (count ≤ length bytes.now)) }
     ensures written { IfOk result (λ count. Appends (W.contents stream.old) (W.contents stream.new) (take count bytes.now)) }
-    ensures part { OnErr result (AppendsPrefix (W.contents stream.old) (W.contents stream.new) bytes.now) }
+    ensures prefix { OnErr result (AppendsPrefix (W.contents stream.old) (W.contents stream.new) bytes.now) }
 {
     let count = match stream.write(bytes) {
         Ok(0) => return Err(ErrorKind::WriteZero),

@@ -62,17 +62,17 @@ impl<'a, D: Inputs> RecordingStore<'a, D> {
 
     // Reads the file at a path, which is relative to the store's directory, and records the path if it is unreadable.
     fn read_and_record(&mut self, alloc: Global, path: &str) -> Result<Vec<u8>, ReadWholeError>
-        ensures same { (self.new.inputs ≡ self.old.inputs) × (self.new.folder ≡ self.old.folder) }
-        ensures known { IfOk result (λ bytes.
+        ensures inputs_unchanged { (self.new.inputs ≡ self.old.inputs) × (self.new.folder ≡ self.old.folder) }
+        ensures contents { IfOk result (λ bytes.
             IfSome (contents_below (option_copied self.old.folder) (D.contents self.old.inputs.now))
             (λ files. files path.now ≡ Some bytes.items)) }
         ensures within { IfOk result (λ bytes. length bytes.items ≤ max_file_size) }
-        ensures long { IfErr result (λ error. error ≡ ReadWholeError.TooLong →
+        ensures too_long { IfErr result (λ error. error ≡ ReadWholeError.TooLong →
             IfSome (contents_below (option_copied self.old.folder) (D.contents self.old.inputs.now))
             (λ files. IsSomeAnd (files path.now) (λ bytes. max_file_size < length bytes))) }
         ensures missing { IfErr result (HasNoContentsIfUnreadable
             (contents_below (option_copied self.old.folder) (D.contents self.old.inputs.now)) path.now) }
-        ensures noted { MatchResult result (λ _. self.new.unread.items ≡ self.old.unread.items)
+        ensures recorded { MatchResult result (λ _. self.new.unread.items ≡ self.old.unread.items)
             (λ error. self.new.unread.items
             ≡ self.old.unread.items ++ unreadable_paths_after path.now error) }
     {
@@ -85,11 +85,11 @@ impl<'a, D: Inputs> RecordingStore<'a, D> {
 
     // Reads the file at a path, which is relative to the store's directory.
     fn read_resolved_path(&self, alloc: Global, path: &str) -> Result<Vec<u8>, ReadWholeError>
-        ensures known { IfOk result (λ bytes.
+        ensures contents { IfOk result (λ bytes.
             IfSome (contents_below (option_copied self.now.folder) (D.contents self.now.inputs.now))
             (λ files. files path.now ≡ Some bytes.items)) }
         ensures within { IfOk result (λ bytes. length bytes.items ≤ max_file_size) }
-        ensures long { IfErr result (λ error. error ≡ ReadWholeError.TooLong →
+        ensures too_long { IfErr result (λ error. error ≡ ReadWholeError.TooLong →
             IfSome (contents_below (option_copied self.now.folder) (D.contents self.now.inputs.now))
             (λ files. IsSomeAnd (files path.now) (λ bytes. max_file_size < length bytes))) }
         ensures missing { IfErr result (HasNoContentsIfUnreadable
@@ -109,10 +109,10 @@ impl<'a, D: Inputs> RecordingStore<'a, D> {
         path: &str,
         reason: ErrorKind,
     ) -> Result<(), AllocError>
-        ensures inputs { (self.new.inputs ≡ self.old.inputs) × (self.new.folder ≡ self.old.folder) }
-        ensures noted { OnOk result
+        ensures inputs_unchanged { (self.new.inputs ≡ self.old.inputs) × (self.new.folder ≡ self.old.folder) }
+        ensures recorded { OnOk result
             (self.new.unread.items ≡ self.old.unread.items ++ unreadable_path path.now reason ∷ []) }
-        ensures same { OnErr result (self.new.unread.items ≡ self.old.unread.items) }
+        ensures unchanged_on_error { OnErr result (self.new.unread.items ≡ self.old.unread.items) }
     {
         let path = Text::new(String::from_str(alloc, path)?);
         self.unread.push(UnreadablePath { path, reason })?;

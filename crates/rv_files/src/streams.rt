@@ -41,8 +41,8 @@ impl<W: Write + Drop> StreamSink<W> {
 
     // Counts a failed write, and records its error.
     fn count_failure(&mut self, error: ErrorKind) -> SinkFailed
-        ensures counted { self.new.failures ≡ one_more self.old.failures }
-        ensures same { self.new.stream ≡ self.old.stream }
+        ensures one_more_failure { self.new.failures ≡ one_more self.old.failures }
+        ensures stream_unchanged { self.new.stream ≡ self.old.stream }
     {
         self.failures = self.failures.saturating_add(1);
         self.error = error;
@@ -60,7 +60,7 @@ impl<W: Write + Drop> Sink for StreamSink<W> {
         ensures within { IfOk result (λ count. (1 ≤ count) × (count ≤ length bytes.now)) }
         ensures written { IfOk result (λ count. Appends (W.contents self.old.stream)
             (W.contents self.new.stream) (take count bytes.now)) }
-        ensures part { OnErr result
+        ensures prefix { OnErr result
             (AppendsPrefix (W.contents self.old.stream) (W.contents self.new.stream) bytes.now) }
         ensures counted { IfOk result (λ _. self.new.failures ≡ self.old.failures) }
         ensures failure { IfErr result (λ _. self.new.failures ≡ one_more self.old.failures) }

@@ -70,7 +70,7 @@ where
         path: &str,
         paths: Option<&FilePaths>,
     ) -> Result<R::File, FileError>
-        ensures first { IfErr result (λ error. error ≡ FileError.SameFile → 0 < vec_len self.old.uncommitted) }
+        ensures not_the_first { IfErr result (λ error. error ≡ FileError.SameFile → 0 < vec_len self.old.uncommitted) }
     {
         let _streams = (
             open_null_device(self.files),
@@ -85,7 +85,7 @@ where
 
     // Creates a file at its temporary path, and records that it is not yet placed.
     fn create_uncommitted(&mut self, alloc: Global, paths: &FilePaths) -> Result<R::File, FileError>
-        ensures first { IfErr result (λ error. error ≡ FileError.SameFile → 0 < vec_len self.old.uncommitted) }
+        ensures not_the_first { IfErr result (λ error. error ≡ FileError.SameFile → 0 < vec_len self.old.uncommitted) }
     {
         self.check_not_same_file(alloc, paths)?;
         self.record_uncommitted(alloc, paths.temporary.as_str())?;
@@ -101,7 +101,7 @@ where
     // Returns an error if the final or temporary path of a file belongs to another file that is not yet placed: neither would end up
     // complete.
     fn check_not_same_file(&self, alloc: Global, paths: &FilePaths) -> Result<(), FileError>
-        ensures first { IfErr result (λ error. error ≡ FileError.SameFile → 0 < vec_len self.now.uncommitted) }
+        ensures not_the_first { IfErr result (λ error. error ≡ FileError.SameFile → 0 < vec_len self.now.uncommitted) }
     {
         // If the other file's final path is this one's temporary path, this is the other's temporary path.
         let newer = with_new_suffix(alloc, paths.temporary.as_str())?;
@@ -213,7 +213,7 @@ where
     ) -> Result<(PendingFile, FileSink<R::File>), FileError>
         ensures path { IfOk result (λ made. made.0.path ≡ path.now) }
         ensures no_failures { IfOk result (λ made. made.1.stream.failures ≡ 0) }
-        ensures first { IfErr result (λ error. error ≡ FileError.SameFile → 0 < vec_len self.old.uncommitted) }
+        ensures not_the_first { IfErr result (λ error. error ≡ FileError.SameFile → 0 < vec_len self.old.uncommitted) }
     {
         let given = Text::copy(alloc, path)?;
         let paths = temporary_and_final_path(self.files, alloc, path)?;

@@ -12,7 +12,7 @@ use std::alloc::{AllocError, Global};
 pub(crate) fn all_indices(alloc: Global, plan: &Plan) -> Result<Vec<usize>, AllocError>
     ensures within { IfOk result (λ places. AreJobIndices plan.now places.items) }
     ensures count { IfOk result (λ places. vec_len places ≡ length plan.now.jobs) }
-    ensures rising { IfOk result (λ places. IsStrictlyIncreasing places.items) }
+    ensures increasing { IfOk result (λ places. IsStrictlyIncreasing places.items) }
     ensures rows { IfOk result (λ places. rows_at plan.now places.items ≡ rows_of plan.now) }
 {
     let jobs = plan.jobs();

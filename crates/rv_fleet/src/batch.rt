@@ -21,7 +21,7 @@ impl<'a> Batch<'a> {
     /// Returns the batch of the jobs at these indices, which must be strictly increasing.
     pub fn new(plan: &'a Plan, places: &'a [usize]) -> Batch<'a>
         requires within { AreJobIndices plan.now places.now }
-        requires rising { IsStrictlyIncreasing places.now }
+        requires increasing { IsStrictlyIncreasing places.now }
         ensures plan { result.plan.now ≡ plan.now }
         ensures places { result.places.now ≡ places.now }
     {

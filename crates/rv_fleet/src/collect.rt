@@ -32,7 +32,7 @@ pub(crate) fn collect_chunks(
     pieces: &Pieces<'_>,
 ) -> Result<CollectedChunks, AllocError>
     requires pieces { claims.now.pieces ≡ piece_count pieces.now }
-    requires worked { AllKeepPromise
+    requires promises { AllKeepPromise
         (batch_rows pieces.now.batch) pieces.now.group claims.now worked.items }
     ensures slots { IfOk result (λ all. AreChunkSlots pieces.now all.slots.items) }
     ensures pass { IfOk result (λ all. IfSome all.pass (λ pass. pass.draw ≡ claims.now)) }
@@ -60,7 +60,7 @@ fn empty_slots(alloc: Global, pieces: &Pieces<'_>) -> Result<Vec<Option<Rows>>, 
 // Stores the rows of each of these chunks in the slot of the chunk, if the slot is empty.
 fn store_chunks(slots: &mut Vec<Option<Rows>>, pieces: &Pieces<'_>, chunks: Vec<Piece>)
     requires slots { AreChunkSlots pieces.now slots.old.items }
-    requires made { AreIndexRanges pieces.now chunks.items }
+    requires chunks { AreIndexRanges pieces.now chunks.items }
     ensures { AreChunkSlots pieces.now slots.new.items }
 {
     for piece in chunks {

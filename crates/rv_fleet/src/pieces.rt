@@ -21,7 +21,7 @@ impl<'a> Pieces<'a> {
     #[tactic(auto, using(crate::proofs::Collects::rows_count))]
     pub(crate) fn count(&self) -> u64
         ensures value { result ≡ piece_count self.now }
-        ensures few { result ≤ max_jobs }
+        ensures at_most_max_jobs { result ≤ max_jobs }
     {
         self.batch.places.len().div_ceil(self.group as usize) as u64
     }

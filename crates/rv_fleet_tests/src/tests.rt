@@ -110,7 +110,7 @@ fn crew_of(line: &str) -> (u32, u32)
 // Returns the plan that a line describes, and the indices of its selected jobs.
 fn chosen(alloc: Global, line: &str) -> Result<(Plan, Vec<usize>), Fail>
     ensures within { IfOk result (λ chosen. AreJobIndices chosen.0 chosen.1.items) }
-    ensures rising { IfOk result (λ chosen. IsStrictlyIncreasing chosen.1.items) }
+    ensures increasing { IfOk result (λ chosen. IsStrictlyIncreasing chosen.1.items) }
 {
     let marks = selection_of(alloc, cell_of(line, 2))?;
     let places = selected_indices(alloc, marks.as_slice())?;

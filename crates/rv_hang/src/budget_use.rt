@@ -67,7 +67,7 @@ fn values_after(machine: Machine, steps: u32) -> Option<HartValues>
 // Returns an analysis of the last steps of a machine's run of `steps` steps, all of which complete: a repetition, or how many steps have
 // none. `end` has the pc and the registers after the last step.
 fn budget_use(machine: Machine, steps: u32, end: &HartValues) -> BudgetUse
-    requires complete { (run_of steps (state_of machine)).steps ≡ steps }
+    requires all_steps_run { (run_of steps (state_of machine)).steps ≡ steps }
     requires end { has_values end.now (state_after steps (state_of machine)) ≡ true }
     ensures { IsBudgetUse steps (state_of machine) result }
 {

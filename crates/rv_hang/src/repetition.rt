@@ -31,11 +31,11 @@ pub fn find_repetition(
     within: u32,
     end: &HartValues,
 ) -> Option<Repetition>
-    requires complete { (run_of steps (state_of machine)).steps ≡ steps }
+    requires all_steps_run { (run_of steps (state_of machine)).steps ≡ steps }
     requires end { has_values end.now (state_after steps (state_of machine)) ≡ true }
     ensures repetition { IfSome result (IsRepetition steps (state_of machine)) }
     ensures waits { IfSome result (IsWaitReported steps (state_of machine)) }
-    ensures found { (step : ℕ) → steps - within ≤ step → RepeatsAtEnd steps step (state_of machine)
+    ensures some_if_near { (step : ℕ) → steps - within ≤ step → RepeatsAtEnd steps step (state_of machine)
         → is_some result ≡ true }
 {
     let mut ahead = machine;

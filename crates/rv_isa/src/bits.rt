@@ -7,7 +7,7 @@ ghost use Rattle.std.specs.Prelude.{ℕ, ◌≡◌, ◌+◌, ◌*◌, ◌-◌, �
 /// `bits` must be from 1 to 32, and `value` must be below 2^`bits`.
 #[inline]
 pub fn sign_extend(value: u32, bits: u32) -> i32
-    requires some { 1 ≤ bits }
+    requires positive { 1 ≤ bits }
     requires within { bits ≤ 32 }
     requires small { value < 2 ^ bits }
     ensures { result ≡ sign_extended bits value }
@@ -35,7 +35,7 @@ pub fn field(word: u32, high: u32, low: u32) -> u32
 pub fn concat_bits(high: u32, low: u32, width: u32) -> u32
     requires fits { low < 2 ^ width }
     requires within { width < 32 }
-    requires whole { high * 2 ^ width < 2 ^ 32 }
+    requires no_overflow { high * 2 ^ width < 2 ^ 32 }
     ensures value { result ≡ high * 2 ^ width + low }
     // The fields of the result are the fields of the two inputs.
     ensures above { (h l : ℕ) → width ≤ l → l ≤ h →

@@ -133,11 +133,11 @@ pub fn j_word(offset: u32, rd: u32, opcode: u32) -> u32
 /// Returns `value`, a two's complement number of `from_bits` bits, sign-extended to `to_bits` bits.
 #[inline]
 pub fn widen(value: u32, from_bits: u32, to_bits: u32) -> u32
-    requires some { 1 ≤ from_bits }
+    requires positive { 1 ≤ from_bits }
     requires order { from_bits ≤ to_bits }
     requires within { to_bits < 32 }
     requires small { value < 2 ^ from_bits }
-    ensures same { sign_extended to_bits result ≡ sign_extended from_bits value }
+    ensures same_value { sign_extended to_bits result ≡ sign_extended from_bits value }
     ensures below { result < 2 ^ to_bits }
     ensures parity { result % 2 ≡ value % 2 }
 {

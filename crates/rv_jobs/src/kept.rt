@@ -23,9 +23,9 @@ pub(crate) fn read_path<S: Store>(
     store: &mut S,
     path: &str,
 ) -> Result<Kept, AllocError>
-    ensures same { S.contents store.new ≡ S.contents store.old }
-    ensures kept { IfOk result (AgreesWithContents (S.contents store.old) path.now) }
-    ensures counted { IfOk result (λ kept. S.fault_count store.new
+    ensures contents_unchanged { S.contents store.new ≡ S.contents store.old }
+    ensures agrees { IfOk result (AgreesWithContents (S.contents store.old) path.now) }
+    ensures faults_counted { IfOk result (λ kept. S.fault_count store.new
         ≡ faults_after_read kept (S.fault_count store.old)) }
 {
     match store.read(alloc, path) {

@@ -54,13 +54,13 @@ impl<'a> PathResults<'a> {
         recorded: &mut Vec<Option<ResultIndices>>,
     ) -> Result<PathResults<'a>, AllocError>
         requires jobs { AreValidJobs jobs.now }
-        requires place { index < length jobs.now }
-        requires noted { AreRecorded (paths_of self) jobs.now recorded.old.items }
-        ensures same { S.contents store.new ≡ S.contents store.old }
+        requires index { index < length jobs.now }
+        requires recorded { AreRecorded (paths_of self) jobs.now recorded.old.items }
+        ensures contents_unchanged { S.contents store.new ≡ S.contents store.old }
         ensures paths { IfOk result (λ a. paths_of a
             ≡ fold with_job_paths (paths_of self.entry) (jobs_needed_at jobs.now index)) }
-        ensures noted { IfOk result (λ a. AreRecorded (paths_of a) jobs.now recorded.new.items) }
-        ensures kept { AgreeWithContents (S.contents store.old) self.entry
+        ensures recorded { IfOk result (λ a. AreRecorded (paths_of a) jobs.now recorded.new.items) }
+        ensures agree { AgreeWithContents (S.contents store.old) self.entry
             → IfOk result (AgreeWithContents (S.contents store.old)) }
         ensures faults { (n : ℕ) → S.fault_count store.old ≡ after_increments n (unreadable_count self.entry)
             → IfOk result (λ a. S.fault_count store.new ≡ after_increments n (unreadable_count a)) }
@@ -81,13 +81,13 @@ impl<'a> PathResults<'a> {
         index: usize,
         recorded: &mut Vec<Option<ResultIndices>>,
     ) -> Result<PathResults<'a>, AllocError>
-        requires place { index < length jobs.now }
-        requires noted { AreRecorded (paths_of self) jobs.now recorded.old.items }
-        ensures same { S.contents store.new ≡ S.contents store.old }
+        requires index { index < length jobs.now }
+        requires recorded { AreRecorded (paths_of self) jobs.now recorded.old.items }
+        ensures contents_unchanged { S.contents store.new ≡ S.contents store.old }
         ensures paths { IfOk result (λ a. paths_of a
             ≡ with_job_paths (paths_of self.entry) (slice_index_or jobs.now index (single_job [] 0 []))) }
-        ensures noted { IfOk result (λ a. AreRecorded (paths_of a) jobs.now recorded.new.items) }
-        ensures kept { AgreeWithContents (S.contents store.old) self.entry
+        ensures recorded { IfOk result (λ a. AreRecorded (paths_of a) jobs.now recorded.new.items) }
+        ensures agree { AgreeWithContents (S.contents store.old) self.entry
             → IfOk result (AgreeWithContents (S.contents store.old)) }
         ensures faults { (n : ℕ) → S.fault_count store.old ≡ after_increments n (unreadable_count self.entry)
             → IfOk result (λ a. S.fault_count store.new ≡ after_increments n (unreadable_count a)) }
@@ -108,10 +108,10 @@ fn read_paths_of_job<'a, S: Store>(
     results: PathResults<'a>,
     job: &'a Job,
 ) -> Result<(PathResults<'a>, ResultIndices), AllocError>
-    ensures same { S.contents store.new ≡ S.contents store.old }
+    ensures contents_unchanged { S.contents store.new ≡ S.contents store.old }
     ensures paths { IfOk result (λ a. paths_of a.0 ≡ with_job_paths (paths_of results.entry) job.now) }
-    ensures places { IfOk result (λ a. AreResultIndices (paths_of a.0) job.now a.1) }
-    ensures kept { AgreeWithContents (S.contents store.old) results.entry
+    ensures indices { IfOk result (λ a. AreResultIndices (paths_of a.0) job.now a.1) }
+    ensures agree { AgreeWithContents (S.contents store.old) results.entry
         → IfOk result (λ a. AgreeWithContents (S.contents store.old) a.0) }
     ensures faults { (n : ℕ) → S.fault_count store.old ≡ after_increments n (unreadable_count results.entry)
         → IfOk result (λ a. S.fault_count store.new ≡ after_increments n (unreadable_count a.0)) }
@@ -154,12 +154,12 @@ fn read_path_if_any<'a, S: Store>(
     results: PathResults<'a>,
     path: Option<&'a str>,
 ) -> Result<(PathResults<'a>, Option<usize>), AllocError>
-    ensures same { S.contents store.new ≡ S.contents store.old }
+    ensures contents_unchanged { S.contents store.new ≡ S.contents store.old }
     ensures paths { IfOk result (λ a. paths_of a.0
         ≡ with_path_if_any (paths_of results.entry) (option_map (λ p. p.now) path.entry)) }
-    ensures place { IfOk result (λ a. option_map (index_in (paths_of a.0))
+    ensures index { IfOk result (λ a. option_map (index_in (paths_of a.0))
         (option_map (λ p. p.now) path.entry) ≡ option_map (λ k. Some k) a.1) }
-    ensures kept { AgreeWithContents (S.contents store.old) results.entry
+    ensures agrees { AgreeWithContents (S.contents store.old) results.entry
         → IfOk result (λ a. AgreeWithContents (S.contents store.old) a.0) }
     ensures faults { (n : ℕ) → S.fault_count store.old ≡ after_increments n (unreadable_count results.entry)
         → IfOk result (λ a. S.fault_count store.new ≡ after_increments n (unreadable_count a.0)) }

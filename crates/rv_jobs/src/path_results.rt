@@ -62,10 +62,10 @@ impl<'a> PathResults<'a> {
         store: &mut S,
         path: &'a str,
     ) -> Result<(PathResults<'a>, usize), AllocError>
-        ensures same { S.contents store.new ≡ S.contents store.old }
+        ensures contents_unchanged { S.contents store.new ≡ S.contents store.old }
         ensures paths { IfOk result (λ a. paths_of a.0 ≡ with_path (paths_of self.entry) path.now) }
-        ensures place { IfOk result (λ a. index_in (paths_of a.0) path.now ≡ Some a.1) }
-        ensures kept { AgreeWithContents (S.contents store.old) self.entry
+        ensures index { IfOk result (λ a. index_in (paths_of a.0) path.now ≡ Some a.1) }
+        ensures agree { AgreeWithContents (S.contents store.old) self.entry
             → IfOk result (λ a. AgreeWithContents (S.contents store.old) a.0) }
         ensures faults { (n : ℕ) → S.fault_count store.old ≡ after_increments n (unreadable_count self.entry)
             → IfOk result (λ a. S.fault_count store.new ≡ after_increments n (unreadable_count a.0)) }

@@ -47,10 +47,10 @@ impl Model for Plan {
 
 /// Reads each distinct path of the jobs once, in order of first use, and returns the plan with the results.
 pub fn gather<S: Store>(alloc: Global, jobs: JobList, store: &mut S) -> Result<Plan, AllocError>
-    ensures same { S.contents store.new ≡ S.contents store.old }
+    ensures contents_unchanged { S.contents store.new ≡ S.contents store.old }
     ensures jobs { IfOk result (λ p. p.jobs ≡ jobs) }
     ensures paths { IfOk result (λ p. paths_of p.results ≡ paths_used jobs) }
-    ensures kept { IfOk result (λ p. AgreeWithContents (S.contents store.old) p.results) }
+    ensures agree { IfOk result (λ p. AgreeWithContents (S.contents store.old) p.results) }
     ensures faults { IfOk result (λ p. S.fault_count store.new
         ≡ after_increments (S.fault_count store.old) (unreadable_count p.results)) }
 {
@@ -67,11 +67,11 @@ pub fn gather_jobs<S: Store>(
     store: &mut S,
 ) -> Result<Plan, AllocError>
     requires { All (λ place. place < length jobs) indices.items }
-    ensures same { S.contents store.new ≡ S.contents store.old }
+    ensures contents_unchanged { S.contents store.new ≡ S.contents store.old }
     ensures jobs { IfOk result (λ p. p.jobs ≡ jobs) }
     ensures paths { IfOk result (λ p. paths_of p.results
         ≡ paths_used (jobs_needed_for jobs indices.items)) }
-    ensures kept { IfOk result (λ p. AgreeWithContents (S.contents store.old) p.results) }
+    ensures agree { IfOk result (λ p. AgreeWithContents (S.contents store.old) p.results) }
     ensures faults { IfOk result (λ p. S.fault_count store.new
         ≡ after_increments (S.fault_count store.old) (unreadable_count p.results)) }
 {
@@ -119,7 +119,7 @@ impl Plan {
     pub fn job(&self, i: usize) -> &Job
         requires { i < length self.now.jobs }
         ensures value { result.now ≡ slice_index_or self.now.jobs i result.now }
-        ensures good { IsValidJobAt i result.now }
+        ensures valid { IsValidJobAt i result.now }
     {
         &self.jobs.as_slice()[i]
     }

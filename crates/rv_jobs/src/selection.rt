@@ -11,7 +11,7 @@ use std::alloc::{AllocError, Global};
 pub fn selected_indices(alloc: Global, selection: &[bool]) -> Result<Vec<usize>, AllocError>
     ensures value { IfOk result (λ places. places.items ≡ selected_indices selection.now (length selection.now)) }
     ensures within { IfOk result (λ places. All (λ place. place < length selection.now) places.items) }
-    ensures rising { IfOk result (λ places. IsStrictlyIncreasing places.items) }
+    ensures increasing { IfOk result (λ places. IsStrictlyIncreasing places.items) }
 {
     let mut places = Vec::new(alloc);
     for place in 0..selection.len() {

@@ -89,10 +89,10 @@ impl<'a> FaultLineWriter<'a> {
         fault: JobError,
         suggestion: Suggestion,
     ) -> Result<(), AllocError>
-        ensures file { self.new.file ≡ self.old.file }
-        ensures list { self.new.list ≡ self.old.list }
+        ensures file_unchanged { self.new.file ≡ self.old.file }
+        ensures list_unchanged { self.new.list ≡ self.old.list }
         ensures text { self.new.cursor.text.now ≡ self.old.cursor.text.now }
-        ensures told { OnOk result (AppendsSomeLines
+        ensures lines { OnOk result (AppendsSomeLines
             (IsFaultMessageInList self.old.file.now self.old.cursor.text.now (borrowed_names self.old.list.names.items) fault)
             bytes.old.items bytes.new.items) }
     {
@@ -113,11 +113,11 @@ impl<'a> FaultLineWriter<'a> {
         faults: &[LocatedFault],
     ) -> Result<(), AllocError>
         requires numbered { 0 < number }
-        requires some { 0 < length faults.now }
-        ensures file { self.new.file ≡ self.old.file }
-        ensures list { self.new.list ≡ self.old.list }
+        requires not_empty { 0 < length faults.now }
+        ensures file_unchanged { self.new.file ≡ self.old.file }
+        ensures list_unchanged { self.new.list ≡ self.old.list }
         ensures text { self.new.cursor.text.now ≡ self.old.cursor.text.now }
-        ensures told { OnOk result (AppendsSomeLines
+        ensures lines { OnOk result (AppendsSomeLines
             (IsLocatedMessage self.old.file.now self.old.cursor.text.now (borrowed_names self.old.list.names.items) number)
             bytes.old.items bytes.new.items) }
     {
@@ -137,8 +137,8 @@ impl<'a> FaultLineWriter<'a> {
         fault: &LocatedFault,
     ) -> Result<Vec<u8>, AllocError>
         requires { 0 < number }
-        ensures file { self.new.file ≡ self.old.file }
-        ensures list { self.new.list ≡ self.old.list }
+        ensures file_unchanged { self.new.file ≡ self.old.file }
+        ensures list_unchanged { self.new.list ≡ self.old.list }
         ensures text { self.new.cursor.text.now ≡ self.old.cursor.text.now }
         ensures message { IfOk result (λ message. BeginsWith
             (located_head self.old.file.now self.old.cursor.text.now (borrowed_names self.old.list.names.items) number

@@ -35,7 +35,7 @@ pub(crate) fn message_of_fault(
     suggestion: Suggestion,
 ) -> Result<Vec<u8>, AllocError>
     ensures head { IfOk result (λ message. BeginsWith (file.now ++ location_in_view view.now fault.job) message.items) }
-    ensures told { IfOk result (λ message. HasHeadAndTail (ExplainsFaultInView view.now fault)
+    ensures explanation { IfOk result (λ message. HasHeadAndTail (ExplainsFaultInView view.now fault)
         (file.now ++ location_in_view view.now fault.job) message.items) }
 {
     let mut message = Vec::new(alloc);

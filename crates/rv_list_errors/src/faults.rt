@@ -30,7 +30,7 @@ pub fn push_faults(
     ensures heads { OnOk result (AppendsFaultLines (fault_head file.now text.now) faults.now
         bytes.old.items bytes.new.items) }
     // The explanation of the error follows, based on the values of that job.
-    ensures told { OnOk result (AppendsLineOfEach (IsFaultLineOfText file.now text.now) faults.now
+    ensures explanations { OnOk result (AppendsLineOfEach (IsFaultLineOfText file.now text.now) faults.now
         bytes.old.items bytes.new.items) }
 {
     match toml::table_from_slice(alloc, text) {

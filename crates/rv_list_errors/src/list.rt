@@ -79,7 +79,7 @@ fn number_of_given_name(names: &[Option<&str>], name: &str) -> Option<u64>
 // Returns the index of the first name that equals this one, or `None` if none does.
 fn index_of_name(names: &[Option<&str>], name: &str) -> Option<usize>
     ensures within { IfSome result (λ place. place < length names.now) }
-    ensures named { result ≡ position (λ other. is_name_of name.now (borrowed_name other)) names.now }
+    ensures value { result ≡ position (λ other. is_name_of name.now (borrowed_name other)) names.now }
 {
     names.iter().position(|other| is_name_of(name, *other))
 }

@@ -39,8 +39,8 @@ impl Message {
 
     /// Returns the whole text, or an error if an allocation failed.
     pub(crate) fn finish(self) -> Result<Vec<u8>, AllocError>
-        ensures whole { IfOk result (λ text. text ≡ self.bytes) }
-        ensures refused { IsOk result ↔ IsOk self.grown }
+        ensures text { IfOk result (λ text. text ≡ self.bytes) }
+        ensures error { IsOk result ↔ IsOk self.grown }
     {
         self.grown?;
         Ok(self.bytes)

@@ -181,7 +181,7 @@ fn present_count(names: &[Option<&str>]) -> usize
 // Appends the first names that are not `None`, up to the maximum, and returns how many were appended. `count` is the number of all names
 // that are not `None`.
 fn push_first_names(message: &mut Message, names: &[Option<&str>], count: usize) -> usize
-    ensures told { result ≡ min (length (present (borrowed_names names.now))) max_listed_names }
+    ensures listed_count { result ≡ min (length (present (borrowed_names names.now))) max_listed_names }
     ensures text { Adds message.old message.new (names_from count 0 (take max_listed_names (present (borrowed_names names.now)))) }
 {
     let mut told = 0;
@@ -194,7 +194,7 @@ fn push_first_names(message: &mut Message, names: &[Option<&str>], count: usize)
 // Appends a name, if it exists and the maximum has not been reached, and returns how many have been appended.
 fn push_next_name(message: &mut Message, name: Option<&str>, listed: usize, count: usize) -> usize
     requires { listed ≤ max_listed_names }
-    ensures told { result ≡ min (listed + length (present (borrowed_name name.entry ∷ []))) max_listed_names }
+    ensures listed_count { result ≡ min (listed + length (present (borrowed_name name.entry ∷ []))) max_listed_names }
     ensures text { Adds message.old message.new
         (names_from count listed (take (max_listed_names - listed) (present (borrowed_name name.entry ∷ [])))) }
 {
@@ -207,7 +207,7 @@ fn push_next_name(message: &mut Message, name: Option<&str>, listed: usize, coun
 // Appends a name unless the maximum has been reached, and returns how many have been appended.
 fn push_name_if_listed(message: &mut Message, name: &str, listed: usize, count: usize) -> usize
     requires { listed ≤ max_listed_names }
-    ensures told { result ≡ min (listed + 1) max_listed_names }
+    ensures listed_count { result ≡ min (listed + 1) max_listed_names }
     ensures text { Adds message.old message.new (names_from count listed (take (max_listed_names - listed) (name.now ∷ []))) }
 {
     if listed == MAX_LISTED_NAMES {

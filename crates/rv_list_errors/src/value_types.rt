@@ -199,7 +199,7 @@ fn push_regions_of_wrong_type(message: &mut Message, table: &Table, key: &str)
 // Returns the index of the first element that is not a table, or that has a value of the wrong type, or `None` if there is none.
 fn index_of_first_non_region(elements: &[Value]) -> Option<usize>
     ensures within { IfSome result (λ place. place < length elements.now) }
-    ensures first { result ≡ position (λ v. not (is_region (view v))) elements.now }
+    ensures value { result ≡ position (λ v. not (is_region (view v))) elements.now }
 {
     elements.iter().position(|element| !is_region(element))
 }

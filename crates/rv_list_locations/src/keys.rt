@@ -92,7 +92,7 @@ pub(crate) fn scan_key_step(
     text: &str,
     inside: KeyContext,
 ) -> Result<KeyStep<'_>, ParseError>
-    ensures named { IfOk result (λ step. IfSome step.name (λ name. BeginsWithName (string_bytes name) text.now)) }
+    ensures name { IfOk result (λ step. IfSome step.name (λ name. BeginsWithName (string_bytes name) text.now)) }
     ensures shorter { IfOk result (λ step. length step.rest.now < length text.now) }
 {
     match inside {
@@ -112,7 +112,7 @@ pub(crate) fn scan_key_step(
 
 // Scans an entry of a job's table. Returns the first part of its key, and the text after the entry.
 fn scan_job_entry(alloc: Global, text: &str) -> Result<KeyStep<'_>, ParseError>
-    ensures named { IfOk result (λ step. IfSome step.name (λ name. BeginsWithName (string_bytes name) text.now)) }
+    ensures name { IfOk result (λ step. IfSome step.name (λ name. BeginsWithName (string_bytes name) text.now)) }
     ensures shorter { IfOk result (λ step. length step.rest.now < length text.now) }
 {
     let Step { rest, .. } = scan_step(alloc, text, ScanState::Table)?;
@@ -127,7 +127,7 @@ fn scan_job_entry(alloc: Global, text: &str) -> Result<KeyStep<'_>, ParseError>
 // Scans an entry of a job's inline table. Returns the first part of its key, and the text after the entry. Fails at the brace that closes
 // the table, which ends the job.
 fn scan_inline_entry(alloc: Global, text: &str) -> Result<KeyStep<'_>, ParseError>
-    ensures named { IfOk result (λ step. IfSome step.name (λ name. BeginsWithName (string_bytes name) text.now)) }
+    ensures name { IfOk result (λ step. IfSome step.name (λ name. BeginsWithName (string_bytes name) text.now)) }
     ensures shorter { IfOk result (λ step. length step.rest.now < length text.now) }
 {
     let (name, behind) = scan_name(alloc, text)?;
@@ -141,7 +141,7 @@ fn scan_inline_entry(alloc: Global, text: &str) -> Result<KeyStep<'_>, ParseErro
 
 // Scans a key, and returns its first part and the text after the key.
 fn scan_name(alloc: Global, text: &str) -> Result<(String, &str), ParseError>
-    ensures named { IfOk result (λ found. BeginsWithKey (string_bytes found.0) text.now) }
+    ensures key { IfOk result (λ found. BeginsWithKey (string_bytes found.0) text.now) }
     ensures shorter { IfOk result (λ found. length found.1.now < length text.now) }
 {
     let (key, behind) = dotted_key(alloc, text)?;
@@ -153,7 +153,7 @@ fn scan_name(alloc: Global, text: &str) -> Result<(String, &str), ParseError>
 // part after `job` as its name.
 fn scan_inner_header(alloc: Global, text: &str) -> Result<KeyStep<'_>, ParseError>
     requires { slice_index text.now 0 ≡ left_bracket }
-    ensures named { IfOk result (λ step. IfSome step.name (λ name. BeginsWithName (string_bytes name) text.now)) }
+    ensures name { IfOk result (λ step. IfSome step.name (λ name. BeginsWithName (string_bytes name) text.now)) }
     ensures shorter { IfOk result (λ step. length step.rest.now < length text.now) }
 {
     let Step { is_job, rest, .. } = scan_step(alloc, text, ScanState::Table)?;

@@ -55,7 +55,7 @@ impl<'a> LineRecorder<'a> {
     /// Returns the recorded lines.
     pub(crate) fn into_line_numbers(self) -> Vec<usize>
         ensures lines { result.items ≡ self.entry.recorded.items }
-        ensures rising { IsNonDecreasing result.items }
+        ensures sorted { IsNonDecreasing result.items }
         ensures within { All (λ line. (0 < line) × (line ≤ text_line_count self.entry.text.now))
             result.items }
     {
@@ -85,7 +85,7 @@ pub fn line_and_column(text: &[u8], index: usize) -> Location
 
 // Returns the number of characters after the last line feed.
 fn character_count_of_last_line(text: &[u8]) -> usize
-    ensures characters { result ≡ count_by begins_character (after_last is_line_feed text.now) }
+    ensures value { result ≡ count_by begins_character (after_last is_line_feed text.now) }
     ensures within { result ≤ length text.now }
 {
     let mut count = 0;

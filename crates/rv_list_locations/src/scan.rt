@@ -21,7 +21,7 @@ use toml_parser::{ErrorKind, ParseError, dotted_key};
 /// A text that is not TOML is scanned up to where the scan fails.
 pub fn job_line_numbers(alloc: Global, text: &str) -> Result<Vec<usize>, AllocError>
     ensures lines { IfOk result (λ lines. lines.items ≡ spec.job_lines text.now) }
-    ensures rising { IfOk result (λ lines. IsNonDecreasing lines.items) }
+    ensures sorted { IfOk result (λ lines. IsNonDecreasing lines.items) }
     ensures within { IfOk result (λ lines. All
         (λ line. (0 < line) × (line ≤ text_line_count text.now)) lines.items) }
 {

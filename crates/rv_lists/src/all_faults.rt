@@ -85,7 +85,7 @@ fn add_element_or_fault(
         ++ fault_of_job number (job_from_element (names_of_jobs earlier) (view element.now))) }
     ensures names { IfOk result (λ jobs. names_of_jobs jobs
         ≡ with_reserved_name (names_of_jobs earlier) (reserved_name (names_of_jobs earlier) (view element.now))) }
-    ensures few { IfOk result (λ jobs. length jobs ≤ length earlier + 1) }
+    ensures at_most_one_added { IfOk result (λ jobs. length jobs ≤ length earlier + 1) }
 {
     match job_from_element(alloc, &earlier, element) {
         Ok(job) => earlier.append_job(alloc, job),
@@ -107,7 +107,7 @@ fn reserve_bad_job_name(
     requires { length earlier < max_jobs }
     ensures names { IfOk result (λ jobs. names_of_jobs jobs
         ≡ with_reserved_name (names_of_jobs earlier) (reserved_name (names_of_jobs earlier) (view element.now))) }
-    ensures few { IfOk result (λ jobs. length jobs ≤ length earlier + 1) }
+    ensures at_most_one_added { IfOk result (λ jobs. length jobs ≤ length earlier + 1) }
 {
     match reserved_name(&earlier, element) {
         Some(name) => {
@@ -126,7 +126,7 @@ fn reserve_bad_job_name(
 fn reserved_name<'a>(earlier: &EarlierJobs, element: &'a Value) -> Option<&'a str>
     ensures value { option_map (λ name. name.now) result
         ≡ reserved_name (names_of_jobs earlier.now) (view element.now) }
-    ensures fresh { IfSome result (λ name. index_in (names_of_jobs earlier.now) name.now ≡ None) }
+    ensures new_name { IfSome result (λ name. index_in (names_of_jobs earlier.now) name.now ≡ None) }
 {
     let name = match element.as_table() {
         Some(table) => match name_from_table(table) {

@@ -53,8 +53,8 @@ impl EarlierJobs {
 
     /// Returns the jobs with one more job appended, whose name none of them has.
     pub(crate) fn append_job(self, alloc: Global, job: Job) -> Result<EarlierJobs, AllocError>
-        requires fresh { index_in (names_of_jobs self) job.name ≡ None }
-        requires good { IsValidJobAt (length self) job }
+        requires new_name { index_in (names_of_jobs self) job.name ≡ None }
+        requires valid { IsValidJobAt (length self) job }
         requires room { length self < max_jobs }
         ensures { IfOk result (λ g. g ≡ self ++ job ∷ []) }
     {

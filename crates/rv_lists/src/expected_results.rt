@@ -29,7 +29,7 @@ pub(crate) fn expected_results_from_table(
     table: &Table,
 ) -> Result<ExpectedResults, What>
     ensures value { MatchesUnlessOutOfMemory result (expected_results_from_table (table_view table.now)) }
-    ensures named { IfOk result (λ results.
+    ensures names_not_empty { IfOk result (λ results.
         IfSome results.signature (λ s. (0 < length s.begin) × (0 < length s.end))) }
 {
     let signature = signature_from_table(alloc, table)?;

@@ -146,10 +146,10 @@ impl JobList {
         script: Vec<u8>,
     ) -> Result<JobList, AllocError>
         requires path { length image.now ≤ max_path_len }
-        requires named { 0 < length image.now }
+        requires path_not_empty { 0 < length image.now }
         requires room { vec_len script ≤ max_script_len }
-        requires some { 0 < budget }
-        requires bound { budget ≤ max_budget }
+        requires positive { 0 < budget }
+        requires at_most_max { budget ≤ max_budget }
         ensures { IfOk result (λ l. l ≡ single_job image.now budget script.items ∷ []) }
     {
         let name = Text::copy(alloc, "one")?;

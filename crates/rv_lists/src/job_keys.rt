@@ -31,8 +31,8 @@ pub(crate) fn job_from_element(
     value: &Value,
 ) -> Result<Job, What>
     ensures value { MatchesUnlessOutOfMemory result (job_from_element (names_of_jobs earlier.now) (view value.now)) }
-    ensures good { IfOk result (IsValidJobAt (length earlier.now)) }
-    ensures fresh { IfOk result (λ job. index_in (names_of_jobs earlier.now) job.name ≡ None) }
+    ensures valid { IfOk result (IsValidJobAt (length earlier.now)) }
+    ensures new_name { IfOk result (λ job. index_in (names_of_jobs earlier.now) job.name ≡ None) }
 {
     match value.as_table() {
         Some(table) => job_from_table(alloc, earlier, table),
@@ -44,8 +44,8 @@ pub(crate) fn job_from_element(
 #[tactic(auto, unfolding(crate::specs::JobList::job_from_table))]
 fn job_from_table(alloc: Global, earlier: &EarlierJobs, table: &Table) -> Result<Job, What>
     ensures value { MatchesUnlessOutOfMemory result (job_from_table (names_of_jobs earlier.now) (table_view table.now)) }
-    ensures good { IfOk result (IsValidJobAt (length earlier.now)) }
-    ensures fresh { IfOk result (λ job. index_in (names_of_jobs earlier.now) job.name ≡ None) }
+    ensures valid { IfOk result (IsValidJobAt (length earlier.now)) }
+    ensures new_name { IfOk result (λ job. index_in (names_of_jobs earlier.now) job.name ≡ None) }
 {
     if has_unknown_job_or_region_key(table) {
         return Err(What::UnknownKey);
@@ -77,8 +77,8 @@ impl EarlierJobs {
         requires { index_in (names_of_jobs self.now) name.now ≡ None }
         ensures value { MatchesUnlessOutOfMemory result
             (job_from_remaining_keys (names_of_jobs self.now) name.now image.now budget (table_view table.now)) }
-        ensures good { IfOk result (IsValidJobAt (length self.now)) }
-        ensures fresh { IfOk result (λ job. index_in (names_of_jobs self.now) job.name ≡ None) }
+        ensures valid { IfOk result (IsValidJobAt (length self.now)) }
+        ensures new_name { IfOk result (λ job. index_in (names_of_jobs self.now) job.name ≡ None) }
     {
         let setup = setup_from_table(alloc, table)?;
         let results = expected_results_from_table(alloc, table)?;

@@ -61,7 +61,7 @@ pub(crate) fn job_elements(table: &Table) -> Result<&Array, What>
     ensures value { MatchResult result (λ a. job_elements (table_view table.now)
         ≡ Ok (array_view a.now))
         (λ e. job_elements (table_view table.now) ≡ Err e) }
-    ensures few { IfOk result (λ a. vec_len a.now ≤ max_jobs) }
+    ensures at_most_max { IfOk result (λ a. vec_len a.now ≤ max_jobs) }
 {
     let value = value_at_key(table, "job");
     if has_no_jobs(value) {

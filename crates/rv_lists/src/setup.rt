@@ -32,7 +32,7 @@ pub(crate) struct Setup {
 #[tactic(auto, unfolding(crate::specs::JobSteps::setup_from_table))]
 pub(crate) fn setup_from_table(alloc: Global, table: &Table) -> Result<Setup, What>
     ensures value { MatchesUnlessOutOfMemory result (setup_from_table (table_view table.now)) }
-    ensures short { IfOk result (λ setup. length setup.script ≤ max_script_len) }
+    ensures at_most_max { IfOk result (λ setup. length setup.script ≤ max_script_len) }
 {
     let script = script_from_table(alloc, table)?;
     let regions = map_from_table(alloc, table)?;
@@ -48,7 +48,7 @@ pub(crate) fn setup_from_table(alloc: Global, table: &Table) -> Result<Setup, Wh
 #[tactic(auto, unfolding(crate::specs::JobList::script_from_table))]
 fn script_from_table(alloc: Global, table: &Table) -> Result<Bytes, What>
     ensures value { MatchesUnlessOutOfMemory result (script_from_table (table_view table.now)) }
-    ensures short { IfOk result (λ s. length s ≤ max_script_len) }
+    ensures at_most_max { IfOk result (λ s. length s ≤ max_script_len) }
 {
     match (text_at_key(table, "input"), text_at_key(table, "input_hex")) {
         (None, None) => Ok(Bytes::new(Vec::new(alloc))),
@@ -61,7 +61,7 @@ fn script_from_table(alloc: Global, table: &Table) -> Result<Bytes, What>
 // Returns the script that consists of these bytes, or an error if it is too long.
 fn script_from_bytes(alloc: Global, bytes: &[u8]) -> Result<Bytes, What>
     ensures value { MatchesUnlessOutOfMemory result (script_from_bytes bytes.now) }
-    ensures short { IfOk result (λ s. length s ≤ max_script_len) }
+    ensures at_most_max { IfOk result (λ s. length s ≤ max_script_len) }
 {
     if bytes.len() <= MAX_SCRIPT_LEN {
         Ok(Bytes::new(bytes.to_vec(alloc)?))
@@ -73,7 +73,7 @@ fn script_from_bytes(alloc: Global, bytes: &[u8]) -> Result<Bytes, What>
 // Returns the script from its hexadecimal digits, or an error if they are invalid or it is too long.
 fn script_from_hex(alloc: Global, digits: &str) -> Result<Bytes, What>
     ensures value { MatchesUnlessOutOfMemory result (script_from_decoded (decode_of digits.now)) }
-    ensures short { IfOk result (λ s. length s ≤ max_script_len) }
+    ensures at_most_max { IfOk result (λ s. length s ≤ max_script_len) }
 {
     match hex::decode(alloc, digits) {
         Ok(bytes) => {

@@ -21,7 +21,7 @@ use toml::{Table, Value};
 #[tactic(auto, unfolding(crate::specs::JobList::signature_from_table))]
 pub(crate) fn signature_from_table(alloc: Global, table: &Table) -> Result<Option<Symbols>, What>
     ensures value { MatchesUnlessOutOfMemory result (signature_from_table (table_view table.now)) }
-    ensures named { IfOk result (λ o. IfSome o (λ s. (0 < length s.begin) × (0 < length s.end))) }
+    ensures names_not_empty { IfOk result (λ o. IfSome o (λ s. (0 < length s.begin) × (0 < length s.end))) }
 {
     match array_at_key(table, "signature") {
         Some(names) => symbols_from_names(alloc, names.as_slice()),
@@ -33,7 +33,7 @@ pub(crate) fn signature_from_table(alloc: Global, table: &Table) -> Result<Optio
 #[tactic(auto, unfolding(crate::specs::JobList::symbols_from_names))]
 fn symbols_from_names(alloc: Global, names: &[Value]) -> Result<Option<Symbols>, What>
     ensures value { MatchesUnlessOutOfMemory result (symbols_from_names (items_view names.now)) }
-    ensures named { IfOk result (λ o. IfSome o (λ s. (0 < length s.begin) × (0 < length s.end))) }
+    ensures names_not_empty { IfOk result (λ o. IfSome o (λ s. (0 < length s.begin) × (0 < length s.end))) }
 {
     if names.len() != 2 {
         return Err(What::Signature);
@@ -47,7 +47,7 @@ fn symbols_from_names(alloc: Global, names: &[Value]) -> Result<Option<Symbols>,
 fn signature_symbol(alloc: Global, names: &[Value], index: usize) -> Result<Text, What>
     requires { index < length names.now }
     ensures value { MatchesUnlessOutOfMemory result (signature_symbol index (items_view names.now)) }
-    ensures named { IfOk result (λ t. 0 < length t) }
+    ensures not_empty { IfOk result (λ t. 0 < length t) }
 {
     match element_text(names, index) {
         Some(text) => {

@@ -32,7 +32,7 @@ impl Hart {
         next: u32,
     ) -> Result<(), Incomplete>
         requires { IsWellFormed instr }
-        ensures behind { self.new.pc ≡ self.old.pc }
+        ensures pc_unchanged { self.new.pc ≡ self.old.pc }
         ensures effect { MatchResult result
             (λ _. load_of width extension (with_pc self.old pc.old) instr next
             ≡ Ok (with_pc self.new pc.new))
@@ -57,7 +57,7 @@ impl Hart {
         next: u32,
     ) -> Result<(), Incomplete>
         requires { IsWellFormed instr }
-        ensures behind { self.new.pc ≡ self.old.pc }
+        ensures pc_unchanged { self.new.pc ≡ self.old.pc }
         ensures effect { MatchResult result
             (λ _. (store_of width (with_pc self.old pc.old) instr next ≡ Ok (with_pc self.new pc.new))
             × (table.new ≡ with_range_invalidated table.old (address self.old instr) width))

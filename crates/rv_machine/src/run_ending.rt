@@ -37,7 +37,7 @@ impl Hart {
     #[tactic(auto, unfolding(crate::specs::Effect::effect))]
     fn instruction_ending(&mut self, instr: Instr, length: u32) -> Ending
         requires well_formed { IsWellFormed instr }
-        requires ends { is_ok (effect instr length self.old) ≡ false }
+        requires no_effect { is_ok (effect instr length self.old) ≡ false }
         ensures { (effect instr length self.old ≡ Err result) × (self.new ≡ self.old) }
     {
         let next = self.pc.wrapping_add(length);
@@ -75,7 +75,7 @@ impl Hart {
         next: u32,
     ) -> Ending
         requires well_formed { IsWellFormed instr }
-        requires ends { is_ok (load_of width extension self.old instr next) ≡ false }
+        requires no_effect { is_ok (load_of width extension self.old instr next) ≡ false }
         ensures { (load_of width extension self.old instr next ≡ Err result)
             × (self.new ≡ self.old) }
     {
@@ -89,7 +89,7 @@ impl Hart {
     // Returns the ending of the run, given that the bus rejects this store.
     fn store_ending(&mut self, instr: Instr, width: Width, next: u32) -> Ending
         requires well_formed { IsWellFormed instr }
-        requires ends { is_ok (store_of width self.old instr next) ≡ false }
+        requires no_effect { is_ok (store_of width self.old instr next) ≡ false }
         ensures { (store_of width self.old instr next ≡ Err result) × (self.new ≡ self.old) }
     {
         let address = add_offset(self.registers[instr.rs1 as usize], instr.imm);

@@ -17,7 +17,7 @@ impl Hart {
     pub(crate) fn following_pc(&mut self, pc: u32, length: u32) -> u32
         requires { (length ≡ 2) ⊎ (length ≡ 4) }
         ensures value { result ≡ (pc + length) % 0x1_0000_0000 }
-        ensures same { self.new ≡ self.old }
+        ensures unchanged { self.new ≡ self.old }
     {
         if length == 2 {
             // x0 is 0 already: the store keeps the compiler from turning the branch into a select of a value.
@@ -36,7 +36,7 @@ impl Hart {
         next: u32,
     ) -> Result<(), Incomplete>
         requires { IsWellFormed instr }
-        ensures behind { self.new.pc ≡ self.old.pc }
+        ensures pc_unchanged { self.new.pc ≡ self.old.pc }
         ensures effect { MatchResult result
             (λ _. after_jump (with_pc self.old pc.old) instr next (even (address self.old instr))
             ≡ Ok (with_pc self.new pc.new))
@@ -59,7 +59,7 @@ impl Hart {
         target: u32,
     ) -> Result<(), Incomplete>
         requires { IsWellFormed instr }
-        ensures behind { self.new.pc ≡ self.old.pc }
+        ensures pc_unchanged { self.new.pc ≡ self.old.pc }
         ensures effect { MatchResult result
             (λ _. after_jump (with_pc self.old pc.old) instr next target ≡ Ok (with_pc self.new pc.new))
             (λ _. (is_ok (after_jump (with_pc self.old pc.old) instr next target) ≡ false)
@@ -83,7 +83,7 @@ impl Hart {
         here: u32,
     ) -> Result<(), Incomplete>
         requires { here ≡ pc.old }
-        ensures behind { self.new.pc ≡ self.old.pc }
+        ensures pc_unchanged { self.new.pc ≡ self.old.pc }
         ensures effect { MatchResult result
             (λ _. after_branch taken (with_pc self.old pc.old) instr next
             ≡ Ok (with_pc self.new pc.new))

@@ -57,8 +57,8 @@ impl Map {
 // begin at index `start`.
 #[inline]
 fn search_regions(regions: &[Region], start: usize, addr: u32, len: u32) -> Option<BufferRange>
-    requires some { 0 < len }
-    requires sized { list_all has_valid_size regions.now ≡ true }
+    requires positive { 0 < len }
+    requires valid_sizes { list_all has_valid_size regions.now ≡ true }
     requires room { start + total_size regions.now ≤ MAX_MAP_SIZE }
     ensures { result ≡ located regions.now start addr len }
 {
@@ -80,8 +80,8 @@ impl Region {
     // below the base wraps to an offset after every region's end.
     #[inline]
     fn offset_of(&self, addr: u32, len: u32) -> Option<u32>
-        requires some { 0 < len }
-        requires sized { has_valid_size self.now ≡ true }
+        requires positive { 0 < len }
+        requires valid_size { has_valid_size self.now ≡ true }
         ensures { MatchOption result (covers addr len self.now ≡ false)
             (λ k. (covers addr len self.now ≡ true) × (self.now.base + k ≡ addr)) }
     {
@@ -98,7 +98,7 @@ impl Region {
     #[inline(always)]
     fn offset_of_aligned(&self, addr: u32, width: Width) -> Option<u32>
         requires aligned { is_aligned self.now ≡ true }
-        requires sized { has_valid_size self.now ≡ true }
+        requires valid_size { has_valid_size self.now ≡ true }
         requires multiple { addr % size_of width ≡ 0 }
         ensures { IfSome result (λ k. (covers addr (size_of width) self.now ≡ true)
             × (self.now.base + k ≡ addr)) }

@@ -19,11 +19,11 @@ use std::alloc::{AllocError, Global};
 /// of one run. Needs memory for the rows, and for reading one text after another.
 pub fn merge_parts(alloc: Global, texts: &[&[u8]]) -> Result<Rows, MergeError>
     // The texts are the parts of one run of these rows.
-    ensures found { IfOk result (λ rows. AreParts rows (bytes_of_texts texts.now)) }
+    ensures rows { IfOk result (λ rows. AreParts rows (bytes_of_texts texts.now)) }
     // If they are the parts of one run of some rows, these rows are returned.
-    ensures only { (rows : List Row) → AreParts rows (bytes_of_texts texts.now) → IsRowsOrOutOfMemory rows result }
+    ensures accepts { (rows : List Row) → AreParts rows (bytes_of_texts texts.now) → IsRowsOrOutOfMemory rows result }
     // Every error is justified.
-    ensures err { IfErr result (HasMergeError (bytes_of_texts texts.now)) }
+    ensures error { IfErr result (HasMergeError (bytes_of_texts texts.now)) }
 {
     if texts.is_empty() {
         return Err(MergeError::NoTexts);
@@ -35,8 +35,8 @@ pub fn merge_parts(alloc: Global, texts: &[&[u8]]) -> Result<Rows, MergeError>
 // Gathers the rows of all texts, or returns the first error of a text.
 fn gather_parts(alloc: Global, texts: &[&[u8]]) -> Result<MergeState, MergeError>
     requires { 0 < length texts.now }
-    ensures holds { IfOk result (λ g. IsMergeStateAfter (bytes_of_texts texts.now) (length texts.now) g) }
-    ensures err { IfErr result (HasMergeError (bytes_of_texts texts.now)) }
+    ensures state { IfOk result (λ g. IsMergeStateAfter (bytes_of_texts texts.now) (length texts.now) g) }
+    ensures error { IfErr result (HasMergeError (bytes_of_texts texts.now)) }
 {
     let part = part_at(alloc, texts, 0)?;
     let mut gathered = initial_state(alloc, &part.shard)?;
@@ -53,7 +53,7 @@ fn rows_of_parts(alloc: Global, state: MergeState) -> Result<Rows, MergeError>
     requires { 0 < length state.sources.items }
     ensures rows { IfOk result (λ rows. IsComplete state.sources.items state.slots.items
         rows) }
-    ensures err { IfErr result (ExplainsIncomplete state.sources.items state.slots.items) }
+    ensures error { IfErr result (ExplainsIncomplete state.sources.items state.slots.items) }
 {
     if let Some(shard) = first_missing_shard(&state.sources) {
         return Err(MergeError::Missing(shard + 1));
@@ -80,8 +80,8 @@ fn first_missing_shard(sources: &[Option<usize>]) -> Option<usize>
 
 // Returns the error that the row at an index has the name of an earlier row.
 fn repeated_name_error(sources: &[Option<usize>], index: usize) -> MergeError
-    requires some { 0 < length sources.now }
-    requires place { index < usize.MAX }
+    requires not_empty { 0 < length sources.now }
+    requires index { index < usize.MAX }
     ensures { MatchOption (slice_index_or sources.now (index % length sources.now) None)
         (result ≡ MergeError.Missing (index % length sources.now + 1))
         (λ text. result ≡ MergeError.Text text (Flaw.RepeatedName (index + 1))) }

@@ -63,11 +63,11 @@ pub(crate) fn add_part(
     index: usize,
     part: Part,
 ) -> Result<(), MergeError>
-    requires at { index < length texts.now }
+    requires index { index < length texts.now }
     requires text { IsTextOf (report_of_part part) (nth_text (bytes_of_texts texts.now) index) }
-    requires holds { IsMergeStateAfter (bytes_of_texts texts.now) index state.old }
-    ensures added { OnOk result (IsMergeStateAfter (bytes_of_texts texts.now) (index + 1) state.new) }
-    ensures err { IfErr result (HasMergeError (bytes_of_texts texts.now)) }
+    requires state { IsMergeStateAfter (bytes_of_texts texts.now) index state.old }
+    ensures next_state { OnOk result (IsMergeStateAfter (bytes_of_texts texts.now) (index + 1) state.new) }
+    ensures error { IfErr result (HasMergeError (bytes_of_texts texts.now)) }
 {
     if let Some(flaw) = other_run_flaw(&state.first, &part.shard) {
         return Err(MergeError::Text(index, flaw));
@@ -104,7 +104,7 @@ fn other_run_flaw(first: &Shard, shard: &Shard) -> Option<Flaw>
 
 // Whether the texts at two indices are equal.
 fn are_same_texts(texts: &[&[u8]], index: usize, other: usize) -> bool
-    requires place { index < length texts.now }
+    requires index { index < length texts.now }
     requires other { other < length texts.now }
     ensures { IsTrue result ↔ (nth_text (bytes_of_texts texts.now) index
         ≡ nth_text (bytes_of_texts texts.now) other) }
@@ -115,7 +115,7 @@ fn are_same_texts(texts: &[&[u8]], index: usize, other: usize) -> bool
 // Writes each row to the slot of its job number.
 fn fill_slots(slots: &mut Vec<Option<Row>>, numbers: &[u32], rows: Vec<Row>)
     requires numbers { All (λ n. (0 < n) × (n ≤ vec_len slots.old)) numbers.now }
-    requires counted { length numbers.now ≡ vec_len rows }
+    requires one_number_each { length numbers.now ≡ vec_len rows }
     ensures { slots.new.items ≡ filled_slots numbers.now rows.items slots.old.items }
 {
     let mut at = 0;

@@ -20,9 +20,9 @@ pub(crate) struct Part {
 /// Parses the text at an index as a part, or returns the error in it.
 pub(crate) fn part_at(alloc: Global, texts: &[&[u8]], index: usize) -> Result<Part, MergeError>
     requires { index < length texts.now }
-    ensures found { IfOk result (λ part. IsTextOf (report_of_part part)
+    ensures text { IfOk result (λ part. IsTextOf (report_of_part part)
         (nth_text (bytes_of_texts texts.now) index)) }
-    ensures err { IfErr result (HasMergeError (bytes_of_texts texts.now)) }
+    ensures error { IfErr result (HasMergeError (bytes_of_texts texts.now)) }
 {
     match read_report(alloc, texts[index]) {
         Ok(report) => match part_of_report(report) {
@@ -38,7 +38,7 @@ pub(crate) fn part_at(alloc: Global, texts: &[&[u8]], index: usize) -> Result<Pa
 // Returns the report as a part, or a flaw if it is not the report of a shard.
 fn part_of_report(report: SavedReport) -> Result<Part, Flaw>
     ensures part { IfOk result (λ part. report_of_part part ≡ report) }
-    ensures other { IfErr result (λ flaw. IsExtentFlaw flaw report.extent) }
+    ensures flaw { IfErr result (λ flaw. IsExtentFlaw flaw report.extent) }
 {
     let SavedReport {
         extent,

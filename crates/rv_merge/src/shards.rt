@@ -17,8 +17,8 @@ pub fn shard_selection(
     requires low { 0 < number }
     requires high { number ≤ shards }
     ensures marks { IfOk result (λ marks. marks.items ≡ shard_selection shards number job_count) }
-    ensures counted { IfOk result (λ marks. length marks.items ≡ job_count) }
-    ensures places { IfOk result
+    ensures length { IfOk result (λ marks. length marks.items ≡ job_count) }
+    ensures indices { IfOk result
         (λ marks. selected_indices marks.items job_count ≡ shard_indices shards number job_count) }
 {
     let mut marks = Vec::new(alloc);

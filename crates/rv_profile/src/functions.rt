@@ -17,7 +17,7 @@ pub(crate) fn functions_by_own_steps<'t>(
     stacks: ImageStacks<'t>,
 ) -> Result<Vec<FunctionProfile<'t>>, AllocError>
     requires tree { IsTree stacks.nodes.now }
-    requires few { fit_in_64_bits (sums_of stacks.nodes.now) ≡ true }
+    requires fits { fit_in_64_bits (sums_of stacks.nodes.now) ≡ true }
     ensures { IfOk result (λ found. IsProfileOf stacks.entry.nodes.now stacks.entry.names.now (profiles_of found.items)) }
 {
     let mut functions = functions_of_stacks(alloc, stacks)?;
@@ -31,7 +31,7 @@ fn functions_of_stacks<'t>(
     stacks: ImageStacks<'t>,
 ) -> Result<Vec<FunctionProfile<'t>>, AllocError>
     requires tree { IsTree stacks.nodes.now }
-    requires few { fit_in_64_bits (sums_of stacks.nodes.now) ≡ true }
+    requires fits { fit_in_64_bits (sums_of stacks.nodes.now) ≡ true }
     ensures { IfOk result (λ found. profiles_of found.items ≡ map (function_counts stacks.entry.nodes.now) stacks.entry.names.now) }
 {
     let index = CallTreeIndex::new(alloc, stacks.nodes)?;

@@ -27,7 +27,7 @@ pub(crate) fn profile_of_image<'t>(
     stacks: ImageStacks<'t>,
 ) -> Result<ImageProfile<'t>, AllocError>
     requires tree { IsTree stacks.nodes.now }
-    requires few { fit_in_64_bits (sums_of stacks.nodes.now) ≡ true }
+    requires fits { fit_in_64_bits (sums_of stacks.nodes.now) ≡ true }
     ensures sums { IfOk result (λ profile. profile.sums ≡ sums_of stacks.entry.nodes.now) }
     ensures functions { IfOk result (λ profile. IsProfileOf stacks.entry.nodes.now stacks.entry.names.now (profiles_of profile.functions.items)) }
 {

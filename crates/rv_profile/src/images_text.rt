@@ -26,7 +26,7 @@ pub fn profile_text(
     images: &[ImageFile<'_>],
 ) -> Result<Vec<u8>, AllocError>
     requires table { IsValidTable table.now }
-    requires few { image_past_64_bits table.now (images_of_files images.now) ≡ None }
+    requires fits { image_past_64_bits table.now (images_of_files images.now) ≡ None }
     ensures { IfOk result (λ text. IsProfileText format table.now (images_of_files images.now) text.items) }
 {
     let mut text = Vec::new(alloc);
@@ -57,7 +57,7 @@ fn push_image(
     image: &ImageFile<'_>,
 ) -> Result<(), AllocError>
     requires table { IsValidTable table.now }
-    requires few { is_past_64_bits table.now (image_of_file image.now) ≡ false }
+    requires fits { is_past_64_bits table.now (image_of_file image.now) ≡ false }
     ensures { OnOk result ((shown : List ℕ) × (IsImageProfileText format table.now (image_of_file image.now) shown
         × (text.new.items ≡ text.old.items ++ shown))) }
 {

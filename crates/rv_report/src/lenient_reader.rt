@@ -17,7 +17,7 @@ use std::alloc::{AllocError, Global};
 #[tactic(auto, unfolding(crate::specs::LenientReport::lenient_report))]
 pub(crate) fn lenient_report(alloc: Global, text: &[u8]) -> Result<SavedReport, AllocError>
     ensures value { IfOk result (λ report. report ≡ lenient_report text.now) }
-    ensures good { IfOk result (λ report. IsValidReport report) }
+    ensures valid { IfOk result (λ report. IsValidReport report) }
 {
     let gathering = read_rows(alloc, text)?;
     let mut numbers = gathering.numbers;

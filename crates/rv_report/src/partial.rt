@@ -26,10 +26,10 @@ pub struct PartialReport {
 
 /// Returns the report with this text, or the complete rows of a truncated text. Every prefix of a report's text is accepted.
 pub fn read_partial_report(alloc: Global, bytes: &[u8]) -> Result<PartialReport, ReadError>
-    ensures found { IfOk result (λ read. IsReadAs bytes.now read.is_truncated read.report) }
-    ensures saved { IfOk result (λ read. IsValidReport read.report) }
-    ensures beginning { IsReportPrefix bytes.now → IfErr result (λ error. error ≡ OutOfMemory) }
-    ensures refused { IfErr result (λ error. (error ≡ OutOfMemory)
+    ensures truncation { IfOk result (λ read. IsReadAs bytes.now read.is_truncated read.report) }
+    ensures valid { IfOk result (λ read. IsValidReport read.report) }
+    ensures prefix { IsReportPrefix bytes.now → IfErr result (λ error. error ≡ OutOfMemory) }
+    ensures error { IfErr result (λ error. (error ≡ OutOfMemory)
         ⊎ ((line : ℕ) × (error ≡ Line line) × IsFirstInvalidLine line bytes.now)) }
 {
     match read_report(alloc, bytes) {
@@ -70,8 +70,8 @@ fn complete_row_count(
 ) -> Result<usize, AllocError>
     requires { HasDistinctJobs report.now }
     ensures within { IfOk result (λ count. count ≤ length report.now.rows) }
-    ensures there { IfOk result (λ count. BeginsWith bytes.now (first_rows_text count report.now)) }
-    ensures most { IfOk result (λ count. count < length report.now.rows
+    ensures prefix { IfOk result (λ count. BeginsWith bytes.now (first_rows_text count report.now)) }
+    ensures longest { IfOk result (λ count. count < length report.now.rows
         → BeginsWith bytes.now (first_rows_text (count + 1) report.now) → ⊥) }
 {
     let rows = report.rows.as_slice();

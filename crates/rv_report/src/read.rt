@@ -45,19 +45,19 @@ impl From<AllocError> for ReadError {
 /// text; if the text is not a report, for at most 4,096 rows and one more signature of 65,536 words.
 pub fn read_report(alloc: Global, bytes: &[u8]) -> Result<SavedReport, ReadError>
     // The result has this text, and is a valid report.
-    ensures found { IfOk result (λ report. IsValidReport report × (saved_text report ≡ bytes.now)) }
+    ensures report { IfOk result (λ report. IsValidReport report × (saved_text report ≡ bytes.now)) }
     // Every valid report with this text is read.
-    ensures only { (report : Saved) → IsValidReport report → saved_text report ≡ bytes.now
+    ensures accepts { (report : Saved) → IsValidReport report → saved_text report ≡ bytes.now
         → IsOkOrOutOfMemory report result }
     // Up to the location in the error, the text agrees with the beginning of some report.
-    ensures err { IfErr result (λ error. (report : Saved) × IsValidReport report
+    ensures agrees { IfErr result (λ error. (report : Saved) × IsValidReport report
         × AgreeBeforeError error (saved_text report) bytes.now) }
     // Some report begins with the lines before the one in the error, and none with these lines and it.
-    ensures least { IfErr result (λ error. IsFirstError error bytes.now) }
+    ensures first_error { IfErr result (λ error. IsFirstError error bytes.now) }
     // If a prefix of a report's text is rejected, the error is `Truncated`.
-    ensures cut { IsReportPrefix bytes.now → IfErr result (λ error. IsSameReadError error Truncated) }
+    ensures truncated { IsReportPrefix bytes.now → IfErr result (λ error. IsSameReadError error Truncated) }
     // The location is that of the first difference from the report of the text's content.
-    ensures place { IfErr result (λ error. IsSameReadError error
+    ensures exact_error { IfErr result (λ error. IsSameReadError error
         (read_error_from 1 word.NotStarted (saved_text (lenient_report bytes.now)) bytes.now)) }
 {
     let report = lenient_report(alloc, bytes)?;

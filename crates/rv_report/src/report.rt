@@ -61,8 +61,8 @@ const FLUSH_THRESHOLD: usize = 32_768;
 pub fn write_report<W: Sink>(alloc: Global, report: &Report, out: &mut W) -> Result<(), WriteError>
     ensures appended { OnOk result
         (Appends (W.accepted out.old) (W.accepted out.new) (report_text report.now.rows)) }
-    ensures counted { OnOk result (W.failure_count out.new ≡ W.failure_count out.old) }
-    ensures part { OnErr result
+    ensures no_failures { OnOk result (W.failure_count out.new ≡ W.failure_count out.old) }
+    ensures prefix { OnErr result
         (AppendsPrefix (W.accepted out.old) (W.accepted out.new) (report_text report.now.rows)) }
     ensures failed { IfErr result (λ error. error ≡ WriteError.Failed
         → HasIncreased (W.failure_count out.old) (W.failure_count out.new)) }
@@ -86,8 +86,8 @@ fn write_rows<W: Sink>(
     ensures partly_written { OnOk result
         (IsPartlyWritten (W.accepted out.old) (W.accepted out.new)
         (string_bytes text.new) (rows_text 0 rows.now)) }
-    ensures counted { OnOk result (W.failure_count out.new ≡ W.failure_count out.old) }
-    ensures part { OnErr result
+    ensures no_failures { OnOk result (W.failure_count out.new ≡ W.failure_count out.old) }
+    ensures prefix { OnErr result
         (AppendsPrefix (W.accepted out.old) (W.accepted out.new) (rows_text 0 rows.now)) }
     ensures failed { IfErr result
         (λ error. error ≡ WriteError.Failed → W.failure_count out.new ≡ one_more (W.failure_count out.old)) }
@@ -104,8 +104,8 @@ pub(crate) fn write_text_if_large<W: Sink>(text: &mut String, out: &mut W) -> Re
     ensures partly_written { OnOk result
         (IsPartlyWritten (W.accepted out.old) (W.accepted out.new)
         (string_bytes text.new) (string_bytes text.old)) }
-    ensures counted { OnOk result (W.failure_count out.new ≡ W.failure_count out.old) }
-    ensures part { OnErr result
+    ensures no_failures { OnOk result (W.failure_count out.new ≡ W.failure_count out.old) }
+    ensures prefix { OnErr result
         (AppendsPrefix (W.accepted out.old) (W.accepted out.new) (string_bytes text.old)) }
     ensures failed { IfErr result
         (λ error. (error ≡ WriteError.Failed) × (W.failure_count out.new ≡ one_more (W.failure_count out.old))) }
@@ -121,8 +121,8 @@ pub(crate) fn flush_text<W: Sink>(text: &mut String, out: &mut W) -> Result<(), 
     ensures appended { OnOk result
         (Appends (W.accepted out.old) (W.accepted out.new) (string_bytes text.old)) }
     ensures cleared { OnOk result (string_bytes text.new ≡ []) }
-    ensures counted { OnOk result (W.failure_count out.new ≡ W.failure_count out.old) }
-    ensures part { OnErr result
+    ensures no_failures { OnOk result (W.failure_count out.new ≡ W.failure_count out.old) }
+    ensures prefix { OnErr result
         (AppendsPrefix (W.accepted out.old) (W.accepted out.new) (string_bytes text.old)) }
     ensures failed { IfErr result
         (λ error. (error ≡ WriteError.Failed) × (W.failure_count out.new ≡ one_more (W.failure_count out.old))) }

@@ -29,8 +29,8 @@ fn push_numbered_rows(
     numbers: &[u32],
     rows: &[Row],
 ) -> Result<(), AllocError>
-    requires counted { length numbers.now ≡ length rows.now }
-    requires rising { are_increasing 0 max_jobs numbers.now ≡ true }
+    requires one_number_each { length numbers.now ≡ length rows.now }
+    requires increasing { are_increasing 0 max_jobs numbers.now ≡ true }
     ensures { OnOk result (string_bytes text.new
         ≡ string_bytes text.old ++ numbered_rows_text numbers.now rows.now) }
 {

@@ -23,11 +23,11 @@ pub fn write_saved_report<W: Sink>(
     out: &mut W,
 ) -> Result<(), WriteError>
     requires counted { length report.now.numbers ≡ length report.now.rows }
-    requires rising { are_increasing 0 max_jobs report.now.numbers ≡ true }
+    requires increasing { are_increasing 0 max_jobs report.now.numbers ≡ true }
     ensures appended { OnOk result
         (Appends (W.accepted out.old) (W.accepted out.new) (saved_text report.now)) }
-    ensures counted { OnOk result (W.failure_count out.new ≡ W.failure_count out.old) }
-    ensures part { OnErr result
+    ensures no_failures { OnOk result (W.failure_count out.new ≡ W.failure_count out.old) }
+    ensures prefix { OnErr result
         (AppendsPrefix (W.accepted out.old) (W.accepted out.new) (saved_text report.now)) }
     ensures failed { IfErr result (λ error. error ≡ WriteError.Failed
         → HasIncreased (W.failure_count out.old) (W.failure_count out.new)) }
@@ -49,13 +49,13 @@ fn write_numbered_rows<W: Sink>(
     out: &mut W,
 ) -> Result<(), WriteError>
     requires counted { length numbers.now ≡ length rows.now }
-    requires rising { are_increasing 0 max_jobs numbers.now ≡ true }
+    requires increasing { are_increasing 0 max_jobs numbers.now ≡ true }
     requires empty { string_bytes text.old ≡ [] }
     ensures partly_written { OnOk result
         (IsPartlyWritten (W.accepted out.old) (W.accepted out.new)
         (string_bytes text.new) (numbered_rows_text numbers.now rows.now)) }
-    ensures counted { OnOk result (W.failure_count out.new ≡ W.failure_count out.old) }
-    ensures part { OnErr result (AppendsPrefix (W.accepted out.old) (W.accepted out.new)
+    ensures no_failures { OnOk result (W.failure_count out.new ≡ W.failure_count out.old) }
+    ensures prefix { OnErr result (AppendsPrefix (W.accepted out.old) (W.accepted out.new)
         (numbered_rows_text numbers.now rows.now)) }
     ensures failed { IfErr result
         (λ error. error ≡ WriteError.Failed → W.failure_count out.new ≡ one_more (W.failure_count out.old)) }

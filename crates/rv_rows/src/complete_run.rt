@@ -32,8 +32,8 @@ pub fn row_from(
     steps: u32,
     machine: Machine,
 ) -> Result<Row, AllocError>
-    requires place { i < length plan.now.jobs }
-    requires way { (d : AJob) → let job = slice_index_or plan.now.jobs i d in
+    requires index { i < length plan.now.jobs }
+    requires intermediate { (d : AJob) → let job = slice_index_or plan.now.jobs i d in
         IsIntermediateState (start_state_in plan.now.results job) job.budget steps (state_of machine) }
     ensures { IfOk result (λ row. (d : AJob) → row
         ≡ row_of plan.now (slice_index_or plan.now.jobs i d)) }
@@ -55,8 +55,8 @@ fn complete_run_of_job(
     steps: u32,
     machine: Machine,
 ) -> Result<Attempt, AllocError>
-    requires place { i < length plan.now.jobs }
-    requires way { (d : AJob) → let job = slice_index_or plan.now.jobs i d in
+    requires index { i < length plan.now.jobs }
+    requires intermediate { (d : AJob) → let job = slice_index_or plan.now.jobs i d in
         IsIntermediateState (start_state_in plan.now.results job) job.budget steps (state_of machine) }
     ensures outcome { IfOk result (λ attempt. (d : AJob) → outcome_of_attempt attempt
         ≡ outcome_in plan.now.results (slice_index_or plan.now.jobs i d)) }
@@ -77,9 +77,9 @@ fn complete_run_of_file(
     steps: u32,
     machine: Machine,
 ) -> Result<Attempt, AllocError>
-    requires named { IfSome job.now.signature (λ names. (0 < length names.begin)
+    requires names_not_empty { IfSome job.now.signature (λ names. (0 < length names.begin)
         × (0 < length names.end)) }
-    requires way { IsIntermediateState (start_if_loadable job.now file.now (loadable_image job.now file.now))
+    requires intermediate { IsIntermediateState (start_if_loadable job.now file.now (loadable_image job.now file.now))
         job.now.budget steps (state_of machine) }
     ensures outcome { IfOk result (λ attempt. outcome_of_attempt attempt
         ≡ file_outcome_of job.now file.now) }

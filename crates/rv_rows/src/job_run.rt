@@ -52,7 +52,7 @@ pub(crate) fn refusal_of_job(
     reference: Option<&Kept>,
     console: Option<&Kept>,
 ) -> Result<Option<Refusal>, AllocError>
-    requires named { IfSome job.now.signature (λ names. (0 < length names.begin)
+    requires names_not_empty { IfSome job.now.signature (λ names. (0 < length names.begin)
         × (0 < length names.end)) }
     ensures { IfOk result (λ why. why
         ≡ refusal_in (outcome_of job.now image.now (option_map (λ kept. kept.now) reference.entry)
@@ -89,7 +89,7 @@ pub(crate) fn machine_of_image(
     spare: &mut SpareBus,
 ) -> Result<Result<Machine, Refusal>, AllocError>
     requires script { length job.now.script ≤ max_script_len }
-    requires named { IfSome job.now.signature (λ names. (0 < length names.begin)
+    requires names_not_empty { IfSome job.now.signature (λ names. (0 < length names.begin)
         × (0 < length names.end)) }
     requires image { image_of job.now.isa file.now ≡ Ok image.now }
     ensures { let start = start_if_loadable job.now file.now (loadable_image job.now file.now) in
@@ -124,7 +124,7 @@ pub(crate) fn run_image(
     spare: &mut SpareBus,
 ) -> Result<Attempt, AllocError>
     requires script { length job.now.script ≤ max_script_len }
-    requires named { IfSome job.now.signature (λ names. (0 < length names.begin)
+    requires names_not_empty { IfSome job.now.signature (λ names. (0 < length names.begin)
         × (0 < length names.end)) }
     ensures outcome { IfOk result (λ attempt. outcome_of_attempt attempt
         ≡ file_outcome_of job.now file.now) }
@@ -165,7 +165,7 @@ fn range_if_loadable(
     file: &[u8],
     image: &Image,
 ) -> Result<Option<SignatureRange>, ImageError>
-    requires named { IfSome job.now.signature (λ names. (0 < length names.begin)
+    requires names_not_empty { IfSome job.now.signature (λ names. (0 < length names.begin)
         × (0 < length names.end)) }
     requires image { image_of job.now.isa file.now ≡ Ok image.now }
     ensures { MatchResult result
@@ -201,7 +201,7 @@ fn signature_range(
 // Returns the address of the symbol at the end of a signature. The error is `NoEnd` if the image does not have this symbol.
 fn find_end_symbol(image: &Image, file: &[u8], name: &[u8]) -> Result<u32, ImageError>
     requires image { IsImageOf file.now image.now }
-    requires named { 0 < length name.now }
+    requires not_empty { 0 < length name.now }
     ensures { result ≡ end_of_signature (symbol_of file.now name.now) }
 {
     match find_symbol(image, file, name) {

@@ -49,7 +49,7 @@ pub fn row_at_with_recent(
     spare: &mut SpareBus,
     recent: &mut RecentOutcomes,
 ) -> Result<Row, AllocError>
-    requires place { i < length plan.now.jobs }
+    requires index { i < length plan.now.jobs }
     requires recent { AreOutcomesOfPlan plan.now recent.old }
     ensures row { IfOk result (λ row. (d : AJob) → row
         ≡ row_of plan.now (slice_index_or plan.now.jobs i d)) }
@@ -73,7 +73,7 @@ pub(crate) fn row_with_verdict(
     outcome: Outcome,
     is_same: bool,
 ) -> Result<Row, AllocError>
-    requires place { i < length plan.now.jobs }
+    requires index { i < length plan.now.jobs }
     requires outcome { outcome_at plan.now i ≡ Some outcome }
     requires same { (d : AJob) → let job = slice_index_or plan.now.jobs i d in is_same
         ≡ matches_same_as job.same_as (same_as_outcome plan.now job) outcome }
@@ -144,7 +144,7 @@ pub fn machine_at(
     i: usize,
     image: &Image,
 ) -> Result<Result<Machine, Refusal>, AllocError>
-    requires place { i < length plan.now.jobs }
+    requires index { i < length plan.now.jobs }
     requires image { (d : AJob) → image_in plan.now.results (slice_index_or plan.now.jobs i d)
         ≡ Some image.now }
     ensures { IfOk result (λ found. (d : AJob) → MatchResult found
@@ -164,7 +164,7 @@ pub fn machine_at_reusing(
     image: &Image,
     spare: &mut SpareBus,
 ) -> Result<Result<Machine, Refusal>, AllocError>
-    requires place { i < length plan.now.jobs }
+    requires index { i < length plan.now.jobs }
     requires image { (d : AJob) → image_in plan.now.results (slice_index_or plan.now.jobs i d)
         ≡ Some image.now }
     ensures { IfOk result (λ found. (d : AJob) → MatchResult found
@@ -186,9 +186,9 @@ pub(crate) fn matches_same_as(
     spare: &mut SpareBus,
     recent: &mut RecentOutcomes,
 ) -> Result<bool, AllocError>
-    requires place { IfSome job.now.same_as (λ place. place < length plan.now.jobs) }
+    requires index { IfSome job.now.same_as (λ place. place < length plan.now.jobs) }
     requires recent { AreOutcomesOfPlan plan.now recent.old }
-    ensures same { IfOk result
+    ensures value { IfOk result
         (λ same. same ≡ matches_same_as job.now.same_as (same_as_outcome plan.now job.now) outcome.now) }
     ensures recent { OnOk result (AreOutcomesOfPlan plan.now recent.new) }
 {
@@ -206,9 +206,9 @@ fn equals_outcome_at(
     spare: &mut SpareBus,
     recent: &mut RecentOutcomes,
 ) -> Result<bool, AllocError>
-    requires place { index < length plan.now.jobs }
+    requires index { index < length plan.now.jobs }
     requires recent { AreOutcomesOfPlan plan.now recent.old }
-    ensures same { IfOk result (λ same. (d : AJob) → same
+    ensures value { IfOk result (λ same. (d : AJob) → same
         ≡ outcomes_match outcome.now
         (outcome_in plan.now.results (slice_index_or plan.now.jobs index d))) }
     ensures recent { OnOk result (AreOutcomesOfPlan plan.now recent.new) }
@@ -234,7 +234,7 @@ fn cache_outcome_if_named(
     outcome: &Outcome,
     recent: &mut RecentOutcomes,
 ) -> Result<(), AllocError>
-    requires place { i < length plan.now.jobs }
+    requires index { i < length plan.now.jobs }
     requires outcome { outcome_at plan.now i ≡ Some outcome.now }
     requires recent { AreOutcomesOfPlan plan.now recent.old }
     ensures { OnOk result (AreOutcomesOfPlan plan.now recent.new) }

@@ -18,7 +18,7 @@ pub fn count_batch_with_stacks<R: Threads + Wait + Sync>(
     batch: &Batch<'_>,
 ) -> Result<CountTable, SumError>
     ensures value { IfOk result (IsTableWithStacks batch.now.plan.now batch.now.places.now) }
-    ensures refused { IfErr result (HaveNoTableWithStacks batch.now.plan.now batch.now.places.now) }
+    ensures error { IfErr result (HaveNoTableWithStacks batch.now.plan.now batch.now.places.now) }
     ensures reasons { IfErr result IsOfNamesOrMemory }
 {
     let work = StackWork { batch };

@@ -23,7 +23,7 @@ pub(crate) fn follow_transfer(
 ) -> Result<(), AllocError>
     requires cache { IsFunctionCache (function_at symbols.now.image.now symbols.now.bytes.now) cache.old.items }
     requires at { IsAt (function_at symbols.now.image.now symbols.now.bytes.now) frames.old.items transfer.from walk.old }
-    requires few { all_calls walk.old.nodes.items < 2 ^ 40 }
+    requires calls_fit { all_calls walk.old.nodes.items < 2 ^ 40 }
     ensures cache { OnOk result (IsFunctionCache (function_at symbols.now.image.now symbols.now.bytes.now) cache.new.items) }
     ensures frames { OnOk result (frames.new.items ≡ after_transfer frames.old.items transfer) }
     ensures walk { OnOk result (FollowsTransfer (function_at symbols.now.image.now symbols.now.bytes.now) frames.old.items transfer
@@ -45,9 +45,9 @@ pub(crate) fn follow_transfer(
 // Continues the walk in `function`, which replaces the function after the first `depth` functions of the path. This counts as an entry only
 // if the two differ.
 fn continue_in(walk: &mut Walk, depth: usize, function: u32) -> Result<(), AllocError>
-    requires walk { IsWalk walk.old }
+    requires valid { IsWalk walk.old }
     requires depth { depth < length walk.old.path.items }
-    requires few { all_calls walk.old.nodes.items < 2 ^ 63 }
+    requires calls_fit { all_calls walk.old.nodes.items < 2 ^ 63 }
     ensures { OnOk result (ContinuesIn depth function walk.old walk.new) }
 {
     if walk.path[depth] == function {

@@ -69,7 +69,7 @@ pub(crate) fn steps_in_function(
     requires within { 0 < block.steps → block.index + block.steps ≤ length counts.now }
     ensures cache { IsFunctionCache (function_at symbols.now.image.now symbols.now.bytes.now) cache.new.items }
     ensures fewer { 0 < result → result < block.steps }
-    ensures own { (j : ℕ) → 0 < result → j ≤ result
+    ensures same_function { (j : ℕ) → 0 < result → j ≤ result
         → function_at symbols.now.image.now symbols.now.bytes.now (address_at counts.now (block.index + j))
         ≡ function_at symbols.now.image.now symbols.now.bytes.now (address_at counts.now block.index) }
 {

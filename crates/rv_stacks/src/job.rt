@@ -21,7 +21,7 @@ pub fn count_job_with_stacks(
     job: &JobImage<'_>,
     symbols: &CodeSymbols<'_>,
 ) -> Result<Option<(Addresses, CallNodes)>, AllocError>
-    ensures both { IfOk result (λ both. (d : AJob) → AreCountsAndStacksOfJob
+    ensures counts_and_stacks { IfOk result (λ both. (d : AJob) → AreCountsAndStacksOfJob
         (function_at symbols.now.image.now symbols.now.bytes.now)
         (job_at job.now.plan.now job.now.place d).budget
         (start_state_in job.now.plan.now.results (job_at job.now.plan.now job.now.place d)) both) }

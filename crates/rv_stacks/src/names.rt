@@ -31,8 +31,8 @@ pub(crate) fn names_of_functions(
 
 // Returns a copy of the nodes, sorted by function.
 fn by_function(alloc: Global, nodes: &[CallNode]) -> Result<Vec<CallNode>, AllocError>
-    ensures same { IfOk result (λ sorted. IsPermutation nodes.now sorted.items) }
-    ensures rising { IfOk result (λ sorted. IsNonDecreasingBy (λ s. s.function) sorted.items) }
+    ensures permutation { IfOk result (λ sorted. IsPermutation nodes.now sorted.items) }
+    ensures sorted { IfOk result (λ sorted. IsNonDecreasingBy (λ s. s.function) sorted.items) }
 {
     let mut sorted = Vec::new(alloc);
     for node in nodes {

@@ -45,9 +45,9 @@ pub(crate) fn number_of_child(
 
 /// Counts an entry into the node `number`.
 pub(crate) fn count_call(nodes: &mut Vec<WalkNode>, number: usize)
-    requires some { 0 < number }
+    requires positive { 0 < number }
     requires within { number < length nodes.old.items + 1 }
-    requires few { all_calls nodes.old.items < 2 ^ 63 }
+    requires calls_fit { all_calls nodes.old.items < 2 ^ 63 }
     ensures { EntersOnce number nodes.old.items nodes.new.items }
 {
     let old = nodes[number - 1];
@@ -61,9 +61,9 @@ pub(crate) fn count_call(nodes: &mut Vec<WalkNode>, number: usize)
 
 /// Counts `steps` instructions in the node `number`.
 pub(crate) fn count_steps(nodes: &mut Vec<WalkNode>, number: usize, steps: u32)
-    requires some { 0 < number }
+    requires positive { 0 < number }
     requires within { number < length nodes.old.items + 1 }
-    requires few { all_steps nodes.old.items < 2 ^ 63 }
+    requires steps_fit { all_steps nodes.old.items < 2 ^ 63 }
     ensures { StepsMore steps number nodes.old.items nodes.new.items }
 {
     let old = nodes[number - 1];

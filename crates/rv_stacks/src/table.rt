@@ -55,7 +55,7 @@ fn table_of_run(
 ) -> Result<CountTable, AllocError>
     requires counts { AreValidCounts addresses }
     requires tree { IsTree nodes }
-    requires some { HasCalls nodes }
+    requires has_calls { HasCalls nodes }
     ensures { IfOk result (IsTableOfRun (name_of_function symbols.now.image.now symbols.now.bytes.now) path.now
         symbols.now.bytes.now addresses nodes) }
 {

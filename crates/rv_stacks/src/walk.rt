@@ -42,9 +42,9 @@ impl Walk {
     /// Enters, by a call or a jump, the node whose path is the first `depth` functions of the current path, followed by `function`.
     /// Allocates if the node is new.
     pub fn enter(&mut self, depth: usize, function: u32) -> Result<(), AllocError>
-        requires walk { IsWalk self.old }
+        requires valid { IsWalk self.old }
         requires depth { depth ≤ length self.old.path.items }
-        requires few { all_calls self.old.nodes.items < 2 ^ 63 }
+        requires calls_fit { all_calls self.old.nodes.items < 2 ^ 63 }
         ensures { OnOk result (Enters (take depth self.old.path.items ++ function ∷ []) self.old self.new) }
     {
         self.return_to(depth);
@@ -58,7 +58,7 @@ impl Walk {
 
     /// Returns to the node whose path is the first `depth` functions of the current path.
     pub fn return_to(&mut self, depth: usize)
-        requires walk { IsWalk self.old }
+        requires valid { IsWalk self.old }
         requires depth { depth ≤ length self.old.path.items }
         ensures { ReturnsTo depth self.old self.new }
     {
@@ -68,9 +68,9 @@ impl Walk {
 
     /// Counts `steps` instructions in the current node.
     pub fn count_steps(&mut self, steps: u32)
-        requires walk { IsWalk self.old }
-        requires some { 0 < length self.old.path.items }
-        requires few { all_steps self.old.nodes.items < 2 ^ 63 }
+        requires valid { IsWalk self.old }
+        requires path_not_empty { 0 < length self.old.path.items }
+        requires steps_fit { all_steps self.old.nodes.items < 2 ^ 63 }
         ensures { CountsSteps steps self.old self.new }
     {
         let number = self.last_number();

@@ -75,7 +75,7 @@ fn first_width(text: &[u8]) -> usize
 fn push_first_printable<'a>(bytes: &mut Vec<u8>, text: &'a [u8]) -> Result<&'a [u8], AllocError>
     requires { 0 < length text.now }
     ensures shown { OnOk result (bytes.new.items ≡ bytes.old.items ++ first_printable text.now) }
-    ensures behind { IfOk result (λ rest. rest.now ≡ after_first_printable text.now) }
+    ensures rest { IfOk result (λ rest. rest.now ≡ after_first_printable text.now) }
     ensures shorter { IfOk result (λ rest. length rest.now < length text.now) }
 {
     let plain = plain_first_len(text);
@@ -104,7 +104,7 @@ fn plain_first_len(text: &[u8]) -> usize
 
 // Returns the first bytes of a text, as many as the UTF-8 character has that the first byte begins, or all bytes if there are fewer.
 fn first_character_bytes(text: &[u8]) -> &[u8]
-    ensures front { result.now ≡ first_character_bytes text.now }
+    ensures value { result.now ≡ first_character_bytes text.now }
     ensures within { length result.now ≤ length text.now }
 {
     let len = char_len(byte_at(text, 0));

@@ -45,7 +45,7 @@ fn push_first_xml_text<'a>(
     requires { 0 < length bytes.now }
     ensures text { OnOk result (string_bytes text.new
         ≡ string_bytes text.old ++ first_xml_text context bytes.now) }
-    ensures behind { IfOk result (λ rest. rest.now ≡ after_first_xml_text bytes.now) }
+    ensures rest { IfOk result (λ rest. rest.now ≡ after_first_xml_text bytes.now) }
     ensures shorter { IfOk result (λ rest. length rest.now < length bytes.now) }
 {
     match first_xml_character(bytes) {

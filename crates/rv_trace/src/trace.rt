@@ -75,7 +75,7 @@ fn trace_next_steps(
 ) -> Result<Vec<TracedStep>, AllocError>
     ensures steps { IfOk result
         (λ steps. steps.items ≡ steps_from count (state_of machine.old)) }
-    ensures after { OnOk result (state_of machine.new ≡ state_after count (state_of machine.old)) }
+    ensures state { OnOk result (state_of machine.new ≡ state_after count (state_of machine.old)) }
 {
     let mut steps = Vec::new(alloc);
     for _ in 0..count {

@@ -39,7 +39,7 @@ fn rows_of_run<R: Threads + Wait + Sync>(
     gate: &RecordingGate,
 ) -> Result<Rows, Fail>
     requires within { AreJobIndices plan.now places.now }
-    requires rising { IsStrictlyIncreasing places.now }
+    requires increasing { IsStrictlyIncreasing places.now }
 {
     let (workers, group) = crew_of(line);
     if cell_of(line, 5) == "fleet" {

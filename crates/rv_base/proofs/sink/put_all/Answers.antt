@@ -11,8 +11,8 @@ loop-offset-preserved g c = record {
   counted = c.in-Ok.ensures.counted ∙ c.loop-offset.invariant.counted;
 }
 
-pub returns-in-Err-clause-part : goal.returns-in-Err-clause-part
-returns-in-Err-clause-part g c =
+pub returns-in-Err-clause-prefix : goal.returns-in-Err-clause-prefix
+returns-in-Err-clause-prefix g c =
     first_bytes _ _ _ c.args.bytes.now c.loop-offset.offset c.loop-offset.invariant.appended c.in-Err.ensures.kept
 
 pub returns-in-Err-clause-failure : goal.returns-in-Err-clause-failure

@@ -15,14 +15,14 @@ none = record { function = 0; index = 0; end = 0; own = 0; inclusive = 0; calls 
 pub bounds-later-nodes : goal.bounds-later-nodes
 bounds-later-nodes c =
     child_within c.args.nodes.now c.args.index c.loop-end.end c.args.later.now c.loop-end.invariant.behind c.loop-end-test.true
-    c.requires.behind
+    c.requires.later
 
 pub overflow_add-inclusive : goal.overflow_add-inclusive
 overflow_add-inclusive c =
     let nodes = c.args.nodes.now in
     let end = c.loop-end.end in
     let is = child_is nodes c.args.index end c.args.later.now none no_spot c.loop-end.invariant.behind c.loop-end-test.true
-    c.requires.behind in
+    c.requires.later in
     let fits = child_fits nodes c.args.index (get_or nodes c.args.index no_spot) end c.loop-end.inclusive no_spot
     (get_or c.args.later.now (length nodes - 1 - end) none) c.loop-end.invariant c.loop-end-test.true c.if-node-nodes.true is in
     let all = one_of_all nodes c.args.index no_spot c.requires.within in
@@ -34,7 +34,7 @@ loop-end-smaller c =
     let nodes = c.args.nodes.now in
     let end = c.loop-end.end in
     let within = c.loop-end-test.true in
-    let is = child_is nodes c.args.index end c.args.later.now none no_spot c.loop-end.invariant.behind within c.requires.behind in
+    let is = child_is nodes c.args.index end c.args.later.now none no_spot c.loop-end.invariant.behind within c.requires.later in
     let further = child_further end (get_or nodes end no_spot) (drop (end + 1) nodes)
     (get_or c.args.later.now (length nodes - 1 - end) none) is in
     omega (arith, further, within)
@@ -45,4 +45,4 @@ loop-end-preserved c =
     let end = c.loop-end.end in
     one_child nodes c.args.index (get_or nodes c.args.index no_spot) end c.loop-end.inclusive no_spot
     (get_or c.args.later.now (length nodes - 1 - end) none) c.loop-end.invariant c.loop-end-test.true c.if-node-nodes.true
-    (child_is nodes c.args.index end c.args.later.now none no_spot c.loop-end.invariant.behind c.loop-end-test.true c.requires.behind)
+    (child_is nodes c.args.index end c.args.later.now none no_spot c.loop-end.invariant.behind c.loop-end-test.true c.requires.later)

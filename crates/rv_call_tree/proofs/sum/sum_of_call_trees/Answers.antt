@@ -43,10 +43,10 @@ loop-from_a-preserved c =
           (each_push FitsFields c.loop-from_a.sums.items next.node inv.fits c.in_ok-next.ensures.fits);
     }
 
-pub returns-in_err-next-clause-refused : goal.returns-in_err-next-clause-refused
-returns-in_err-next-clause-refused c =
+pub returns-in_err-next-clause-error : goal.returns-in_err-next-clause-error
+returns-in_err-next-clause-error c =
     let error = err_from_is_err_and c.from_residual.result c.from_residual.ensures.1 in
-    let refused = simp take_rest at c.in_err-next.ensures.refused in
+    let refused = simp take_rest at c.in_err-next.ensures.error in
     rw (error.1, error.2)
     (overflow c.args.a.now c.args.b.now c.loop-from_a.sums.items c.loop-from_a.from_a c.loop-from_a.from_b _
     c.loop-from_a.invariant.added refused)

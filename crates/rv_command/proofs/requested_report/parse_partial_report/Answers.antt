@@ -4,7 +4,7 @@ use Rattle.rv_command.proofs.SavedRows.{few_rows}
 use Rattle.rv_command.proofs.requested_report.parse_partial_report.Goals as goal
 
 pub returns-in-Ok-clause-few : goal.returns-in-Ok-clause-few
-returns-in-Ok-clause-few c = few_rows c.in-Ok.read.report c.in-Ok.ensures.saved
+returns-in-Ok-clause-few c = few_rows c.in-Ok.read.report c.in-Ok.ensures.valid
 
 pub returns-in-Err-Line-clause-fault : goal.returns-in-Err-Line-clause-fault
 returns-in-Err-Line-clause-fault c =

@@ -5,18 +5,18 @@ use Rattle.rv_command.proofs.saved_report.parse_report.Goals as goal
 
 pub returns-in-Ok-clause-report : goal.returns-in-Ok-clause-report
 returns-in-Ok-clause-report c =
-    record { saved = c.in-Ok.ensures.found.0; text = c.in-Ok.ensures.found.1 }
+    record { saved = c.in-Ok.ensures.report.0; text = c.in-Ok.ensures.report.1 }
 
 pub returns-in-Ok-clause-few : goal.returns-in-Ok-clause-few
-returns-in-Ok-clause-few c = few_rows c.in-Ok.report c.in-Ok.ensures.found.0
+returns-in-Ok-clause-few c = few_rows c.in-Ok.report c.in-Ok.ensures.report.0
 
 pub returns-in-Err-OutOfMemory-clause-fault : goal.returns-in-Err-OutOfMemory-clause-fault
 returns-in-Err-OutOfMemory-clause-fault c = record { told = inl refl; cut = λ line_starts_with. inl refl; whole = λ report is. refl }
 
 pub returns-in-Err-Truncated-clause-fault : goal.returns-in-Err-Truncated-clause-fault
 returns-in-Err-Truncated-clause-fault c =
-    let least = rw c.in-Err-Truncated.field-0-is at c.in-Err-Truncated.ensures.least in
-    let only = rw c.in-Err-Truncated.field-0-is at c.in-Err-Truncated.ensures.only in
+    let least = rw c.in-Err-Truncated.field-0-is at c.in-Err-Truncated.ensures.first_error in
+    let only = rw c.in-Err-Truncated.field-0-is at c.in-Err-Truncated.ensures.accepts in
     let told = told_stop _ _ _ _ c.rejection.ensures c.path_message-told.ensures in
     record {
       told = inr (inr (least, told));

@@ -3,8 +3,8 @@ use Rattle.std.proofs.Common.{arith}
 use Rattle.rv_count_tables.proofs.LineLoops.{place_here, place_later, place_end}
 use Rattle.rv_count_tables.proofs.line_parts.index_of_byte.Goals as goal
 
-pub returns-then-b-byte-clause-place : goal.returns-then-b-byte-clause-place
-returns-then-b-byte-clause-place c = omega (
+pub returns-then-b-byte-clause-index : goal.returns-then-b-byte-clause-index
+returns-then-b-byte-clause-index c = omega (
   arith,
   place_here c.args.byte c.args.text.now c.loop-place.place
       (omega arith) (omega arith),
@@ -17,5 +17,5 @@ loop-place-preserved c = omega (
       c.if-b-byte.false,
 )
 
-pub returns-clause-place : goal.returns-clause-place
-returns-clause-place c = omega (arith, place_end c.args.byte c.args.text.now c.loop-place.place (omega arith))
+pub returns-clause-index : goal.returns-clause-index
+returns-clause-index c = omega (arith, place_end c.args.byte c.args.text.now c.loop-place.place (omega arith))

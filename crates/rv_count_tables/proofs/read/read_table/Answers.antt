@@ -12,15 +12,15 @@ use Rattle.rv_count_tables.proofs.ReadTable.{behind_images, end_within, same_fir
 use Rattle.rv_count_tables.proofs.ReadTable.{least_behind, no_table_behind, last_told, whole_text, least_end}
 use Rattle.rv_count_tables.proofs.read.read_table.Goals as goal
 
-pub returns-then-ne-clause-only : goal.returns-then-ne-clause-only
-returns-then-ne-clause-only c table is text =
+pub returns-then-ne-clause-accepts : goal.returns-then-ne-clause-accepts
+returns-then-ne-clause-accepts c table is text =
     let bytes = c.args.bytes.now in
     let other = other_first c.whole_line.result.now c.as_bytes.result.now bytes c.ne.result c.ne.ensures c.if-ne.true
     c.whole_line.ensures c.as_bytes.ensures.value in
     absurd (no_table_first bytes other table is text)
 
-pub returns-then-ne-clause-least : goal.returns-then-ne-clause-least
-returns-then-ne-clause-least c =
+pub returns-then-ne-clause-first_error : goal.returns-then-ne-clause-first_error
+returns-then-ne-clause-first_error c =
     let bytes = c.args.bytes.now in
     let other = other_first c.whole_line.result.now c.as_bytes.result.now bytes c.ne.result c.ne.ensures c.if-ne.true
     c.whole_line.ensures c.as_bytes.ensures.value in
@@ -35,15 +35,15 @@ overflow_add-end c =
     c.whole_line.ensures c.as_bytes.ensures.value in
     let lines = subst (λ (s : List ℕ). AreParsedImages s read) c.tail_from.ensures c.in_ok-read.ensures in
     let few : length read.images < 2 ^ 64 =
-    subst (λ (is : List ImageCounts). length is < 2 ^ 64) c.as_slice.ensures c.runs_of_last_line.ensures.few in
+    subst (λ (is : List ImageCounts). length is < 2 ^ 64) c.as_slice.ensures c.runs_of_last_line.ensures.count_fits in
     let behind = behind_images bytes read place first lines few refl in
     let w = c.whole_line-line.ensures ∙ ap whole_line c.tail_from-2.ensures in
     let within = end_within bytes read.images place behind in
     let same = ap (λ (s : List ℕ). length s) w in
     omega (arith, within, same)
 
-pub returns-in-None-clause-only : goal.returns-in-None-clause-only
-returns-in-None-clause-only c table is text =
+pub returns-in-None-clause-accepts : goal.returns-in-None-clause-accepts
+returns-in-None-clause-accepts c table is text =
     let bytes = c.args.bytes.now in
     let read = c.in_ok-read.read in
     let place = 11 + read.length in
@@ -51,7 +51,7 @@ returns-in-None-clause-only c table is text =
     c.whole_line.ensures c.as_bytes.ensures.value in
     let lines = subst (λ (s : List ℕ). AreParsedImages s read) c.tail_from.ensures c.in_ok-read.ensures in
     let few : length read.images < 2 ^ 64 =
-    subst (λ (is : List ImageCounts). length is < 2 ^ 64) c.as_slice.ensures c.runs_of_last_line.ensures.few in
+    subst (λ (is : List ImageCounts). length is < 2 ^ 64) c.as_slice.ensures c.runs_of_last_line.ensures.count_fits in
     let behind = behind_images bytes read place first lines few refl in
     let w = c.whole_line-line.ensures ∙ ap whole_line c.tail_from-2.ensures in
     let none = rw c.in-None.is at c.in_ok-runs_of_last_line.ensures.none in
@@ -59,8 +59,8 @@ returns-in-None-clause-only c table is text =
     none r small (w ∙ e ∙ ap (λ (is : List ImageCounts). last_line (length is) r) (sym c.as_slice.ensures)) in
     absurd (no_table_behind bytes read.images place behind no_last table is text)
 
-pub returns-in-None-clause-least : goal.returns-in-None-clause-least
-returns-in-None-clause-least c =
+pub returns-in-None-clause-first_error : goal.returns-in-None-clause-first_error
+returns-in-None-clause-first_error c =
     let bytes = c.args.bytes.now in
     let read = c.in_ok-read.read in
     let place = 11 + read.length in
@@ -68,7 +68,7 @@ returns-in-None-clause-least c =
     c.whole_line.ensures c.as_bytes.ensures.value in
     let lines = subst (λ (s : List ℕ). AreParsedImages s read) c.tail_from.ensures c.in_ok-read.ensures in
     let few : length read.images < 2 ^ 64 =
-    subst (λ (is : List ImageCounts). length is < 2 ^ 64) c.as_slice.ensures c.runs_of_last_line.ensures.few in
+    subst (λ (is : List ImageCounts). length is < 2 ^ 64) c.as_slice.ensures c.runs_of_last_line.ensures.count_fits in
     let behind = behind_images bytes read place first lines few refl in
     let w = c.whole_line-line.ensures ∙ ap whole_line c.tail_from-2.ensures in
     let none = rw c.in-None.is at c.in_ok-runs_of_last_line.ensures.none in
@@ -86,7 +86,7 @@ returns-then-end-bytes-clause-text c =
     c.whole_line.ensures c.as_bytes.ensures.value in
     let lines = subst (λ (s : List ℕ). AreParsedImages s read) c.tail_from.ensures c.in_ok-read.ensures in
     let few : length read.images < 2 ^ 64 =
-    subst (λ (is : List ImageCounts). length is < 2 ^ 64) c.as_slice.ensures c.runs_of_last_line.ensures.few in
+    subst (λ (is : List ImageCounts). length is < 2 ^ 64) c.as_slice.ensures c.runs_of_last_line.ensures.count_fits in
     let behind = behind_images bytes read place first lines few refl in
     let w = c.whole_line-line.ensures ∙ ap whole_line c.tail_from-2.ensures in
     let runs = c.in-Some.runs in
@@ -98,8 +98,8 @@ returns-then-end-bytes-clause-text c =
     (ap (λ (s : List ℕ). place + length s) w) in
     whole_text bytes read.images runs end told c.if-end-bytes.true
 
-pub returns-then-end-bytes-clause-only : goal.returns-then-end-bytes-clause-only
-returns-then-end-bytes-clause-only c table is text =
+pub returns-then-end-bytes-clause-accepts : goal.returns-then-end-bytes-clause-accepts
+returns-then-end-bytes-clause-accepts c table is text =
     let bytes = c.args.bytes.now in
     let read = c.in_ok-read.read in
     let place = 11 + read.length in
@@ -107,7 +107,7 @@ returns-then-end-bytes-clause-only c table is text =
     c.whole_line.ensures c.as_bytes.ensures.value in
     let lines = subst (λ (s : List ℕ). AreParsedImages s read) c.tail_from.ensures c.in_ok-read.ensures in
     let few : length read.images < 2 ^ 64 =
-    subst (λ (is : List ImageCounts). length is < 2 ^ 64) c.as_slice.ensures c.runs_of_last_line.ensures.few in
+    subst (λ (is : List ImageCounts). length is < 2 ^ 64) c.as_slice.ensures c.runs_of_last_line.ensures.count_fits in
     let behind = behind_images bytes read place first lines few refl in
     let w = c.whole_line-line.ensures ∙ ap whole_line c.tail_from-2.ensures in
     let runs = c.in-Some.runs in
@@ -121,8 +121,8 @@ returns-then-end-bytes-clause-only c table is text =
     one_table (record { images = read.images; runs = runs }) table (is_table read.images runs behind.are fits) is
     (whole ∙ sym text)
 
-pub returns-else-end-bytes-clause-only : goal.returns-else-end-bytes-clause-only
-returns-else-end-bytes-clause-only c table is text =
+pub returns-else-end-bytes-clause-accepts : goal.returns-else-end-bytes-clause-accepts
+returns-else-end-bytes-clause-accepts c table is text =
     let bytes = c.args.bytes.now in
     let read = c.in_ok-read.read in
     let place = 11 + read.length in
@@ -130,7 +130,7 @@ returns-else-end-bytes-clause-only c table is text =
     c.whole_line.ensures c.as_bytes.ensures.value in
     let lines = subst (λ (s : List ℕ). AreParsedImages s read) c.tail_from.ensures c.in_ok-read.ensures in
     let few : length read.images < 2 ^ 64 =
-    subst (λ (is : List ImageCounts). length is < 2 ^ 64) c.as_slice.ensures c.runs_of_last_line.ensures.few in
+    subst (λ (is : List ImageCounts). length is < 2 ^ 64) c.as_slice.ensures c.runs_of_last_line.ensures.count_fits in
     let behind = behind_images bytes read place first lines few refl in
     let w = c.whole_line-line.ensures ∙ ap whole_line c.tail_from-2.ensures in
     let runs = c.in-Some.runs in
@@ -148,8 +148,8 @@ returns-else-end-bytes-clause-only c table is text =
     (least_end bytes read.images runs end behind.are fits told under) in
     absurd (no_table_refused c.line_number_at.result bytes least table is text)
 
-pub returns-else-end-bytes-clause-least : goal.returns-else-end-bytes-clause-least
-returns-else-end-bytes-clause-least c =
+pub returns-else-end-bytes-clause-first_error : goal.returns-else-end-bytes-clause-first_error
+returns-else-end-bytes-clause-first_error c =
     let bytes = c.args.bytes.now in
     let read = c.in_ok-read.read in
     let place = 11 + read.length in
@@ -157,7 +157,7 @@ returns-else-end-bytes-clause-least c =
     c.whole_line.ensures c.as_bytes.ensures.value in
     let lines = subst (λ (s : List ℕ). AreParsedImages s read) c.tail_from.ensures c.in_ok-read.ensures in
     let few : length read.images < 2 ^ 64 =
-    subst (λ (is : List ImageCounts). length is < 2 ^ 64) c.as_slice.ensures c.runs_of_last_line.ensures.few in
+    subst (λ (is : List ImageCounts). length is < 2 ^ 64) c.as_slice.ensures c.runs_of_last_line.ensures.count_fits in
     let behind = behind_images bytes read place first lines few refl in
     let w = c.whole_line-line.ensures ∙ ap whole_line c.tail_from-2.ensures in
     let runs = c.in-Some.runs in

@@ -22,7 +22,7 @@ pub lines-preserved : goal.lines-preserved
 lines-preserved c =
     let text = c.args.text.now in
     let w = c.whole_line-line.ensures ∙ ap whole_line c.tail_from.ensures in
-    let counted = rw c.in-Some.is at c.in_ok-counts.ensures.counted in
+    let counted = rw c.in-Some.is at c.in_ok-counts.ensures.valid in
     let under = rw c.in-Some.is at c.in_ok-counts.ensures.low in
     let line = rw c.in-Some.is at c.in_ok-counts.ensures.line in
     let m = c.lines.length + length c.whole_line-line.result.now in

@@ -19,8 +19,8 @@ returns-then-not-branch-clause-none c =
     (λ i h e. c.in_ok-image.ensures.digest i h (w ∙ e)) (λ i h e. c.in_ok-image.ensures.path i h (w ∙ e))
     (ap (λ (s : List ℕ). bytes_eq s (image_line c.in_ok-image.image)) (sym w) ∙ sym c.in_ok-has_image_line.ensures ∙ t)
 
-pub returns-clause-found : goal.returns-clause-found
-returns-clause-found c =
+pub returns-clause-image : goal.returns-clause-image
+returns-clause-image c =
     let text = c.args.text.now in
     let image = c.in_ok-image.image in
     let lines = c.in_ok-lines.lines in

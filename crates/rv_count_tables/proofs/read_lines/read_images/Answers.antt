@@ -14,7 +14,7 @@ images-preserved c =
     let text = c.args.text.now in
     let n = c.images.length in
     let read = c.in-Some.read in
-    let found = rw c.in-Some.is at c.in_ok-read.ensures.found in
+    let found = rw c.in-Some.is at c.in_ok-read.ensures.image in
     let one : IsParsedImage (last_digest None c.images.images.items) (drop n text) read =
     subst (λ (s : List ℕ). IsParsedImage (last_digest None c.images.images.items) s read) c.tail_from.ensures
     (subst (λ (is : List ImageCounts). IsParsedImage (last_digest None is) c.tail_from.result.now read)

@@ -34,8 +34,8 @@ lines-preserved c =
     let w = c.whole_line-line.ensures ∙ ap whole_line c.tail_from.ensures in
     let fits = rw c.in-Some.is at c.in_ok-read.ensures.node (drop c.lines.length text) w in
     let stands = subst (λ (path : List ℕ). FollowsInPreorder path read.node) c.as_slice.ensures.value
-    (rw c.in-Some.is at c.in_ok-read.ensures.stands) in
-    let agrees : AgreesWithName read.name (name_of read.node.function names) = rw c.in-Some.is at c.in_ok-read.ensures.agrees in
+    (rw c.in-Some.is at c.in_ok-read.ensures.preorder) in
+    let agrees : AgreesWithName read.name (name_of read.node.function names) = rw c.in-Some.is at c.in_ok-read.ensures.name in
     let line = rw c.in-Some.is at c.in_ok-read.ensures.line in
     let m = c.lines.length + length c.whole_line-line.result.now in
     let more = one_spot text c.lines.nodes.items names front c.lines.length m read c.lines.invariant fits stands agrees

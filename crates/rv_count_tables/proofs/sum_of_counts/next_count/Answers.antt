@@ -10,7 +10,7 @@ pub returns-then-is_empty-clause-value : goal.returns-then-is_empty-clause-value
 returns-then-is_empty-clause-value c =
     let e = c.if-is_empty.ensures in
     let none : length c.args.b.now ≡ 0 = grind (arith, nat_tests, e) in
-    let some = c.requires.some in
+    let some = c.requires.not_both_empty in
     subst (λ (n : NextCount). IsNextCount c.args.a.now c.args.b.now n) (sym c.count_of_first.ensures)
     (of_first_alone _ _ _ c.requires.a (omega (arith, some, none)) none)
 
@@ -18,7 +18,7 @@ pub returns-then-is_empty-2-clause-value : goal.returns-then-is_empty-2-clause-v
 returns-then-is_empty-2-clause-value c =
     let e = c.if-is_empty-2.ensures in
     let none : length c.args.a.now ≡ 0 = grind (arith, nat_tests, e) in
-    let some = c.requires.some in
+    let some = c.requires.not_both_empty in
     subst (λ (n : NextCount). IsNextCount c.args.a.now c.args.b.now n) (sym c.count_of_second.ensures)
     (of_second_alone _ _ _ c.requires.b (omega (arith, some, none)) none)
 

@@ -7,10 +7,10 @@ use Rattle.rv_count_tables.specs.Sum.{IsSumOfCounts}
 use Rattle.rv_count_tables.proofs.Adding.{too_great_behind, summed}
 use Rattle.rv_count_tables.proofs.sum_of_counts.sum_of_counts.Goals as goal
 
-pub returns-in_err-next-clause-refused : goal.returns-in_err-next-clause-refused
-returns-in_err-next-clause-refused c =
+pub returns-in_err-next-clause-error : goal.returns-in_err-next-clause-error
+returns-in_err-next-clause-error c =
     let error = err_from_is_err_and c.from_residual.result c.from_residual.ensures.1 in
-    let refused = simp take_rest at c.in_err-next.ensures.refused in
+    let refused = simp take_rest at c.in_err-next.ensures.error in
     rw (error.1, error.2)
     (too_great_behind c.loop-from_a.from_a c.loop-from_a.from_b c.args.a.now c.args.b.now _ refused)
 

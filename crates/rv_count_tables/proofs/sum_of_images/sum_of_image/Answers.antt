@@ -9,8 +9,8 @@ use Rattle.rv_count_tables.proofs.sum_of_images.sum_of_image.Goals as goal
 use Rattle.rv_call_tree.specs.declared.call_node.CallNode.{CallNode}
 use Rattle.rv_call_tree.specs.Sums.{IsSumOfCallTrees}
 
-pub returns-clause-tree : goal.returns-clause-tree
-returns-clause-tree c =
+pub returns-clause-valid_nodes : goal.returns-clause-valid_nodes
+returns-clause-valid_nodes c =
     are_spots _ _ _ _ _ c.requires.a.nodes c.requires.b.nodes c.as_slice-6.ensures c.as_slice-7.ensures
     c.in_ok-nodes.ensures.value c.in_ok-nodes.ensures.fits
 
@@ -28,10 +28,10 @@ returns-clause-names_of_nodes c =
     (subst (λ (ss : List CallNode). IsSumOfCallTrees ss c.as_slice-7.result.now nodes) c.as_slice-6.ensures
     c.in_ok-nodes.ensures.value))
 
-pub returns-in_err-functions-clause-refused : goal.returns-in_err-functions-clause-refused
-returns-in_err-functions-clause-refused c =
+pub returns-in_err-functions-clause-error : goal.returns-in_err-functions-clause-error
+returns-in_err-functions-clause-error c =
     let a = c.args.a.now in
     let b = c.args.b.now in
     let error = err_from_is_err_and c.from_residual-in_err-functions.result c.from_residual-in_err-functions.ensures.1 in
     rw (error.1, error.2)
-    (no_sum_of_named _ a b _ _ c.as_slice-4.ensures c.as_slice-5.ensures c.in_err-functions.ensures.refused)
+    (no_sum_of_named _ a b _ _ c.as_slice-4.ensures c.as_slice-5.ensures c.in_err-functions.ensures.error)

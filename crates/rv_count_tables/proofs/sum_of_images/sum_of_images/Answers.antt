@@ -30,10 +30,10 @@ loop-from_a-preserved c =
           (subst (λ (s : List ImageCounts). ImagesAddUp (drop (i + next.count_in_a) a) s others) (sym (drop-drop next.count_in_b j b)) h))));
     }
 
-pub returns-in_err-next-clause-refused : goal.returns-in_err-next-clause-refused
-returns-in_err-next-clause-refused c =
+pub returns-in_err-next-clause-error : goal.returns-in_err-next-clause-error
+returns-in_err-next-clause-error c =
     let error = err_from_is_err_and c.from_residual.result c.from_residual.ensures.1 in
-    let refused = simp take_rest at c.in_err-next.ensures.refused in
+    let refused = simp take_rest at c.in_err-next.ensures.error in
     rw (error.1, error.2)
     (no_sum_of_rest c.loop-from_a.from_a c.loop-from_a.from_b c.args.a.now c.args.b.now _ refused)
 

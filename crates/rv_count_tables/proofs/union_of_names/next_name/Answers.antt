@@ -10,7 +10,7 @@ pub returns-then-is_empty-clause-value : goal.returns-then-is_empty-clause-value
 returns-then-is_empty-clause-value c =
     let e = c.if-is_empty.ensures in
     let none : length c.args.b.now ≡ 0 = grind (arith, nat_tests, e) in
-    let some = c.requires.some in
+    let some = c.requires.not_both_empty in
     IfOk-weaker _ _ _ (λ next is. name_of_first_alone _ _ _ c.requires.a (omega (arith, some, none)) none
     c.index-a-0.is next is) c.name_of_first.ensures.value
 
@@ -18,7 +18,7 @@ pub returns-then-is_empty-2-clause-value : goal.returns-then-is_empty-2-clause-v
 returns-then-is_empty-2-clause-value c =
     let e = c.if-is_empty-2.ensures in
     let none : length c.args.a.now ≡ 0 = grind (arith, nat_tests, e) in
-    let some = c.requires.some in
+    let some = c.requires.not_both_empty in
     IfOk-weaker _ _ _ (λ next is. name_of_second_alone _ _ _ c.requires.b (omega (arith, some, none)) none
     c.index-b-0.is next is) c.name_of_second.ensures.value
 
@@ -40,8 +40,8 @@ returns-then-second-first-clause-value c =
     IfOk-weaker _ _ _ (λ next is. name_of_second _ _ _ _ c.requires.b some other c.index-a-0-2.is c.index-b-0-2.is
     c.if-second-first.true next is) c.name_of_second-then-second-first.ensures.value
 
-pub returns-then-not-have_equal_names-clause-refused : goal.returns-then-not-have_equal_names-clause-refused
-returns-then-not-have_equal_names-clause-refused c =
+pub returns-then-not-have_equal_names-clause-error : goal.returns-then-not-have_equal_names-clause-error
+returns-then-not-have_equal_names-clause-error c =
     let e = c.if-is_empty-2.ensures in
     let f = c.if-is_empty.ensures in
     let some : 0 < length c.args.a.now = grind (arith, nat_tests, e) in

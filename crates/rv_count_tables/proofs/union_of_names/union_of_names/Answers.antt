@@ -16,9 +16,9 @@ returns-clause-value c =
     (names_summed _ _ _ c.loop-from_a.from_a c.loop-from_a.from_b c.requires.a c.requires.b (omega (arith, n)) (omega (arith, m))
     inv.ahead)
 
-pub returns-in_err-next-clause-refused : goal.returns-in_err-next-clause-refused
-returns-in_err-next-clause-refused c =
+pub returns-in_err-next-clause-error : goal.returns-in_err-next-clause-error
+returns-in_err-next-clause-error c =
     let error = err_from_is_err_and c.from_residual.result c.from_residual.ensures.1 in
-    let refused = simp take_rest at c.in_err-next.ensures.refused in
+    let refused = simp take_rest at c.in_err-next.ensures.error in
     rw (error.1, error.2)
     (no_sum_of_rest c.loop-from_a.from_a c.loop-from_a.from_b c.args.a.now c.args.b.now _ refused)

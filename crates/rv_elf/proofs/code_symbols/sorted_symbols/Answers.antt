@@ -9,6 +9,6 @@ pub returns-clause-symbols : goal.returns-clause-symbols
 returns-clause-symbols c = in_order c.args.table.now c.args.strings.now (symbol_count c.args.table.now) _
     c.in_ok-symbols.ensures _ c.sort_unstable_by_key.ensures.permutation
 
-pub returns-clause-rising : goal.returns-clause-rising
-returns-clause-rising c = IsNonDecreasingBy-from_sort_by_key (λ s. s.rank) _ c.sort_unstable_by_key.ensures.sorted
+pub returns-clause-sorted : goal.returns-clause-sorted
+returns-clause-sorted c = IsNonDecreasingBy-from_sort_by_key (λ s. s.rank) _ c.sort_unstable_by_key.ensures.sorted
     (λ a r q k. search rules)

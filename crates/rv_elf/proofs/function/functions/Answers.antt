@@ -11,7 +11,7 @@ symbol_and_string_bytes-requires c = header_there c.args.file.now c.args.image.n
 
 pub returns-in_default : goal.returns-in_default
 returns-in_default c = rw c.new.ensures.items
-    (sym (no_functions c.args.image.now c.args.file.now _ c.in_default.ensures.checked))
+    (sym (no_functions c.args.image.now c.args.file.now _ c.in_default.ensures.check))
 
 pub functions_in-requires : goal.functions_in-requires
 functions_in-requires c = ap (list_all (is_in_file (length c.args.file.now))) c.as_slice.ensures
@@ -19,4 +19,4 @@ functions_in-requires c = ap (list_all (is_in_file (length c.args.file.now))) c.
 
 pub returns : goal.returns
 returns c = rw (sym (functions_there c.args.image.now c.args.file.now c.in-Ok.table.now c.in-Ok.strings.now
-    c.in-Ok.ensures.checked c.in-Ok.ensures.there c.as_slice.result.now c.as_slice.ensures)) c.functions_in.ensures
+    c.in-Ok.ensures.check c.in-Ok.ensures.bytes c.as_slice.result.now c.as_slice.ensures)) c.functions_in.ensures

@@ -17,9 +17,9 @@ returns-in_err-check_program_headers c =
     c.from_residual-in_err-check_program_headers.ensures.1 in
     rw (error.1, error.2) (λ _. entries_refused c.args.isa c.args.file.now _ c.in_err-check_program_headers.ensures)
 
-pub check_segments_and_entry-requires-clause-read : goal.check_segments_and_entry-requires-clause-read
+pub check_segments_and_entry-requires-clause-segments : goal.check_segments_and_entry-requires-clause-segments
 unfolding segments
-check_segments_and_entry-requires-clause-read c =
+check_segments_and_entry-requires-clause-segments c =
     c.as_slice-3.ensures.value ∙ c.in_ok-kept.ensures ∙ ap loaded_segments (c.as_slice-2.ensures.value ∙ c.in_ok-found.ensures)
 
 pub returns-in_err-check_segments_and_entry : goal.returns-in_err-check_segments_and_entry

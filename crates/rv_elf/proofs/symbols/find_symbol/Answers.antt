@@ -9,14 +9,14 @@ symbol_and_string_bytes-requires c = header_there c.args.file.now c.args.image.n
 pub returns-in_err-table : goal.returns-in_err-table
 returns-in_err-table c =
     let error = err_from_is_err_and c.from_residual.result c.from_residual.ensures.1 in
-    rw (error.1, error.2) (sym (name_refused c.args.file.now c.args.name.now _ c.in_err-table.ensures.checked))
+    rw (error.1, error.2) (sym (name_refused c.args.file.now c.args.name.now _ c.in_err-table.ensures.check))
 
 pub returns-in-Some : goal.returns-in-Some
 returns-in-Some c =
     sym (name_looked_up c.args.file.now c.args.name.now c.in_ok-table.table.now c.in_ok-table.strings.now
-    (Some c.in-Some.value) c.in_ok-table.ensures.checked c.in_ok-table.ensures.there c.in-Some.ensures)
+    (Some c.in-Some.value) c.in_ok-table.ensures.check c.in_ok-table.ensures.bytes c.in-Some.ensures)
 
 pub returns-in-None : goal.returns-in-None
 returns-in-None c =
     sym (name_looked_up c.args.file.now c.args.name.now c.in_ok-table.table.now c.in_ok-table.strings.now
-    None c.in_ok-table.ensures.checked c.in_ok-table.ensures.there c.in-None.ensures)
+    None c.in_ok-table.ensures.check c.in_ok-table.ensures.bytes c.in-None.ensures)

@@ -3,8 +3,8 @@ use Rattle.rv_elf.proofs.Naming.{sections_there, no_section_table, no_symbol_tab
 use Rattle.rv_elf.proofs.Naming.{no_string_table, past_string_table, tables_good, tables_found}
 use Rattle.rv_elf.proofs.symbols.symbol_and_string_bytes.Goals as goal
 
-pub returns-then-has_bad_section_table-clause-checked : goal.returns-then-has_bad_section_table-clause-checked
-returns-then-has_bad_section_table-clause-checked c =
+pub returns-then-has_bad_section_table-clause-check : goal.returns-then-has_bad_section_table-clause-check
+returns-then-has_bad_section_table-clause-check c =
     no_section_table c.args.file.now (sym c.has_bad_section_table.ensures ∙ c.if-has_bad_section_table.true)
 
 pub symbol_table_section-requires : goal.symbol_table_section-requires
@@ -17,42 +17,42 @@ string_table_section-requires c = sections_there c.args.file.now
     c.requires
     (sym c.has_bad_section_table.ensures ∙ c.if-has_bad_section_table.false)
 
-pub returns-in_default-clause-checked : goal.returns-in_default-clause-checked
-returns-in_default-clause-checked c =
+pub returns-in_default-clause-check : goal.returns-in_default-clause-check
+returns-in_default-clause-check c =
     no_symbol_table c.args.file.now (sym c.has_bad_section_table.ensures ∙ c.if-has_bad_section_table.false)
     (sym c.in_default.ensures)
 
-pub returns-then-is_bad_symbol_table-clause-checked : goal.returns-then-is_bad_symbol_table-clause-checked
-returns-then-is_bad_symbol_table-clause-checked c =
+pub returns-then-is_bad_symbol_table-clause-check : goal.returns-then-is_bad_symbol_table-clause-check
+returns-then-is_bad_symbol_table-clause-check c =
     bad_symbol_table c.args.file.now
     (sym c.has_bad_section_table.ensures ∙ c.if-has_bad_section_table.false) c.in-Some.symbols (sym c.in-Some.ensures)
     (sym c.is_bad_symbol_table.ensures ∙ c.if-is_bad_symbol_table.true)
 
-pub returns-in_default-string_table_section-clause-checked : goal.returns-in_default-string_table_section-clause-checked
-returns-in_default-string_table_section-clause-checked c =
+pub returns-in_default-string_table_section-clause-check : goal.returns-in_default-string_table_section-clause-check
+returns-in_default-string_table_section-clause-check c =
     no_string_table c.args.file.now
     (sym c.has_bad_section_table.ensures ∙ c.if-has_bad_section_table.false) c.in-Some.symbols (sym c.in-Some.ensures)
     (sym c.is_bad_symbol_table.ensures ∙ c.if-is_bad_symbol_table.false)
     (sym c.in_default-string_table_section.ensures)
 
-pub returns-then-is_bad_string_table-clause-checked : goal.returns-then-is_bad_string_table-clause-checked
-returns-then-is_bad_string_table-clause-checked c =
+pub returns-then-is_bad_string_table-clause-check : goal.returns-then-is_bad_string_table-clause-check
+returns-then-is_bad_string_table-clause-check c =
     past_string_table c.args.file.now
     (sym c.has_bad_section_table.ensures ∙ c.if-has_bad_section_table.false) c.in-Some.symbols (sym c.in-Some.ensures)
     (sym c.is_bad_symbol_table.ensures ∙ c.if-is_bad_symbol_table.false)
     c.in-Some-string_table_section.strings (sym c.in-Some-string_table_section.ensures)
     (sym c.is_bad_string_table.ensures ∙ c.if-is_bad_string_table.true)
 
-pub returns-clause-checked : goal.returns-clause-checked
-returns-clause-checked c =
+pub returns-clause-check : goal.returns-clause-check
+returns-clause-check c =
     tables_good c.args.file.now
     (sym c.has_bad_section_table.ensures ∙ c.if-has_bad_section_table.false) c.in-Some.symbols (sym c.in-Some.ensures)
     (sym c.is_bad_symbol_table.ensures ∙ c.if-is_bad_symbol_table.false)
     c.in-Some-string_table_section.strings (sym c.in-Some-string_table_section.ensures)
     (sym c.is_bad_string_table.ensures ∙ c.if-is_bad_string_table.false)
 
-pub returns-clause-there : goal.returns-clause-there
-returns-clause-there c =
+pub returns-clause-bytes : goal.returns-clause-bytes
+returns-clause-bytes c =
     tables_found c.args.file.now
     (sym c.has_bad_section_table.ensures ∙ c.if-has_bad_section_table.false) c.in-Some.symbols (sym c.in-Some.ensures)
     (sym c.is_bad_symbol_table.ensures ∙ c.if-is_bad_symbol_table.false)

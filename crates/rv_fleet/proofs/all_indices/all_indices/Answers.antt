@@ -7,8 +7,8 @@ returns-clause-within c =
     counted_within c.args.plan.now _ (omega (arith, c.loop-place.invariant.0, c.jobs-jobs.ensures.value))
     (λ k d inside. c.loop-place.invariant.1 k d (omega (arith, inside, c.loop-place.invariant.0)))
 
-pub returns-clause-rising : goal.returns-clause-rising
-returns-clause-rising c = counted_rising _ (λ k d inside. c.loop-place.invariant.1 k d
+pub returns-clause-increasing : goal.returns-clause-increasing
+returns-clause-increasing c = counted_rising _ (λ k d inside. c.loop-place.invariant.1 k d
     (omega (arith, inside, c.loop-place.invariant.0)))
 
 pub returns-clause-rows : goal.returns-clause-rows

@@ -16,8 +16,8 @@ returns-in_default c = λ d s e h.
     c.in_default.ensures (subst (λ (t : State). (run_of c.args.steps t).steps ≡ c.args.steps)
     (one_start _ s (state_of c.in-Ok.machine) e (rw c.in-Ok.is at (c.in_ok-machine.ensures d))) h)
 
-pub budget_use-requires-clause-complete : goal.budget_use-requires-clause-complete
-budget_use-requires-clause-complete c =
+pub budget_use-requires-clause-all_steps_run : goal.budget_use-requires-clause-all_steps_run
+budget_use-requires-clause-all_steps_run c =
     let d = single_job [] 0 [] in
     subst (λ (t : State). (run_of c.args.steps t).steps ≡ c.args.steps)
     (one_start _ (state_of c.in-Ok.machine) (state_of c.in-Ok-2.machine)

@@ -21,7 +21,7 @@ loop-step-preserved c =
     let s = state_of c.args.machine in
     let step = c.loop-step.step in
     let begin = c.args.steps - c.min.result in
-    let complete = c.requires.complete in
+    let complete = c.requires.all_steps_run in
     let reached = c.loop-step.invariant.reached in
     let known = known_more c.args.end.now begin step s (state_of c.loop-step.ahead) reached c.loop-step.matching
     (omega arith) c.loop-step.invariant.known in
@@ -34,8 +34,8 @@ loop-step-preserved c =
       waited = subst (λ (w : ℕ). Waited begin (step + 1) s w) (sym c.waits_up_to-waited.ensures) waited;
     }
 
-pub returns-in_err-matching-clause-found : goal.returns-in_err-matching-clause-found
-returns-in_err-matching-clause-found c = λ step l last.
+pub returns-in_err-matching-clause-some_if_near : goal.returns-in_err-matching-clause-some_if_near
+returns-in_err-matching-clause-some_if_near c = λ step l last.
     let s = state_of c.args.machine in
     let end : c.loop-step.step ≡ c.args.steps = omega arith in
     let known = subst (λ (k : ℕ). Known c.args.end.now (c.args.steps - c.min.result) k s c.loop-step.matching) end
@@ -51,7 +51,7 @@ returns-clause-repetition c =
     let known = subst (λ (k : ℕ). Known c.args.end.now (c.args.steps - c.min.result) k s c.loop-step.matching) end
     c.loop-step.invariant.known in
     repetition_of c.args.end.now (c.args.steps - c.min.result) c.args.steps s c.in_ok-matching.matching
-    (ltb c.in_ok-matching.matching.first c.loop-step.waited) c.requires.complete
+    (ltb c.in_ok-matching.matching.first c.loop-step.waited) c.requires.all_steps_run
     c.requires.end (subst (λ (a : Option MatchingSteps). Known c.args.end.now (c.args.steps - c.min.result) c.args.steps s a)
     c.in_ok-matching.was known)
 

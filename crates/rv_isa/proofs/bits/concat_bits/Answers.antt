@@ -11,16 +11,16 @@ joined high low width p q =
     ap (λ x. bit_or x low) whole ∙ or_shifted high width low p
 
 pub returns-clause-value : goal.returns-clause-value
-returns-clause-value c = joined c.args.high c.args.low c.args.width c.requires.fits c.requires.whole
+returns-clause-value c = joined c.args.high c.args.low c.args.width c.requires.fits c.requires.no_overflow
 
 pub returns-clause-above : goal.returns-clause-above
 returns-clause-above c h l p q =
     let a = c.args in
-    ap (λ x. field x h l) (joined a.high a.low a.width c.requires.fits c.requires.whole)
+    ap (λ x. field x h l) (joined a.high a.low a.width c.requires.fits c.requires.no_overflow)
     ∙ joined-high a.high a.low a.width h l c.requires.fits p q
 
 pub returns-clause-below : goal.returns-clause-below
 returns-clause-below c h l p q =
     let a = c.args in
-    ap (λ x. field x h l) (joined a.high a.low a.width c.requires.fits c.requires.whole)
+    ap (λ x. field x h l) (joined a.high a.low a.width c.requires.fits c.requires.no_overflow)
     ∙ joined-low a.high a.low a.width h l c.requires.fits p q

@@ -41,19 +41,19 @@ overflow_sub-result c =
       powers c.args.from_bits c.args.to_bits r.order,
     )
 
-pub returns-then-value-from_bits-clause-same : goal.returns-then-value-from_bits-clause-same
-returns-then-value-from_bits-clause-same c =
-    lower c.args.value c.args.from_bits c.args.to_bits c.requires.some c.requires.order
+pub returns-then-value-from_bits-clause-same_value : goal.returns-then-value-from_bits-clause-same_value
+returns-then-value-from_bits-clause-same_value c =
+    lower c.args.value c.args.from_bits c.args.to_bits c.requires.positive c.requires.order
     (omega (arith, shifted (c.args.from_bits - 1) (omega arith)))
 
 pub returns-then-value-from_bits-clause-below : goal.returns-then-value-from_bits-clause-below
 returns-then-value-from_bits-clause-below c = omega (arith, powers c.args.from_bits c.args.to_bits c.requires.order)
 
-pub returns-else-value-from_bits-clause-same : goal.returns-else-value-from_bits-clause-same
-returns-else-value-from_bits-clause-same c =
+pub returns-else-value-from_bits-clause-same_value : goal.returns-else-value-from_bits-clause-same_value
+returns-else-value-from_bits-clause-same_value c =
     let a = c.args in
     rw (shifted a.to_bits (omega arith), shifted a.from_bits (omega arith))
-    (upper a.value a.from_bits a.to_bits c.requires.some c.requires.order
+    (upper a.value a.from_bits a.to_bits c.requires.positive c.requires.order
     (omega (arith, shifted (a.from_bits - 1) (omega arith))) c.requires.small)
 
 pub returns-else-value-from_bits-clause-below : goal.returns-else-value-from_bits-clause-below
@@ -73,7 +73,7 @@ returns-else-value-from_bits-clause-parity c =
       arith,
       shifted a.from_bits (omega arith),
       shifted a.to_bits (omega arith),
-      halves a.from_bits r.some,
+      halves a.from_bits r.positive,
       halves a.to_bits (omega arith),
       powers a.from_bits a.to_bits r.order,
     )

@@ -28,7 +28,7 @@ loop-place-preserved g c =
     let jobs = c.as_slice-in-loop-place.ensures.value in
     let place = get_or c.as_slice-place-items.result.now c.loop-place.place-index 0 in
     record {
-      same = c.in_ok-asked.ensures.same ∙ inv.same;
+      same = c.in_ok-asked.ensures.contents_unchanged ∙ inv.same;
       paths = c.in_ok-asked.ensures.paths
           ∙ (ap (λ js. fold with_job_paths (paths_of c.loop-place.asked) (jobs_needed_at js place)) jobs
           ∙ ap (λ ps. fold with_job_paths (paths_of c.loop-place.asked)
@@ -36,10 +36,10 @@ loop-place-preserved g c =
           ∙ ap (λ ps. fold with_job_paths ps (jobs_needed_at c.args.jobs (get_or c.args.indices.items c.loop-place.place-index 0)))
           inv.paths
           ∙ sym (needed_more c.args.jobs c.args.indices.items c.loop-place.place-index 0 (omega arith)));
-      kept = rw inv.same at (c.in_ok-asked.ensures.kept kept);
+      kept = rw inv.same at (c.in_ok-asked.ensures.agree kept);
       faults = c.in_ok-asked.ensures.faults (g.S.Store.fault_count c.args.store.now) inv.faults;
       noted = subst (λ js. AreRecorded (paths_of c.in_ok-asked.asked) js c.read_paths_for_row.new.recorded.items) jobs
-          c.in_ok-asked.ensures.noted;
+          c.in_ok-asked.ensures.recorded;
     }
 
 pub invariant_of-result : goal.invariant_of-result
@@ -66,8 +66,8 @@ returns-clause-paths g c =
     ap paths_of (parts_whole c.loop-place.asked (paths_used (jobs_needed_for c.args.jobs c.args.indices.items))
     c.into_results-results.result.items used c.into_results-results.ensures) ∙ used
 
-pub returns-clause-kept : goal.returns-clause-kept
-returns-clause-kept g c =
+pub returns-clause-agree : goal.returns-clause-agree
+returns-clause-agree g c =
     let used = c.loop-place.invariant.paths
     ∙ needed_whole c.args.jobs c.args.indices.items c.loop-place.place-index (omega arith) in
     let same = parts_whole c.loop-place.asked (paths_used (jobs_needed_for c.args.jobs c.args.indices.items))

@@ -26,6 +26,6 @@ returns-clause-within c =
     (sym (c.loop-place.invariant ∙ ap (selected_indices c.args.selection.now) last))
     (marked_within c.args.selection.now (length c.args.selection.now))
 
-pub returns-clause-rising : goal.returns-clause-rising
-returns-clause-rising c =
+pub returns-clause-increasing : goal.returns-clause-increasing
+returns-clause-increasing c =
     subst IsStrictlyIncreasing (sym c.loop-place.invariant) (marked_rising c.args.selection.now c.loop-place.place)

@@ -47,7 +47,7 @@ returns-in_err-put_all-clause-part g c =
     let error = err_from_is_err_and c.from_residual-in_err-put_all.result
     c.from_residual-in_err-put_all.ensures.1 in
     rw error.1 (failed_under_way _ _ _ _ suite_end_text _ _ _ c.in_ok-write_cases.ensures.partly_written
-    c.in_ok-push_text.ensures (rw c.as_slice.ensures.value at c.in_err-put_all.ensures.part)
+    c.in_ok-push_text.ensures (rw c.as_slice.ensures.value at c.in_err-put_all.ensures.prefix)
     (junit_begun class judging (g.T.RowReporter.line c.args.cases.now.reporter.now) c.args.cases.now.indices.now rows
     c.into_bytes-text.result.items begun))
 

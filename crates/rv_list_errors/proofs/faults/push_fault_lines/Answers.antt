@@ -14,5 +14,5 @@ loop-at-preserved c =
     one_line_more (λ fault message. HasHeadAndTail (ExplainsFaultInView c.args.view.now fault)
     (c.args.file.now ++ location_in_view c.args.view.now fault.job) message) c.args.faults.now c.loop-at.at _
     c.args.bytes.now.items c.loop-at.bytes.items c.push_spans.new.bytes.items c.as_slice.result.now c.loop-at-test.true
-    c.loop-at.invariant (subst (HasHeadAndTail _ _) (sym c.as_slice.ensures.value) c.in_ok-message.ensures.told)
+    c.loop-at.invariant (subst (HasHeadAndTail _ _) (sym c.as_slice.ensures.value) c.in_ok-message.ensures.explanation)
     c.in_ok-push_spans.ensures

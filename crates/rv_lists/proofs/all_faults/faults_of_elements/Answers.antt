@@ -9,7 +9,7 @@ loop-at-preserved c = (
       (names_of_jobs c.in_ok-earlier.earlier) c.args.elements.now c.loop-at.at c.index-elements-at.result
       c.loop-at-test.true (rw (← c.index-elements-at.is) c.in_ok-earlier.ensures.faults)
       (rw (← c.index-elements-at.is) c.in_ok-earlier.ensures.names) ∙ c.loop-at.invariant.0,
-  omega (arith, c.in_ok-earlier.ensures.few, c.loop-at.invariant.1),
+  omega (arith, c.in_ok-earlier.ensures.at_most_one_added, c.loop-at.invariant.1),
 )
 
 pub returns : goal.returns

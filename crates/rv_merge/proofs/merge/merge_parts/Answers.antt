@@ -18,17 +18,17 @@ none_there c =
     (length-bytes_of c.args.texts.now
     ∙ eqb-true (length c.args.texts.now) 0 (sym c.is_empty.ensures ∙ c.if-is_empty.true))
 
-pub returns-then-is_empty-clause-only : goal.returns-then-is_empty-clause-only
-returns-then-is_empty-clause-only c = λ rows parts.
+pub returns-then-is_empty-clause-accepts : goal.returns-then-is_empty-clause-accepts
+returns-then-is_empty-clause-accepts c = λ rows parts.
     refused_only rows (bytes_of_texts c.args.texts.now) error.NoTexts parts (none_there c)
 
-pub returns-then-is_empty-clause-err : goal.returns-then-is_empty-clause-err
-returns-then-is_empty-clause-err c = none_there c
+pub returns-then-is_empty-clause-error : goal.returns-then-is_empty-clause-error
+returns-then-is_empty-clause-error c = none_there c
 
-pub returns-in_err-gathered-clause-only : goal.returns-in_err-gathered-clause-only
-returns-in_err-gathered-clause-only c =
+pub returns-in_err-gathered-clause-accepts : goal.returns-in_err-gathered-clause-accepts
+returns-in_err-gathered-clause-accepts c =
     gives_err (bytes_of_texts c.args.texts.now) c.from_residual.result c.in_err-gathered.field-0.0 c.from_residual.ensures.1
-    c.in_err-gathered.ensures.err
+    c.in_err-gathered.ensures.error
 
 some_there : (n : ℕ) → (n == 0) ≡ false → 0 < n
 some_there zero e = absurd (false≢true (sym e))
@@ -49,14 +49,14 @@ pub rows_of_parts-requires : goal.rows_of_parts-requires
 rows_of_parts-requires c =
     let g = c.in_ok-gathered.gathered in
     sources_some (bytes_of_texts c.args.texts.now) g.first g.sources.items g.slots.items
-    (all_held c.args.texts.now g c.in_ok-gathered.ensures.holds)
+    (all_held c.args.texts.now g c.in_ok-gathered.ensures.state)
     (some_held c.args.texts.now c.is_empty.result c.is_empty.ensures c.if-is_empty.false)
 
 found : (c : goal.After-rows_of_parts) → IfOk c.rows_of_parts.result (λ rows. AreParts rows (bytes_of_texts c.args.texts.now))
 found c =
     let g = c.in_ok-gathered.gathered in
     found_in (bytes_of_texts c.args.texts.now) g.first g.sources.items g.slots.items
-    (all_held c.args.texts.now g c.in_ok-gathered.ensures.holds)
+    (all_held c.args.texts.now g c.in_ok-gathered.ensures.state)
     (some_held c.args.texts.now c.is_empty.result c.is_empty.ensures c.if-is_empty.false) c.rows_of_parts.result
     c.rows_of_parts.ensures.rows
 
@@ -64,15 +64,15 @@ refused : (c : goal.After-rows_of_parts) → IfErr c.rows_of_parts.result (HasMe
 refused c =
     let g = c.in_ok-gathered.gathered in
     refused_job_count (bytes_of_texts c.args.texts.now) g.first g.sources.items g.slots.items
-    (all_held c.args.texts.now g c.in_ok-gathered.ensures.holds)
+    (all_held c.args.texts.now g c.in_ok-gathered.ensures.state)
     (some_held c.args.texts.now c.is_empty.result c.is_empty.ensures c.if-is_empty.false) c.rows_of_parts.result
-    c.rows_of_parts.ensures.err
+    c.rows_of_parts.ensures.error
 
-pub returns-clause-found : goal.returns-clause-found
-returns-clause-found c = found c
+pub returns-clause-rows : goal.returns-clause-rows
+returns-clause-rows c = found c
 
-pub returns-clause-only : goal.returns-clause-only
-returns-clause-only c = gives (bytes_of_texts c.args.texts.now) c.rows_of_parts.result (found c) (refused c)
+pub returns-clause-accepts : goal.returns-clause-accepts
+returns-clause-accepts c = gives (bytes_of_texts c.args.texts.now) c.rows_of_parts.result (found c) (refused c)
 
-pub returns-clause-err : goal.returns-clause-err
-returns-clause-err c = refused c
+pub returns-clause-error : goal.returns-clause-error
+returns-clause-error c = refused c

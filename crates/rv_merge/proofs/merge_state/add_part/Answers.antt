@@ -10,11 +10,11 @@ use Rattle.rv_merge.proofs.Gathering.{numbers_each, read_some, shard_within}
 use Rattle.rv_merge.proofs.Texts.{length-bytes_of}
 use Rattle.rv_merge.proofs.merge_state.add_part.Goals as goal
 
-pub returns-in-Some-clause-err : goal.returns-in-Some-clause-err
-returns-in-Some-clause-err c = (
-  omega (arith, length-bytes_of c.args.texts.now, c.requires.at),
+pub returns-in-Some-clause-error : goal.returns-in-Some-clause-error
+returns-in-Some-clause-error c = (
+  omega (arith, length-bytes_of c.args.texts.now, c.requires.index),
   has_other_run (bytes_of_texts c.args.texts.now) c.args.index c.args.state.now.first c.args.part.shard c.in-Some.flaw
-      c.requires.holds.first
+      c.requires.state.first
       (record {
         report = report_of_part c.args.part;
         saved = c.requires.text.saved;
@@ -28,7 +28,7 @@ pub overflow_sub-shard : goal.overflow_sub-shard
 overflow_sub-shard c =
     let g = c.args.state.now in
     let p = c.args.part in
-    let w = shard_within (bytes_of_texts c.args.texts.now) c.args.index g.first g.sources.items g.slots.items c.requires.holds
+    let w = shard_within (bytes_of_texts c.args.texts.now) c.args.index g.first g.sources.items g.slots.items c.requires.state
     p.shard p.numbers p.rows c.requires.text c.in_default.ensures in
     omega (arith, w.0)
 
@@ -36,7 +36,7 @@ pub index-requires : goal.index-requires
 index-requires c =
     let g = c.args.state.now in
     let p = c.args.part in
-    let w = shard_within (bytes_of_texts c.args.texts.now) c.args.index g.first g.sources.items g.slots.items c.requires.holds
+    let w = shard_within (bytes_of_texts c.args.texts.now) c.args.index g.first g.sources.items g.slots.items c.requires.state
     p.shard p.numbers p.rows c.requires.text c.in_default.ensures in
     omega (arith, w.0, w.1, g.sources.ok.0)
 
@@ -44,7 +44,7 @@ pub index_mut-requires : goal.index_mut-requires
 index_mut-requires c =
     let g = c.args.state.now in
     let p = c.args.part in
-    let w = shard_within (bytes_of_texts c.args.texts.now) c.args.index g.first g.sources.items g.slots.items c.requires.holds
+    let w = shard_within (bytes_of_texts c.args.texts.now) c.args.index g.first g.sources.items g.slots.items c.requires.state
     p.shard p.numbers p.rows c.requires.text c.in_default.ensures in
     omega (arith, w.0, w.1, g.sources.ok.0)
 
@@ -53,17 +53,17 @@ fill_slots-requires-clause-numbers c =
     let g = c.args.state.now in
     let p = c.args.part in
     let within = number_within (bytes_of_texts c.args.texts.now) c.args.index g.first g.sources.items g.slots.items
-    c.requires.holds p.shard p.numbers p.rows c.requires.text c.in_default.ensures in
+    c.requires.state p.shard p.numbers p.rows c.requires.text c.in_default.ensures in
     let long = g.slots.ok.0 in
     numbers_each (λ n. (0 < n) × (n ≤ vec_len g.slots)) c.as_slice.result.now p.numbers c.as_slice.ensures
     (λ q n there. let w = within q n there in (w.0, omega arith))
 
-pub returns-in-None-clause-added : goal.returns-in-None-clause-added
-returns-in-None-clause-added c =
+pub returns-in-None-clause-next_state : goal.returns-in-None-clause-next_state
+returns-in-None-clause-next_state c =
     let g = c.args.state.now in
     let p = c.args.part in
     let none = read_none g.sources.items (p.shard.number - 1) c.index.result.now c.index.ensures c.in-None.is in
-    let more = holds_more (bytes_of_texts c.args.texts.now) c.args.index g.first g.sources.items g.slots.items c.requires.holds
+    let more = holds_more (bytes_of_texts c.args.texts.now) c.args.index g.first g.sources.items g.slots.items c.requires.state
     p.shard p.numbers p.rows c.requires.text c.in_default.ensures none in
     let rows = c.into_vec-rows.result.items in
     let is = c.fill_slots.ensures ∙ ap (λ (ns : List ℕ). filled_slots ns rows g.slots.items) c.as_slice.ensures
@@ -71,39 +71,39 @@ returns-in-None-clause-added c =
     subst (λ (slots : List (Option Row)). Holds (bytes_of_texts c.args.texts.now) (c.args.index + 1) g.first
     (slice_set g.sources.items (p.shard.number - 1) (Some c.args.index)) slots) (sym is) more
 
-pub are_same_texts-requires-clause-place : goal.are_same_texts-requires-clause-place
-are_same_texts-requires-clause-place c =
+pub are_same_texts-requires-clause-index : goal.are_same_texts-requires-clause-index
+are_same_texts-requires-clause-index c =
     let g = c.args.state.now in
     let p = c.args.part in
-    let w = shard_within (bytes_of_texts c.args.texts.now) c.args.index g.first g.sources.items g.slots.items c.requires.holds
+    let w = shard_within (bytes_of_texts c.args.texts.now) c.args.index g.first g.sources.items g.slots.items c.requires.state
     p.shard p.numbers p.rows c.requires.text c.in_default.ensures in
     let some = read_some g.sources.items (p.shard.number - 1) c.index.result.now c.in-Some-index.earlier
     (omega (arith, w.0, w.1)) c.index.ensures c.in-Some-index.is in
-    let from = c.requires.holds.from (p.shard.number - 1) c.in-Some-index.earlier some in
-    omega (arith, from.within, c.requires.at)
+    let from = c.requires.state.from (p.shard.number - 1) c.in-Some-index.earlier some in
+    omega (arith, from.within, c.requires.index)
 
-pub returns-in-Some-index-clause-added : goal.returns-in-Some-index-clause-added
-returns-in-Some-index-clause-added c =
+pub returns-in-Some-index-clause-next_state : goal.returns-in-Some-index-clause-next_state
+returns-in-Some-index-clause-next_state c =
     let g = c.args.state.now in
     let p = c.args.part in
-    let w = shard_within (bytes_of_texts c.args.texts.now) c.args.index g.first g.sources.items g.slots.items c.requires.holds
+    let w = shard_within (bytes_of_texts c.args.texts.now) c.args.index g.first g.sources.items g.slots.items c.requires.state
     p.shard p.numbers p.rows c.requires.text c.in_default.ensures in
     let some = read_some g.sources.items (p.shard.number - 1) c.index.result.now c.in-Some-index.earlier
     (omega (arith, w.0, w.1)) c.index.ensures c.in-Some-index.is in
-    holds_again (bytes_of_texts c.args.texts.now) c.args.index g.first g.sources.items g.slots.items c.requires.holds
+    holds_again (bytes_of_texts c.args.texts.now) c.args.index g.first g.sources.items g.slots.items c.requires.state
     (p.shard.number - 1) c.in-Some-index.earlier some (c.are_same_texts.ensures.0 c.if-are_same_texts.true)
 
-pub returns-clause-err : goal.returns-clause-err
-returns-clause-err c =
+pub returns-clause-error : goal.returns-clause-error
+returns-clause-error c =
     let g = c.args.state.now in
     let p = c.args.part in
-    let w = shard_within (bytes_of_texts c.args.texts.now) c.args.index g.first g.sources.items g.slots.items c.requires.holds
+    let w = shard_within (bytes_of_texts c.args.texts.now) c.args.index g.first g.sources.items g.slots.items c.requires.state
     p.shard p.numbers p.rows c.requires.text c.in_default.ensures in
     let some = read_some g.sources.items (p.shard.number - 1) c.index.result.now c.in-Some-2.earlier
     (omega (arith, w.0, w.1)) c.index.ensures c.in-Some-2.is in
     let one = same_Some c.in-Some-index.earlier c.in-Some-2.earlier (sym c.in-Some-index.is ∙ c.in-Some-2.is) in (
-      omega (arith, length-bytes_of c.args.texts.now, c.requires.at),
-      are_two (bytes_of_texts c.args.texts.now) c.args.index g.first g.sources.items g.slots.items c.requires.holds p.shard
+      omega (arith, length-bytes_of c.args.texts.now, c.requires.index),
+      are_two (bytes_of_texts c.args.texts.now) c.args.index g.first g.sources.items g.slots.items c.requires.state p.shard
           p.numbers p.rows c.requires.text c.in_default.ensures c.in-Some-2.earlier some
           (λ same. false≢true
           (sym c.if-are_same_texts.false ∙ c.are_same_texts.ensures.1 (ap (nth_text (bytes_of_texts c.args.texts.now)) one ∙ same))),

@@ -21,8 +21,8 @@ loop-at-init c = record {
   places = λ t. rw c.new-places.ensures.empty refl;
 }
 
-pub returns-then-contains_key-clause-twice : goal.returns-then-contains_key-clause-twice
-returns-then-contains_key-clause-twice c =
+pub returns-then-contains_key-clause-repeated_name : goal.returns-then-contains_key-clause-repeated_name
+returns-then-contains_key-clause-repeated_name c =
     let at = c.loop-at.at in
     let name = c.as_str-name.result.now in
     record {
@@ -58,8 +58,8 @@ loop-at-preserved c =
           c.loop-at.invariant.places (nowhere (index_in earlier name) fresh) grown t;
     }
 
-pub returns-clause-twice : goal.returns-clause-twice
-returns-clause-twice c =
+pub returns-clause-repeated_name : goal.returns-clause-repeated_name
+returns-clause-repeated_name c =
     let rows = c.args.rows.now in
     let at = c.loop-at.at in
     sym c.loop-at.invariant.rest ∙ fresh_end (row_names (take at rows)) rows at (omega arith)

@@ -15,15 +15,15 @@ loop-place-preserved c =
     c.in_ok-push.ensures.items ∙ ap (λ (l : List Bool). l ++ f place ∷ []) c.loop-place.invariant
     ∙ sym (map-range_with_len_more f 0 place place zero)
 
-pub returns-clause-counted : goal.returns-clause-counted
-returns-clause-counted c =
+pub returns-clause-length : goal.returns-clause-length
+returns-clause-length c =
     let last : c.loop-place.place ≡ c.args.job_count = omega arith in
     ap length c.loop-place.invariant
     ∙ length-map (range_with_len 0 c.loop-place.place) (is_in_shard c.args.shards c.args.number)
     ∙ length-range_with_len 0 c.loop-place.place ∙ last
 
-pub returns-clause-places : goal.returns-clause-places
-returns-clause-places c =
+pub returns-clause-indices : goal.returns-clause-indices
+returns-clause-indices c =
     let last : c.loop-place.place ≡ c.args.job_count = omega arith in
     ap (λ (l : List Bool). selected_indices l c.args.job_count)
     (c.loop-place.invariant ∙ ap (shard_selection c.args.shards c.args.number) last)

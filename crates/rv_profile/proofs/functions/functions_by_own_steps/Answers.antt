@@ -8,6 +8,6 @@ use Rattle.rv_profile.proofs.functions.functions_by_own_steps.Goals as goal
 pub returns : goal.returns
 returns c =
     let keys = always_returns_same _ (λ a r. r ≡ key_of a.0.now) _ (λ a r f' k. search rules) in
-    by_own_steps c.args.stacks.nodes.now c.args.stacks.names.now _ _ (ltb-true _ _ (and_parts _ _ c.requires.few).0) c.args.stacks.rising
+    by_own_steps c.args.stacks.nodes.now c.args.stacks.names.now _ _ (ltb-true _ _ (and_parts _ _ c.requires.fits).0) c.args.stacks.rising
     c.in_ok-functions.ensures c.in_ok-sort_by_key.ensures.permutation
     (c.in_ok-sort_by_key.ensures.sorted key_of keys) (c.in_ok-sort_by_key.ensures.stable key_of keys)

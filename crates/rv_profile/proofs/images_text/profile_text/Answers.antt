@@ -6,10 +6,10 @@ use Rattle.rv_profile.proofs.Found.{file_is_few}
 use Rattle.rv_profile.proofs.Shown.{all_shown, file_more}
 use Rattle.rv_profile.proofs.images_text.profile_text.Goals as goal
 
-pub push_image-requires-clause-few : goal.push_image-requires-clause-few
-push_image-requires-clause-few c =
+pub push_image-requires-clause-fits : goal.push_image-requires-clause-fits
+push_image-requires-clause-fits c =
     ap (λ (file : ImageFile). is_past_64_bits c.args.table.now (image_of_file file)) c.image-item.is
-    ∙ file_is_few c.args.table.now c.args.images.now c.loop-image.image-index c.image-item.result c.loop-image-test.true c.requires.few
+    ∙ file_is_few c.args.table.now c.args.images.now c.loop-image.image-index c.image-item.result c.loop-image-test.true c.requires.fits
 
 pub loop-image-preserved : goal.loop-image-preserved
 loop-image-preserved c =

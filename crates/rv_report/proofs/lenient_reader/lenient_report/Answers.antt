@@ -16,8 +16,8 @@ extent_or_selection-extent-requires c =
     subst (λ (xs : List ℕ). length xs ≤ max_jobs) (sym (c.deref-3.ensures.value ∙ c.truncate-2.ensures.items))
     (few_cut g c.truncate.new.self.items c.in_ok-count.count rising new)
 
-pub returns-clause-good : goal.returns-clause-good
-returns-clause-good c =
+pub returns-clause-valid : goal.returns-clause-valid
+returns-clause-valid c =
     let g = reader_state_view c.in_ok-gathering.gathering in
     let rising = c.truncate.ensures.items
     ∙ ap (λ (n : ℕ). take n g.rows) (c.increasing_count.ensures ∙ ap (increasing_count 0) c.deref.ensures.value) in

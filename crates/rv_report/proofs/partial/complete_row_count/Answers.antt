@@ -21,8 +21,8 @@ overflow_sub-numbers c =
     (omega (arith, numbers, rows, counted)) in
     omega (arith, rw (← c.as_slice-numbers.ensures) at low)
 
-pub returns-in-None-clause-most : goal.returns-in-None-clause-most
-returns-in-None-clause-most c =
+pub returns-in-None-clause-longest : goal.returns-in-None-clause-longest
+returns-in-None-clause-longest c =
     λ below begins.
     let numbers = c.as_slice-numbers.result.now in
     let rows = c.as_slice-rows.result.now in

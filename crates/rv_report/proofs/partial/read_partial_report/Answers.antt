@@ -3,18 +3,18 @@ use Rattle.rv_report.specs.LenientReport.{lenient_report}
 use Rattle.rv_report.proofs.PartialReports.{saved_read, whole_rows}
 use Rattle.rv_report.proofs.partial.read_partial_report.Goals as goal
 
-pub returns-in_ok-report-in-Err-Truncated-clause-found : goal.returns-in_ok-report-in-Err-Truncated-clause-found
-returns-in_ok-report-in-Err-Truncated-clause-found c =
+pub returns-in_ok-report-in-Err-Truncated-clause-truncation : goal.returns-in_ok-report-in-Err-Truncated-clause-truncation
+returns-in_ok-report-in-Err-Truncated-clause-truncation c =
     let bytes = c.args.bytes.now in
-    let least = rw c.in-Err-Truncated.field-0-is at c.in-Err-Truncated.ensures.least in
-    let only = rw c.in-Err-Truncated.field-0-is at c.in-Err-Truncated.ensures.only in
+    let least = rw c.in-Err-Truncated.field-0-is at c.in-Err-Truncated.ensures.first_error in
+    let only = rw c.in-Err-Truncated.field-0-is at c.in-Err-Truncated.ensures.accepts in
     let rows = c.in_ok-report-in-Err-Truncated.ensures.rows in (
       λ report is same. let memory = only report is same in cc,
       (lenient_report bytes, rows.0, whole_rows bytes rows.0 least (rows.2, rows.3, rows.4), rows.1),
     )
 
-pub returns-in_ok-report-in-Err-Truncated-clause-saved : goal.returns-in_ok-report-in-Err-Truncated-clause-saved
-returns-in_ok-report-in-Err-Truncated-clause-saved c =
+pub returns-in_ok-report-in-Err-Truncated-clause-valid : goal.returns-in_ok-report-in-Err-Truncated-clause-valid
+returns-in_ok-report-in-Err-Truncated-clause-valid c =
     let rows = c.in_ok-report-in-Err-Truncated.ensures.rows in
     saved_read c.args.bytes.now rows.0 c.in_ok-report-in-Err-Truncated.report rows.1 rows.2
 

@@ -13,8 +13,8 @@ loop-at-init c = sym (append-nil (string_bytes c.args.text.now))
 
 pub overflow_sub-numbers : goal.overflow_sub-numbers
 overflow_sub-numbers c =
-    let h = c.requires.counted in
-    omega (arith, above 0 max_jobs c.args.numbers.now c.loop-at.at c.requires.rising (omega arith))
+    let h = c.requires.one_number_each in
+    omega (arith, above 0 max_jobs c.args.numbers.now c.loop-at.at c.requires.increasing (omega arith))
 
 pub loop-at-preserved : goal.loop-at-preserved
 loop-at-preserved c =
@@ -27,5 +27,5 @@ loop-at-preserved c =
     ∙ append_assoc (string_bytes c.args.text.now) (numbered_rows_text (take at numbers) (take at rows))
     (row_text (n - 1) row)
     ∙ ap (λ (t : List ℕ). string_bytes c.args.text.now ++ t)
-    (sym (rw (← c.index-rows-at.is) at (numbered_more numbers rows at n (n - 1) row (omega arith) c.requires.counted
+    (sym (rw (← c.index-rows-at.is) at (numbered_more numbers rows at n (n - 1) row (omega arith) c.requires.one_number_each
     refl refl))))

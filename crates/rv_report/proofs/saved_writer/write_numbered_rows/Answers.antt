@@ -15,16 +15,16 @@ loop-at-init g c = record { partly_written = nothing_under_way _ _ _ c.requires.
 pub overflow_sub-numbers : goal.overflow_sub-numbers
 overflow_sub-numbers g c =
     let h = c.requires.counted in
-    omega (arith, above 0 max_jobs c.args.numbers.now c.loop-at.at c.requires.rising (omega arith))
+    omega (arith, above 0 max_jobs c.args.numbers.now c.loop-at.at c.requires.increasing (omega arith))
 
-pub returns-in_err-push_row-clause-part : goal.returns-in_err-push_row-clause-part
-returns-in_err-push_row-clause-part g c =
+pub returns-in_err-push_row-clause-prefix : goal.returns-in_err-push_row-clause-prefix
+returns-in_err-push_row-clause-prefix g c =
     let error = err_from_is_err_and c.from_residual.result c.from_residual.ensures.1 in
     rw error.1 (stopped_under_way _ _ _ _ _ _ c.loop-at.invariant.partly_written
     (numbered_split c.args.numbers.now c.args.rows.now c.loop-at.at c.requires.counted))
 
-pub returns-in_err-write_text_if_large-clause-part : goal.returns-in_err-write_text_if_large-clause-part
-returns-in_err-write_text_if_large-clause-part g c =
+pub returns-in_err-write_text_if_large-clause-prefix : goal.returns-in_err-write_text_if_large-clause-prefix
+returns-in_err-write_text_if_large-clause-prefix g c =
     let numbers = c.args.numbers.now in
     let rows = c.args.rows.now in
     let at = c.loop-at.at in
@@ -33,7 +33,7 @@ returns-in_err-write_text_if_large-clause-part g c =
     c.from_residual-in_err-write_text_if_large.ensures.1 in
     rw error.1 (beginning_of_longer _ _ _ _ _
     (failed_under_way _ _ _ _ (row_text (n - 1) c.index-rows-at.result) _ _ _ c.loop-at.invariant.partly_written
-    c.in_ok-push_row.ensures c.in_err-write_text_if_large.ensures.part
+    c.in_ok-push_row.ensures c.in_err-write_text_if_large.ensures.prefix
     (rw (← c.index-rows-at.is) at
     (numbered_more numbers rows at n (n - 1) c.index-rows-at.result (omega arith) c.requires.counted refl refl)))
     (numbered_split numbers rows (suc at) c.requires.counted))
@@ -48,5 +48,5 @@ loop-at-preserved g c =
           (rw (← c.index-rows-at.is) at
           (numbered_more numbers c.args.rows.now at n (n - 1) c.index-rows-at.result (omega arith) c.requires.counted
           refl refl)));
-      counted = c.in_ok-write_text_if_large.ensures.counted ∙ c.loop-at.invariant.counted;
+      counted = c.in_ok-write_text_if_large.ensures.no_failures ∙ c.loop-at.invariant.counted;
     }

@@ -16,8 +16,8 @@ returns-clause-value g c =
     subst (λ (r : Result CountTable SumError). IfOk r (IsTableWithStacks plan indices)) (sym c.into_sum_of_run.ensures)
     (all_added plan indices c.run_jobs-sum.result.0 c.run_jobs-sum.result.1 c.run_jobs-sum.ensures)
 
-pub returns-clause-refused : goal.returns-clause-refused
-returns-clause-refused g c =
+pub returns-clause-error : goal.returns-clause-error
+returns-clause-error g c =
     let plan = c.args.batch.now.plan.now in
     let indices = c.args.batch.now.places.now in
     subst (λ (r : Result CountTable SumError). IfErr r (HaveNoTableWithStacks plan indices)) (sym c.into_sum_of_run.ensures)

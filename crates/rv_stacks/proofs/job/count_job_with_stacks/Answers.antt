@@ -10,8 +10,8 @@ use Rattle.rv_counting.specs.declared_row.Refusal.{Refusal}
 use Rattle.rv_stacks.specs.Stacks.{function_at, AreCountsAndStacksOfJob, AreStacksOf}
 use Rattle.rv_stacks.proofs.job.count_job_with_stacks.Goals as goal
 
-pub returns-in_ok-count_with_stacks-in-Ok-clause-both : goal.returns-in_ok-count_with_stacks-in-Ok-clause-both
-returns-in_ok-count_with_stacks-in-Ok-clause-both c d =
+pub returns-in_ok-count_with_stacks-in-Ok-clause-counts_and_stacks : goal.returns-in_ok-count_with_stacks-in-Ok-clause-counts_and_stacks
+returns-in_ok-count_with_stacks-in-Ok-clause-counts_and_stacks c d =
     let start = rw c.in-Ok.is at c.in_ok-machine.ensures in
     let jobs = c.args.job.now.plan.now.jobs in
     let index = c.args.job.now.place in
@@ -41,8 +41,8 @@ pub returns-in-Err-clause-budget : goal.returns-in-Err-clause-budget
 returns-in-Err-clause-budget c d = λ s start.
     absurd (let refused = rw c.in-Err.is at c.in_ok-machine.ensures in let e = sym start ∙ refused d in cc)
 
-pub returns-in-Err-clause-both : goal.returns-in-Err-clause-both
-returns-in-Err-clause-both c d =
+pub returns-in-Err-clause-counts_and_stacks : goal.returns-in-Err-clause-counts_and_stacks
+returns-in-Err-clause-counts_and_stacks c d =
     let start = rw c.in-Err.is at c.in_ok-machine.ensures in
     let jobs = c.args.job.now.plan.now.jobs in
     let index = c.args.job.now.place in

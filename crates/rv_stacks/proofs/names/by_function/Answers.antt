@@ -15,12 +15,12 @@ loop-node-preserved c =
     ∙ ap (λ (ss : List CallNode). ss ++ get_or nodes i nothing ∷ []) c.loop-node.invariant
     ∙ sym (take_more nodes i nothing c.loop-node-test.true)
 
-pub returns-clause-same : goal.returns-clause-same
-returns-clause-same c =
+pub returns-clause-permutation : goal.returns-clause-permutation
+returns-clause-permutation c =
     let over = c.loop-node-test.false in
     let all = c.loop-node.invariant ∙ take_all c.loop-node.node-index c.args.nodes.now (omega (arith, over)) in
     subst (λ (ss : List CallNode). IsPermutation ss c.sort_unstable_by_key.new.self.items) all c.sort_unstable_by_key.ensures.permutation
 
-pub returns-clause-rising : goal.returns-clause-rising
-returns-clause-rising c = IsNonDecreasingBy-from_sort_by_key (λ s. s.function) _ c.sort_unstable_by_key.ensures.sorted
+pub returns-clause-sorted : goal.returns-clause-sorted
+returns-clause-sorted c = IsNonDecreasingBy-from_sort_by_key (λ s. s.function) _ c.sort_unstable_by_key.ensures.sorted
     (λ a r q k. search rules)

@@ -7,12 +7,12 @@ use Rattle.rv_stacks.proofs.node.count_steps.Goals as goal
 
 pub overflow_add-old : goal.overflow_add-old
 overflow_add-old c =
-    let some = c.requires.some in
+    let some = c.requires.positive in
     let within = c.requires.within in
     let most = at_most_all (λ p n. n.steps) ([] ∷ []) c.args.nodes.now.items (c.args.number - 1) c.index-old.result.now
     (omega (arith, some, within)) (λ p n. refl) in
     let there = ap (λ (n : WalkNode). n.steps) c.index-old.ensures in
-    let few = c.requires.few in
+    let few = c.requires.steps_fit in
     let fits = c.ranges.steps.fits in
     omega (arith, most, there, few, fits)
 
@@ -22,4 +22,4 @@ returns c =
     subst (λ (k : ℕ). StepsMore k c.args.number c.args.nodes.now.items (set c.args.nodes.now.items (c.args.number - 1)
     (record { parent = old.parent; function = old.function; calls = old.calls; steps = old.steps + c.from.result })))
     c.from.ensures
-    (stepped_more c.args.nodes.now.items c.args.number c.requires.some c.requires.within old c.index-old.ensures c.from.result)
+    (stepped_more c.args.nodes.now.items c.args.number c.requires.positive c.requires.within old c.index-old.ensures c.from.result)

@@ -39,7 +39,7 @@ steps-preserved-then-block-eq0 c =
     let sum : n - remaining + 1 ≡ n - (remaining - 1) = omega (arith, w, some) in record {
       within = omega (arith, w);
       counting = subst (λ (k : ℕ). IsCounting n k start t c.step.new.counter) sum
-          (c.in_ok-step.ensures.counted.continues c.if-not-branch.false [] 1 n (n - remaining) start (omega (arith, w, some)) c.steps.invariant.counting);
+          (c.in_ok-step.ensures.counts.continues c.if-not-branch.false [] 1 n (n - remaining) start (omega (arith, w, some)) c.steps.invariant.counting);
       cache = c.in_ok-step.ensures.stacks.cache;
       so_far = subst (λ (k : ℕ). AreStacksSoFar function n k start t c.step.new.self.frames.items c.step.new.self.walk) sum
           (c.in_ok-step.ensures.stacks.continues c.if-not-branch.false n (n - remaining) start (omega (arith, w, some)) here);
@@ -55,16 +55,16 @@ steps-preserved c =
     let s = state_of c.steps.machine in
     let t = state_of c.run_block.new.machine in
     let w = c.steps.invariant.within in
-    let few = c.straight_block-block.ensures.few in
+    let few = c.straight_block-block.ensures.at_most_max in
     let none = c.if-block-eq0.false in
     let here = still_so_far function n (n - remaining) start s c.steps.stacks c.straight_block-block.new.self
     c.straight_block-block.ensures.frames c.straight_block-block.ensures.walk c.steps.invariant.so_far in
-    let advance = c.in_ok-run_block.ensures.stacks function (c.straight_block-block.ensures.straight (omega (arith, none)))
+    let advance = c.in_ok-run_block.ensures.stacks function (c.straight_block-block.ensures.same_function (omega (arith, none)))
     (ready_so_far function n (n - remaining) start s c.straight_block-block.new.self c.ranges.budget.fits c.straight_block-block.ensures.cache here) in
     let sum : n - remaining + k ≡ n - (remaining - k) = omega (arith, w, few) in record {
       within = omega (arith, w);
       counting = subst (λ (k : ℕ). IsCounting n k start t c.run_block.new.counter) sum
-          (c.in_ok-run_block.ensures.counted.continues c.if-not-branch-2.false [] 1 n (n - remaining) start (omega (arith, w, few)) c.steps.invariant.counting);
+          (c.in_ok-run_block.ensures.counts.continues c.if-not-branch-2.false [] 1 n (n - remaining) start (omega (arith, w, few)) c.steps.invariant.counting);
       cache = advance.cache;
       so_far = subst (λ (k : ℕ). AreStacksSoFar function n k start t c.run_block.new.self.frames.items c.run_block.new.self.walk) sum
           (advance.continues c.if-not-branch-2.false n (n - remaining) start (omega (arith, w, few)) here);
@@ -76,7 +76,7 @@ returns-then-not-branch-clause-counts c =
     let remaining = c.steps.remaining in
     let w = c.steps.invariant.within in
     let some = c.steps-test.true in
-    c.in_ok-step.ensures.counted.ended c.if-not-branch.true [] 1 n (n - remaining) (state_of c.args.machine) (omega (arith, w, some))
+    c.in_ok-step.ensures.counts.ended c.if-not-branch.true [] 1 n (n - remaining) (state_of c.args.machine) (omega (arith, w, some))
     c.steps.invariant.counting
 
 pub returns-then-not-branch-2-clause-counts : goal.returns-then-not-branch-2-clause-counts
@@ -84,8 +84,8 @@ returns-then-not-branch-2-clause-counts c =
     let n = c.args.budget in
     let remaining = c.steps.remaining in
     let w = c.steps.invariant.within in
-    let few = c.straight_block-block.ensures.few in
-    c.in_ok-run_block.ensures.counted.ended c.if-not-branch-2.true [] 1 n (n - remaining) (state_of c.args.machine) (omega (arith, w, few))
+    let few = c.straight_block-block.ensures.at_most_max in
+    c.in_ok-run_block.ensures.counts.ended c.if-not-branch-2.true [] 1 n (n - remaining) (state_of c.args.machine) (omega (arith, w, few))
     c.steps.invariant.counting
 
 pub returns-then-not-branch-2-clause-stacks : goal.returns-then-not-branch-2-clause-stacks
@@ -96,11 +96,11 @@ returns-then-not-branch-2-clause-stacks c =
     let start = state_of c.args.machine in
     let s = state_of c.steps.machine in
     let w = c.steps.invariant.within in
-    let few = c.straight_block-block.ensures.few in
+    let few = c.straight_block-block.ensures.at_most_max in
     let none = c.if-block-eq0.false in
     let here = still_so_far function n (n - remaining) start s c.steps.stacks c.straight_block-block.new.self
     c.straight_block-block.ensures.frames c.straight_block-block.ensures.walk c.steps.invariant.so_far in
-    let advance = c.in_ok-run_block.ensures.stacks function (c.straight_block-block.ensures.straight (omega (arith, none)))
+    let advance = c.in_ok-run_block.ensures.stacks function (c.straight_block-block.ensures.same_function (omega (arith, none)))
     (ready_so_far function n (n - remaining) start s c.straight_block-block.new.self c.ranges.budget.fits c.straight_block-block.ensures.cache here) in
     advance.ended c.if-not-branch-2.true n (n - remaining) start (omega (arith, w, few)) here
 

@@ -81,7 +81,7 @@ returns-in-Some-3 c =
     its_image is in
     let of_file = subst (λ (b : List ℕ). IsTableOfRun (name_of_function image b) c.as_str.result.now b addresses nodes t) its_bytes of_image in
     let both = subst (λ (o : Option (List AddressCounts × List CallNode)). AreCountsAndStacksOfJob (function_at symbols.image.now symbols.bytes.now) job.budget
-    (start_state_in plan.results job) o) c.in-Some-3.is (c.in_ok-addresses.ensures.both d) in
+    (start_state_in plan.results job) o) c.in-Some-3.is (c.in_ok-addresses.ensures.counts_and_stacks d) in
     let by_image = subst (λ (i : Image). AreCountsAndStacksOfJob (function_at i symbols.bytes.now) job.budget (start_state_in plan.results job) (Some (addresses, nodes)))
     its_image both in
     counts_and_stacks plan (c.args.index ∷ []) t
@@ -99,7 +99,7 @@ returns c =
     let symbols = c.in_ok-symbols.symbols in
     let function = function_at symbols.image.now symbols.bytes.now in
     let none = subst (λ (o : Option (List AddressCounts × List CallNode)). AreCountsAndStacksOfJob function job.budget (start_state_in plan.results job) o)
-    c.in-None.is (c.in_ok-addresses.ensures.both d) in
+    c.in-None.is (c.in_ok-addresses.ensures.counts_and_stacks d) in
     let table = c.empty_table-in-None.result in
     counts_and_stacks plan (c.args.index ∷ []) table
     (refused plan.results job table c.empty_table-in-None.ensures

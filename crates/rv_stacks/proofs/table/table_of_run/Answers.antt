@@ -8,5 +8,5 @@ pub returns : goal.returns
 returns c =
     run_table _ _ _ _ _ _ _ _ _ _ c.in_ok-images.ensures c.in_ok-digest.ensures.value
     (c.in_ok-path.ensures.value ∙ ap printable_text c.as_bytes.ensures.value) c.requires.counts
-    c.as_slice.ensures c.in_ok-functions.ensures.names c.in_ok-functions.ensures.fits c.requires.tree c.requires.some
+    c.as_slice.ensures c.in_ok-functions.ensures.names c.in_ok-functions.ensures.fits c.requires.tree c.requires.has_calls
     c.in_ok-digest.ensures.long c.in_ok-digest.ensures.bytes c.in_ok-path.ensures.text c.in_ok-path.ensures.line

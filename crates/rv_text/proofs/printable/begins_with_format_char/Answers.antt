@@ -10,7 +10,7 @@ unfolding begins_with_format_char
 returns-in-Ok c =
     let yes : is_utf8 c.first_character_bytes.result.now ≡ true =
     is_utf8-from_IsUtf8 c.first_character_bytes.result.now c.in-Ok.ensures.cases.1 in
-    rw (← c.first_character_bytes.ensures.front, yes)
+    rw (← c.first_character_bytes.ensures.value, yes)
     (cc (c.is_some_format_char.ensures, c.next.ensures.steps.2, c.chars.ensures.rest, c.in-Ok.ensures.cases.0))
 
 pub returns-in-Err : goal.returns-in-Err
@@ -18,4 +18,4 @@ unfolding begins_with_format_char
 returns-in-Err c =
     let no : is_utf8 c.first_character_bytes.result.now ≡ false =
     is_utf8-false c.first_character_bytes.result.now c.in-Err.ensures.cases.0 in
-    rw (← c.first_character_bytes.ensures.front, no) refl
+    rw (← c.first_character_bytes.ensures.value, no) refl

@@ -11,7 +11,7 @@ loop-rest-preserved c =
       shown-front text (omega (arith, c.in_ok-rest.ensures.shorter)),
       c.loop-rest.invariant,
       c.in_ok-rest.ensures.shown,
-      c.in_ok-rest.ensures.behind,
+      c.in_ok-rest.ensures.rest,
       append_assoc c.loop-rest.bytes.items (first_printable text) (printable_from 0 (after_first_printable text)),
     )
 

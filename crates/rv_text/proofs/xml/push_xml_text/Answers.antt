@@ -12,7 +12,7 @@ loop-rest-preserved c =
       escaped-front within bytes (omega (arith, c.in_ok-rest.ensures.shorter)),
       c.loop-rest.invariant,
       c.in_ok-rest.ensures.text,
-      c.in_ok-rest.ensures.behind,
+      c.in_ok-rest.ensures.rest,
       append_assoc (string_bytes c.loop-rest.text) (first_xml_text within bytes)
           (xml_text_from within 0 (after_first_xml_text bytes)),
     )

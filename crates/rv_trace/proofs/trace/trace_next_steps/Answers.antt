@@ -30,8 +30,8 @@ returns-clause-steps c =
           c.loop.invariant.shown
     ]
 
-pub returns-clause-after : goal.returns-clause-after
-returns-clause-after c =
+pub returns-clause-state : goal.returns-clause-state
+returns-clause-state c =
     let s = state_of c.loop.machine in
     elim c.loop-test.branch [
       | else-loop-test w ↦ let none : c.args.count - c.loop.counter ≡ 0 = omega arith in

@@ -18,4 +18,4 @@ refused_table path text error stop least only is = record {
 
 pub returns-in-Err-clause-stopped : goal.returns-in-Err-clause-stopped
 returns-in-Err-clause-stopped c =
-    refused_table _ _ _ _ c.in-Err.ensures.least c.in-Err.ensures.only c.read_error_stop.ensures
+    refused_table _ _ _ _ c.in-Err.ensures.first_error c.in-Err.ensures.accepts c.read_error_stop.ensures

@@ -5,8 +5,8 @@ use Rattle.rvtest_app.specs.Debugging.{job_start_state}
 use Rattle.rvtest_app.proofs.JobStarts.{starts_there}
 use Rattle.rvtest_app.proofs.planned_job.row_after_steps.Goals as goal
 
-pub row_from-requires-clause-way : goal.row_from-requires-clause-way
-row_from-requires-clause-way c =
+pub row_from-requires-clause-intermediate : goal.row_from-requires-clause-intermediate
+row_from-requires-clause-intermediate c =
     let end = c.args.job.now in
     λ d. record {
       first = job_start_state end.plan end.index;

@@ -15,7 +15,7 @@ invariant_of-result c =
       rising = λ i j d le lt. absurd (omega (arith, lt, long));
       named = λ k d lt. absurd (omega (arith, lt, long));
       agree_with_symbol_at = find_nothing c.args.image.now c.args.bytes.now [] c.new.result.items c.in_default.field-0
-          c.in_default.ensures.checked c.new.ensures.items;
+          c.in_default.ensures.check c.new.ensures.items;
     }
 
 pub invariant_of-result-2 : goal.invariant_of-result-2
@@ -24,10 +24,10 @@ invariant_of-result-2 c =
     let strings = c.in-Ok.strings.now in
     let symbols = c.in_ok-symbols.symbols.items in
     let are = c.in_ok-symbols.ensures.symbols in
-    let rising = c.in_ok-symbols.ensures.rising in
+    let rising = c.in_ok-symbols.ensures.sorted in
     record {
       rising = values_in_order table strings (symbol_count table) symbols are rising;
       named = all_named table strings (symbol_count table) symbols are;
-      agree_with_symbol_at = find_sorted c.args.image.now c.args.bytes.now strings symbols table c.in-Ok.ensures.checked c.in-Ok.ensures.there
-          are rising c.in-Ok.ensures.few;
+      agree_with_symbol_at = find_sorted c.args.image.now c.args.bytes.now strings symbols table c.in-Ok.ensures.check c.in-Ok.ensures.bytes
+          are rising c.in-Ok.ensures.fits_32_bits;
     }

@@ -5,7 +5,7 @@ use Rattle.rv_fleet.proofs.batch.Batch.new.Goals as goal
 pub invariant_of-result-clause-few : goal.invariant_of-result-clause-few
 invariant_of-result-clause-few c = omega (
   arith,
-  rising_few _ _ c.requires.rising c.requires.within,
+  rising_few _ _ c.requires.increasing c.requires.within,
   c.jobs-jobs.ensures.value,
   c.jobs-jobs.ensures.few,
 )

@@ -28,8 +28,8 @@ invariant_of-asked g c =
           ∙ c.self.invariant.places t;
     }
 
-pub returns-in-Some-clause-place : goal.returns-in-Some-clause-place
-returns-in-Some-clause-place g c =
+pub returns-in-Some-clause-index : goal.returns-in-Some-clause-index
+returns-in-Some-clause-index g c =
     ap (λ l. index_in l c.args.path.now)
     (paths-with (paths_in c.self.inside) c.self.inside.results.items c.self.invariant.even)
     ∙ sym (c.self.invariant.places c.args.path.now) ∙ sym c.in_ok-place.ensures.old ∙ c.in-Some.is
@@ -37,7 +37,7 @@ returns-in-Some-clause-place g c =
 pub returns-in-Some-clause-paths : goal.returns-in-Some-clause-paths
 returns-in-Some-clause-paths g c =
     let xs = paths_of (results_with (paths_in c.self.inside) c.self.inside.results.items) in
-    with_path-old xs c.args.path.now (ap is_some (returns-in-Some-clause-place g c))
+    with_path-old xs c.args.path.now (ap is_some (returns-in-Some-clause-index g c))
     ∙ ap (λ (a : List PathResult). with_path (paths_of a) c.args.path.now) c.self.view_is
 
 pub invariant_of-asked-2 : goal.invariant_of-asked-2
@@ -73,8 +73,8 @@ returns-clause-paths g c =
     c.push.new.self.items p c.in_ok-kept.kept c.self.invariant.even pathed c.in_ok-push.ensures.items c.args.self
     c.self.view_is none
 
-pub returns-clause-place : goal.returns-clause-place
-returns-clause-place g c =
+pub returns-clause-index : goal.returns-clause-index
+returns-clause-index g c =
     let ps = paths_in c.self.inside in
     let p = c.args.path.now in
     let none = not_placed ps p c.in_ok-place.field-0 _ (c.self.invariant.places p) c.in_ok-place.ensures.old
@@ -86,15 +86,15 @@ returns-clause-place g c =
     c.self.view_is
     c.len-next.result none (c.len-next.ensures ∙ c.self.inside.results.ok.0)
 
-pub returns-clause-kept : goal.returns-clause-kept
-returns-clause-kept g c =
+pub returns-clause-agree : goal.returns-clause-agree
+returns-clause-agree g c =
     let ps = paths_in c.self.inside in
     let pathed = ap (map (λ (q : Bor (List ℕ)). q.now)) c.in_ok-push-2.ensures.items
     ∙ map-append (λ (q : Bor (List ℕ)). q.now) c.self.inside.paths.items (c.args.path ∷ []) in
     asked_kept ps (map (λ (q : Bor (List ℕ)). q.now) c.push-2.new.self.items) c.self.inside.results.items
     c.push.new.self.items c.args.path.now c.in_ok-kept.kept c.self.invariant.even pathed c.in_ok-push.ensures.items
     c.args.self c.self.view_is
-    (g.S.Store.contents c.args.store.now) c.in_ok-kept.ensures.kept
+    (g.S.Store.contents c.args.store.now) c.in_ok-kept.ensures.agrees
 
 pub returns-clause-faults : goal.returns-clause-faults
 returns-clause-faults g c = λ n before.
@@ -104,4 +104,4 @@ returns-clause-faults g c = λ n before.
     asked_faults ps (map (λ (q : Bor (List ℕ)). q.now) c.push-2.new.self.items) c.self.inside.results.items
     c.push.new.self.items c.args.path.now c.in_ok-kept.kept c.self.invariant.even pathed c.in_ok-push.ensures.items
     c.args.self c.self.view_is
-    n (g.S.Store.fault_count c.args.store.now) (g.S.Store.fault_count c.read_path.new.store) before c.in_ok-kept.ensures.counted
+    n (g.S.Store.fault_count c.args.store.now) (g.S.Store.fault_count c.read_path.new.store) before c.in_ok-kept.ensures.faults_counted

@@ -6,8 +6,8 @@ use Rattle.rv_list_errors.specs.LocatedFaults.{IsLocatedMessage, IsFaultMessageI
 use Rattle.rv_list_errors.proofs.FaultLineWriter.{puts_one, puts_weaker}
 use Rattle.rv_list_errors.proofs.all_faults.FaultLineWriter.push_fault.Goals as goal
 
-pub returns-then-fault-eq0-clause-told : goal.returns-then-fault-eq0-clause-told
-returns-then-fault-eq0-clause-told c =
+pub returns-then-fault-eq0-clause-lines : goal.returns-then-fault-eq0-clause-lines
+returns-then-fault-eq0-clause-lines c =
     let self = c.args.self.now in
     let bytes = c.args.bytes.now.items in
     on_ok_weaker c.push_message_line.result
@@ -17,8 +17,8 @@ returns-then-fault-eq0-clause-told c =
     (shows ∙ ap (λ message. bytes ++ printable_line message) c.as_slice.ensures.value))
     c.push_message_line.ensures
 
-pub returns-clause-told : goal.returns-clause-told
-returns-clause-told c =
+pub returns-clause-lines : goal.returns-clause-lines
+returns-clause-lines c =
     let self = c.args.self.now in
     let names = borrowed_names self.list.names.items in
     on_ok_weaker c.push_located_faults.result
@@ -26,4 +26,4 @@ returns-clause-told c =
     (IsFaultMessageInList self.file.now self.cursor.text.now names c.args.fault) c.args.bytes.now.items
     c.push_located_faults.new.bytes.items
     (λ message placed. inr (omega (arith, c.if-fault-eq0.false), placed)))
-    c.push_located_faults.ensures.told
+    c.push_located_faults.ensures.lines

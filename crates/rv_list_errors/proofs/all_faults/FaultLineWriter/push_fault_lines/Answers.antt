@@ -15,5 +15,5 @@ loop-at-preserved c =
       puts = each_more
           (IsFaultMessageInList self.file.now self.cursor.text.now (borrowed_names self.list.names.items))
           c.args.faults.now l.at _ c.args.bytes.now.items l.bytes.items c.push_fault.new.bytes.items c.loop-at-test.true
-          l.invariant.puts (rw (l.invariant.file, l.invariant.list, l.invariant.text) at c.in_ok-push_fault.ensures.told);
+          l.invariant.puts (rw (l.invariant.file, l.invariant.list, l.invariant.text) at c.in_ok-push_fault.ensures.lines);
     }

@@ -9,10 +9,10 @@ use Rattle.rv_lists.proofs.earlier_jobs.EarlierJobs.append_job.Goals as goal
 
 pub invariant_of-result : goal.invariant_of-result
 invariant_of-result c =
-    let good = subst (λ (js : List Job). IsValidJobAt (length js) c.args.job) (sym c.self.view_is) c.requires.good in
+    let good = subst (λ (js : List Job). IsValidJobAt (length js) c.args.job) (sym c.self.view_is) c.requires.valid in
     let room = subst (λ (js : List Job). length js < max_jobs) (sym c.self.view_is) c.requires.room in
     let fresh = subst (λ (js : List Job). index_in (names_of_jobs js) c.args.job.name ≡ None) (sym c.self.view_is)
-    c.requires.fresh in
+    c.requires.new_name in
     record {
       jobs = jobs_more c.self.inside.jobs.items c.push.new.self.items c.args.job c.self.invariant.jobs good room
           c.in_ok-push.ensures.items;

@@ -19,11 +19,11 @@ returns-clause-part g c = λ text sent.
     let s = c.args.self in
     part_out g.J.StreamSpec.accepted_before (g.W.Sink.accepted s.out) g.J.StreamSpec.failure_count (g.W.Sink.failure_count s.out)
     s.buffered.items text (g.W.Sink.accepted c.put_all.new.out) s.failed c.in_default.is
-    (rw c.as_slice.ensures.value at c.in-Err.ensures.part) sent
+    (rw c.as_slice.ensures.value at c.in-Err.ensures.prefix) sent
 
 pub returns-clause-begun : goal.returns-clause-begun
 returns-clause-begun g c = λ text sent.
     let s = c.args.self in
     part_out g.J.StreamSpec.accepted_before (g.W.Sink.accepted s.out) g.J.StreamSpec.failure_count (g.W.Sink.failure_count s.out)
     s.buffered.items text (g.W.Sink.accepted c.put_all.new.out) s.failed c.in_default.is
-    (rw c.as_slice.ensures.value at c.in-Err.ensures.part) sent
+    (rw c.as_slice.ensures.value at c.in-Err.ensures.prefix) sent
