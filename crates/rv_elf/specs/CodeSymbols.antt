@@ -68,8 +68,8 @@ AgreeWithSymbolAt image file strings symbols = (addr above : ℕ) (d : CodeSymbo
     → symbol_at image file addr ≡ (if above == 0 then None
     else named_in_segment image.segments strings addr (slice_index_or symbols (above - 1) d))
 
--- `found`, what a search for the address `addr` returned, is the name of `s` and the offset of the address from its value
-pub record IsSymbolFor (found : Option (List ℕ × ℕ)) (strings : List ℕ) (addr : ℕ) (s : CodeSymbol) : Type 0 where
+-- `search_result`, the result of a search for the address `addr`, is the name of `s` and the offset of the address from its value
+pub record IsSymbolFor (search_result : Option (List ℕ × ℕ)) (strings : List ℕ) (addr : ℕ) (s : CodeSymbol) : Type 0 where
   pub below : s.value ≤ addr
-  pub is : found ≡ name_and_offset_of strings addr s
+  pub is : search_result ≡ name_and_offset_of strings addr s
   pub named : is_some (text_before_zero (drop s.name strings)) ≡ true

@@ -116,28 +116,28 @@ has_bad_program_table file = nat_lt 64 (e_phnum file) || (nat_lt 0 (e_phnum file
 
 -- whether a program header is PT_DYNAMIC or PT_INTERP
 abbrev pub is_dynamic : ProgramHeader → Bool
-is_dynamic e = (e.p_type == 2) || (e.p_type == 3)
+is_dynamic header = (header.p_type == 2) || (header.p_type == 3)
 
 -- whether a program header is PT_LOAD
 abbrev pub is_load : ProgramHeader → Bool
-is_load e = e.p_type == 1
+is_load header = header.p_type == 1
 
 -- whether a program header is PT_LOAD and has more bytes in the file than in memory
 abbrev pub has_bad_sizes : ProgramHeader → Bool
-has_bad_sizes e = is_load e && nat_lt e.segment.memsz e.segment.filesz
+has_bad_sizes header = is_load header && nat_lt header.segment.memsz header.segment.filesz
 
 -- whether a program header is PT_LOAD and has file bytes that extend past the end of a file of `n` bytes
 abbrev pub is_segment_past_file : ℕ → ProgramHeader → Bool
-is_segment_past_file n e = is_load e
-    && (nat_lt 0 e.segment.filesz && nat_lt n (e.segment.offset + e.segment.filesz))
+is_segment_past_file n header = is_load header
+    && (nat_lt 0 header.segment.filesz && nat_lt n (header.segment.offset + header.segment.filesz))
 
 -- whether a program header is PT_LOAD and has bytes in memory
 abbrev pub is_loaded_header : ProgramHeader → Bool
-is_loaded_header e = is_load e && nat_lt 0 e.segment.memsz
+is_loaded_header header = is_load header && nat_lt 0 header.segment.memsz
 
 -- the segments of the PT_LOAD program headers that have bytes in memory, in order
 abbrev pub loaded_segments : List ProgramHeader → List Segment
-loaded_segments headers = map (λ e. e.segment) (filter is_loaded_header headers)
+loaded_segments headers = map (λ header. header.segment) (filter is_loaded_header headers)
 
 -- the segments of the file's PT_LOAD program headers that have bytes in memory, in table order
 unfoldable pub segments : List ℕ → List Segment
@@ -181,5 +181,5 @@ pub record IsImageOf (file : List ℕ) (image : Image) : Type 0 where
 -- the file has the whole ELF header, and the whole program header table, with at most 64 program headers
 pub record HasProgramHeaders (file : List ℕ) : Type 0 where
   pub header : 52 ≤ length file
-  pub few : e_phnum file ≤ 64
-  pub room : 0 < e_phnum file → e_phoff file + 32 * e_phnum file ≤ length file
+  pub at_most_64 : e_phnum file ≤ 64
+  pub in_file : 0 < e_phnum file → e_phoff file + 32 * e_phnum file ≤ length file

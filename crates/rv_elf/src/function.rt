@@ -50,23 +50,23 @@ fn functions_in<'a>(
     strings: &'a [u8],
 ) -> Result<Vec<Function<'a>>, AllocError>
     requires { list_all (is_in_file (length file.now)) segments.now ≡ true }
-    ensures { IfOk result (λ found. map (λ f. (f.name.now, (f.address, f.code.now))) found.items
+    ensures { IfOk result (λ functions. map (λ f. (f.name.now, (f.address, f.code.now))) functions.items
         ≡ functions_in segments.now file.now table.now strings.now) }
 {
     let end = names_end(strings);
-    let mut found = Vec::new(alloc);
+    let mut functions = Vec::new(alloc);
     for k in 0..table.len() / SYMBOL_SIZE {
         let symbol = symbol_at_offset(table, SYMBOL_SIZE * k);
         if symbol.is_sized_function(strings, end) {
-            push_function(&mut found, &symbol, segments, file, strings)?;
+            push_function(&mut functions, &symbol, segments, file, strings)?;
         }
     }
-    Ok(found)
+    Ok(functions)
 }
 
 // Appends the function that a symbol names, or nothing if no executable segment has its bytes in the file.
 fn push_function<'a>(
-    found: &mut Vec<Function<'a>>,
+    functions: &mut Vec<Function<'a>>,
     symbol: &Symbol,
     segments: &[Segment],
     file: &'a [u8],
@@ -74,13 +74,13 @@ fn push_function<'a>(
 ) -> Result<(), AllocError>
     requires in_file { list_all (is_in_file (length file.now)) segments.now ≡ true }
     requires has_size { is_sized_function strings.now symbol.now ≡ true }
-    ensures { OnOk result (map (λ f. (f.name.now, (f.address, f.code.now))) found.new.items
-        ≡ map (λ f. (f.name.now, (f.address, f.code.now))) found.old.items
+    ensures { OnOk result (map (λ f. (f.name.now, (f.address, f.code.now))) functions.new.items
+        ≡ map (λ f. (f.name.now, (f.address, f.code.now))) functions.old.items
         ++ filter_map (function_of_symbol segments.now file.now strings.now) (symbol.now ∷ [])) }
 {
     if let Some(code) = symbol.code(segments, file) {
         let name = truncated_name(bytes_from(strings, symbol.name as usize));
-        found.push(Function {
+        functions.push(Function {
             name,
             address: symbol.value,
             code,
@@ -134,10 +134,10 @@ impl Symbol {
 fn truncated_name(bytes: &[u8]) -> &[u8]
     ensures { result.now ≡ truncated_name bytes.now }
 {
-    let near = first_bytes(bytes);
-    match text_before_zero(near) {
+    let prefix = first_bytes(bytes);
+    match text_before_zero(prefix) {
         Some(name) => name,
-        None => near,
+        None => prefix,
     }
 }
 

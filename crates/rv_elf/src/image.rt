@@ -84,13 +84,13 @@ fn read_image_after_header(alloc: Global, file: &[u8], isa: Isa) -> Result<Image
 
 // Checks that there is a loaded segment and that an instruction may begin at the entry, and returns the first error that applies.
 #[tactic(auto, unfolding(crate::specs::ImageChecks::segments_and_entry_check))]
-fn check_segments_and_entry(file: &[u8], kept: &[Segment], isa: Isa) -> Result<(), ImageError>
+fn check_segments_and_entry(file: &[u8], loaded: &[Segment], isa: Isa) -> Result<(), ImageError>
     requires header { 52 ≤ length file.now }
-    requires segments { kept.now ≡ segments file.now }
+    requires segments { loaded.now ≡ segments file.now }
     ensures { result ≡ segments_and_entry_check isa file.now }
 {
     let entry = word_field(file, E_ENTRY);
-    if kept.is_empty() {
+    if loaded.is_empty() {
         return Err(ImageError::NoSegment);
     }
     if entry % 2 != 0 {

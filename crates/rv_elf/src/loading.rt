@@ -12,7 +12,7 @@ use crate::error::ImageError;
 use crate::image::{Image, Segment};
 use rv_memory::{Bus, Map};
 
-/// The address at which a segment's file bytes are loaded.
+/// The address at which the file bytes of a segment are loaded: its physical or its virtual address.
 #[derive(Clone, Copy, Debug, PartialEq, Eq)]
 pub enum LoadAt {
     Physical,
@@ -41,7 +41,7 @@ pub fn check_map(image: &Image, map: &Map, load_at: LoadAt) -> Result<(), ImageE
 pub fn load(image: &Image, file: &[u8], load_at: LoadAt, bus: &mut Bus)
     requires image { IsImageOf file.now image.now }
     requires fits { map_check image.now.segments bus.old.regions load_at ≡ accepted }
-    requires new { bus.old ≡ new_bus bus.old.regions bus.old.script bus.old.misaligned }
+    requires new_bus { bus.old ≡ new_bus bus.old.regions bus.old.script bus.old.misaligned }
     ensures { bus.new ≡ record bus.old {
       memory = initial_memory bus.old.regions image.now.segments file.now load_at;
     } }

@@ -46,17 +46,17 @@ pub(crate) fn program_header_table(
 /// Checks the program headers, and returns the first error that applies. Each condition is checked for all headers before the next
 /// condition.
 #[tactic(auto, unfolding(crate::specs::ImageChecks::program_header_check))]
-pub(crate) fn check_program_headers(found: &[ProgramHeader], file: &[u8]) -> Result<(), ImageError>
-    requires { found.now ≡ program_header_table file.now }
+pub(crate) fn check_program_headers(headers: &[ProgramHeader], file: &[u8]) -> Result<(), ImageError>
+    requires { headers.now ≡ program_header_table file.now }
     ensures { result ≡ program_header_check file.now }
 {
-    if any_dynamic_header(found) {
+    if any_dynamic_header(headers) {
         return Err(ImageError::Dynamic);
     }
-    if any_bad_segment_sizes(found) {
+    if any_bad_segment_sizes(headers) {
         return Err(ImageError::SegmentSizes);
     }
-    if any_segment_past_file(found, file.len()) {
+    if any_segment_past_file(headers, file.len()) {
         return Err(ImageError::SegmentFile);
     }
     Ok(())
@@ -69,13 +69,13 @@ pub(crate) fn loaded_segments(
 ) -> Result<Vec<Segment>, AllocError>
     ensures { IfOk result (λ v. v.items ≡ loaded_segments headers.now) }
 {
-    let mut kept = Vec::new(alloc);
-    for entry in headers {
-        if entry.p_type == PT_LOAD && 0 < entry.segment.memsz {
-            kept.push(entry.segment)?;
+    let mut segments = Vec::new(alloc);
+    for header in headers {
+        if header.p_type == PT_LOAD && 0 < header.segment.memsz {
+            segments.push(header.segment)?;
         }
     }
-    Ok(kept)
+    Ok(segments)
 }
 
 // Returns the `count` program headers of the table at an offset, in order.
@@ -90,11 +90,11 @@ fn program_headers_at(
     ensures { IfOk result (λ v. v.items
         ≡ map (λ k. program_header_at file.now (offset + 32 * k)) (range_with_len 0 count)) }
 {
-    let mut found = Vec::new(alloc);
+    let mut headers = Vec::new(alloc);
     for k in 0..count {
-        found.push(program_header_at(file, offset + 32 * k))?;
+        headers.push(program_header_at(file, offset + 32 * k))?;
     }
-    Ok(found)
+    Ok(headers)
 }
 
 // Returns the program header at an offset.
@@ -126,28 +126,28 @@ fn segment_at(file: &[u8], at: usize) -> Segment
 }
 
 // Whether at least one program header is PT_DYNAMIC or PT_INTERP.
-fn any_dynamic_header(found: &[ProgramHeader]) -> bool
-    ensures { result ≡ list_any is_dynamic found.now }
+fn any_dynamic_header(headers: &[ProgramHeader]) -> bool
+    ensures { result ≡ list_any is_dynamic headers.now }
 {
-    found
+    headers
         .iter()
-        .any(|e| e.p_type == PT_DYNAMIC || e.p_type == PT_INTERP)
+        .any(|header| header.p_type == PT_DYNAMIC || header.p_type == PT_INTERP)
 }
 
 // Whether at least one PT_LOAD program header has more bytes in the file than in memory.
-fn any_bad_segment_sizes(found: &[ProgramHeader]) -> bool
-    ensures { result ≡ list_any has_bad_sizes found.now }
+fn any_bad_segment_sizes(headers: &[ProgramHeader]) -> bool
+    ensures { result ≡ list_any has_bad_sizes headers.now }
 {
-    found.iter().any(|e| e.p_type == PT_LOAD && e.segment.memsz < e.segment.filesz)
+    headers.iter().any(|header| header.p_type == PT_LOAD && header.segment.memsz < header.segment.filesz)
 }
 
 // Whether at least one PT_LOAD program header has file bytes that extend past the end of a file of `size` bytes.
-fn any_segment_past_file(found: &[ProgramHeader], size: usize) -> bool
-    ensures { result ≡ list_any (is_segment_past_file size) found.now }
+fn any_segment_past_file(headers: &[ProgramHeader], size: usize) -> bool
+    ensures { result ≡ list_any (is_segment_past_file size) headers.now }
 {
-    found.iter().any(|e| {
-        e.p_type == PT_LOAD
-            && 0 < e.segment.filesz
-            && size < e.segment.offset as usize + e.segment.filesz as usize
+    headers.iter().any(|header| {
+        header.p_type == PT_LOAD
+            && 0 < header.segment.filesz
+            && size < header.segment.offset as usize + header.segment.filesz as usize
     })
 }

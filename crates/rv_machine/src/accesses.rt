@@ -50,7 +50,7 @@ impl Hart {
     #[inline(always)]
     pub(crate) fn store(
         &mut self,
-        table: &mut DecodeCache,
+        cache: &mut DecodeCache,
         pc: &mut u32,
         instr: Instr,
         width: Width,
@@ -60,15 +60,15 @@ impl Hart {
         ensures pc_unchanged { self.new.pc ≡ self.old.pc }
         ensures effect { MatchResult result
             (λ _. (store_of width (with_pc self.old pc.old) instr next ≡ Ok (with_pc self.new pc.new))
-            × (table.new ≡ with_range_invalidated table.old (address self.old instr) width))
+            × (cache.new ≡ with_range_invalidated cache.old (address self.old instr) width))
             (λ _. (is_ok (store_of width (with_pc self.old pc.old) instr next) ≡ false)
-            × (self.new ≡ self.old) × (pc.new ≡ pc.old) × (table.new ≡ table.old)) }
+            × (self.new ≡ self.old) × (pc.new ≡ pc.old) × (cache.new ≡ cache.old)) }
     {
         let address = add_offset(self.registers[instr.rs1 as usize], instr.imm);
         let value = self.registers[instr.rs2 as usize];
         match self.bus.store(address, width, value) {
             Ok(()) => {
-                table.invalidate_range(address, width);
+                cache.invalidate_range(address, width);
                 set_pc(pc, next)
             }
             Err(_) => Err(Incomplete),

@@ -65,8 +65,8 @@ impl Hart {
             (λ _. (is_ok (after_jump (with_pc self.old pc.old) instr next target) ≡ false)
             × (self.new ≡ self.old) × (pc.new ≡ pc.old)) }
     {
-        let refused = self.is_misaligned(target);
-        if refused {
+        let is_misaligned = self.is_misaligned(target);
+        if is_misaligned {
             return Err(Incomplete);
         }
         self.complete(pc, instr.rd, next, target)

@@ -69,8 +69,7 @@ pub record HaveSelectedRun (contents : Option FileContents) (root : Option (List
 
 -- ---- the files
 
--- `old` is the contents of the file at the path, or `None` if there is no file; if the contents of files are not known, `old` may be
--- anything
+-- `old` is the contents of the file at the path, or `None` if there is no file; any `old` will do if the contents of files are not known
 abbrev pub IsOldContentsAt : Option FileContents → List ℕ → Option (List ℕ) → Type 0
 IsOldContentsAt contents path old = IfSome contents (λ files. files path ≡ old)
 

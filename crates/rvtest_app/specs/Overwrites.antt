@@ -38,7 +38,7 @@ input_paths inputs = map (λ (input : InputPath). path_buf_bytes input.path) inp
 abbrev pub HaveIdentities : Option (List CommittedFile) → List (List ℕ) → InputFiles → Type 0
 HaveIdentities committed paths inputs = IfSome committed (λ _. inputs.identities.items ≡ paths)
 
--- whether one of the identities in `files` is `identity`
+-- whether `files`, a list of identities, has the identity `identity`
 abbrev pub is_among : List (List ℕ) → List ℕ → Bool
 is_among files identity = list_any (λ (file : List ℕ). bytes_eq file identity) files
 
@@ -68,7 +68,7 @@ abbrev pub output_role_text : InputRole → List ℕ
 output_role_text (role.Word word) = word.now
 output_role_text (role.JobFile key job) = job_output_text key.now job.now
 
--- the first half of the message: that `option`, with this path, would overwrite a file
+-- the first half of the message that `option`, with this path, would overwrite a file
 abbrev pub overwrite_prefix : List ℕ → List ℕ → List ℕ
 overwrite_prefix option path = codes "rvtest: " ++ option ++ codes " \"" ++ printable_text path ++ codes "\" would overwrite "
 
@@ -84,11 +84,12 @@ overwrite_message option path role input_path = overwrite_prefix option path ++ 
 abbrev pub IsOverwriteReported : List ℕ → List ℕ → Stop → Type 0
 IsOverwriteReported option path stop = (role : List ℕ) × (input_path : List ℕ) × IsStop 2 (overwrite_message option path role input_path) stop
 
--- why a command stopped: `option` would overwrite an input, or it could not be found out to which file its path leads
+-- why a command stopped: writing the file of `option` would overwrite an input, or it could not be found out to which file its path leads
 abbrev pub IsOverwriteStop : List ℕ → List ℕ → Stop → Type 0
 IsOverwriteStop option path stop = IsFileNotOpenedStop path stop ⊎ IsOverwriteReported option path stop
 
--- why a command stopped: the option names a file, and would overwrite an input, or it could not be found out to which file its path leads
+-- why a command stopped: the path of the option names a file, and writing it would overwrite an input, or it could not be found out to
+-- which file the path leads
 abbrev pub IsOptionOverwriteStop : List ℕ → Option (List ℕ) → Stop → Type 0
 IsOptionOverwriteStop option path stop = IsSomeAnd (file_path_at path) (λ path. IsOverwriteStop option path stop)
 
@@ -179,7 +180,8 @@ pub record AreAcceptFilesNotInputs (args : AcceptArgs) (jobs : List Job) (select
   pub golden_is_not_list : list_any (is_read (args.run.list.now ∷ [])) (golden_paths_of_selected (optional_text args.run.root) jobs selection) ≡ false
   pub golden_is_no_input : list_any (is_read (inputs_of_accept args jobs)) (golden_paths_of_selected (optional_text args.run.root) jobs selection) ≡ false
 
--- the beginning of a message about a golden file outside of the directory: `head`, and `role`, which describes the file
+-- the beginning of a message about a golden file outside of the directory: `head`, such as "rvtest: warning: ", and `role`, which describes
+-- the file
 abbrev pub outside_prefix : List ℕ → List ℕ → List ℕ
 outside_prefix head role = head ++ role
 

@@ -22,7 +22,7 @@ module _ {V : Type 0} where
   sink_failures failure_count (Some sink) = failure_count sink
 
 module _ {P V : Type 0} where
-  -- `full_outlet` consists of an outlet without its sink and, if it is a file, of the sink
+  -- `full_outlet` consists of the given outlet without a sink and, if it is a file, of the given sink
   abbrev pub AreOutletParts : Outlet P (Unit {0}) → Option V → Outlet P V → Type 0
   AreOutletParts outlet.Nowhere None full_outlet = full_outlet ≡ outlet.Nowhere
   AreOutletParts outlet.Stdout None full_outlet = full_outlet ≡ outlet.Stdout

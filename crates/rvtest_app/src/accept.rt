@@ -58,7 +58,7 @@ struct ChosenList {
     chosen: Option<Vec<bool>>,
     // The notes about the choice.
     notes: Vec<u8>,
-    ghost counted: { ForSome chosen (λ selection. length selection.items ≡ length jobs) },
+    ghost same_length: { ForSome chosen (λ selection. length selection.items ≡ length jobs) },
 }
 
 // Jobs without their expectations, and the selection of those that run.
@@ -66,7 +66,7 @@ struct ChosenList {
 struct BareJobs {
     jobs: JobList,
     selection: Vec<bool>,
-    ghost counted: { length selection.items ≡ length jobs },
+    ghost same_length: { length selection.items ≡ length jobs },
 }
 
 // What the runs of the jobs change: the texts for golden files, the golden files, and the new list.
@@ -85,20 +85,24 @@ pub(crate) fn accept_runs<
     F: Outputs + Drop,
     O: Sink + Drop,
     E: Sink + Drop,
->(host: &Host<'_, R, D>, args: &AcceptArgs<'_>, to: &mut Destinations<F, O, E>) -> Result<u8, Stop>
+>(
+    host: &Host<'_, R, D>,
+    args: &AcceptArgs<'_>,
+    destinations: &mut Destinations<F, O, E>,
+) -> Result<u8, Stop>
     ensures status_bound { IfOk result (λ status. status ≤ 1) }
     ensures accepted { IfOk result (λ status. IsAcceptedAt (D.contents host.now.inputs.now) args.now status
-        (outputs_of F.committed O.accepted E.accepted E.failure_count to.old) (outputs_of F.committed O.accepted E.accepted E.failure_count to.new)) }
+        (outputs_of F.committed O.accepted E.accepted E.failure_count destinations.old) (outputs_of F.committed O.accepted E.accepted E.failure_count destinations.new)) }
     // A check opens no file for writing, whatever its result.
-    ensures check_writes_nothing { args.now.check ≡ true → to.new.files ≡ to.old.files }
+    ensures check_writes_nothing { args.now.check ≡ true → destinations.new.files ≡ destinations.old.files }
     ensures stopped { IfErr result (IsAcceptStop (D.contents host.now.inputs.now) args.now) }
     // No input is overwritten, except accepted files.
-    ensures inputs_preserved { AreAcceptInputsPreserved (D.contents host.now.inputs.now) args.now (F.committed to.old.files) (F.committed to.new.files) }
+    ensures inputs_preserved { AreAcceptInputsPreserved (D.contents host.now.inputs.now) args.now (F.committed destinations.old.files) (F.committed destinations.new.files) }
 {
     let list = chosen_list(host, args)?;
-    write_message(&mut to.errors, list.notes.as_slice());
+    write_message(&mut destinations.errors, list.notes.as_slice());
     match &list.chosen {
-        Some(chosen) => accept_chosen(host, args, &list, chosen.as_slice(), to),
+        Some(chosen) => accept_chosen(host, args, &list, chosen.as_slice(), destinations),
         None => Ok(DONE),
     }
 }
@@ -115,22 +119,22 @@ fn accept_chosen<
     args: &AcceptArgs<'_>,
     list: &ChosenList,
     chosen: &[bool],
-    to: &mut Destinations<F, O, E>,
+    destinations: &mut Destinations<F, O, E>,
 ) -> Result<u8, Stop>
     requires same_length { length chosen.now ≡ length list.now.jobs }
     requires listed { job_list_of list.now.text.items ≡ Ok list.now.jobs }
     ensures status_bound { IfOk result (λ status. status ≤ 1) }
     ensures accepted { IfOk result (λ status. IsAcceptOfSelected (D.contents host.now.inputs.now) args.now
         list.now.text.items list.now.jobs chosen.now status
-        (outputs_of F.committed O.accepted E.accepted E.failure_count to.old) (outputs_of F.committed O.accepted E.accepted E.failure_count to.new)) }
-    ensures check_writes_nothing { args.now.check ≡ true → to.new.files ≡ to.old.files }
+        (outputs_of F.committed O.accepted E.accepted E.failure_count destinations.old) (outputs_of F.committed O.accepted E.accepted E.failure_count destinations.new)) }
+    ensures check_writes_nothing { args.now.check ≡ true → destinations.new.files ≡ destinations.old.files }
     ensures stopped { IfErr result
         (IsAcceptChosenStop (D.contents host.now.inputs.now) args.now list.now.jobs) }
-    ensures inputs_preserved { (F.committed to.new.files ≡ F.committed to.old.files) ⊎ IfSome (F.committed to.old.files) (λ _. AreAcceptFilesNotInputs
+    ensures inputs_preserved { (F.committed destinations.new.files ≡ F.committed destinations.old.files) ⊎ IfSome (F.committed destinations.old.files) (λ _. AreAcceptFilesNotInputs
         args.now list.now.jobs (jobs_to_run list.now.jobs chosen.now)) }
 {
-    let selected = checked_jobs(host, args, list, chosen, to)?;
-    let rows = run_selected(host, args, selected, to)?;
+    let selected = checked_jobs(host, args, list, chosen, destinations)?;
+    let rows = run_selected(host, args, selected, destinations)?;
     let list = ListFile {
         path: args.run.list,
         text: list.text.as_slice(),
@@ -138,7 +142,7 @@ fn accept_chosen<
     };
     let runs = judge_rows(host, args, list.jobs, chosen, rows)?;
     let changes = changes_of_runs(host, args, &list, runs)?;
-    write_accepted(host, args, &list, &changes, to)
+    write_accepted(host, args, &list, &changes, destinations)
 }
 
 // Returns the jobs to run, or an error if a file that `accept` would write is one of its inputs or is outside of the directory.
@@ -147,24 +151,24 @@ fn checked_jobs<R, D, F: Outputs + Drop, O: Sink + Drop, E: Sink + Drop>(
     args: &AcceptArgs<'_>,
     list: &ChosenList,
     chosen: &[bool],
-    to: &mut Destinations<F, O, E>,
+    destinations: &mut Destinations<F, O, E>,
 ) -> Result<BareJobs, Stop>
     requires same_length { length chosen.now ≡ length list.now.jobs }
     requires listed { job_list_of list.now.text.items ≡ Ok list.now.jobs }
     ensures jobs { IfOk result (λ selected. selected.jobs ≡ map without_expectations list.now.jobs) }
     ensures selection { IfOk result (λ selected. selected.selection.items
         ≡ jobs_to_run list.now.jobs chosen.now) }
-    ensures files_unchanged { to.new.files ≡ to.old.files }
-    ensures outside_reported { OnOk result (AreOutsideFilesReported (outputs_of F.committed O.accepted E.accepted E.failure_count to.old)
-        (outputs_of F.committed O.accepted E.accepted E.failure_count to.new)) }
-    ensures inputs_preserved { OnOk result (IfSome (F.committed to.old.files) (λ _. AreAcceptFilesNotInputs
+    ensures files_unchanged { destinations.new.files ≡ destinations.old.files }
+    ensures outside_reported { OnOk result (AreOutsideFilesReported (outputs_of F.committed O.accepted E.accepted E.failure_count destinations.old)
+        (outputs_of F.committed O.accepted E.accepted E.failure_count destinations.new)) }
+    ensures inputs_preserved { OnOk result (IfSome (F.committed destinations.old.files) (λ _. AreAcceptFilesNotInputs
         args.now list.now.jobs (jobs_to_run list.now.jobs chosen.now))) }
     ensures stopped { IfErr result IsAcceptOverwriteStop }
 {
     let selected = selected_jobs(host.alloc, args, list, chosen)?;
     let (jobs, selection) = (list.jobs.as_slice(), selected.selection.as_slice());
-    let outside = reject_accept_overwrites(&to.files, host.alloc, args, jobs, selection)?;
-    write_message(&mut to.errors, outside.as_slice());
+    let outside = reject_accept_overwrites(&destinations.files, host.alloc, args, jobs, selection)?;
+    write_message(&mut destinations.errors, outside.as_slice());
     Ok(selected)
 }
 
@@ -263,12 +267,12 @@ fn run_selected<
     host: &Host<'_, R, D>,
     args: &AcceptArgs<'_>,
     selected: BareJobs,
-    to: &mut Destinations<F, O, E>,
+    destinations: &mut Destinations<F, O, E>,
 ) -> Result<Vec<Option<Row>>, Stop>
-    ensures files_unchanged { to.new.files ≡ to.old.files }
+    ensures files_unchanged { destinations.new.files ≡ destinations.old.files }
     ensures rows { IfOk result (λ rows. HaveSelectedRun (D.contents host.now.inputs.now)
         (optional_text args.now.run.root) selected.jobs selected.selection.items rows.items
-        (outputs_of F.committed O.accepted E.accepted E.failure_count to.old) (outputs_of F.committed O.accepted E.accepted E.failure_count to.new)) }
+        (outputs_of F.committed O.accepted E.accepted E.failure_count destinations.old) (outputs_of F.committed O.accepted E.accepted E.failure_count destinations.new)) }
     ensures stopped { IfErr result (λ stop. (stop ≡ Stop.OutOfMemory) ⊎ (stop ≡ Stop.NoWorker)) }
 {
     let BareJobs {
@@ -282,7 +286,7 @@ fn run_selected<
     let plan = gather_jobs_at(alloc, jobs, indices.as_slice(), &mut store)?;
     let count = indices.as_slice().len();
     let note = missing_images_note(alloc, &plan, store.unreadable_paths(), count, root)?;
-    write_message(&mut to.errors, note.as_slice());
+    write_message(&mut destinations.errors, note.as_slice());
     let crew = requested_crew(host.rt, alloc, &args.run);
     let batch = Batch::new(&plan, indices.as_slice());
     match run_batch(&crew, &batch) {
@@ -341,13 +345,13 @@ fn write_accepted<'x, R, D: Inputs, F: Outputs + Drop, O: Sink + Drop, E: Sink +
     args: &AcceptArgs<'_>,
     list: &ListFile<'x>,
     changes: &'x AcceptChanges,
-    to: &mut Destinations<F, O, E>,
+    destinations: &mut Destinations<F, O, E>,
 ) -> Result<u8, Stop>
     ensures status_bound { IfOk result (λ status. status ≤ 1) }
-    ensures check_writes_nothing { args.now.check ≡ true → to.new.files ≡ to.old.files }
+    ensures check_writes_nothing { args.now.check ≡ true → destinations.new.files ≡ destinations.old.files }
     ensures written { IfOk result (λ status. AreChangesWritten args.now.check list.now changes.now.new.runs.items
         changes.now.golden_texts.items changes.now.files.items changes.now.new status
-        (outputs_of F.committed O.accepted E.accepted E.failure_count to.old) (outputs_of F.committed O.accepted E.accepted E.failure_count to.new)) }
+        (outputs_of F.committed O.accepted E.accepted E.failure_count destinations.old) (outputs_of F.committed O.accepted E.accepted E.failure_count destinations.new)) }
     ensures stopped { IfErr result (IsAcceptanceWriteStop (D.contents host.now.inputs.now) args.now.check
         list.now.path.now changes.now.files.items) }
 {
@@ -358,15 +362,25 @@ fn write_accepted<'x, R, D: Inputs, F: Outputs + Drop, O: Sink + Drop, E: Sink +
         files: changes.files.as_slice(),
         new: &changes.new,
     };
-    write_lines(host.alloc, &summary, &mut to.out)?;
+    write_lines(host.alloc, &summary, &mut destinations.out)?;
     if args.check {
-        write_count_line(host.alloc, &summary, Writing::CheckOnly, &mut to.out)?;
+        write_count_line(
+            host.alloc,
+            &summary,
+            Writing::CheckOnly,
+            &mut destinations.out,
+        )?;
         return Ok(accept_status(summary.skipped_count(), summary.changed_count()));
     }
     check_files_are_unchanged(host.inputs, host.alloc, &summary)?;
-    write_accepted_files(&mut to.files, host.alloc, &summary)?;
+    write_accepted_files(&mut destinations.files, host.alloc, &summary)?;
     check_written_files(host.inputs, host.alloc, &summary)?;
-    write_count_line(host.alloc, &summary, Writing::Written, &mut to.out)?;
+    write_count_line(
+        host.alloc,
+        &summary,
+        Writing::Written,
+        &mut destinations.out,
+    )?;
     Ok(accept_status(summary.skipped_count(), 0))
 }
 
@@ -396,7 +410,8 @@ fn write_count_line<O: Sink>(
     write_results(out, line.as_slice())
 }
 
-// Returns the exit status: 0 if no job or file was skipped (`skipped`) and no file would change, otherwise 1.
+// Returns the exit status: 0 if both `skipped`, the number of skipped jobs and files, and `changed`, the number of changes that `--check`
+// leaves unwritten, are 0; otherwise 1.
 fn accept_status(skipped: usize, changed: usize) -> u8
     ensures value { result ≡ accept_status skipped changed }
     ensures status_bound { result ≤ 1 }

@@ -31,9 +31,8 @@ struct AcceptReads<'a> {
     golden: InputFiles<'a>,
 }
 
-/// Rejects the list and each golden file of a selected job if writing it would overwrite another input, if two golden files have different
-/// paths that lead to one file, or if a golden file is outside of the directory and `--outside` is not given. Otherwise returns the
-/// warnings about golden files outside of the directory.
+/// Returns an error if writing the list or a golden file of a selected job would overwrite an input, or if a golden file is outside of the
+/// directory and `--outside` is not given. Otherwise returns the warnings about golden files outside of the directory.
 pub(crate) fn reject_accept_overwrites<F: Outputs>(
     files: &F,
     alloc: Global,
@@ -128,7 +127,7 @@ fn push_golden_of_selected<'a>(
     }
 }
 
-// Returns an error if writing the list would overwrite an input or a golden file.
+// Returns an error if writing the list would overwrite an input.
 fn reject_list_overwrite<F: Outputs>(
     files: &F,
     alloc: Global,
@@ -143,7 +142,7 @@ fn reject_list_overwrite<F: Outputs>(
     reject_file_overwrite(files, alloc, "the updated list", list_path, &reads.golden)
 }
 
-// Returns an error if writing a golden file would overwrite the list, an input, or a golden file with another path.
+// Returns an error if writing one of the golden files would overwrite the list or an input.
 fn reject_golden_overwrites<F: Outputs>(
     files: &F,
     alloc: Global,
@@ -160,7 +159,7 @@ fn reject_golden_overwrites<F: Outputs>(
     Ok(())
 }
 
-// Returns an error if writing this golden file would overwrite the list, an input, or a golden file with another path.
+// Returns an error if writing this golden file would overwrite the list or an input.
 fn reject_golden_overwrite<F: Outputs>(
     files: &F,
     alloc: Global,
@@ -184,6 +183,7 @@ fn reject_golden_overwrite<F: Outputs>(
         &reads.inputs,
         reads.inputs.first_among(replaced),
     )?;
+    // Nor may it overwrite a golden file with another path.
     let other = first_with_other_path(&reads.golden, replaced, path);
     reject_if_found(alloc, golden, &reads.golden, other)
 }
@@ -202,7 +202,7 @@ fn first_with_other_path(inputs: &InputFiles<'_>, identities: &[Text], path: &st
     None
 }
 
-// Returns an error if there is an input at index `first` that the golden file would overwrite.
+// Returns an error if there is an index `first`: of the input that writing the golden file would overwrite.
 fn reject_if_found(
     alloc: Global,
     golden: &InputPath<'_>,
@@ -219,7 +219,7 @@ fn reject_if_found(
     }
 }
 
-// Returns the error that writing a golden file would overwrite the input `input`.
+// Returns the error that writing a golden file would overwrite `input`.
 fn golden_overwrite_stop(alloc: Global, golden: &InputPath<'_>, input: &InputPath<'_>) -> Stop
     ensures { IsOverwriteReported (output_role_text golden.now.role) (path_buf_bytes golden.now.path) result }
 {
@@ -279,7 +279,7 @@ fn outside_notes<F: Outputs>(
     Ok(notes)
 }
 
-// Returns the directory of a path; `.` if the path has none.
+// Returns the directory part of a path; `.` if the path has none.
 fn directory_of(path: &str) -> &str {
     match Path::new(path).parent() {
         Some(parent) if !parent.as_str().is_empty() => parent.as_str(),

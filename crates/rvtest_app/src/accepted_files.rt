@@ -135,7 +135,7 @@ fn check_unchanged<D: Inputs>(
     }
 }
 
-// Whether the contents `current` equal `old`, where `None` stands for a missing file.
+// Whether the file contents `current` and `old` are equal; `None` stands for a missing file.
 fn contents_match(current: &Option<Bytes>, old: Option<&[u8]>) -> bool
     ensures { IsTrue result → current.now ≡ option_map (λ old. old.now) old.entry }
 {

@@ -27,7 +27,7 @@ pub(crate) struct CheckedList<'a> {
     pub(crate) lines: &'a [usize],
     pub(crate) plan: &'a Plan,
     pub(crate) unread: &'a [UnreadablePath],
-    ghost few: { length plan.now.jobs ≤ max_jobs },
+    ghost at_most_max: { length plan.now.jobs ≤ max_jobs },
 }
 
 // An expectation file of a job: its contents as the plan has them, and its path; both are `None` if the job names no file.

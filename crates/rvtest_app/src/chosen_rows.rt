@@ -14,8 +14,8 @@ pub(crate) struct ChosenRows<'a> {
     pub(crate) jobs: usize,
     pub(crate) indices: &'a [usize],
     pub(crate) rows: Rows,
-    ghost few: { jobs ≤ max_jobs },
+    ghost at_most_max: { jobs ≤ max_jobs },
     ghost within: { All (λ index. index < jobs) indices.now },
     ghost rising: { IsStrictlyIncreasing indices.now },
-    ghost counted: { length rows ≡ length indices.now },
+    ghost same_length: { length rows ≡ length indices.now },
 }

@@ -33,23 +33,23 @@ struct ReportedRow {
     status: u8,
 }
 
-/// Runs the job with the requested name, and writes its console to standard output and the line about it to standard error. The status is 0
+/// Runs the job with the requested name, and writes its console to standard output and its result line to standard error. The status is 0
 /// if the job passed, and otherwise 1.
 pub(crate) fn write_job_console<D: Inputs, F: Outputs + Drop, O: Sink + Drop, E: Sink + Drop>(
     inputs: &D,
     alloc: Global,
     args: ConsoleArgs<'_>,
-    to: &mut Destinations<F, O, E>,
+    destinations: &mut Destinations<F, O, E>,
 ) -> Result<u8, Stop>
     ensures written { IfOk result (λ status. IsConsoleWritten (D.contents inputs.now) args.entry status
-        (outputs_of F.committed O.accepted E.accepted E.failure_count to.old) (outputs_of F.committed O.accepted E.accepted E.failure_count to.new)) }
+        (outputs_of F.committed O.accepted E.accepted E.failure_count destinations.old) (outputs_of F.committed O.accepted E.accepted E.failure_count destinations.new)) }
     ensures status_bound { IfOk result (λ status. status ≤ 1) }
     ensures stopped { IfErr result (λ stop. (stop ≡ Stop.WriteFailed)
         ⊎ IsConsoleStop (D.contents inputs.now) args.entry stop) }
 {
     let ReportedRow { row, line, status } = run_named_job(inputs, alloc, args)?;
-    write_results(&mut to.out, row.console.as_slice())?;
-    write_message(&mut to.errors, line.as_slice());
+    write_results(&mut destinations.out, row.console.as_slice())?;
+    write_message(&mut destinations.errors, line.as_slice());
     Ok(status)
 }
 

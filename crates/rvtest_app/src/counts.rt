@@ -30,24 +30,24 @@ pub(crate) fn write_sum_of_tables<D: Inputs, F: Outputs + Drop, O: Sink + Drop, 
     inputs: &D,
     alloc: Global,
     args: &CountsArgs<'_>,
-    to: &mut Destinations<F, O, E>,
+    destinations: &mut Destinations<F, O, E>,
 ) -> Result<u8, Stop>
     ensures written { IfOk result (λ status. IsSumWritten (D.contents inputs.now) args.now status
-        (outputs_of F.committed O.accepted E.accepted E.failure_count to.old) (outputs_of F.committed O.accepted E.accepted E.failure_count to.new)) }
+        (outputs_of F.committed O.accepted E.accepted E.failure_count destinations.old) (outputs_of F.committed O.accepted E.accepted E.failure_count destinations.new)) }
     ensures status_bound { IfOk result (λ status. status ≤ 1) }
-    ensures nothing_committed { OnErr result (F.committed to.new.files ≡ F.committed to.old.files) }
+    ensures nothing_committed { OnErr result (F.committed destinations.new.files ≡ F.committed destinations.old.files) }
     // Only the sum may go to standard output.
-    ensures out_unchanged { (is_stdout (written_path (optional_text args.now.out)) ≡ true) ⊎ (to.new.out ≡ to.old.out) }
+    ensures out_unchanged { (is_stdout (written_path (optional_text args.now.out)) ≡ true) ⊎ (destinations.new.out ≡ destinations.old.out) }
     ensures stopped { IfErr result (IsCountsStop (D.contents inputs.now) args.now) }
     // The tables are not overwritten.
-    ensures inputs_preserved { HoldsIfCommitted (IsSumFileNotAnInput args.now) (F.committed to.old.files) (F.committed to.new.files) }
+    ensures inputs_preserved { HoldsIfCommitted (IsSumFileNotAnInput args.now) (F.committed destinations.old.files) (F.committed destinations.new.files) }
 {
-    reject_sum_overwrite(&to.files, alloc, args)?;
+    reject_sum_overwrite(&destinations.files, alloc, args)?;
     let sum = sum_of_paths(inputs, alloc, args.tables.as_slice())?;
     let text = table_text(alloc, &sum)?;
     let note = sum_note(alloc, &sum)?;
-    write_text(alloc, to, args.out, text.as_bytes())?;
-    write_message(&mut to.errors, note.as_slice());
+    write_text(alloc, destinations, args.out, text.as_bytes())?;
+    write_message(&mut destinations.errors, note.as_slice());
     Ok(DONE)
 }
 
@@ -131,7 +131,7 @@ fn read_error_stop(alloc: Global, path: &str, error: ReadError) -> Stop
     }
 }
 
-/// Returns the stop for the error that the table at the path cannot be added to the earlier tables.
+/// Returns the stop for an error in adding the table at the path to the sum of the earlier tables.
 pub(crate) fn sum_error_stop(alloc: Global, path: &str, error: SumError) -> Stop
     ensures { IsSumErrorStop path.now error result }
 {
@@ -153,7 +153,7 @@ pub(crate) fn sum_error_stop(alloc: Global, path: &str, error: SumError) -> Stop
     }
 }
 
-// Returns the message that the table at the path gives a function another name than an earlier table does.
+// Returns the message that the table at the path gives the function at this address another name than an earlier table does.
 fn two_names_message(alloc: Global, path: &str, function: u32) -> Result<Vec<u8>, AllocError>
     ensures { IfOk result (λ text. text.items ≡ two_names_message path.now function) }
 {

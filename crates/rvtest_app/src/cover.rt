@@ -21,9 +21,13 @@ pub(crate) fn cover_requested_jobs<
     F: Outputs + Drop,
     O: Sink + Drop,
     E: Sink + Drop,
->(host: &Host<'_, R, D>, args: &CoverArgs<'_>, to: &mut Destinations<F, O, E>) -> Result<u8, Stop>
+>(
+    host: &Host<'_, R, D>,
+    args: &CoverArgs<'_>,
+    destinations: &mut Destinations<F, O, E>,
+) -> Result<u8, Stop>
     ensures written { IfOk result (λ status. IsCoverageWritten (D.contents host.now.inputs.now) args.now status
-        (outputs_of F.committed O.accepted E.accepted E.failure_count to.old) (outputs_of F.committed O.accepted E.accepted E.failure_count to.new)) }
+        (outputs_of F.committed O.accepted E.accepted E.failure_count destinations.old) (outputs_of F.committed O.accepted E.accepted E.failure_count destinations.new)) }
     ensures status_bound { IfOk result (λ status. status ≤ 1) }
     ensures stopped { IfErr result (λ stop. (stop ≡ Stop.WriteFailed)
         ⊎ IsCoverStop (D.contents host.now.inputs.now) args.now stop) }
@@ -33,5 +37,5 @@ pub(crate) fn cover_requested_jobs<
         args: &args.run,
         view: View::Cover { csv: args.csv },
     };
-    view.write_view(ChoosingCommand::Cover, to)
+    view.write_view(ChoosingCommand::Cover, destinations)
 }

@@ -36,17 +36,17 @@ pub(crate) fn diff_reports<D: Inputs, F: Outputs + Drop, O: Sink + Drop, E: Sink
     inputs: &D,
     alloc: Global,
     args: DiffArgs<'_>,
-    to: &mut Destinations<F, O, E>,
+    destinations: &mut Destinations<F, O, E>,
 ) -> Result<u8, Stop>
     ensures written { IfOk result (λ status. IsDiffWritten (D.contents inputs.now) args.entry status
-        (outputs_of F.committed O.accepted E.accepted E.failure_count to.old) (outputs_of F.committed O.accepted E.accepted E.failure_count to.new)) }
+        (outputs_of F.committed O.accepted E.accepted E.failure_count destinations.old) (outputs_of F.committed O.accepted E.accepted E.failure_count destinations.new)) }
     ensures status_bound { IfOk result (λ status. status ≤ 1) }
     ensures stopped { IfErr result (λ stop. (stop ≡ WriteFailed)
         ⊎ IsDiffAtStop (D.contents inputs.now) args.entry stop) }
 {
     let NotedDiff { output, notes } = diff_of_files(inputs, alloc, args)?;
-    write_message(&mut to.errors, notes.as_slice());
-    write_results(&mut to.out, output.text.as_slice())?;
+    write_message(&mut destinations.errors, notes.as_slice());
+    write_results(&mut destinations.out, output.text.as_slice())?;
     Ok(output.status)
 }
 

@@ -19,13 +19,13 @@ impl<'a> RowReporter for FailedLines<'a> {
     ghost use Rattle.rv_expect.specs.Judgement.{judge_view};
     ghost use Rattle.rvtest_app.specs.ReportSummary.{failed_line};
 
-    ghost line = { λ told _ row. failed_line (judge_view told.judge) row };
+    ghost line = { λ reporter _ row. failed_line (judge_view reporter.judge) row };
 
     // Appends the result line of a row that is a failure; nothing for any other row.
     fn push_row_text(
         &self,
         alloc: Global,
-        _place: usize,
+        _index: usize,
         row: &Row,
         text: &mut Vec<u8>,
     ) -> Result<(), AllocError> {

@@ -15,5 +15,5 @@ pub(crate) struct FileTexts<'s, 't, 'p, T> {
     pub(crate) report: ReportText<'p>,
     /// The lines that are known already, by the numbers of their rows.
     pub(crate) texts: &'p [Option<Vec<u8>>],
-    ghost committed: { length (report_rows report) ≤ length indices.now },
+    ghost index_per_row: { length (report_rows report) ≤ length indices.now },
 }

@@ -56,15 +56,15 @@ pub(crate) fn show_job_to_gdb<
     args: GdbArgs<'_>,
     is_terminal: bool,
     input: &mut I,
-    to: &mut Destinations<F, O, E>,
+    destinations: &mut Destinations<F, O, E>,
 ) -> Result<u8, Stop>
     ensures served { IfOk result (λ status. IsGdbServed (D.contents host.now.inputs.now) is_terminal args.entry
         (I.remaining input.old) (I.remaining input.new) status
-        (outputs_of F.committed O.accepted E.accepted E.failure_count to.old) (outputs_of F.committed O.accepted E.accepted E.failure_count to.new)) }
+        (outputs_of F.committed O.accepted E.accepted E.failure_count destinations.old) (outputs_of F.committed O.accepted E.accepted E.failure_count destinations.new)) }
     ensures exit_status { IfOk result (λ status. status ≡ 0) }
     ensures stopped { IfErr result (λ stop. IsGdbStopped (D.contents host.now.inputs.now) is_terminal args.entry stop
-        (outputs_of F.committed O.accepted E.accepted E.failure_count to.old) (outputs_of F.committed O.accepted E.accepted E.failure_count to.new)
-        (O.failure_count to.old.out) (O.failure_count to.new.out)) }
+        (outputs_of F.committed O.accepted E.accepted E.failure_count destinations.old) (outputs_of F.committed O.accepted E.accepted E.failure_count destinations.new)
+        (O.failure_count destinations.old.out) (O.failure_count destinations.new.out)) }
 {
     let alloc = host.alloc;
     if is_terminal {
@@ -78,7 +78,7 @@ pub(crate) fn show_job_to_gdb<
         alloc,
         end: &job,
     };
-    match serve(&context, &mut session, input, &mut to.out) {
+    match serve(&context, &mut session, input, &mut destinations.out) {
         Ok(()) => Ok(DONE),
         Err(error) => Err(session_error_stop(alloc, error)),
     }

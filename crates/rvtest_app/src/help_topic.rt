@@ -11,7 +11,7 @@ use rv_job_text::{Span, push_text, text_of_spans};
 use rvtest_cli::HelpArgs;
 use std::alloc::{AllocError, Global};
 
-/// Returns the help about the keys of a job list if the topic is `keys`, and an error for any other topic.
+/// Returns the help about the keys of a job list if the topic is `keys`; an error for any other topic.
 pub(crate) fn topic_help(alloc: Global, args: HelpArgs<'_>) -> Result<CommandResult, Stop>
     ensures printed { IfOk result (λ output. IsTopicPrinted args.entry.topic.now output.text.items output.status) }
     ensures stopped { IfErr result (IsNoTopicStop args.entry.topic.now) }

@@ -26,5 +26,5 @@ pub(crate) enum InputRole<'a> {
 pub(crate) struct InputFiles<'a> {
     pub(crate) paths: Vec<InputPath<'a>>,
     pub(crate) identities: Vec<Text>,
-    ghost counted: { length identities.items ≡ length paths.items },
+    ghost same_length: { length identities.items ≡ length paths.items },
 }

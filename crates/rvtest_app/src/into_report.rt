@@ -24,7 +24,7 @@ pub(crate) struct ReportContext {
 pub(crate) struct IntoRows<'a> {
     pub(crate) chosen: ChosenRows<'a>,
     pub(crate) old: Rows,
-    ghost whole: { length old ≡ chosen.jobs },
+    ghost same_length: { length old ≡ chosen.jobs },
 }
 
 impl<'a> IntoRows<'a> {
@@ -40,7 +40,7 @@ impl<'a> IntoRows<'a> {
     }
 }
 
-// Replaces the rows of `all_rows` at the indices `indices`, in order, by `rows`.
+// Replaces, in order, the rows of `all_rows` at these indices by `rows`.
 fn replace_rows_at(all_rows: &mut Vec<Row>, indices: &[usize], rows: Vec<Row>)
     requires within { All (λ index. index < vec_len all_rows.old) indices.now }
     requires same_length { length indices.now ≡ vec_len rows }

@@ -64,7 +64,7 @@ fn job_names(alloc: Global, jobs: &[Job]) -> Result<Vec<&str>, AllocError>
     Ok(names)
 }
 
-// Returns the message about an error in the file of known failures at `path`.
+// Returns the message about an error in the file of known failures at `path`; `list_path` is the path of the job list.
 fn known_fault_message(
     alloc: Global,
     path: &str,

@@ -14,5 +14,5 @@ pub fn rows_by_steps_are_sorted()
 
 /// If `accept` reports no change, it writes no file.
 pub fn nothing_is_written_if_nothing_changes()
-    ensures { (told : AcceptSummary) → changed_count told ≡ 0 → written_files told ≡ [] }
+    ensures { (summary : AcceptSummary) → changed_count summary ≡ 0 → written_files summary ≡ [] }
 {}

@@ -30,17 +30,17 @@ pub(crate) fn list_chosen_jobs<D: Inputs, F: Outputs + Drop, O: Sink + Drop, E: 
     inputs: &D,
     alloc: Global,
     args: &RunArgs<'_>,
-    to: &mut Destinations<F, O, E>,
+    destinations: &mut Destinations<F, O, E>,
 ) -> Result<u8, Stop>
     ensures written { IfOk result (λ status. IsListWritten (D.contents inputs.now) args.now status
-        (outputs_of F.committed O.accepted E.accepted E.failure_count to.old) (outputs_of F.committed O.accepted E.accepted E.failure_count to.new)) }
+        (outputs_of F.committed O.accepted E.accepted E.failure_count destinations.old) (outputs_of F.committed O.accepted E.accepted E.failure_count destinations.new)) }
     ensures status_bound { IfOk result (λ status. status ≤ 1) }
     ensures stopped { IfErr result (λ stop. (stop ≡ Stop.WriteFailed)
         ⊎ IsListStop (D.contents inputs.now) args.now stop) }
 {
     let ListedJobs { names, notes } = chosen_jobs(inputs, alloc, args)?;
-    write_message(&mut to.errors, notes.as_slice());
-    write_results(&mut to.out, names.as_slice())?;
+    write_message(&mut destinations.errors, notes.as_slice());
+    write_results(&mut destinations.out, names.as_slice())?;
     Ok(DONE)
 }
 

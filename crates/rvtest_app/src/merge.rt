@@ -49,22 +49,22 @@ pub(crate) fn merge_reports<D: Inputs, F: Outputs + Drop, O: Sink + Drop, E: Sin
     inputs: &D,
     alloc: Global,
     args: &MergeArgs<'_>,
-    to: &mut Destinations<F, O, E>,
+    destinations: &mut Destinations<F, O, E>,
 ) -> Result<u8, Stop>
     ensures status_bound { IfOk result (λ status. status ≤ 1) }
     ensures merged { IfOk result (λ status. IsMergedAt (D.contents inputs.now) args.now status
-        (outputs_of F.committed O.accepted E.accepted E.failure_count to.old) (outputs_of F.committed O.accepted E.accepted E.failure_count to.new)) }
+        (outputs_of F.committed O.accepted E.accepted E.failure_count destinations.old) (outputs_of F.committed O.accepted E.accepted E.failure_count destinations.new)) }
     ensures committed_after_error { OnErr result (IsAbortedMergeAt (D.contents inputs.now) args.now
-        (F.committed to.old.files) (F.committed to.new.files)) }
+        (F.committed destinations.old.files) (F.committed destinations.new.files)) }
     ensures stopped { IfErr result (IsMergeStop (D.contents inputs.now) args.now) }
     // The shards are not overwritten.
-    ensures inputs_preserved { HoldsIfCommitted (AreMergeFilesNotInputs args.now) (F.committed to.old.files) (F.committed to.new.files) }
+    ensures inputs_preserved { HoldsIfCommitted (AreMergeFilesNotInputs args.now) (F.committed destinations.old.files) (F.committed destinations.new.files) }
 {
-    reject_merge_overwrites(&to.files, alloc, args)?;
+    reject_merge_overwrites(&destinations.files, alloc, args)?;
     let texts = read_part_texts(inputs, alloc, args)?;
     let merged = merge_part_texts(alloc, args, texts.as_slice())?;
     let status = merged.status;
-    write_merged(alloc, args, merged, to)?;
+    write_merged(alloc, args, merged, destinations)?;
     Ok(status)
 }
 
@@ -173,27 +173,32 @@ fn write_merged<F: Outputs + Drop, O: Sink + Drop, E: Sink + Drop>(
     alloc: Global,
     args: &MergeArgs<'_>,
     merged: Merged,
-    to: &mut Destinations<F, O, E>,
+    destinations: &mut Destinations<F, O, E>,
 ) -> Result<(), Stop>
     ensures written { OnOk result (IsOutputWritten
         (merged_report_path (optional_text args.now.report) (optional_text args.now.junit))
         (optional_text args.now.junit) merged.line.items (report_text merged.rows)
         (merged_junit args.now merged.rows)
-        (outputs_of F.committed O.accepted E.accepted E.failure_count to.old) (outputs_of F.committed O.accepted E.accepted E.failure_count to.new)) }
-    ensures committed_after_error { OnErr result (AreFilesPartlyCommitted (F.committed to.old.files) (F.committed to.new.files)
+        (outputs_of F.committed O.accepted E.accepted E.failure_count destinations.old) (outputs_of F.committed O.accepted E.accepted E.failure_count destinations.new)) }
+    ensures committed_after_error { OnErr result (AreFilesPartlyCommitted (F.committed destinations.old.files) (F.committed destinations.new.files)
         (Some (file_at (optional_text args.now.junit) (merged_junit args.now merged.rows)))) }
     ensures stopped { IfErr result (IsMergeWriteStop args.now) }
 {
     let Merged { rows, line, .. } = merged;
-    let outlets = open_outlets(&mut to.files, alloc, merged_report_path(args), args.junit)?;
+    let outlets = open_outlets(
+        &mut destinations.files,
+        alloc,
+        merged_report_path(args),
+        args.junit,
+    )?;
     let suite = Suite {
         name: merged_suite(args).as_bytes(),
         judge: report_judge(args.lenient),
     };
-    match write_shown(to, line.as_slice(), outlets.use_stdout()) {
-        Ok(()) => write_whole_files(alloc, to, outlets, suite, rows),
+    match write_shown(destinations, line.as_slice(), outlets.use_stdout()) {
+        Ok(()) => write_whole_files(alloc, destinations, outlets, suite, rows),
         Err(stop) => {
-            abandon_outlets(&mut to.files, outlets);
+            abandon_outlets(&mut destinations.files, outlets);
             Err(stop)
         }
     }
@@ -209,7 +214,7 @@ fn merged_suite<'a>(args: &MergeArgs<'a>) -> &'a str
     }
 }
 
-// Returns the stop for the error that these texts are not the parts of one run.
+// Returns the stop that reports an error of `merge`; `texts` are the texts of the parts.
 fn merge_error_stop(alloc: Global, args: &MergeArgs<'_>, texts: &[&[u8]], error: MergeError) -> Stop
     ensures { IsMergeErrorStop args.now.parts.items (bytes_of_texts texts.now) error result }
 {
@@ -343,7 +348,8 @@ fn other_run_message(
     two_parts_message(alloc, path, difference, part_path(args, 0), "\"\n")
 }
 
-// Returns a message about two parts: `path`, the rejected part; `flaw_text`, the error; `other_path`, the path of the other part; and `end`.
+// Returns a message about two parts: `path`, the rejected part; `flaw_text`, its flaw; `other_path`, the other part; and `end`, the end of
+// the message.
 fn two_parts_message<'a>(
     alloc: Global,
     path: &'a str,

@@ -22,57 +22,57 @@ use std::alloc::Global;
 
 /// Writes the output of a command to standard error if `to_stderr` is true, and otherwise to standard output.
 pub(crate) fn write_shown<F: Outputs + Drop, O: Sink + Drop, E: Sink + Drop>(
-    to: &mut Destinations<F, O, E>,
+    destinations: &mut Destinations<F, O, E>,
     text: &[u8],
     to_stderr: bool,
 ) -> Result<(), Stop>
-    ensures files_unchanged { to.new.files ≡ to.old.files }
+    ensures files_unchanged { destinations.new.files ≡ destinations.old.files }
     ensures shown { OnOk result (IsWrittenToErrorsIf to_stderr text.now
-        (outputs_of F.committed O.accepted E.accepted E.failure_count to.old) (outputs_of F.committed O.accepted E.accepted E.failure_count to.new)) }
+        (outputs_of F.committed O.accepted E.accepted E.failure_count destinations.old) (outputs_of F.committed O.accepted E.accepted E.failure_count destinations.new)) }
     ensures stopped { IfErr result (λ stop. stop ≡ Stop.WriteFailed) }
 {
     if to_stderr {
-        write_message(&mut to.errors, text);
+        write_message(&mut destinations.errors, text);
         return Ok(());
     }
-    write_results(&mut to.out, text)
+    write_results(&mut destinations.out, text)
 }
 
 /// Writes the report and the JUnit XML to their outlets, and then moves their files to their paths, the JUnit file first. After an error no
 /// file is created, unless only the second one could not be moved to its path.
 pub(crate) fn write_files<F: Outputs + Drop, O: Sink + Drop, E: Sink + Drop, T: RowReporter>(
     alloc: Global,
-    to: &mut Destinations<F, O, E>,
+    destinations: &mut Destinations<F, O, E>,
     outlets: Outlets<'_, F::Place, F::File>,
     texts: FileTexts<'_, '_, '_, T>,
 ) -> Result<(), Stop>
     requires known { AreLinesOf (T.line texts.reporter.now) texts.indices.now (report_rows texts.report) texts.texts.now }
     requires report { has_no_failure F.File.failure_count outlets.report }
     requires junit { has_no_failure F.File.failure_count outlets.junit }
-    ensures errors_unchanged { to.new.errors ≡ to.old.errors }
+    ensures errors_unchanged { destinations.new.errors ≡ destinations.old.errors }
     ensures out_written { (had : List ℕ) (report_path junit_path : Option (List ℕ))
-        → HasReceived F.pending_path F.File.accepted F.File.failure_count (F.committed to.old.files) report_path had outlets.entry.report
-        → HasReceived F.pending_path F.File.accepted F.File.failure_count (F.committed to.old.files) junit_path [] outlets.entry.junit
-        → OnOk result (Appends (O.accepted to.old.out) (O.accepted to.new.out)
+        → HasReceived F.pending_path F.File.accepted F.File.failure_count (F.committed destinations.old.files) report_path had outlets.entry.report
+        → HasReceived F.pending_path F.File.accepted F.File.failure_count (F.committed destinations.old.files) junit_path [] outlets.entry.junit
+        → OnOk result (Appends (O.accepted destinations.old.out) (O.accepted destinations.new.out)
         (stdout_at junit_path (junit_of_report T.line texts.entry) ++ stdout_at report_path (report_text_of texts.entry.report))) }
     ensures committed { (had : List ℕ) (report_path junit_path : Option (List ℕ))
-        → HasReceived F.pending_path F.File.accepted F.File.failure_count (F.committed to.old.files) report_path had outlets.entry.report
-        → HasReceived F.pending_path F.File.accepted F.File.failure_count (F.committed to.old.files) junit_path [] outlets.entry.junit
-        → OnOk result (AreFilesCommitted (F.committed to.old.files) (F.committed to.new.files)
+        → HasReceived F.pending_path F.File.accepted F.File.failure_count (F.committed destinations.old.files) report_path had outlets.entry.report
+        → HasReceived F.pending_path F.File.accepted F.File.failure_count (F.committed destinations.old.files) junit_path [] outlets.entry.junit
+        → OnOk result (AreFilesCommitted (F.committed destinations.old.files) (F.committed destinations.new.files)
         (Some (file_at junit_path (junit_of_report T.line texts.entry)
         ++ file_at report_path (had ++ report_rest_of texts.entry.report)))) }
     ensures committed_after_error { (junit_path : Option (List ℕ))
-        → HasReceived F.pending_path F.File.accepted F.File.failure_count (F.committed to.old.files) junit_path [] outlets.entry.junit
-        → OnErr result (AreFilesPartlyCommitted (F.committed to.old.files) (F.committed to.new.files)
+        → HasReceived F.pending_path F.File.accepted F.File.failure_count (F.committed destinations.old.files) junit_path [] outlets.entry.junit
+        → OnErr result (AreFilesPartlyCommitted (F.committed destinations.old.files) (F.committed destinations.new.files)
         (Some (file_at junit_path (junit_of_report T.line texts.entry)))) }
     ensures stopped { IfErr result
         (IsOutputWriteStop (outlet_path outlets.entry.report) (outlet_path outlets.entry.junit)) }
 {
     let mut outlets = outlets;
-    match write_texts(alloc, &mut to.out, &mut outlets, texts) {
-        Ok(()) => commit_outlets(&mut to.files, alloc, outlets),
+    match write_texts(alloc, &mut destinations.out, &mut outlets, texts) {
+        Ok(()) => commit_outlets(&mut destinations.files, alloc, outlets),
         Err(stop) => {
-            abandon_outlets(&mut to.files, outlets);
+            abandon_outlets(&mut destinations.files, outlets);
             Err(stop)
         }
     }

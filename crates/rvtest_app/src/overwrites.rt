@@ -98,7 +98,7 @@ impl<'a> InputFiles<'a> {
     }
 }
 
-/// Whether `identity`, which the system gives a file, is in `identities`.
+/// Whether `identities` has the identity `identity`.
 pub(crate) fn is_among(identities: &[Text], identity: &Text) -> bool
     ensures { result ≡ is_among identities.now identity.now }
 {
@@ -107,7 +107,7 @@ pub(crate) fn is_among(identities: &[Text], identity: &Text) -> bool
         .any(|file| file.as_str() == identity.as_str())
 }
 
-/// Returns the error that `option`, with this path, would overwrite the input `input`.
+/// Returns the error that `option`, with this path, would overwrite `input`.
 pub(crate) fn overwrite_stop<'a>(
     alloc: Global,
     option: &'a str,
@@ -119,7 +119,7 @@ pub(crate) fn overwrite_stop<'a>(
     Stop::rejection(overwrite_message(alloc, option, path, input))
 }
 
-// Returns the message that `option`, with this path, would overwrite the input `input`.
+// Returns the message that `option`, with this path, would overwrite `input`.
 fn overwrite_message<'a>(
     alloc: Global,
     option: &'a str,

@@ -19,8 +19,8 @@ pub(crate) struct RequestedJobs {
     pub(crate) context: ReportContext,
     /// The notes about the choice.
     pub(crate) notes: Vec<u8>,
-    ghost counted: { ForSome selection (λ selection. length selection.items ≡ length jobs) },
-    ghost whole: { ForSome context.old (λ rows. length rows ≡ length jobs) },
+    ghost same_length: { ForSome selection (λ selection. length selection.items ≡ length jobs) },
+    ghost old_row_per_job: { ForSome context.old (λ rows. length rows ≡ length jobs) },
 }
 
 /// The jobs of a list, the selection of those to run, and which are known to fail.
@@ -31,8 +31,8 @@ pub(crate) struct SelectedJobs {
     pub(crate) context: ReportContext,
     /// The jobs that are known to fail, with `--known`.
     pub(crate) known: Option<KnownJobs>,
-    ghost counted: { length selection.items ≡ length jobs },
-    ghost whole: { ForSome context.old (λ rows. length rows ≡ length jobs) },
+    ghost same_length: { length selection.items ≡ length jobs },
+    ghost old_row_per_job: { ForSome context.old (λ rows. length rows ≡ length jobs) },
 }
 
 /// The jobs at some indices of a plan, and how their rows are reported.
@@ -45,7 +45,7 @@ pub(crate) struct PlannedRun<'a> {
 }
 
 impl<'a> PlannedRun<'a> {
-    /// Returns the run limited to the first `count` of its jobs.
+    /// Returns the run of only the first `count` of its jobs.
     pub(crate) fn first_jobs(&self, count: usize) -> PlannedRun<'a>
         requires { count ≤ length self.now.indices.now }
         ensures indices { result.indices.now ≡ take count self.now.indices.now }

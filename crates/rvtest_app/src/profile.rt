@@ -23,9 +23,13 @@ pub(crate) fn profile_requested_jobs<
     F: Outputs + Drop,
     O: Sink + Drop,
     E: Sink + Drop,
->(host: &Host<'_, R, D>, args: &ProfileArgs<'_>, to: &mut Destinations<F, O, E>) -> Result<u8, Stop>
+>(
+    host: &Host<'_, R, D>,
+    args: &ProfileArgs<'_>,
+    destinations: &mut Destinations<F, O, E>,
+) -> Result<u8, Stop>
     ensures written { IfOk result (λ status. IsProfileWritten (D.contents host.now.inputs.now) args.now status
-        (outputs_of F.committed O.accepted E.accepted E.failure_count to.old) (outputs_of F.committed O.accepted E.accepted E.failure_count to.new)) }
+        (outputs_of F.committed O.accepted E.accepted E.failure_count destinations.old) (outputs_of F.committed O.accepted E.accepted E.failure_count destinations.new)) }
     ensures status_bound { IfOk result (λ status. status ≤ 1) }
     ensures stopped { IfErr result (λ stop. (stop ≡ Stop.WriteFailed)
         ⊎ IsProfileStop (D.contents host.now.inputs.now) args.now stop) }
@@ -35,7 +39,7 @@ pub(crate) fn profile_requested_jobs<
         args: &args.run,
         view: View::Profile(profile_format(args)),
     };
-    view.write_view(ChoosingCommand::Profile, to)
+    view.write_view(ChoosingCommand::Profile, destinations)
 }
 
 // Returns the format of a profile: whether it is CSV, and the largest number of functions of each image.

@@ -55,7 +55,7 @@ pub fn run_rvtest<
 >(
     host: &Host<'_, R, D>,
     args: &'a [T],
-    to: Destinations<F, O, E>,
+    destinations: Destinations<F, O, E>,
     terminals: Terminals<P>,
     input: &mut I,
 ) -> (Destinations<F, O, E>, u8)
@@ -65,33 +65,39 @@ where
     // A status of 0 or 1 means that everything was written, to standard output in the requested colours.
     ensures carried_out { result.1 ≤ 1 → IsCarriedOut (D.contents host.now.inputs.now) (I.remaining input.old)
         terminals.is_out_terminal terminals.is_out_colored (map T.text args.entry.now) result.1
-        (outputs_of F.committed O.accepted E.accepted E.failure_count to) (outputs_of F.committed O.accepted E.accepted E.failure_count result.0) }
+        (outputs_of F.committed O.accepted E.accepted E.failure_count destinations) (outputs_of F.committed O.accepted E.accepted E.failure_count result.0) }
     // Any other status means that the command stopped before its work was done and that its last output says so, except when the reader
     // closed standard output.
     ensures ended { IsCarriedOut (D.contents host.now.inputs.now) (I.remaining input.old)
         terminals.is_out_terminal terminals.is_out_colored (map T.text args.entry.now) result.1
-        (outputs_of F.committed O.accepted E.accepted E.failure_count to) (outputs_of F.committed O.accepted E.accepted E.failure_count result.0)
+        (outputs_of F.committed O.accepted E.accepted E.failure_count destinations) (outputs_of F.committed O.accepted E.accepted E.failure_count result.0)
         ⊎ IsStopReported (O.closed result.0.out)
         (IsProgramStop (D.contents host.now.inputs.now) terminals.is_out_terminal (map T.text args.entry.now))
         result.1 (outputs_of F.committed O.accepted E.accepted E.failure_count result.0) }
 {
-    let (mut to, outcome) = match read_words(host.alloc, args) {
+    let (mut destinations, outcome) = match read_words(host.alloc, args) {
         Ok(Some(request)) => {
-            run_in_colors::<Brand, R, D, F, O, E, P, I>(host, request, to, terminals, input)
+            run_in_colors::<Brand, R, D, F, O, E, P, I>(
+                host,
+                request,
+                destinations,
+                terminals,
+                input,
+            )
         }
-        Ok(None) => (to, Ok(REJECTED)),
+        Ok(None) => (destinations, Ok(REJECTED)),
         Err(error) => {
-            let mut to = to;
-            let outcome = respond_to_args_error(&mut to.out, error);
-            (to, outcome)
+            let mut destinations = destinations;
+            let outcome = respond_to_args_error(&mut destinations.out, error);
+            (destinations, outcome)
         }
     };
     match outcome {
-        Ok(status) => (to, status),
+        Ok(status) => (destinations, status),
         Err(stop) => {
-            let is_out_closed = to.out.is_closed();
-            let status = put_end_message(&mut to.errors, stop, is_out_closed);
-            (to, status)
+            let is_out_closed = destinations.out.is_closed();
+            let status = put_end_message(&mut destinations.errors, stop, is_out_closed);
+            (destinations, status)
         }
     }
 }
@@ -109,35 +115,35 @@ fn run_in_colors<
 >(
     host: &Host<'_, R, D>,
     request: Request<'_>,
-    to: Destinations<F, O, E>,
+    destinations: Destinations<F, O, E>,
     terminals: Terminals<P>,
     input: &mut I,
 ) -> (Destinations<F, O, E>, Result<u8, Stop>)
 where
     F::File: Send,
     requires colors { requested_colors request terminals.is_out_colored ≡ J.colors }
-    requires before { O.accepted to.out ≡ J.before }
+    requires before { O.accepted destinations.out ≡ J.before }
     ensures status_bound { IfOk result.1 (λ status. status ≤ 2) }
     ensures done { IfOk result.1 (λ status. IsDoneInColors (D.contents host.now.inputs.now) (I.remaining input.old)
         terminals.is_out_terminal terminals.is_out_colored request.entry status
-        (outputs_of F.committed O.accepted E.accepted E.failure_count to) (outputs_of F.committed O.accepted E.accepted E.failure_count result.0)) }
+        (outputs_of F.committed O.accepted E.accepted E.failure_count destinations) (outputs_of F.committed O.accepted E.accepted E.failure_count result.0)) }
     ensures stopped { IfErr result.1 (IsCommandStop (D.contents host.now.inputs.now) terminals.is_out_terminal request.entry) }
     // Whatever the result, standard output received coloured results, followed at most by the first bytes of an escape sequence.
     ensures shown { (plain : Option (List ℕ)) × IsPartlyColoredAs (requested_colors request.entry terminals.is_out_colored)
-        (O.accepted to.out) plain (O.accepted result.0.out) }
+        (O.accepted destinations.out) plain (O.accepted result.0.out) }
 {
     let colors = requested_colors(&request, terminals.is_out_colored);
-    let Destinations { files, out, errors } = to;
+    let Destinations { files, out, errors } = destinations;
     let out = ColorSink::<J, O>::new(out, colors);
-    let to = Destinations { files, out, errors };
-    let (to, outcome) = run_subcommand(host, request, to, terminals, input);
-    let Destinations { files, out, errors } = to;
+    let destinations = Destinations { files, out, errors };
+    let (destinations, outcome) = run_subcommand(host, request, destinations, terminals, input);
+    let Destinations { files, out, errors } = destinations;
     let (out, finish_result) = out.finish();
-    let to = Destinations { files, out, errors };
-    (to, outcome_if_written(outcome, finish_result))
+    let destinations = Destinations { files, out, errors };
+    (destinations, outcome_if_written(outcome, finish_result))
 }
 
-// Returns the result of the command, or an error if it succeeded but its coloured results were not written completely.
+// Returns the outcome of the command, or an error if it succeeded but its coloured results were not written completely.
 fn outcome_if_written(
     outcome: Result<u8, Stop>,
     finish_result: Result<(), SinkFailed>,
@@ -164,7 +170,7 @@ fn run_subcommand<
 >(
     host: &Host<'_, R, D>,
     request: Request<'_>,
-    to: Destinations<F, O, E>,
+    destinations: Destinations<F, O, E>,
     terminals: Terminals<P>,
     input: &mut I,
 ) -> (Destinations<F, O, E>, Result<u8, Stop>)
@@ -173,36 +179,48 @@ where
     ensures status_bound { IfOk result.1 (λ status. status ≤ 2) }
     ensures done { IfOk result.1 (λ status. IsCommandDone (D.contents host.now.inputs.now) (I.remaining input.old)
         terminals.is_out_terminal request.entry status
-        (outputs_of F.committed O.accepted E.accepted E.failure_count to) (outputs_of F.committed O.accepted E.accepted E.failure_count result.0)) }
+        (outputs_of F.committed O.accepted E.accepted E.failure_count destinations) (outputs_of F.committed O.accepted E.accepted E.failure_count result.0)) }
     // A command that a failed write could not have stopped wrote nothing.
     ensures out_unchanged { IfOk result.1 (λ _.
         IsCommandStop (D.contents host.now.inputs.now) terminals.is_out_terminal request.entry Stop.WriteFailed
-        ⊎ (result.0.out ≡ to.out)) }
+        ⊎ (result.0.out ≡ destinations.out)) }
     ensures stopped { IfErr result.1 (IsCommandStop (D.contents host.now.inputs.now) terminals.is_out_terminal request.entry) }
 {
     let (inputs, alloc) = (host.inputs, host.alloc);
-    let mut to = to;
+    let mut destinations = destinations;
     let outcome = match request {
-        Request::Run(args) => return run_requested_jobs(host, &args, to, terminals),
+        Request::Run(args) => return run_requested_jobs(host, &args, destinations, terminals),
         Request::Explain(args) => {
-            write_command_result(&mut to.out, explain_named_job(inputs, alloc, args))
+            write_command_result(
+                &mut destinations.out,
+                explain_named_job(inputs, alloc, args),
+            )
         }
-        Request::List(args) => list_chosen_jobs(inputs, alloc, &args, &mut to),
-        Request::Console(args) => write_job_console(inputs, alloc, args, &mut to),
+        Request::List(args) => list_chosen_jobs(inputs, alloc, &args, &mut destinations),
+        Request::Console(args) => write_job_console(inputs, alloc, args, &mut destinations),
         Request::Gdb(args) => {
-            show_job_to_gdb(host, args, terminals.is_out_terminal, input, &mut to)
+            show_job_to_gdb(
+                host,
+                args,
+                terminals.is_out_terminal,
+                input,
+                &mut destinations,
+            )
         }
-        Request::Check(args) => write_command_result(&mut to.out, check_list(inputs, alloc, args)),
-        Request::Accept(args) => accept_runs(host, &args, &mut to),
-        Request::Merge(args) => merge_reports(inputs, alloc, &args, &mut to),
-        Request::Diff(args) => diff_reports(inputs, alloc, args, &mut to),
-        Request::Show(args) => show_report(inputs, alloc, args, &mut to),
-        Request::Counts(args) => write_sum_of_tables(inputs, alloc, &args, &mut to),
-        Request::Cover(args) => cover_requested_jobs(host, &args, &mut to),
-        Request::Profile(args) => profile_requested_jobs(host, &args, &mut to),
-        Request::Help(args) => write_command_result(&mut to.out, topic_help(alloc, args)),
+        Request::Check(args) => write_command_result(
+            &mut destinations.out,
+            check_list(inputs, alloc, args),
+        ),
+        Request::Accept(args) => accept_runs(host, &args, &mut destinations),
+        Request::Merge(args) => merge_reports(inputs, alloc, &args, &mut destinations),
+        Request::Diff(args) => diff_reports(inputs, alloc, args, &mut destinations),
+        Request::Show(args) => show_report(inputs, alloc, args, &mut destinations),
+        Request::Counts(args) => write_sum_of_tables(inputs, alloc, &args, &mut destinations),
+        Request::Cover(args) => cover_requested_jobs(host, &args, &mut destinations),
+        Request::Profile(args) => profile_requested_jobs(host, &args, &mut destinations),
+        Request::Help(args) => write_command_result(&mut destinations.out, topic_help(alloc, args)),
     };
-    (to, outcome)
+    (destinations, outcome)
 }
 
 /// Reports that the program cannot get its arguments: memory ran out, or an argument is not UTF-8. Returns the exit status.

@@ -13,7 +13,7 @@ pub(crate) struct ReportRowReporter {
 }
 
 impl RowReporter for ReportRowReporter {
-    ghost line = { λ s index row. report_row_text s.is_streaming index row };
+    ghost line = { λ reporter index row. report_row_text reporter.is_streaming index row };
 
     // Appends the row of the job at index `index`, as the report has it, if rows are streamed; otherwise nothing.
     fn push_row_text(

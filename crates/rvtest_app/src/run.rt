@@ -50,28 +50,28 @@ pub(crate) fn run_requested_jobs<
 >(
     host: &Host<'_, R, D>,
     args: &RunArgs<'_>,
-    to: Destinations<F, O, E>,
+    destinations: Destinations<F, O, E>,
     terminals: Terminals<P>,
 ) -> (Destinations<F, O, E>, Result<u8, Stop>)
 where
     F::File: Send,
     ensures run { IfOk result.1 (λ status. IsRunAt (D.contents host.now.inputs.now) args.now status
-        (outputs_of F.committed O.accepted E.accepted E.failure_count to) (outputs_of F.committed O.accepted E.accepted E.failure_count result.0)) }
+        (outputs_of F.committed O.accepted E.accepted E.failure_count destinations) (outputs_of F.committed O.accepted E.accepted E.failure_count result.0)) }
     ensures committed_after_error { OnErr result.1 (IsAbortedRunAt (D.contents host.now.inputs.now) args.now
-        (F.committed to.files) (F.committed result.0.files)) }
+        (F.committed destinations.files) (F.committed result.0.files)) }
     ensures status_bound { IfOk result.1 (λ status. status ≤ 1) }
     ensures out_unchanged { IfOk result.1 (λ _. AreJobsToRun (D.contents host.now.inputs.now) args.now
-        ⊎ (result.0.out ≡ to.out)) }
+        ⊎ (result.0.out ≡ destinations.out)) }
     ensures stopped { IfErr result.1 (IsRunStop (D.contents host.now.inputs.now) args.now) }
     // The inputs of the run are not overwritten.
-    ensures inputs_preserved { AreRunInputsPreserved (D.contents host.now.inputs.now) args.now (F.committed to.files) (F.committed result.0.files) }
+    ensures inputs_preserved { AreRunInputsPreserved (D.contents host.now.inputs.now) args.now (F.committed destinations.files) (F.committed result.0.files) }
 {
     let run = ListRun {
         host,
         args,
         rule: failure_rule(args.lenient),
     };
-    let mut to = to;
+    let mut destinations = destinations;
     let RequestedJobs {
         jobs,
         selection,
@@ -80,16 +80,21 @@ where
         ..
     } = match run.requested_jobs(ChoosingCommand::Run) {
         Ok(requested) => requested,
-        Err(stop) => return (to, Err(stop)),
+        Err(stop) => return (destinations, Err(stop)),
     };
     let known = match requested_known_jobs(host.inputs, host.alloc, args, jobs.as_slice()) {
         Ok(known) => known,
-        Err(stop) => return (to, Err(stop)),
+        Err(stop) => return (destinations, Err(stop)),
     };
-    if let Err(stop) = reject_run_overwrites(&to.files, host.alloc, args, jobs.as_slice()) {
-        return (to, Err(stop));
+    if let Err(stop) = reject_run_overwrites(
+        &destinations.files,
+        host.alloc,
+        args,
+        jobs.as_slice(),
+    ) {
+        return (destinations, Err(stop));
     }
-    write_message(&mut to.errors, notes.as_slice());
+    write_message(&mut destinations.errors, notes.as_slice());
     match selection {
         Some(selection) => {
             let selected = SelectedJobs {
@@ -98,9 +103,9 @@ where
                 context,
                 known,
             };
-            run.run_selected_jobs(selected, to, terminals)
+            run.run_selected_jobs(selected, destinations, terminals)
         }
-        None => (to, Ok(DONE)),
+        None => (destinations, Ok(DONE)),
     }
 }
 
@@ -114,7 +119,7 @@ impl<'x, R: Threads + Wait + Sync + Clock, D: Inputs> ListRun<'x, R, D> {
     >(
         &self,
         selected: SelectedJobs,
-        to: Destinations<F, O, E>,
+        destinations: Destinations<F, O, E>,
         terminals: Terminals<P>,
     ) -> (Destinations<F, O, E>, Result<u8, Stop>)
     where
@@ -122,10 +127,10 @@ impl<'x, R: Threads + Wait + Sync + Clock, D: Inputs> ListRun<'x, R, D> {
         requires { self.now.rule ≡ failure_rule self.now.args.now.lenient }
         ensures run { IfOk result.1 (λ status. IsRunOfSelected (D.contents self.now.host.now.inputs.now) self.now.args.now
             selected.known selected.jobs (Some selected.selection.items) selected.context.shard selected.context.old status
-            (outputs_of F.committed O.accepted E.accepted E.failure_count to) (outputs_of F.committed O.accepted E.accepted E.failure_count result.0)) }
+            (outputs_of F.committed O.accepted E.accepted E.failure_count destinations) (outputs_of F.committed O.accepted E.accepted E.failure_count result.0)) }
         ensures committed_after_error { OnErr result.1 (IsAbortedRunOfJobs (D.contents self.now.host.now.inputs.now) self.now.args.now
             selected.known selected.jobs (selected_job_indices selected.selection.items) selected.context.shard selected.context.old
-            (F.committed to.files) (F.committed result.0.files)) }
+            (F.committed destinations.files) (F.committed result.0.files)) }
         ensures stopped { IfErr result.1 (IsRunWriteStop self.now.args.now) }
     {
         let SelectedJobs {
@@ -138,22 +143,22 @@ impl<'x, R: Threads + Wait + Sync + Clock, D: Inputs> ListRun<'x, R, D> {
         let (alloc, args) = (self.host.alloc, self.args);
         let indices = match selected_indices(alloc, selection.as_slice()) {
             Ok(indices) => indices,
-            Err(error) => return (to, Err(Stop::from(error))),
+            Err(error) => return (destinations, Err(Stop::from(error))),
         };
         let jobs = jobs.with_budget(args.budget);
         let mut store = RecordingStore::new(self.host.inputs, alloc, args.root);
         let plan = match gather_jobs_at(alloc, jobs, indices.as_slice(), &mut store) {
             Ok(plan) => plan,
-            Err(error) => return (to, Err(Stop::from(error))),
+            Err(error) => return (destinations, Err(Stop::from(error))),
         };
         let unread = store.unreadable_paths();
         let count = indices.as_slice().len();
         let note = match missing_images_note(alloc, &plan, unread, count, args.root) {
             Ok(note) => note,
-            Err(error) => return (to, Err(Stop::from(error))),
+            Err(error) => return (destinations, Err(Stop::from(error))),
         };
-        let mut to = to;
-        write_message(&mut to.errors, note.as_slice());
+        let mut destinations = destinations;
+        write_message(&mut destinations.errors, note.as_slice());
         let judge = Judge {
             rule: self.rule,
             known: known.as_ref(),
@@ -169,11 +174,11 @@ impl<'x, R: Threads + Wait + Sync + Clock, D: Inputs> ListRun<'x, R, D> {
             reporter: &reporter,
             indices: indices.as_slice(),
         };
-        self.run_into_files(&planned, context, to, terminals)
+        self.run_into_files(&planned, context, destinations, terminals)
     }
 }
 
-/// Reads the files that the jobs at these indices need, and returns the plan with them.
+/// Reads the files that the jobs at these indices need, and returns the plan of the list with these files.
 pub(crate) fn gather_jobs_at<S: Store>(
     alloc: Global,
     jobs: JobList,

@@ -32,7 +32,7 @@ impl<'x, R: Threads + Wait + Sync + Clock, D: Inputs> ListRun<'x, R, D> {
         plan: &Plan,
         indices: &[usize],
         outlet: Outlet<'_, F::Place, F::File>,
-        to: &mut Destinations<F, O, E>,
+        destinations: &mut Destinations<F, O, E>,
     ) -> Result<(), Stop>
         requires within { AreJobIndices plan.now indices.now }
         requires rising { IsStrictlyIncreasing indices.now }
@@ -41,21 +41,21 @@ impl<'x, R: Threads + Wait + Sync + Clock, D: Inputs> ListRun<'x, R, D> {
         ensures counts_written { (path : Option (List ℕ)) (earlier : Option (List CommittedFile))
             → HasReceived F.pending_path F.File.accepted F.File.failure_count earlier path [] outlet.entry
             → OnOk result (AreCountsWritten self.now.args.now.stacks path plan.now indices.now
-            (with_committed_if_reported earlier (outputs_of F.committed O.accepted E.accepted E.failure_count to.old))
-            (outputs_of F.committed O.accepted E.accepted E.failure_count to.new)) }
+            (with_committed_if_reported earlier (outputs_of F.committed O.accepted E.accepted E.failure_count destinations.old))
+            (outputs_of F.committed O.accepted E.accepted E.failure_count destinations.new)) }
         ensures path_given { (path : Option (List ℕ)) (earlier : Option (List CommittedFile))
             → HasReceived F.pending_path F.File.accepted F.File.failure_count earlier path [] outlet.entry
             → OnErr result (is_some path ≡ true) }
-        ensures nothing_committed { OnErr result (F.committed to.new.files ≡ F.committed to.old.files) }
+        ensures nothing_committed { OnErr result (F.committed destinations.new.files ≡ F.committed destinations.old.files) }
         ensures stopped { IfErr result (IsCountsWriteStop self.now.args.now (outlet_path outlet.entry)) }
     {
         if let Outlet::Nowhere = outlet {
             return Ok(());
         }
         match self.counts_text(plan, indices) {
-            Ok(text) => write_to_outlet(self.host.alloc, to, outlet, text.as_bytes()),
+            Ok(text) => write_to_outlet(self.host.alloc, destinations, outlet, text.as_bytes()),
             Err(stop) => {
-                abandon_outlet(&mut to.files, outlet);
+                abandon_outlet(&mut destinations.files, outlet);
                 Err(stop)
             }
         }

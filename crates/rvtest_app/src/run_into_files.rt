@@ -59,7 +59,7 @@ impl<'x, R: Threads + Wait + Sync + Clock, D: Inputs> ListRun<'x, R, D> {
         &self,
         planned: &PlannedRun<'_>,
         context: ReportContext,
-        to: Destinations<F, O, E>,
+        destinations: Destinations<F, O, E>,
         terminals: Terminals<P>,
     ) -> (Destinations<F, O, E>, Result<u8, Stop>)
     where
@@ -71,29 +71,29 @@ impl<'x, R: Threads + Wait + Sync + Clock, D: Inputs> ListRun<'x, R, D> {
         ensures written { OnOk result.1 (IsCountedRunWritten self.now.args.now (reporter_of planned.now.reporter.now)
             planned.now.indices.now context.shard context.old (run_rows self.now.args.now.stop_after
             (judge_view planned.now.reporter.now.judge) planned.now.reporter.now.plan.now planned.now.indices.now)
-            (outputs_of F.committed O.accepted E.accepted E.failure_count to) (outputs_of F.committed O.accepted E.accepted E.failure_count result.0)) }
+            (outputs_of F.committed O.accepted E.accepted E.failure_count destinations) (outputs_of F.committed O.accepted E.accepted E.failure_count result.0)) }
         ensures committed_after_error { (rows : List ARow) → rows ≡ run_rows self.now.args.now.stop_after
             (judge_view planned.now.reporter.now.judge) planned.now.reporter.now.plan.now planned.now.indices.now
-            → OnErr result.1 ((F.committed result.0.files ≡ F.committed to.files)
+            → OnErr result.1 ((F.committed result.0.files ≡ F.committed destinations.files)
             ⊎ AreRunFilesPartlyCommitted self.now.args.now (reporter_of planned.now.reporter.now) planned.now.indices.now context.shard
-            context.old rows (F.committed to.files) (F.committed result.0.files)) }
+            context.old rows (F.committed destinations.files) (F.committed result.0.files)) }
         ensures stopped { IfErr result.1 (IsRunWriteStop self.now.args.now) }
     {
         let (alloc, args) = (self.host.alloc, self.args);
-        let mut to = to;
+        let mut destinations = destinations;
         let RunOutlets {
             report,
             junit,
             counts,
-        } = match open_run_outlets(&mut to.files, alloc, args) {
+        } = match open_run_outlets(&mut destinations.files, alloc, args) {
             Ok(outlets) => outlets,
-            Err(stop) => return (to, Err(stop)),
+            Err(stop) => return (destinations, Err(stop)),
         };
         let rows = ReportRowReporter {
             is_streaming: context.old.is_none(),
         };
         let (report, sink) = report.split_sink();
-        let Destinations { files, out, errors } = to;
+        let Destinations { files, out, errors } = destinations;
         if uses_run_stdout(args) {
             let display = RunDisplay {
                 stream: errors,
@@ -107,8 +107,8 @@ impl<'x, R: Threads + Wait + Sync + Clock, D: Inputs> ListRun<'x, R, D> {
                 junit,
                 counts,
             };
-            let to = Destinations { files, out, errors };
-            self.finish_run(planned, context, run, outlets, to)
+            let destinations = Destinations { files, out, errors };
+            self.finish_run(planned, context, run, outlets, destinations)
         } else {
             let display = RunDisplay {
                 stream: out,
@@ -122,8 +122,8 @@ impl<'x, R: Threads + Wait + Sync + Clock, D: Inputs> ListRun<'x, R, D> {
                 junit,
                 counts,
             };
-            let to = Destinations { files, out, errors };
-            self.finish_run(planned, context, run, outlets, to)
+            let destinations = Destinations { files, out, errors };
+            self.finish_run(planned, context, run, outlets, destinations)
         }
     }
 
@@ -134,7 +134,7 @@ impl<'x, R: Threads + Wait + Sync + Clock, D: Inputs> ListRun<'x, R, D> {
         context: ReportContext,
         run: ShownRun,
         outlets: RunOutlets<'_, F::Place, F::File>,
-        to: Destinations<F, O, E>,
+        destinations: Destinations<F, O, E>,
     ) -> (Destinations<F, O, E>, Result<u8, Stop>)
         requires rows { IfOk run.ran (λ rows. rows ≡ run_rows self.now.args.now.stop_after (judge_view planned.now.reporter.now.judge)
             planned.now.reporter.now.plan.now planned.now.indices.now) }
@@ -144,7 +144,7 @@ impl<'x, R: Threads + Wait + Sync + Clock, D: Inputs> ListRun<'x, R, D> {
         requires failed { IfErr run.ran (λ error. error ≡ ReportFailed → is_some (outlet_path outlets.report) ≡ true) }
         requires old_row_per_job { ForSome context.old (λ rows. length rows ≡ length planned.now.reporter.now.plan.now.jobs) }
         requires path { outlet_path outlets.report ≡ file_path_at (run_report_path self.now.args.now) }
-        requires received { IfOk run.ran (λ rows. HaveRunOutletsReceived F.pending_path F.File.accepted F.File.failure_count (F.committed to.files)
+        requires received { IfOk run.ran (λ rows. HaveRunOutletsReceived F.pending_path F.File.accepted F.File.failure_count (F.committed destinations.files)
             self.now.args.now (streamed_rows context.old (shown_indices planned.now.indices.now rows) rows) outlets) }
         ensures status { IfOk result.1 (λ status. status ≡ rows_status (judge_view planned.now.reporter.now.judge) (run_rows
             self.now.args.now.stop_after (judge_view planned.now.reporter.now.judge) planned.now.reporter.now.plan.now
@@ -153,28 +153,35 @@ impl<'x, R: Threads + Wait + Sync + Clock, D: Inputs> ListRun<'x, R, D> {
             (row_lines_at (reporter_of planned.now.reporter.now)) (judge_view planned.now.reporter.now.judge)
             planned.now.reporter.now.plan.now planned.now.indices.now (run_rows self.now.args.now.stop_after
             (judge_view planned.now.reporter.now.judge) planned.now.reporter.now.plan.now planned.now.indices.now))
-            before (outputs_of F.committed O.accepted E.accepted E.failure_count to))
+            before (outputs_of F.committed O.accepted E.accepted E.failure_count destinations))
             → OnOk result.1 (IsCountedRunWritten self.now.args.now (reporter_of planned.now.reporter.now) planned.now.indices.now
             context.shard context.old (run_rows self.now.args.now.stop_after (judge_view planned.now.reporter.now.judge)
             planned.now.reporter.now.plan.now planned.now.indices.now) before
             (outputs_of F.committed O.accepted E.accepted E.failure_count result.0)) }
-        ensures committed_after_error { OnErr result.1 ((F.committed result.0.files ≡ F.committed to.files)
+        ensures committed_after_error { OnErr result.1 ((F.committed result.0.files ≡ F.committed destinations.files)
             ⊎ AreRunFilesPartlyCommitted self.now.args.now (reporter_of planned.now.reporter.now) planned.now.indices.now context.shard
             context.old (run_rows self.now.args.now.stop_after (judge_view planned.now.reporter.now.judge)
-            planned.now.reporter.now.plan.now planned.now.indices.now) (F.committed to.files) (F.committed result.0.files)) }
+            planned.now.reporter.now.plan.now planned.now.indices.now) (F.committed destinations.files) (F.committed result.0.files)) }
         ensures stopped { IfErr result.1 (IsRunWriteStop self.now.args.now) }
     {
         let ShownRun { texts, ran } = run;
-        let mut to = to;
+        let mut destinations = destinations;
         match ran {
             Ok(rows) => {
-                let status = self.write_all_files(planned, context, rows, texts, outlets, &mut to);
-                (to, status)
+                let status = self.write_all_files(
+                    planned,
+                    context,
+                    rows,
+                    texts,
+                    outlets,
+                    &mut destinations,
+                );
+                (destinations, status)
             }
             Err(error) => {
                 let stop = show_stop(self.host.alloc, &outlets.report, error);
-                outlets.abandon(&mut to.files);
-                (to, Err(stop))
+                outlets.abandon(&mut destinations.files);
+                (destinations, Err(stop))
             }
         }
     }
@@ -187,25 +194,25 @@ impl<'x, R: Threads + Wait + Sync + Clock, D: Inputs> ListRun<'x, R, D> {
         rows: Rows,
         texts: Vec<Option<Vec<u8>>>,
         outlets: RunOutlets<'_, F::Place, F::File>,
-        to: &mut Destinations<F, O, E>,
+        destinations: &mut Destinations<F, O, E>,
     ) -> Result<u8, Stop>
         requires rows { rows ≡ run_rows self.now.args.now.stop_after (judge_view planned.now.reporter.now.judge)
             planned.now.reporter.now.plan.now planned.now.indices.now }
         requires row_count { length rows ≤ length planned.now.indices.now }
         requires texts { AreLinesOf (failure_lines (reporter_of planned.now.reporter.now)) planned.now.indices.now rows texts.items }
         requires old_row_per_job { ForSome context.old (λ rows. length rows ≡ length planned.now.reporter.now.plan.now.jobs) }
-        requires received { HaveRunOutletsReceived F.pending_path F.File.accepted F.File.failure_count (F.committed to.old.files) self.now.args.now
+        requires received { HaveRunOutletsReceived F.pending_path F.File.accepted F.File.failure_count (F.committed destinations.old.files) self.now.args.now
             (streamed_rows context.old (shown_indices planned.now.indices.now rows) rows) outlets }
         ensures status { IfOk result (λ status. status ≡ rows_status (judge_view planned.now.reporter.now.judge) rows) }
         ensures written { (before : CommandOutputs) → IsWrittenToErrorsIf (uses_run_stdout self.now.args.now) (run_output_text
             (row_lines_at (reporter_of planned.now.reporter.now)) (judge_view planned.now.reporter.now.judge)
             planned.now.reporter.now.plan.now planned.now.indices.now rows)
-            before (outputs_of F.committed O.accepted E.accepted E.failure_count to.old)
+            before (outputs_of F.committed O.accepted E.accepted E.failure_count destinations.old)
             → OnOk result (IsCountedRunWritten self.now.args.now (reporter_of planned.now.reporter.now) planned.now.indices.now
-            context.shard context.old rows before (outputs_of F.committed O.accepted E.accepted E.failure_count to.new)) }
-        ensures committed_after_error { OnErr result ((F.committed to.new.files ≡ F.committed to.old.files)
+            context.shard context.old rows before (outputs_of F.committed O.accepted E.accepted E.failure_count destinations.new)) }
+        ensures committed_after_error { OnErr result ((F.committed destinations.new.files ≡ F.committed destinations.old.files)
             ⊎ AreRunFilesPartlyCommitted self.now.args.now (reporter_of planned.now.reporter.now) planned.now.indices.now context.shard
-            context.old rows (F.committed to.old.files) (F.committed to.new.files)) }
+            context.old rows (F.committed destinations.old.files) (F.committed destinations.new.files)) }
         ensures stopped { IfErr result (IsRunWriteStop self.now.args.now) }
     {
         let RunOutlets {
@@ -215,13 +222,13 @@ impl<'x, R: Threads + Wait + Sync + Clock, D: Inputs> ListRun<'x, R, D> {
         } = outlets;
         let first = planned.first_jobs(rows.as_slice().len());
         let files = Outlets { report, junit };
-        match self.write_run_files(&first, context, rows, texts, files, to) {
+        match self.write_run_files(&first, context, rows, texts, files, destinations) {
             Ok(status) => {
-                self.write_counts(planned.reporter.plan, first.indices, counts, to)?;
+                self.write_counts(planned.reporter.plan, first.indices, counts, destinations)?;
                 Ok(status)
             }
             Err(stop) => {
-                abandon_outlet(&mut to.files, counts);
+                abandon_outlet(&mut destinations.files, counts);
                 Err(stop)
             }
         }
@@ -235,7 +242,7 @@ impl<'x, R: Threads + Wait + Sync + Clock, D: Inputs> ListRun<'x, R, D> {
         rows: Rows,
         texts: Vec<Option<Vec<u8>>>,
         outlets: Outlets<'_, F::Place, F::File>,
-        to: &mut Destinations<F, O, E>,
+        destinations: &mut Destinations<F, O, E>,
     ) -> Result<u8, Stop>
         requires same_length { length rows ≡ length planned.now.indices.now }
         requires texts { AreLinesOf (failure_lines (reporter_of planned.now.reporter.now)) planned.now.indices.now rows texts.items }
@@ -243,26 +250,26 @@ impl<'x, R: Threads + Wait + Sync + Clock, D: Inputs> ListRun<'x, R, D> {
         requires report { has_no_failure F.File.failure_count outlets.report }
         requires junit { has_no_failure F.File.failure_count outlets.junit }
         ensures status { IfOk result (λ status. status ≡ rows_status (judge_view planned.now.reporter.now.judge) rows) }
-        ensures errors_unchanged { to.new.errors ≡ to.old.errors }
+        ensures errors_unchanged { destinations.new.errors ≡ destinations.old.errors }
         ensures out_written { (report_path junit_path : Option (List ℕ))
-            → HasReceived F.pending_path F.File.accepted F.File.failure_count (F.committed to.old.files) report_path
+            → HasReceived F.pending_path F.File.accepted F.File.failure_count (F.committed destinations.old.files) report_path
             (streamed_rows context.old planned.now.indices.now rows) outlets.entry.report
-            → HasReceived F.pending_path F.File.accepted F.File.failure_count (F.committed to.old.files) junit_path [] outlets.entry.junit
-            → OnOk result (Appends (O.accepted to.old.out) (O.accepted to.new.out)
+            → HasReceived F.pending_path F.File.accepted F.File.failure_count (F.committed destinations.old.files) junit_path [] outlets.entry.junit
+            → OnOk result (Appends (O.accepted destinations.old.out) (O.accepted destinations.new.out)
             (stdout_at junit_path (run_junit self.now.args.now (reporter_of planned.now.reporter.now)
             planned.now.indices.now rows) ++ stdout_at report_path (run_report_text context.old
             (length planned.now.reporter.now.plan.now.jobs) planned.now.indices.now context.shard rows))) }
         ensures committed { (report_path junit_path : Option (List ℕ))
-            → HasReceived F.pending_path F.File.accepted F.File.failure_count (F.committed to.old.files) report_path
+            → HasReceived F.pending_path F.File.accepted F.File.failure_count (F.committed destinations.old.files) report_path
             (streamed_rows context.old planned.now.indices.now rows) outlets.entry.report
-            → HasReceived F.pending_path F.File.accepted F.File.failure_count (F.committed to.old.files) junit_path [] outlets.entry.junit
-            → OnOk result (AreFilesCommitted (F.committed to.old.files) (F.committed to.new.files)
+            → HasReceived F.pending_path F.File.accepted F.File.failure_count (F.committed destinations.old.files) junit_path [] outlets.entry.junit
+            → OnOk result (AreFilesCommitted (F.committed destinations.old.files) (F.committed destinations.new.files)
             (Some (file_at junit_path (run_junit self.now.args.now (reporter_of planned.now.reporter.now)
             planned.now.indices.now rows) ++ file_at report_path (run_report_text context.old
             (length planned.now.reporter.now.plan.now.jobs) planned.now.indices.now context.shard rows)))) }
         ensures committed_after_error { (junit_path : Option (List ℕ))
-            → HasReceived F.pending_path F.File.accepted F.File.failure_count (F.committed to.old.files) junit_path [] outlets.entry.junit
-            → OnErr result (AreFilesPartlyCommitted (F.committed to.old.files) (F.committed to.new.files)
+            → HasReceived F.pending_path F.File.accepted F.File.failure_count (F.committed destinations.old.files) junit_path [] outlets.entry.junit
+            → OnErr result (AreFilesPartlyCommitted (F.committed destinations.old.files) (F.committed destinations.new.files)
             (Some (file_at junit_path (run_junit self.now.args.now (reporter_of planned.now.reporter.now)
             planned.now.indices.now rows)))) }
         ensures stopped { IfErr result
@@ -289,7 +296,7 @@ impl<'x, R: Threads + Wait + Sync + Clock, D: Inputs> ListRun<'x, R, D> {
             report: report_with_context(chosen, context),
             texts: texts.as_slice(),
         };
-        write_files(self.host.alloc, to, outlets, texts)?;
+        write_files(self.host.alloc, destinations, outlets, texts)?;
         Ok(status)
     }
 }

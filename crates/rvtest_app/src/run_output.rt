@@ -39,7 +39,7 @@ impl From<AllocError> for ShowError {
     }
 }
 
-/// Returns the rows of a run, or an error if the run failed or its rows could not be written to the report.
+/// Returns the rows of a run; an error if the run failed, or if `sent`, the result of writing its rows to the report, is an error.
 pub(crate) fn rows_if_written(
     ran: Result<Rows, StreamError>,
     sent: Result<(), WriteError>,
@@ -92,7 +92,7 @@ pub(crate) fn write_totals_line<W: Sink>(
     }
 }
 
-/// Returns the stop for an error while a run is shown; `report` is the outlet of its report.
+/// Returns the stop for an error that occurred while a run was shown; `report` is the outlet of its report.
 pub(crate) fn show_stop<P: Drop, W: Sink + LastError + Drop>(
     alloc: Global,
     report: &Outlet<'_, P, W>,

@@ -44,18 +44,18 @@ pub(crate) fn show_report<D: Inputs, F: Outputs + Drop, O: Sink + Drop, E: Sink 
     inputs: &D,
     alloc: Global,
     args: ShowArgs<'_>,
-    to: &mut Destinations<F, O, E>,
+    destinations: &mut Destinations<F, O, E>,
 ) -> Result<u8, Stop>
     ensures status_bound { IfOk result (λ status. status ≤ 1) }
     ensures shown { IfOk result (λ status. IsShowWritten (D.contents inputs.now) args.entry status
-        (outputs_of F.committed O.accepted E.accepted E.failure_count to.old) (outputs_of F.committed O.accepted E.accepted E.failure_count to.new)) }
+        (outputs_of F.committed O.accepted E.accepted E.failure_count destinations.old) (outputs_of F.committed O.accepted E.accepted E.failure_count destinations.new)) }
     ensures committed_after_error { OnErr result (IsAbortedShowAt (D.contents inputs.now) args.entry
-        (F.committed to.old.files) (F.committed to.new.files)) }
+        (F.committed destinations.old.files) (F.committed destinations.new.files)) }
     ensures stopped { IfErr result (IsShowStop (D.contents inputs.now) args.entry) }
     // The report is not overwritten.
-    ensures inputs_preserved { HoldsIfCommitted (IsShowFileNotAnInput args.entry) (F.committed to.old.files) (F.committed to.new.files) }
+    ensures inputs_preserved { HoldsIfCommitted (IsShowFileNotAnInput args.entry) (F.committed destinations.old.files) (F.committed destinations.new.files) }
 {
-    reject_show_overwrite(&to.files, alloc, &args)?;
+    reject_show_overwrite(&destinations.files, alloc, &args)?;
     let requested = RequestedReport {
         path: args.report,
         partial: args.partial,
@@ -63,9 +63,9 @@ pub(crate) fn show_report<D: Inputs, F: Outputs + Drop, O: Sink + Drop, E: Sink 
     let partial_report = read_requested_report(inputs, alloc, requested)?;
     let note = truncation_note(alloc, args.report, &partial_report)?;
     let summarized = summarize_report(alloc, args, partial_report.report)?;
-    write_message(&mut to.errors, note.as_slice());
+    write_message(&mut destinations.errors, note.as_slice());
     let status = summarized.status;
-    write_summarized_report(alloc, args, summarized, to)?;
+    write_summarized_report(alloc, args, summarized, destinations)?;
     Ok(status)
 }
 
@@ -115,13 +115,13 @@ fn write_summarized_report<F: Outputs + Drop, O: Sink + Drop, E: Sink + Drop>(
     alloc: Global,
     args: ShowArgs<'_>,
     summarized: SummarizedReport,
-    to: &mut Destinations<F, O, E>,
+    destinations: &mut Destinations<F, O, E>,
 ) -> Result<(), Stop>
     ensures written { OnOk result (IsOutputWritten None (optional_text args.entry.junit) summarized.summary.items
         (report_text summarized.report.rows)
         (shown_junit args.entry summarized.report.rows)
-        (outputs_of F.committed O.accepted E.accepted E.failure_count to.old) (outputs_of F.committed O.accepted E.accepted E.failure_count to.new)) }
-    ensures committed_after_error { OnErr result (AreFilesPartlyCommitted (F.committed to.old.files) (F.committed to.new.files)
+        (outputs_of F.committed O.accepted E.accepted E.failure_count destinations.old) (outputs_of F.committed O.accepted E.accepted E.failure_count destinations.new)) }
+    ensures committed_after_error { OnErr result (AreFilesPartlyCommitted (F.committed destinations.old.files) (F.committed destinations.new.files)
         (Some (file_at (optional_text args.entry.junit) (shown_junit args.entry summarized.report.rows)))) }
     ensures stopped { IfErr result (IsOutputStop None (optional_text args.entry.junit)) }
 {
@@ -130,15 +130,15 @@ fn write_summarized_report<F: Outputs + Drop, O: Sink + Drop, E: Sink + Drop>(
         summary,
         ..
     } = summarized;
-    let outlets = open_outlets(&mut to.files, alloc, None, args.junit)?;
+    let outlets = open_outlets(&mut destinations.files, alloc, None, args.junit)?;
     let suite = Suite {
         name: suite_name(args.suite, args.report).as_bytes(),
         judge: report_judge(args.lenient),
     };
-    match write_shown(to, summary.as_slice(), outlets.use_stdout()) {
-        Ok(()) => write_whole_files(alloc, to, outlets, suite, report.rows),
+    match write_shown(destinations, summary.as_slice(), outlets.use_stdout()) {
+        Ok(()) => write_whole_files(alloc, destinations, outlets, suite, report.rows),
         Err(stop) => {
-            abandon_outlets(&mut to.files, outlets);
+            abandon_outlets(&mut destinations.files, outlets);
             Err(stop)
         }
     }

@@ -52,11 +52,11 @@ impl<'x, R: Threads + Wait + Sync, D: Inputs> JobsView<'x, R, D> {
     pub(crate) fn write_view<F: Outputs + Drop, O: Sink + Drop, E: Sink + Drop>(
         &self,
         command: ChoosingCommand,
-        to: &mut Destinations<F, O, E>,
+        destinations: &mut Destinations<F, O, E>,
     ) -> Result<u8, Stop>
         ensures written { IfOk result (λ status. IsViewWritten (D.contents self.now.host.now.inputs.now) self.now.args.now
             self.now.view status
-            (outputs_of F.committed O.accepted E.accepted E.failure_count to.old) (outputs_of F.committed O.accepted E.accepted E.failure_count to.new)) }
+            (outputs_of F.committed O.accepted E.accepted E.failure_count destinations.old) (outputs_of F.committed O.accepted E.accepted E.failure_count destinations.new)) }
         ensures status_bound { IfOk result (λ status. status ≤ 1) }
         ensures stopped { IfErr result (λ stop. (stop ≡ Stop.WriteFailed)
             ⊎ IsViewStop (D.contents self.now.host.now.inputs.now) self.now.args.now self.now.view stop) }
@@ -67,14 +67,14 @@ impl<'x, R: Threads + Wait + Sync, D: Inputs> JobsView<'x, R, D> {
             rule: failure_rule(self.args.lenient),
         };
         let requested = run.requested_jobs(command)?;
-        write_message(&mut to.errors, requested.notes.as_slice());
+        write_message(&mut destinations.errors, requested.notes.as_slice());
         let RequestedJobs {
             jobs,
             selection,
             ..
         } = requested;
         match selection {
-            Some(selection) => self.write_selected(jobs, selection.as_slice(), to),
+            Some(selection) => self.write_selected(jobs, selection.as_slice(), destinations),
             None => Ok(DONE),
         }
     }
@@ -84,12 +84,12 @@ impl<'x, R: Threads + Wait + Sync, D: Inputs> JobsView<'x, R, D> {
         &self,
         jobs: JobList,
         selection: &[bool],
-        to: &mut Destinations<F, O, E>,
+        destinations: &mut Destinations<F, O, E>,
     ) -> Result<u8, Stop>
         requires { length selection.now ≡ length jobs }
         ensures written { IfOk result (λ status. (status ≡ 0) × IsViewOfJobsWritten (D.contents self.now.host.now.inputs.now)
             self.now.args.now self.now.view jobs (selected_job_indices selection.now)
-            (outputs_of F.committed O.accepted E.accepted E.failure_count to.old) (outputs_of F.committed O.accepted E.accepted E.failure_count to.new)) }
+            (outputs_of F.committed O.accepted E.accepted E.failure_count destinations.old) (outputs_of F.committed O.accepted E.accepted E.failure_count destinations.new)) }
         ensures stopped { IfErr result (IsViewFailedStop (D.contents self.now.host.now.inputs.now) self.now.args.now
             self.now.view jobs (selected_job_indices selection.now)) }
     {
@@ -99,9 +99,9 @@ impl<'x, R: Threads + Wait + Sync, D: Inputs> JobsView<'x, R, D> {
         let mut store = RecordingStore::new(inputs, alloc, self.args.root);
         let plan = gather_jobs_at(alloc, jobs, indices, &mut store)?;
         let note = refused_note(alloc, self.args, &plan, store.unreadable_paths(), indices)?;
-        write_message(&mut to.errors, note.as_slice());
+        write_message(&mut destinations.errors, note.as_slice());
         let text = self.view_of_jobs(&plan, indices)?;
-        write_results(&mut to.out, text.as_slice())?;
+        write_results(&mut destinations.out, text.as_slice())?;
         Ok(DONE)
     }
 

@@ -23,29 +23,29 @@ use std::alloc::Global;
 /// Writes the report of all rows and their JUnit XML to their outlets, and then moves the files to their paths.
 pub(crate) fn write_whole_files<F: Outputs + Drop, O: Sink + Drop, E: Sink + Drop>(
     alloc: Global,
-    to: &mut Destinations<F, O, E>,
+    destinations: &mut Destinations<F, O, E>,
     outlets: Outlets<'_, F::Place, F::File>,
     suite: Suite<'_>,
     rows: Rows,
 ) -> Result<(), Stop>
     requires report { has_no_failure F.File.failure_count outlets.report }
     requires junit { has_no_failure F.File.failure_count outlets.junit }
-    ensures errors_unchanged { to.new.errors ≡ to.old.errors }
+    ensures errors_unchanged { destinations.new.errors ≡ destinations.old.errors }
     ensures out_written { (report_path junit_path : Option (List ℕ))
-        → HasReceived F.pending_path F.File.accepted F.File.failure_count (F.committed to.old.files) report_path [] outlets.entry.report
-        → HasReceived F.pending_path F.File.accepted F.File.failure_count (F.committed to.old.files) junit_path [] outlets.entry.junit
-        → OnOk result (Appends (O.accepted to.old.out) (O.accepted to.new.out)
+        → HasReceived F.pending_path F.File.accepted F.File.failure_count (F.committed destinations.old.files) report_path [] outlets.entry.report
+        → HasReceived F.pending_path F.File.accepted F.File.failure_count (F.committed destinations.old.files) junit_path [] outlets.entry.junit
+        → OnOk result (Appends (O.accepted destinations.old.out) (O.accepted destinations.new.out)
         (stdout_at junit_path (failures_junit suite.entry.name.now (judge_view suite.entry.judge) rows)
         ++ stdout_at report_path (report_text rows))) }
     ensures committed { (report_path junit_path : Option (List ℕ))
-        → HasReceived F.pending_path F.File.accepted F.File.failure_count (F.committed to.old.files) report_path [] outlets.entry.report
-        → HasReceived F.pending_path F.File.accepted F.File.failure_count (F.committed to.old.files) junit_path [] outlets.entry.junit
-        → OnOk result (AreFilesCommitted (F.committed to.old.files) (F.committed to.new.files)
+        → HasReceived F.pending_path F.File.accepted F.File.failure_count (F.committed destinations.old.files) report_path [] outlets.entry.report
+        → HasReceived F.pending_path F.File.accepted F.File.failure_count (F.committed destinations.old.files) junit_path [] outlets.entry.junit
+        → OnOk result (AreFilesCommitted (F.committed destinations.old.files) (F.committed destinations.new.files)
         (Some (file_at junit_path (failures_junit suite.entry.name.now (judge_view suite.entry.judge) rows)
         ++ file_at report_path (report_text rows)))) }
     ensures committed_after_error { (junit_path : Option (List ℕ))
-        → HasReceived F.pending_path F.File.accepted F.File.failure_count (F.committed to.old.files) junit_path [] outlets.entry.junit
-        → OnErr result (AreFilesPartlyCommitted (F.committed to.old.files) (F.committed to.new.files)
+        → HasReceived F.pending_path F.File.accepted F.File.failure_count (F.committed destinations.old.files) junit_path [] outlets.entry.junit
+        → OnErr result (AreFilesPartlyCommitted (F.committed destinations.old.files) (F.committed destinations.new.files)
         (Some (file_at junit_path (failures_junit suite.entry.name.now (judge_view suite.entry.judge) rows)))) }
     ensures stopped { IfErr result
         (IsOutputWriteStop (outlet_path outlets.entry.report) (outlet_path outlets.entry.junit)) }
@@ -53,7 +53,7 @@ pub(crate) fn write_whole_files<F: Outputs + Drop, O: Sink + Drop, E: Sink + Dro
     let indices = match vec![in alloc; 0usize; rows.as_slice().len()] {
         Ok(indices) => indices,
         Err(error) => {
-            abandon_outlets(&mut to.files, outlets);
+            abandon_outlets(&mut destinations.files, outlets);
             return Err(Stop::from(error));
         }
     };
@@ -65,5 +65,5 @@ pub(crate) fn write_whole_files<F: Outputs + Drop, O: Sink + Drop, E: Sink + Dro
         report: ReportText::Whole(rows),
         texts: &[],
     };
-    write_files(alloc, to, outlets, texts)
+    write_files(alloc, destinations, outlets, texts)
 }

@@ -18,38 +18,38 @@ use std::alloc::Global;
 /// Writes a text to the file at a path, or to standard output if there is no path or it is `-`.
 pub(crate) fn write_text<F: Outputs + Drop, O: Sink + Drop, E: Sink + Drop>(
     alloc: Global,
-    to: &mut Destinations<F, O, E>,
+    destinations: &mut Destinations<F, O, E>,
     path: Option<&str>,
     bytes: &[u8],
 ) -> Result<(), Stop>
     ensures written { OnOk result (IsWrittenAt (Some (written_path (optional_text path.entry))) bytes.now
-        (outputs_of F.committed O.accepted E.accepted E.failure_count to.old) (outputs_of F.committed O.accepted E.accepted E.failure_count to.new)) }
-    ensures errors_unchanged { to.new.errors ≡ to.old.errors }
-    ensures out_unchanged { (is_stdout (written_path (optional_text path.entry)) ≡ true) ⊎ (to.new.out ≡ to.old.out) }
-    ensures nothing_committed { OnErr result (F.committed to.new.files ≡ F.committed to.old.files) }
+        (outputs_of F.committed O.accepted E.accepted E.failure_count destinations.old) (outputs_of F.committed O.accepted E.accepted E.failure_count destinations.new)) }
+    ensures errors_unchanged { destinations.new.errors ≡ destinations.old.errors }
+    ensures out_unchanged { (is_stdout (written_path (optional_text path.entry)) ≡ true) ⊎ (destinations.new.out ≡ destinations.old.out) }
+    ensures nothing_committed { OnErr result (F.committed destinations.new.files ≡ F.committed destinations.old.files) }
     ensures stopped { IfErr result (IsTextNotWrittenAtStop (written_path (optional_text path.entry))) }
 {
-    write_text_at(alloc, to, path.unwrap_or("-"), bytes)
+    write_text_at(alloc, destinations, path.unwrap_or("-"), bytes)
 }
 
 // Writes a text to the file at a path, or to standard output if the path is `-`.
 fn write_text_at<F: Outputs + Drop, O: Sink + Drop, E: Sink + Drop>(
     alloc: Global,
-    to: &mut Destinations<F, O, E>,
+    destinations: &mut Destinations<F, O, E>,
     path: &str,
     bytes: &[u8],
 ) -> Result<(), Stop>
     ensures written { OnOk result (IsWrittenAt (Some path.now) bytes.now
-        (outputs_of F.committed O.accepted E.accepted E.failure_count to.old) (outputs_of F.committed O.accepted E.accepted E.failure_count to.new)) }
-    ensures errors_unchanged { to.new.errors ≡ to.old.errors }
-    ensures out_unchanged { (is_stdout path.now ≡ true) ⊎ (to.new.out ≡ to.old.out) }
-    ensures nothing_committed { OnErr result (F.committed to.new.files ≡ F.committed to.old.files) }
+        (outputs_of F.committed O.accepted E.accepted E.failure_count destinations.old) (outputs_of F.committed O.accepted E.accepted E.failure_count destinations.new)) }
+    ensures errors_unchanged { destinations.new.errors ≡ destinations.old.errors }
+    ensures out_unchanged { (is_stdout path.now ≡ true) ⊎ (destinations.new.out ≡ destinations.old.out) }
+    ensures nothing_committed { OnErr result (F.committed destinations.new.files ≡ F.committed destinations.old.files) }
     ensures stopped { IfErr result (IsTextNotWrittenAtStop path.now) }
 {
     if is_stdout(path) {
-        write_results(&mut to.out, bytes)
+        write_results(&mut destinations.out, bytes)
     } else {
-        write_file(&mut to.files, alloc, path, bytes)
+        write_file(&mut destinations.files, alloc, path, bytes)
     }
 }
 
@@ -121,22 +121,22 @@ pub(crate) fn finish_file<F: Outputs>(
 /// Writes a text to an open and still empty outlet, and moves its file to its path. After an error the file is not created.
 pub(crate) fn write_to_outlet<F: Outputs + Drop, O: Sink + Drop, E: Sink + Drop>(
     alloc: Global,
-    to: &mut Destinations<F, O, E>,
+    destinations: &mut Destinations<F, O, E>,
     outlet: Outlet<'_, F::Place, F::File>,
     bytes: &[u8],
 ) -> Result<(), Stop>
     requires { (path : Option (List ℕ)) × HasReceived F.pending_path F.File.accepted F.File.failure_count None path [] outlet }
     ensures written { (path : Option (List ℕ)) (earlier : Option (List CommittedFile))
         → HasReceived F.pending_path F.File.accepted F.File.failure_count earlier path [] outlet.entry → OnOk result (IsWrittenAt path bytes.now
-        (with_committed_if_reported earlier (outputs_of F.committed O.accepted E.accepted E.failure_count to.old))
-        (outputs_of F.committed O.accepted E.accepted E.failure_count to.new)) }
-    ensures errors_unchanged { to.new.errors ≡ to.old.errors }
-    ensures nothing_committed { OnErr result (F.committed to.new.files ≡ F.committed to.old.files) }
+        (with_committed_if_reported earlier (outputs_of F.committed O.accepted E.accepted E.failure_count destinations.old))
+        (outputs_of F.committed O.accepted E.accepted E.failure_count destinations.new)) }
+    ensures errors_unchanged { destinations.new.errors ≡ destinations.old.errors }
+    ensures nothing_committed { OnErr result (F.committed destinations.new.files ≡ F.committed destinations.old.files) }
     ensures stopped { IfErr result (λ stop. (stop ≡ Stop.WriteFailed) ⊎ IsFileStop (outlet_path outlet.entry) stop) }
 {
     match outlet {
         Outlet::Nowhere => Ok(()),
-        Outlet::Stdout => write_results(&mut to.out, bytes),
-        Outlet::File(file) => finish_file(&mut to.files, alloc, file, bytes),
+        Outlet::Stdout => write_results(&mut destinations.out, bytes),
+        Outlet::File(file) => finish_file(&mut destinations.files, alloc, file, bytes),
     }
 }

@@ -9,10 +9,10 @@ loop-k-preserved c =
     let entry = λ (k : ℕ). symbol_at_offset c.args.table.now (16 * k) in
     elim c.if-is_sized_function.branch [
       | then-is_sized_function+in_ok-push_function w ↦
-          rw w.found-is (with_function c.args.segments.now c.args.file.now c.args.strings.now entry c.loop-k.k c.symbol_at_offset-symbol.result
+          rw w.functions-is (with_function c.args.segments.now c.args.file.now c.args.strings.now entry c.loop-k.k c.symbol_at_offset-symbol.result
           c.symbol_at_offset-symbol.ensures _ _
           c.loop-k.invariant w.in_ok-push_function.ensures)
       | else-is_sized_function w ↦
-          rw w.found-is (without_function c.args.segments.now c.args.file.now c.args.strings.now entry c.loop-k.k c.symbol_at_offset-symbol.result
+          rw w.functions-is (without_function c.args.segments.now c.args.file.now c.args.strings.now entry c.loop-k.k c.symbol_at_offset-symbol.result
           c.symbol_at_offset-symbol.ensures _ c.loop-k.invariant (sym c.is_sized_function.ensures ∙ w.if-is_sized_function.false))
     ]

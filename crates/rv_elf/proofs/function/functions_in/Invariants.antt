@@ -5,5 +5,5 @@ use Rattle.rv_elf.specs.Sections.{symbol_at_offset}
 use Rattle.rv_elf.proofs.function.functions_in.Given as goal
 
 abbrev pub invariant-loop-k : goal.invariant-loop-k
-invariant-loop-k l = map (λ f. (f.name.now, (f.address, f.code.now))) l.found.items
+invariant-loop-k l = map (λ f. (f.name.now, (f.address, f.code.now))) l.functions.items
     ≡ filter_map (function_of_symbol l.segments l.file l.strings) (map (λ k. symbol_at_offset l.table (16 * k)) (range_with_len 0 l.k))

@@ -2,7 +2,7 @@ use Rattle.rv_elf.proofs.Opening.{opening_memory_none, bytes_there, fits_bus, on
 use Rattle.rv_elf.proofs.loading.load.Goals as goal
 
 pub loop-segment-init : goal.loop-segment-init
-loop-segment-init c = opening_memory_none c.args.bus.now c.args.file.now c.args.load_at c.requires.new
+loop-segment-init c = opening_memory_none c.args.bus.now c.args.file.now c.args.load_at c.requires.new_bus
 
 pub write_segment-requires-clause-in_file : goal.write_segment-requires-clause-inside
 write_segment-requires-clause-in_file c =

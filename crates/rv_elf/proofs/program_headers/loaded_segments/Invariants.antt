@@ -2,5 +2,5 @@ use Rattle.std.proofs.Common.{◌≡◌, take}
 use Rattle.rv_elf.specs.Image.{loaded_segments}
 use Rattle.rv_elf.proofs.program_headers.loaded_segments.Given as goal
 
-abbrev pub invariant-loop-entry : goal.invariant-loop-entry
-invariant-loop-entry l = l.kept.items ≡ loaded_segments (take l.entry-index l.headers)
+abbrev pub invariant-loop-header : goal.invariant-loop-header
+invariant-loop-header l = l.segments.items ≡ loaded_segments (take l.header-index l.headers)

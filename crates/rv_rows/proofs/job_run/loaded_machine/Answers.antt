@@ -11,8 +11,8 @@ pub load-requires-clause-fits : goal.load-requires-clause-fits
 load-requires-clause-fits c =
     rw (new_bus_parts _ _ _ _ c.in_ok-bus.ensures).0 c.requires.fits
 
-pub load-requires-clause-new : goal.load-requires-clause-new
-load-requires-clause-new c = (new_bus_parts _ _ _ _ c.in_ok-bus.ensures).1
+pub load-requires-clause-new_bus : goal.load-requires-clause-new_bus
+load-requires-clause-new_bus c = (new_bus_parts _ _ _ _ c.in_ok-bus.ensures).1
 
 pub new-requires-clause-even : goal.new-requires-clause-even
 new-requires-clause-even c = entry_even _ _ _ c.requires.image

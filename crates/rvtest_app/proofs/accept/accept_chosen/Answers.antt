@@ -20,10 +20,10 @@ returns-clause-accepted g c =
     let outcomes = c.in_ok-changes.changes in
     IfOk-map c.write_accepted.result _ _
     (λ status put. record {
-      after_check = outputs_of g.F.Outputs.committed g.O.Sink.accepted g.E.Sink.accepted g.E.Sink.failure_count c.checked_jobs.new.to;
+      after_check = outputs_of g.F.Outputs.committed g.O.Sink.accepted g.E.Sink.accepted g.E.Sink.failure_count c.checked_jobs.new.destinations;
       outside = c.in_ok-selected.ensures.outside_reported;
       rows = c.in_ok-rows.rows.items;
-      after_run = outputs_of g.F.Outputs.committed g.O.Sink.accepted g.E.Sink.accepted g.E.Sink.failure_count c.run_selected.new.to;
+      after_run = outputs_of g.F.Outputs.committed g.O.Sink.accepted g.E.Sink.accepted g.E.Sink.failure_count c.run_selected.new.destinations;
       ran = rw (c.in_ok-selected.ensures.jobs, c.in_ok-selected.ensures.selection) at c.in_ok-rows.ensures.rows;
       runs = c.in_ok-runs.runs.items;
       are_judged = rw c.as_slice-2.ensures.value at c.in_ok-runs.ensures;

@@ -22,7 +22,7 @@ returns-in-Some-clause-accepted g c =
       notes = c.in_ok-list.list.notes.items;
       choice = rw c.in-Some.is at c.in_ok-list.ensures.chosen;
       between = outputs_of g.F.Outputs.committed g.O.Sink.accepted g.E.Sink.accepted g.E.Sink.failure_count
-          (record c.args.to.now { errors = c.write_message.new.errors });
+          (record c.args.destinations.now { errors = c.write_message.new.errors });
       reported = (refl, rw c.as_slice.ensures.value at c.write_message.ensures, refl);
       accepted = accepted;
     })
@@ -47,7 +47,7 @@ returns-clause-accepted g c = record {
   notes = c.in_ok-list.list.notes.items;
   choice = rw c.in-None.is at c.in_ok-list.ensures.chosen;
   between = outputs_of g.F.Outputs.committed g.O.Sink.accepted g.E.Sink.accepted g.E.Sink.failure_count
-      (record c.args.to.now { errors = c.write_message.new.errors });
+      (record c.args.destinations.now { errors = c.write_message.new.errors });
   reported = (refl, rw c.as_slice.ensures.value at c.write_message.ensures, refl);
   accepted = (refl, refl);
 }

@@ -14,9 +14,9 @@ returns-clause-written g c = record {
   of_job = rw (c.as_slice.ensures, c.as_slice-2.ensures.value) c.in_ok-row.ensures.reported;
   between = record {
     out = g.O.Sink.accepted c.write_results.new.out;
-    errors = g.E.Sink.accepted c.args.to.now.errors;
-    failures = g.E.Sink.failure_count c.args.to.now.errors;
-    committed = g.F.Outputs.committed c.args.to.now.files;
+    errors = g.E.Sink.accepted c.args.destinations.now.errors;
+    failures = g.E.Sink.failure_count c.args.destinations.now.errors;
+    committed = g.F.Outputs.committed c.args.destinations.now.files;
   };
   written = (c.in_ok-write_results.ensures.put, refl, refl, refl);
   reported = (refl, c.write_message.ensures, refl);

@@ -13,10 +13,10 @@ returns-clause-written g c = record {
   notes = c.as_slice.result.now;
   diff = rw (c.as_slice-2.ensures.value, c.as_slice.ensures.value) c.in_ok-output.ensures.diff;
   between = record {
-    out = g.O.Sink.accepted c.args.to.now.out;
+    out = g.O.Sink.accepted c.args.destinations.now.out;
     errors = g.E.Sink.accepted c.write_message.new.errors;
     failures = g.E.Sink.failure_count c.write_message.new.errors;
-    committed = g.F.Outputs.committed c.args.to.now.files;
+    committed = g.F.Outputs.committed c.args.destinations.now.files;
   };
   reported = (refl, c.write_message.ensures, refl);
   written = (c.in_ok-write_results.ensures.put, refl, refl, refl);

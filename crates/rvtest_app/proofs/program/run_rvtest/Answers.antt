@@ -13,27 +13,27 @@ use Rattle.rvtest_app.proofs.program.run_rvtest.Goals.{in-Ok-Some, in-Ok-None, i
 answered : (g : Over) (c : goal.Joined-drop g) → IsCarriedOut (g.D.Inputs.contents c.args.host.now.inputs.now)
     (g.I.Read.remaining c.args.input.now) c.args.terminals.is_out_terminal c.args.terminals.is_out_colored
     (map g.T.AsStr.text c.args.args.now) c.in-Ok.status
-    (outputs_of g.F.Outputs.committed g.O.Sink.accepted g.E.Sink.accepted g.E.Sink.failure_count c.args.to)
-    (outputs_of g.F.Outputs.committed g.O.Sink.accepted g.E.Sink.accepted g.E.Sink.failure_count c.match-read_words.to.0)
+    (outputs_of g.F.Outputs.committed g.O.Sink.accepted g.E.Sink.accepted g.E.Sink.failure_count c.args.destinations)
+    (outputs_of g.F.Outputs.committed g.O.Sink.accepted g.E.Sink.accepted g.E.Sink.failure_count c.match-read_words.destinations.0)
 answered g c =
     let contents = g.D.Inputs.contents c.args.host.now.inputs.now in
     let rest = g.I.Read.remaining c.args.input.now in
     let is_terminal = c.args.terminals.is_out_terminal in
     let is_colored = c.args.terminals.is_out_colored in
     let args = map g.T.AsStr.text c.args.args.now in
-    let before = outputs_of g.F.Outputs.committed g.O.Sink.accepted g.E.Sink.accepted g.E.Sink.failure_count c.args.to in
-    let after = outputs_of g.F.Outputs.committed g.O.Sink.accepted g.E.Sink.accepted g.E.Sink.failure_count c.match-read_words.to.0 in
-    let all : IfOk c.match-read_words.to.1 (λ status. IsCarriedOut contents rest is_terminal is_colored args status before after) =
+    let before = outputs_of g.F.Outputs.committed g.O.Sink.accepted g.E.Sink.accepted g.E.Sink.failure_count c.args.destinations in
+    let after = outputs_of g.F.Outputs.committed g.O.Sink.accepted g.E.Sink.accepted g.E.Sink.failure_count c.match-read_words.destinations.0 in
+    let all : IfOk c.match-read_words.destinations.1 (λ status. IsCarriedOut contents rest is_terminal is_colored args status before after) =
     elim c.match-read_words.branch [
       | in-Ok-Some w ↦
           (let request = rw w.in-Ok-Some.field-0-is at w.in-Ok-Some.ensures.value in
-          rw w.to-is (IfOk-map w.run_in_colors.result.1 _ _ (λ status done. inl (w.in-Ok-Some.request, (sym request, done)))
+          rw w.destinations-is (IfOk-map w.run_in_colors.result.1 _ _ (λ status done. inl (w.in-Ok-Some.request, (sym request, done)))
           w.run_in_colors.ensures.done))
       | in-Ok-None w ↦
           (let request = rw w.in-Ok-None.field-0-is at w.in-Ok-None.ensures.value in
-          rw w.to-is (inr (inl (sym request, refl), refl, refl, refl)))
+          rw w.destinations-is (inr (inl (sym request, refl), refl, refl, refl)))
       | in-Err w ↦
-          rw w.to-is (words_answered contents rest is_terminal is_colored args w.in-Err.error w.respond_to_args_error-outcome.result before _
+          rw w.destinations-is (words_answered contents rest is_terminal is_colored args w.in-Err.error w.respond_to_args_error-outcome.result before _
           w.in-Err.ensures.kinds w.respond_to_args_error-outcome.ensures.exit_status w.respond_to_args_error-outcome.ensures.help_written (refl, refl, refl))
     ] in
     rw c.in-Ok.is at all
@@ -49,17 +49,17 @@ returns-clause-ended g c =
     let contents = g.D.Inputs.contents c.args.host.now.inputs.now in
     let is_terminal = c.args.terminals.is_out_terminal in
     let args = map g.T.AsStr.text c.args.args.now in
-    let stopped : IfErr c.match-read_words.to.1 (IsProgramStop contents is_terminal args) = elim c.match-read_words.branch [
+    let stopped : IfErr c.match-read_words.destinations.1 (IsProgramStop contents is_terminal args) = elim c.match-read_words.branch [
       | in-Ok-Some w ↦
           (let request = rw w.in-Ok-Some.field-0-is at w.in-Ok-Some.ensures.value in
-          rw w.to-is (IfErr-map w.run_in_colors.result.1 _ _ (λ stop is. inl (w.in-Ok-Some.request, (sym request, is)))
+          rw w.destinations-is (IfErr-map w.run_in_colors.result.1 _ _ (λ stop is. inl (w.in-Ok-Some.request, (sym request, is)))
           w.run_in_colors.ensures.stopped))
-      | in-Ok-None w ↦ rw w.to-is tt
+      | in-Ok-None w ↦ rw w.destinations-is tt
       | in-Err w ↦
-          rw w.to-is (words_stop contents is_terminal args _ _ _ _ w.in-Err.ensures.kinds w.in-Err.ensures.misused
+          rw w.destinations-is (words_stop contents is_terminal args _ _ _ _ w.in-Err.ensures.kinds w.in-Err.ensures.misused
           w.respond_to_args_error-outcome.ensures.stopped)
     ] in
-    let before = outputs_of g.F.Outputs.committed g.O.Sink.accepted g.E.Sink.accepted g.E.Sink.failure_count c.match-read_words.to.0 in
+    let before = outputs_of g.F.Outputs.committed g.O.Sink.accepted g.E.Sink.accepted g.E.Sink.failure_count c.match-read_words.destinations.0 in
     inr (
       c.in-Err-outcome.stop,
       rw c.in-Err-outcome.is at stopped,

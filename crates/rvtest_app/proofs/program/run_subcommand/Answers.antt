@@ -69,7 +69,7 @@ returns-clause-out_unchanged g c = elim c.match-request.branch [
       (IfOk-map w.show_report-outcome.result _ _ (λ status done. inl (unshown_report _ c.args.terminals.is_out_terminal _ status _ _ done))
       w.show_report-outcome.ensures.shown)
   | in-Counts w ↦
-      rw (w.outcome-is, w.to-is, w.in-Counts.is)
+      rw (w.outcome-is, w.destinations-is, w.in-Counts.is)
       (IfOk-map w.write_sum_of_tables-outcome.result _ _
       (λ status put. unshown_sum _ c.args.terminals.is_out_terminal _ status _ _ _ put w.write_sum_of_tables-outcome.ensures.out_unchanged)
       w.write_sum_of_tables-outcome.ensures.written)

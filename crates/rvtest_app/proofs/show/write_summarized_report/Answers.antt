@@ -31,7 +31,7 @@ returns-in-Ok-clause-written g c =
     let errors = c.write_whole_files.ensures.errors_unchanged in
     OnOk-both c.write_whole_files.result _ _ _
     (λ p q. record {
-      between = outputs_of g.F.Outputs.committed g.O.Sink.accepted g.E.Sink.accepted g.E.Sink.failure_count c.write_shown.new.to;
+      between = outputs_of g.F.Outputs.committed g.O.Sink.accepted g.E.Sink.accepted g.E.Sink.failure_count c.write_shown.new.destinations;
       shown_written = seen;
       out = p;
       errors_unchanged = (ap g.E.Sink.accepted errors, ap g.E.Sink.failure_count errors);

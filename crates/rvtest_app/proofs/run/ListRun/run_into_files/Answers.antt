@@ -22,7 +22,7 @@ finish_run-requires-clause-received g c κs within =
     let outlets = c.in-Ok.outlets in
     let run = c.run_and_show-errors in
     rw c.in-Ok.ensures.nothing_committed
-    (taken_of_run g.F.Outputs.pending_path g.F.File.Sink.accepted g.F.File.Sink.failure_count (g.F.Outputs.committed c.args.to.files) args
+    (taken_of_run g.F.Outputs.pending_path g.F.File.Sink.accepted g.F.File.Sink.failure_count (g.F.Outputs.committed c.args.destinations.files) args
     c.args.context.old c.is_none.result planned.indices.now all run.result.2.ran c.split_sink-report.result.0 c.split_sink-report.result.1
     run.result.1 outlets.report c.with_sink.result outlets.junit outlets.counts c.in-Ok.ensures.open c.split_sink-report.ensures.parts
     c.with_sink.ensures c.is_none.ensures run.ensures.rows run.ensures.report_written)
@@ -35,14 +35,14 @@ finish_run-requires-else-uses_run_stdout-clause-received g c κs within =
     let outlets = c.in-Ok.outlets in
     let run = c.run_and_show-out in
     rw c.in-Ok.ensures.nothing_committed
-    (taken_of_run g.F.Outputs.pending_path g.F.File.Sink.accepted g.F.File.Sink.failure_count (g.F.Outputs.committed c.args.to.files) args
+    (taken_of_run g.F.Outputs.pending_path g.F.File.Sink.accepted g.F.File.Sink.failure_count (g.F.Outputs.committed c.args.destinations.files) args
     c.args.context.old c.is_none.result planned.indices.now all run.result.2.ran c.split_sink-report.result.0 c.split_sink-report.result.1
     run.result.1 outlets.report c.with_sink-else-uses_run_stdout.result outlets.junit outlets.counts c.in-Ok.ensures.open
     c.split_sink-report.ensures.parts c.with_sink-else-uses_run_stdout.ensures c.is_none.ensures run.ensures.rows run.ensures.report_written)
 
 pub returns-then-uses_run_stdout-clause-written : goal.returns-then-uses_run_stdout-clause-written
 returns-then-uses_run_stdout-clause-written g c =
-    let before = outputs_of g.F.Outputs.committed g.O.Sink.accepted g.E.Sink.accepted g.E.Sink.failure_count c.args.to in
+    let before = outputs_of g.F.Outputs.committed g.O.Sink.accepted g.E.Sink.accepted g.E.Sink.failure_count c.args.destinations in
     let run = c.run_and_show-errors in
     c.finish_run.ensures.written before
     (shown_on_errors run.result.2.ran (uses_run_stdout c.args.self.now.args.now) _ before _
@@ -50,7 +50,7 @@ returns-then-uses_run_stdout-clause-written g c =
 
 pub returns-else-uses_run_stdout-clause-written : goal.returns-else-uses_run_stdout-clause-written
 returns-else-uses_run_stdout-clause-written g c =
-    let before = outputs_of g.F.Outputs.committed g.O.Sink.accepted g.E.Sink.accepted g.E.Sink.failure_count c.args.to in
+    let before = outputs_of g.F.Outputs.committed g.O.Sink.accepted g.E.Sink.accepted g.E.Sink.failure_count c.args.destinations in
     let run = c.run_and_show-out in
     c.finish_run-else-uses_run_stdout.ensures.written before
     (shown_on_out run.result.2.ran (uses_run_stdout c.args.self.now.args.now) _ before _

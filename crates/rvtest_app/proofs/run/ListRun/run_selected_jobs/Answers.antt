@@ -39,7 +39,7 @@ returns-clause-run g c =
       rows_are = refl;
       exit_status = judged;
       between = outputs_of g.F.Outputs.committed g.O.Sink.accepted g.E.Sink.accepted g.E.Sink.failure_count
-          (record c.args.to { errors = c.write_message.new.errors });
+          (record c.args.destinations { errors = c.write_message.new.errors });
       note_reported = (refl, noted, refl);
       written = put;
     })
@@ -91,7 +91,7 @@ returns-clause-committed_after_error g c =
       rows = rows;
       rows_are = refl;
       committed = same_part args told (run_reporter args failures plan unread) c.as_slice-4.result.now indices
-          c.args.selected.context.shard c.args.selected.context.old rows (g.F.Outputs.committed c.args.to.files)
+          c.args.selected.context.shard c.args.selected.context.old rows (g.F.Outputs.committed c.args.destinations.files)
           (g.F.Outputs.committed c.run_into_files.result.0.files) told_is places_are part;
     })))
     (c.run_into_files.ensures.committed_after_error rows rows_are)

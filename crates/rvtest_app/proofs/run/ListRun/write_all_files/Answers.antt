@@ -37,7 +37,7 @@ pub write_counts-requires-clause-open : goal.write_counts-requires-clause-open
 write_counts-requires-clause-open g c κs within =
     let path = optional_text c.args.self.now.args.now.counts in (
       path,
-      untold g.F.Outputs.pending_path g.F.File.Sink.accepted g.F.File.Sink.failure_count (g.F.Outputs.committed c.args.to.now.files) path
+      untold g.F.Outputs.pending_path g.F.File.Sink.accepted g.F.File.Sink.failure_count (g.F.Outputs.committed c.args.destinations.now.files) path
           c.args.outlets.counts [] c.requires.received.counts,
     )
 
@@ -52,10 +52,10 @@ returns-in_ok-write_counts-in-Ok-clause-written g c = λ before shown.
     c.first_jobs-first.ensures.indices ∙ ap (λ (rows : List Row). take (length rows) indices) c.as_slice.ensures in
     let told = c.first_jobs-first.ensures.reporter in
     let files = c.in-Ok.ensures in
-    let start = outputs_of g.F.Outputs.committed g.O.Sink.accepted g.E.Sink.accepted g.E.Sink.failure_count c.args.to.now in
-    let after = outputs_of g.F.Outputs.committed g.O.Sink.accepted g.E.Sink.accepted g.E.Sink.failure_count c.write_run_files.new.to in
+    let start = outputs_of g.F.Outputs.committed g.O.Sink.accepted g.E.Sink.accepted g.E.Sink.failure_count c.args.destinations.now in
+    let after = outputs_of g.F.Outputs.committed g.O.Sink.accepted g.E.Sink.accepted g.E.Sink.failure_count c.write_run_files.new.destinations in
     let report = subst (λ (ps : List ℕ). HasReceived g.F.Outputs.pending_path g.F.File.Sink.accepted g.F.File.Sink.failure_count
-    (g.F.Outputs.committed c.args.to.now.files) report_path (streamed_rows c.args.context.old ps c.args.rows) c.args.outlets.report)
+    (g.F.Outputs.committed c.args.destinations.now.files) report_path (streamed_rows c.args.context.old ps c.args.rows) c.args.outlets.report)
     (sym firsts) c.requires.received.report in
     let same = placed_of_shown _ _ before start shown in
     record {
@@ -81,13 +81,13 @@ returns-in_err-write_counts-in-Ok-clause-committed_after_error g c =
     let firsts : c.first_jobs-first.result.indices.now ≡ shown_indices indices c.args.rows =
     c.first_jobs-first.ensures.indices ∙ ap (λ (rows : List Row). take (length rows) indices) c.as_slice.ensures in
     let report = subst (λ (ps : List ℕ). HasReceived g.F.Outputs.pending_path g.F.File.Sink.accepted g.F.File.Sink.failure_count
-    (g.F.Outputs.committed c.args.to.now.files) report_path (streamed_rows c.args.context.old ps c.args.rows) c.args.outlets.report)
+    (g.F.Outputs.committed c.args.destinations.now.files) report_path (streamed_rows c.args.context.old ps c.args.rows) c.args.outlets.report)
     (sym firsts) c.requires.received.report in
     let files = rw (c.first_jobs-first.ensures.reporter, firsts)
     at (c.in-Ok.ensures.committed report_path junit_path report c.requires.received.junit) in
     OnErr-from c.from_residual.result _
     (part_of_counts args (reporter_of c.args.planned.now.reporter.now) indices c.args.context.shard c.args.context.old c.args.rows _ _ _
-    (c.in_err-write_counts-in-Ok.ensures.path_given (optional_text args.counts) (g.F.Outputs.committed c.args.to.now.files) c.requires.received.counts)
+    (c.in_err-write_counts-in-Ok.ensures.path_given (optional_text args.counts) (g.F.Outputs.committed c.args.destinations.now.files) c.requires.received.counts)
     files c.in_err-write_counts-in-Ok.ensures.nothing_committed)
 
 pub returns-in_err-write_counts-in-Ok-clause-stopped : goal.returns-in_err-write_counts-in-Ok-clause-stopped

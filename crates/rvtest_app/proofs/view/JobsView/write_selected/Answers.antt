@@ -38,7 +38,7 @@ returns-clause-written g c =
           unread_entries = ap length c.unreadable_paths.ensures ∙ rw c.new-store.ensures.nothing at found.unreadable_count;
         };
         between = outputs_of g.F.Outputs.committed g.O.Sink.accepted g.E.Sink.accepted g.E.Sink.failure_count
-            (record c.args.to.now { errors = c.write_message.new.errors });
+            (record c.args.destinations.now { errors = c.write_message.new.errors });
         reported = (
           refl,
           rw (c.as_slice.ensures.value, c.in_ok-note.ensures, c.as_slice-indices.ensures.value, c.in_ok-selected.ensures.value)
