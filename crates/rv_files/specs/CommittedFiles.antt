@@ -17,4 +17,4 @@ committed_file path bytes = record {
 -- unknown
 abbrev pub IsCommittedFileAdded : Option (List CommittedFile) → Option (List CommittedFile) → List ℕ → Option (List ℕ) → Type 0
 IsCommittedFileAdded before after path bytes =
-    IfSome before (λ earlier. IfSome bytes (λ known. after ≡ Some (earlier ++ committed_file path known ∷ [])))
+    IfSome before (λ earlier. IfSome bytes (λ known_bytes. after ≡ Some (earlier ++ committed_file path known_bytes ∷ [])))

@@ -14,13 +14,13 @@ resolved_path None path = path
 
 -- the contents of the files for paths relative to the directory `folder`, if the contents are known
 abbrev pub contents_below : Option (List ℕ) → Option FileContents → Option FileContents
-contents_below folder known = option_map (λ files path. files (resolved_path folder path)) known
+contents_below folder contents = option_map (λ files path. files (resolved_path folder path)) contents
 
 -- if the system failed to read a path, and the contents of files are known, then no file has this path
 abbrev pub HasNoContentsIfUnreadable : Option FileContents → List ℕ → ReadWholeError → Type 0
-HasNoContentsIfUnreadable known path (whole.Failed reason) = IfSome known (λ files. files path ≡ None)
-HasNoContentsIfUnreadable known path whole.TooLong = Unit {0}
-HasNoContentsIfUnreadable known path whole.OutOfMemory = Unit {0}
+HasNoContentsIfUnreadable contents path (whole.Failed reason) = IfSome contents (λ files. files path ≡ None)
+HasNoContentsIfUnreadable contents path whole.TooLong = Unit {0}
+HasNoContentsIfUnreadable contents path whole.OutOfMemory = Unit {0}
 
 -- the record that a path could not be read for this reason
 abbrev pub unreadable_path : List ℕ → ErrorKind → UnreadablePath

@@ -81,10 +81,10 @@ impl<'a, R: Files> FileStore<'a, R> {
     // Reads the file at a path, and counts it if it is unreadable.
     fn read_counting_faults(&mut self, alloc: Global, path: &str) -> Result<Vec<u8>, ReadError>
         ensures opened { IfOk result (λ bytes. (file : R.File)
-            × IfSome (R.File.remaining file) (λ known. bytes.items ≡ known)) }
+            × IfSome (R.File.remaining file) (λ remaining. bytes.items ≡ remaining)) }
         ensures within { IfOk result (λ bytes. length bytes.items ≤ max_file_size) }
         ensures too_long { IfErr result (λ error. error ≡ ReadError.TooLong → (file : R.File)
-            × IfSome (R.File.remaining file) (λ known. max_file_size < length known)) }
+            × IfSome (R.File.remaining file) (λ remaining. max_file_size < length remaining)) }
         ensures faults_counted { MatchResult result (λ _. self.new.faults ≡ self.old.faults)
             (λ error. self.new.faults ≡ faults_after error self.old.faults) }
     {
@@ -127,10 +127,10 @@ pub(crate) fn read_file<R: Files>(
     path: &str,
 ) -> Result<Vec<u8>, ReadWholeError>
     ensures opened { IfOk result (λ bytes. (file : R.File)
-        × IfSome (R.File.remaining file) (λ known. bytes.items ≡ known)) }
+        × IfSome (R.File.remaining file) (λ remaining. bytes.items ≡ remaining)) }
     ensures within { IfOk result (λ bytes. length bytes.items ≤ max_file_size) }
     ensures too_long { IfErr result (λ error. error ≡ ReadWholeError.TooLong → (file : R.File)
-        × IfSome (R.File.remaining file) (λ known. max_file_size < length known)) }
+        × IfSome (R.File.remaining file) (λ remaining. max_file_size < length remaining)) }
 {
     match fs::open(files, path) {
         Ok(mut file) => read_whole(alloc, &mut file),
@@ -141,11 +141,11 @@ pub(crate) fn read_file<R: Files>(
 /// Returns the remaining bytes of a reader, or an error if there are more than 16,777,216. At most one byte more than that is read.
 pub fn read_whole<R: Read>(alloc: Global, file: &mut R) -> Result<Vec<u8>, ReadWholeError>
     ensures contents { IfOk result (λ bytes. IfSome (R.remaining file.old)
-        (λ known. bytes.items ≡ known)) }
+        (λ remaining. bytes.items ≡ remaining)) }
     ensures within { IfOk result (λ bytes. length bytes.items ≤ max_file_size) }
     ensures too_long { IfErr result
         (λ error. error ≡ ReadWholeError.TooLong → IfSome (R.remaining file.old)
-        (λ known. max_file_size < length known)) }
+        (λ remaining. max_file_size < length remaining)) }
 {
     let bytes = read_at_most(alloc, file, MAX_FILE_SIZE + 1)?;
     if bytes.len() > MAX_FILE_SIZE {

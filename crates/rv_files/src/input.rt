@@ -37,7 +37,7 @@ pub fn read_at_most<R: Read>(
     limit: usize,
 ) -> Result<Vec<u8>, InputError>
     ensures value { IfOk result (λ bytes. IfSome (R.remaining input.old)
-        (λ known. bytes.items ≡ take limit known)) }
+        (λ remaining. bytes.items ≡ take limit remaining)) }
     ensures consumed { IfOk result
         (λ bytes. Consumes (R.remaining input.old) (R.remaining input.new) bytes.items) }
     ensures within { IfOk result (λ bytes. length bytes.items ≤ limit) }
@@ -52,19 +52,19 @@ pub fn read_at_most<R: Read>(
     Ok(bytes)
 }
 
-// Reads once, appends the bytes that were read, so that there are at most `most`, and returns how many they are. A separate buffer receives
-// them, so that a failed allocation is not taken for a failed read.
+// Reads once, appends the bytes that were read, so that there are at most `max_len`, and returns how many were read. A separate buffer
+// receives them, so that a failed allocation is not taken for a failed read.
 fn read_once<R: Read>(
     input: &mut R,
     buffer: &mut [u8; BUFFER_SIZE],
     bytes: &mut Vec<u8>,
-    most: usize,
+    max_len: usize,
 ) -> Result<usize, InputError>
-    requires { vec_len bytes.old < most }
-    ensures { IfOk result (AppendsRead most (R.remaining input.old) (R.remaining input.new)
+    requires { vec_len bytes.old < max_len }
+    ensures { IfOk result (AppendsRead max_len (R.remaining input.old) (R.remaining input.new)
         bytes.old.items bytes.new.items) }
 {
-    let room = (most - bytes.len()).min(BUFFER_SIZE);
+    let room = (max_len - bytes.len()).min(BUFFER_SIZE);
     let count = match input.read(&mut buffer[..room]) {
         Ok(count) => count,
         Err(error) => return Err(InputError::Failed(error.kind())),

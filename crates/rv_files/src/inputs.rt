@@ -47,7 +47,7 @@ impl<'a, R: Files> Inputs for SystemInputs<'a, R> {
 
         // The bytes are those of some file of the system.
         ensures opened { IfOk result (λ bytes. (file : R.File)
-            × IfSome (R.File.remaining file) (λ known. bytes.items ≡ take limit known)) }
+            × IfSome (R.File.remaining file) (λ remaining. bytes.items ≡ take limit remaining)) }
     {
         match fs::open(self.files, path) {
             Ok(mut file) => read_at_most(alloc, &mut file, limit),

@@ -13,10 +13,10 @@ pub(crate) fn create_new_file<R: Files>(files: &R, paths: &FilePaths) -> io::Res
 where
     R::File: FileLock,
 {
-    let old = replaceable_file(files, paths.destination.as_str())?;
+    let replaced = replaceable_file(files, paths.destination.as_str())?;
     let file = create_locked_file(files, paths.temporary.as_str())?;
-    if let Some(old) = old {
-        copy_attributes(files, paths.temporary.as_str(), &file, &old)?;
+    if let Some(replaced) = replaced {
+        copy_attributes(files, paths.temporary.as_str(), &file, &replaced)?;
     }
     Ok(file)
 }
@@ -24,10 +24,10 @@ where
 // Returns the metadata of the file at a path, or `None` if there is none. A read-only file is an error.
 fn replaceable_file<R: Files>(files: &R, path: &str) -> io::Result<Option<Metadata>> {
     match files.metadata(path) {
-        Ok(old) if old.permissions().readonly() => Err(io::Error::from(
+        Ok(metadata) if metadata.permissions().readonly() => Err(io::Error::from(
             ErrorKind::PermissionDenied,
         )),
-        Ok(old) => Ok(Some(old)),
+        Ok(metadata) => Ok(Some(metadata)),
         Err(_) => Ok(None),
     }
 }
@@ -44,11 +44,11 @@ where
         Err(error) if error.kind() == ErrorKind::NotFound => {}
         Err(error) => return Err(error),
     }
-    let made = OpenOptions::new()
+    let created = OpenOptions::new()
         .write(true)
         .create_new(true)
         .open(files, path);
-    match made {
+    match created {
         Ok(file) if file.try_to_lock() => Ok(file),
         Err(error) if error.kind() != ErrorKind::AlreadyExists => Err(error),
         _ => Err(io::Error::from(ErrorKind::ResourceBusy)),

@@ -46,12 +46,12 @@ pub trait Outputs {
     /// Creates an empty file that is to be placed at a path, and returns its destination and the file. Any file at the path remains.
     fn create(&mut self, alloc: Global, path: &str) -> Result<(Self::Place, Self::File), FileError>
         ensures same { committed self.new ≡ committed self.old }
-        ensures path { IfOk result (λ made. pending_path made.0 ≡ path.now) }
-        ensures empty { IfOk result (λ made. IfSome (Self.File.accepted made.1) (λ bytes. bytes ≡ [])) }
+        ensures path { IfOk result (λ created. pending_path created.0 ≡ path.now) }
+        ensures empty { IfOk result (λ created. IfSome (Self.File.accepted created.1) (λ bytes. bytes ≡ [])) }
 
         // If the placed files are known, the bytes that this file accepts are known, too.
-        ensures told { IfOk result (λ made. IfSome (committed self.old) (λ _. Self.File.accepted made.1 ≡ Some [])) }
-        ensures no_failures { IfOk result (λ made. Self.File.failure_count made.1 ≡ 0) };
+        ensures told { IfOk result (λ created. IfSome (committed self.old) (λ _. Self.File.accepted created.1 ≡ Some [])) }
+        ensures no_failures { IfOk result (λ created. Self.File.failure_count created.1 ≡ 0) };
 
     /// Syncs a file's bytes to disk.
     fn sync(&mut self, file: Self::File) -> Result<Self::Synced, FileError>

@@ -29,7 +29,7 @@ pub struct UnreadablePath {
 pub struct RecordingStore<'a, D: Inputs> {
     inputs: &'a D,
     folder: Option<&'a str>,
-    unread: Vec<UnreadablePath>,
+    unreadable: Vec<UnreadablePath>,
 }
 
 impl<'a, D: Inputs> RecordingStore<'a, D> {
@@ -37,27 +37,27 @@ impl<'a, D: Inputs> RecordingStore<'a, D> {
     pub fn new(inputs: &'a D, alloc: Global, folder: Option<&'a str>) -> RecordingStore<'a, D>
         ensures inputs { result.inputs ≡ inputs.entry }
         ensures folder { result.folder ≡ folder.entry }
-        ensures nothing { result.unread.items ≡ [] }
+        ensures nothing { result.unreadable.items ≡ [] }
     {
         RecordingStore {
             inputs,
             folder,
-            unread: Vec::new(alloc),
+            unreadable: Vec::new(alloc),
         }
     }
 
     /// Returns the unreadable paths, in the order in which they were requested.
     pub fn unreadable_paths(&self) -> &[UnreadablePath]
-        ensures { result.now ≡ self.now.unread.items }
+        ensures { result.now ≡ self.now.unreadable.items }
     {
-        &self.unread
+        &self.unreadable
     }
 
     /// Returns the unreadable paths and consumes the store.
     pub fn into_unreadable_paths(self) -> Vec<UnreadablePath>
-        ensures { result.items ≡ self.entry.unread.items }
+        ensures { result.items ≡ self.entry.unreadable.items }
     {
-        self.unread
+        self.unreadable
     }
 
     // Reads the file at a path, which is relative to the store's directory, and records the path if it is unreadable.
@@ -72,9 +72,9 @@ impl<'a, D: Inputs> RecordingStore<'a, D> {
             (λ files. IsSomeAnd (files path.now) (λ bytes. max_file_size < length bytes))) }
         ensures missing { IfErr result (HasNoContentsIfUnreadable
             (contents_below (option_copied self.old.folder) (D.contents self.old.inputs.now)) path.now) }
-        ensures recorded { MatchResult result (λ _. self.new.unread.items ≡ self.old.unread.items)
-            (λ error. self.new.unread.items
-            ≡ self.old.unread.items ++ unreadable_paths_after path.now error) }
+        ensures recorded { MatchResult result (λ _. self.new.unreadable.items ≡ self.old.unreadable.items)
+            (λ error. self.new.unreadable.items
+            ≡ self.old.unreadable.items ++ unreadable_paths_after path.now error) }
     {
         let answer = self.read_resolved_path(alloc, path);
         if let Err(ReadWholeError::Failed(reason)) = answer {
@@ -95,8 +95,8 @@ impl<'a, D: Inputs> RecordingStore<'a, D> {
         ensures missing { IfErr result (HasNoContentsIfUnreadable
             (contents_below (option_copied self.now.folder) (D.contents self.now.inputs.now)) path.now) }
     {
-        let place = resolved_path(alloc, self.folder, path)?;
-        match read_whole_up_to(self.inputs, alloc, place.as_str(), MAX_FILE_SIZE)? {
+        let resolved = resolved_path(alloc, self.folder, path)?;
+        match read_whole_up_to(self.inputs, alloc, resolved.as_str(), MAX_FILE_SIZE)? {
             Some(bytes) => Ok(bytes),
             None => Err(ReadWholeError::TooLong),
         }
@@ -111,11 +111,11 @@ impl<'a, D: Inputs> RecordingStore<'a, D> {
     ) -> Result<(), AllocError>
         ensures inputs_unchanged { (self.new.inputs ≡ self.old.inputs) × (self.new.folder ≡ self.old.folder) }
         ensures recorded { OnOk result
-            (self.new.unread.items ≡ self.old.unread.items ++ unreadable_path path.now reason ∷ []) }
-        ensures unchanged_on_error { OnErr result (self.new.unread.items ≡ self.old.unread.items) }
+            (self.new.unreadable.items ≡ self.old.unreadable.items ++ unreadable_path path.now reason ∷ []) }
+        ensures unchanged_on_error { OnErr result (self.new.unreadable.items ≡ self.old.unreadable.items) }
     {
         let path = Text::new(String::from_str(alloc, path)?);
-        self.unread.push(UnreadablePath { path, reason })?;
+        self.unreadable.push(UnreadablePath { path, reason })?;
         Ok(())
     }
 }
@@ -123,7 +123,7 @@ impl<'a, D: Inputs> RecordingStore<'a, D> {
 impl<'a, D: Inputs> Store for RecordingStore<'a, D> {
     ghost contents = { λ store. contents_below (option_copied store.folder) (D.contents store.inputs.now) };
 
-    ghost fault_count = { λ store. length store.unread.items };
+    ghost fault_count = { λ store. length store.unreadable.items };
 
     // Reads the file at a path, and records the path if it is unreadable.
     fn read(&mut self, alloc: Global, path: &str) -> Result<Vec<u8>, ReadError> {
@@ -132,6 +132,6 @@ impl<'a, D: Inputs> Store for RecordingStore<'a, D> {
 
     // Returns the number of unreadable paths.
     fn faults(&self) -> u64 {
-        self.unread.len() as u64
+        self.unreadable.len() as u64
     }
 }

@@ -10,7 +10,7 @@ use std::path::{Path, PathBuf};
 
 /// Returns the path joined to the root if the path is relative and there is a root; otherwise the path itself.
 pub fn resolved_path(alloc: Global, root: Option<&str>, path: &str) -> Result<PathBuf, AllocError>
-    ensures { IfOk result (λ place. path_buf_bytes place ≡ resolved_path (option_copied root.entry) path.now) }
+    ensures { IfOk result (λ resolved. path_buf_bytes resolved ≡ resolved_path (option_copied root.entry) path.now) }
 {
     match root {
         Some(root) => Path::new(root).join(alloc, path),

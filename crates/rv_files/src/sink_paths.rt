@@ -58,7 +58,7 @@ pub(crate) fn temporary_and_final_path<R: Files>(
 // Whether a file may be placed at a path: a regular file is there, or nothing. A link is followed.
 fn is_replaceable<R: Files>(files: &R, path: &str) -> io::Result<bool> {
     match files.metadata(path) {
-        Ok(met) => Ok(may_be_replaced(&met)),
+        Ok(metadata) => Ok(may_be_replaced(&metadata)),
         Err(error) if error.kind() == ErrorKind::NotFound && !path.is_empty() => Ok(true),
         Err(error) => Err(error),
     }
@@ -96,7 +96,7 @@ pub(crate) fn follow_links<R: Files>(
 // Whether there is a symbolic link at a path.
 fn is_link<R: Files>(files: &R, path: &str) -> bool {
     match files.symlink_metadata(path) {
-        Ok(met) => met.is_symlink(),
+        Ok(metadata) => metadata.is_symlink(),
         Err(_) => false,
     }
 }
@@ -111,7 +111,7 @@ pub(crate) fn directory_of(path: &str) -> Path<'_> {
 
 /// Returns the path with `.new` appended.
 pub(crate) fn with_new_suffix(alloc: Global, path: &str) -> Result<PathBuf, AllocError>
-    ensures { IfOk result (λ place. path_buf_bytes place ≡ path.now ++ codes ".new") }
+    ensures { IfOk result (λ new_path. path_buf_bytes new_path ≡ path.now ++ codes ".new") }
 {
     let mut text = String::from_str(alloc, path)?;
     text.push_str(".new")?;

@@ -116,8 +116,8 @@ where
     }
 
     // Records that the file at this temporary path is not yet placed.
-    fn record_uncommitted(&mut self, alloc: Global, new: &str) -> Result<(), AllocError> {
-        self.uncommitted.push(PathBuf::from_str(alloc, new)?)?;
+    fn record_uncommitted(&mut self, alloc: Global, temporary: &str) -> Result<(), AllocError> {
+        self.uncommitted.push(PathBuf::from_str(alloc, temporary)?)?;
         Ok(())
     }
 
@@ -147,7 +147,7 @@ fn path_of_missing_file<R: Files>(
     path: &str,
 ) -> Result<PathBuf, AllocError> {
     match follow_links(files, alloc, path) {
-        Ok(place) => canonical_path(files, alloc, place.as_str()),
+        Ok(target) => canonical_path(files, alloc, target.as_str()),
         Err(FileError::OutOfMemory) => Err(AllocError),
         Err(_) => PathBuf::from_str(alloc, path),
     }
@@ -172,7 +172,7 @@ where
 
     ghost committed = { λ _. None };
 
-    ghost pending_path = { λ place. place.path };
+    ghost pending_path = { λ target. target.path };
 
     ghost synced_bytes = { λ _. None };
 
@@ -211,8 +211,8 @@ where
         alloc: Global,
         path: &str,
     ) -> Result<(PendingFile, FileSink<R::File>), FileError>
-        ensures path { IfOk result (λ made. made.0.path ≡ path.now) }
-        ensures no_failures { IfOk result (λ made. made.1.stream.failures ≡ 0) }
+        ensures path { IfOk result (λ created. created.0.path ≡ path.now) }
+        ensures no_failures { IfOk result (λ created. created.1.stream.failures ≡ 0) }
         ensures not_the_first { IfErr result (λ error. error ≡ FileError.SameFile → 0 < vec_len self.old.uncommitted) }
     {
         let given = Text::copy(alloc, path)?;
@@ -236,10 +236,10 @@ where
     }
 
     // Renames a temporary file to its final path. A file that was written directly stays as it is.
-    fn place(&mut self, place: PendingFile, file: SyncedFile<R::File>) -> Result<(), FileError> {
+    fn place(&mut self, target: PendingFile, file: SyncedFile<R::File>) -> Result<(), FileError> {
         // Its lock is released here, once the file has its final path.
         let SyncedFile { file: _locked } = file;
-        let Some(paths) = &place.paths else {
+        let Some(paths) = &target.paths else {
             return Ok(());
         };
         let (temporary, destination) = (paths.temporary.as_str(), paths.destination.as_str());
@@ -254,8 +254,8 @@ where
     }
 
     // Removes the temporary file of a destination, if there is one.
-    fn abandon(&mut self, place: PendingFile) {
-        if let Some(paths) = &place.paths {
+    fn abandon(&mut self, target: PendingFile) {
+        if let Some(paths) = &target.paths {
             let _ = self.files.remove_file(paths.temporary.as_str());
             self.remove_uncommitted(paths.temporary.as_str());
         }

@@ -74,7 +74,7 @@ fn first_width(text: &[u8]) -> usize
 // Appends the printable form of the first character or byte, and returns the rest of the text.
 fn push_first_printable<'a>(bytes: &mut Vec<u8>, text: &'a [u8]) -> Result<&'a [u8], AllocError>
     requires { 0 < length text.now }
-    ensures shown { OnOk result (bytes.new.items ≡ bytes.old.items ++ first_printable text.now) }
+    ensures text { OnOk result (bytes.new.items ≡ bytes.old.items ++ first_printable text.now) }
     ensures rest { IfOk result (λ rest. rest.now ≡ after_first_printable text.now) }
     ensures shorter { IfOk result (λ rest. length rest.now < length text.now) }
 {

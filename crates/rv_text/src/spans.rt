@@ -6,7 +6,7 @@ ghost use Rattle.rv_text.specs.Spans.{span_text};
 
 use crate::printable::{push_printable_name, push_printable_text, push_printable_value};
 use crate::text_and_numbers::{
-    push_exit_code, push_file_reply_prefix, push_number, push_text, push_word_digits,
+    push_exit_code, push_count, push_number, push_text, push_word_digits,
 };
 use std::alloc::{AllocError, Global};
 
@@ -17,7 +17,7 @@ pub enum Span<'a> {
     Text(&'a str),
     /// A number in decimal.
     Number(u64),
-    /// A number and a noun, as [`push_file_reply_prefix`](crate::text_and_numbers::push_file_reply_prefix) writes it.
+    /// A number and a noun, as [`push_count`](crate::text_and_numbers::push_count) writes it.
     Count(u64, &'a str),
     /// An exit code, as [`push_exit_code`](crate::text_and_numbers::push_exit_code) writes it.
     ExitCode(u32),
@@ -57,7 +57,7 @@ fn push_span(bytes: &mut Vec<u8>, span: Span<'_>) -> Result<(), AllocError>
     match span {
         Span::Text(text) => push_text(bytes, text),
         Span::Number(number) => push_number(bytes, number),
-        Span::Count(number, noun) => push_file_reply_prefix(bytes, number, noun),
+        Span::Count(number, noun) => push_count(bytes, number, noun),
         Span::ExitCode(code) => push_exit_code(bytes, code),
         Span::Word(word) => push_word_digits(bytes, word),
         Span::Printable(text) => push_printable_text(bytes, text),

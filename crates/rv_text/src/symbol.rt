@@ -11,12 +11,12 @@ use std::alloc::{AllocError, Global};
 pub fn push_symbol_in_brackets(
     alloc: Global,
     bytes: &mut Vec<u8>,
-    place: Option<SymbolAt<'_>>,
+    symbol_at: Option<SymbolAt<'_>>,
 ) -> Result<(), AllocError>
     ensures { OnOk result (bytes.new.items ≡ bytes.old.items
-        ++ symbol_in_brackets (option_map (λ s. (s.name.now, s.offset)) place.entry)) }
+        ++ symbol_in_brackets (option_map (λ s. (s.name.now, s.offset)) symbol_at.entry)) }
 {
-    match place {
+    match symbol_at {
         Some(symbol) => push_symbol_between(alloc, bytes, " (", symbol, ")"),
         None => Ok(()),
     }

@@ -35,7 +35,7 @@ struct ReportedRow {
 
 /// Runs the job with the requested name, and writes its console to standard output and its result line to standard error. The status is 0
 /// if the job passed, and otherwise 1.
-pub(crate) fn write_job_console<D: Inputs, F: Outputs + Drop, O: Sink + Drop, E: Sink + Drop>(
+pub(crate) fn put_job_console<D: Inputs, F: Outputs + Drop, O: Sink + Drop, E: Sink + Drop>(
     inputs: &D,
     alloc: Global,
     args: ConsoleArgs<'_>,

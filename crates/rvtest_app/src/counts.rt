@@ -26,7 +26,7 @@ use rvtest_cli::CountsArgs;
 use std::alloc::{AllocError, Global};
 
 /// Adds up the tables of counts at the paths in the arguments, and writes the sum. The status is 0.
-pub(crate) fn write_sum_of_tables<D: Inputs, F: Outputs + Drop, O: Sink + Drop, E: Sink + Drop>(
+pub(crate) fn put_sum_of_tables<D: Inputs, F: Outputs + Drop, O: Sink + Drop, E: Sink + Drop>(
     inputs: &D,
     alloc: Global,
     args: &CountsArgs<'_>,

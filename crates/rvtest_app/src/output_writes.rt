@@ -40,7 +40,7 @@ pub(crate) fn write_shown<F: Outputs + Drop, O: Sink + Drop, E: Sink + Drop>(
 
 /// Writes the report and the JUnit XML to their outlets, and then moves their files to their paths, the JUnit file first. After an error no
 /// file is created, unless only the second one could not be moved to its path.
-pub(crate) fn write_files<F: Outputs + Drop, O: Sink + Drop, E: Sink + Drop, T: RowReporter>(
+pub(crate) fn put_files<F: Outputs + Drop, O: Sink + Drop, E: Sink + Drop, T: RowReporter>(
     alloc: Global,
     destinations: &mut Destinations<F, O, E>,
     outlets: Outlets<'_, F::Place, F::File>,

@@ -14,8 +14,8 @@ use crate::accept::accept_runs;
 use crate::check::check_list;
 use crate::colors::requested_colors;
 use crate::command_result::write_command_result;
-use crate::console::write_job_console;
-use crate::counts::write_sum_of_tables;
+use crate::console::put_job_console;
+use crate::counts::put_sum_of_tables;
 use crate::cover::cover_requested_jobs;
 use crate::destinations::Destinations;
 use crate::diff::diff_reports;
@@ -197,7 +197,7 @@ where
             )
         }
         Request::List(args) => list_chosen_jobs(inputs, alloc, &args, &mut destinations),
-        Request::Console(args) => write_job_console(inputs, alloc, args, &mut destinations),
+        Request::Console(args) => put_job_console(inputs, alloc, args, &mut destinations),
         Request::Gdb(args) => {
             show_job_to_gdb(
                 host,
@@ -215,7 +215,7 @@ where
         Request::Merge(args) => merge_reports(inputs, alloc, &args, &mut destinations),
         Request::Diff(args) => diff_reports(inputs, alloc, args, &mut destinations),
         Request::Show(args) => show_report(inputs, alloc, args, &mut destinations),
-        Request::Counts(args) => write_sum_of_tables(inputs, alloc, &args, &mut destinations),
+        Request::Counts(args) => put_sum_of_tables(inputs, alloc, &args, &mut destinations),
         Request::Cover(args) => cover_requested_jobs(host, &args, &mut destinations),
         Request::Profile(args) => profile_requested_jobs(host, &args, &mut destinations),
         Request::Help(args) => write_command_result(&mut destinations.out, topic_help(alloc, args)),

@@ -26,7 +26,7 @@ use crate::file_texts::FileTexts;
 use crate::into_report::{ReportContext, run_report_path, uses_run_stdout};
 use crate::junit_class::suite_name;
 use crate::outlets::{Outlets, abandon_outlet};
-use crate::output_writes::write_files;
+use crate::output_writes::put_files;
 use crate::planned_run::PlannedRun;
 use crate::report_row_reporter::ReportRowReporter;
 use crate::report_texts::report_with_context;
@@ -296,7 +296,7 @@ impl<'x, R: Threads + Wait + Sync + Clock, D: Inputs> ListRun<'x, R, D> {
             report: report_with_context(chosen, context),
             texts: texts.as_slice(),
         };
-        write_files(self.host.alloc, destinations, outlets, texts)?;
+        put_files(self.host.alloc, destinations, outlets, texts)?;
         Ok(status)
     }
 }

@@ -12,7 +12,7 @@ use crate::destinations::Destinations;
 use crate::failed_lines::FailedLines;
 use crate::file_texts::FileTexts;
 use crate::outlets::{Outlets, abandon_outlets};
-use crate::output_writes::write_files;
+use crate::output_writes::put_files;
 use crate::report_texts::ReportText;
 use rv_command::Stop;
 use rv_files::{Outputs, Sink};
@@ -65,5 +65,5 @@ pub(crate) fn write_whole_files<F: Outputs + Drop, O: Sink + Drop, E: Sink + Dro
         report: ReportText::Whole(rows),
         texts: &[],
     };
-    write_files(alloc, destinations, outlets, texts)
+    put_files(alloc, destinations, outlets, texts)
 }

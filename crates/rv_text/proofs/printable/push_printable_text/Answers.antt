@@ -10,7 +10,7 @@ loop-rest-preserved c =
     cc (
       shown-front text (omega (arith, c.in_ok-rest.ensures.shorter)),
       c.loop-rest.invariant,
-      c.in_ok-rest.ensures.shown,
+      c.in_ok-rest.ensures.text,
       c.in_ok-rest.ensures.rest,
       append_assoc c.loop-rest.bytes.items (first_printable text) (printable_from 0 (after_first_printable text)),
     )

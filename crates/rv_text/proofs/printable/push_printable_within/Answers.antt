@@ -18,7 +18,7 @@ loop-rest-preserved c =
     cc (
       printable_within-front room text (omega (arith, c.in_ok-rest.ensures.shorter)) (omega arith),
       c.loop-rest.invariant,
-      c.in_ok-rest.ensures.shown,
+      c.in_ok-rest.ensures.text,
       c.in_ok-rest.ensures.rest,
       append_assoc c.loop-rest.bytes.items (first_printable text)
           (printable_within (room - first_width text) 0 (after_first_printable text)),

@@ -26,7 +26,7 @@ returns-clause-stopped g c = elim c.match-request.branch [
       (put_or_found w.check_list.result _ _ w.check_list.ensures.stopped
       w.write_command_result-outcome-in-Check.ensures.stopped)
   | in-List w ↦ rw (w.outcome-is, w.in-List.is) w.list_chosen_jobs-outcome.ensures.stopped
-  | in-Console w ↦ rw (w.outcome-is, w.in-Console.is) w.write_job_console-outcome.ensures.stopped
+  | in-Console w ↦ rw (w.outcome-is, w.in-Console.is) w.put_job_console-outcome.ensures.stopped
   | in-Gdb w ↦
       rw (w.outcome-is, w.in-Gdb.is)
       (IfErr-map w.show_job_to_gdb-outcome.result _ _ (gdb_stop _ _ _ _ _ _ _) w.show_job_to_gdb-outcome.ensures.stopped)
@@ -36,7 +36,7 @@ returns-clause-stopped g c = elim c.match-request.branch [
       rw (w.outcome-is, w.in-Diff.is)
       w.diff_reports-outcome.ensures.stopped
   | in-Show w ↦ rw (w.outcome-is, w.in-Show.is) w.show_report-outcome.ensures.stopped
-  | in-Counts w ↦ rw (w.outcome-is, w.in-Counts.is) w.write_sum_of_tables-outcome.ensures.stopped
+  | in-Counts w ↦ rw (w.outcome-is, w.in-Counts.is) w.put_sum_of_tables-outcome.ensures.stopped
   | in-Cover w ↦ rw (w.outcome-is, w.in-Cover.is) w.cover_requested_jobs-outcome.ensures.stopped
   | in-Profile w ↦ rw (w.outcome-is, w.in-Profile.is) w.profile_requested_jobs-outcome.ensures.stopped
   | in-Help w ↦
@@ -50,7 +50,7 @@ returns-clause-out_unchanged g c = elim c.match-request.branch [
   | in-Explain w ↦ rw (w.outcome-is, w.in-Explain.is) (IfOk-from w.write_command_result-outcome.result _ (inl (inl refl)))
   | in-Check w ↦ rw (w.outcome-is, w.in-Check.is) (IfOk-from w.write_command_result-outcome-in-Check.result _ (inl (inl refl)))
   | in-List w ↦ rw (w.outcome-is, w.in-List.is) (IfOk-from w.list_chosen_jobs-outcome.result _ (inl (inl refl)))
-  | in-Console w ↦ rw (w.outcome-is, w.in-Console.is) (IfOk-from w.write_job_console-outcome.result _ (inl (inl refl)))
+  | in-Console w ↦ rw (w.outcome-is, w.in-Console.is) (IfOk-from w.put_job_console-outcome.result _ (inl (inl refl)))
   | in-Gdb w ↦
       rw (w.outcome-is, w.in-Gdb.is)
       (IfOk-map w.show_job_to_gdb-outcome.result _ _ (λ status done. inl (inr (done.is_no_terminal, (cause.ReplyWriteFailed, refl))))
@@ -70,9 +70,9 @@ returns-clause-out_unchanged g c = elim c.match-request.branch [
       w.show_report-outcome.ensures.shown)
   | in-Counts w ↦
       rw (w.outcome-is, w.destinations-is, w.in-Counts.is)
-      (IfOk-map w.write_sum_of_tables-outcome.result _ _
-      (λ status put. unshown_sum _ c.args.terminals.is_out_terminal _ status _ _ _ put w.write_sum_of_tables-outcome.ensures.out_unchanged)
-      w.write_sum_of_tables-outcome.ensures.written)
+      (IfOk-map w.put_sum_of_tables-outcome.result _ _
+      (λ status put. unshown_sum _ c.args.terminals.is_out_terminal _ status _ _ _ put w.put_sum_of_tables-outcome.ensures.out_unchanged)
+      w.put_sum_of_tables-outcome.ensures.written)
   | in-Cover w ↦ rw (w.outcome-is, w.in-Cover.is) (IfOk-from w.cover_requested_jobs-outcome.result _ (inl (inl refl)))
   | in-Profile w ↦ rw (w.outcome-is, w.in-Profile.is) (IfOk-from w.profile_requested_jobs-outcome.result _ (inl (inl refl)))
   | in-Help w ↦ rw (w.outcome-is, w.in-Help.is) (IfOk-from w.write_command_result-outcome-in-Help.result _ (inl (inl refl)))

@@ -8,16 +8,16 @@ pub returns-clause-out_written : goal.returns-clause-out_written
 returns-clause-out_written g c = λ report_path junit_path report junit.
     let told = texts_of_rows (failed_line (judge_view c.args.suite.judge)) c.as_slice-2.result.now c.args.rows
     (c.as_slice-2.ensures.len ∙ c.in-Ok.ensures.len ∙ ap length c.as_slice.ensures) in
-    rw told at (c.write_files.ensures.out_written [] report_path junit_path report junit)
+    rw told at (c.put_files.ensures.out_written [] report_path junit_path report junit)
 
 pub returns-clause-committed : goal.returns-clause-committed
 returns-clause-committed g c = λ report_path junit_path report junit.
     let told = texts_of_rows (failed_line (judge_view c.args.suite.judge)) c.as_slice-2.result.now c.args.rows
     (c.as_slice-2.ensures.len ∙ c.in-Ok.ensures.len ∙ ap length c.as_slice.ensures) in
-    rw told at (c.write_files.ensures.committed [] report_path junit_path report junit)
+    rw told at (c.put_files.ensures.committed [] report_path junit_path report junit)
 
 pub returns-clause-committed_after_error : goal.returns-clause-committed_after_error
 returns-clause-committed_after_error g c = λ junit_path junit.
     let told = texts_of_rows (failed_line (judge_view c.args.suite.judge)) c.as_slice-2.result.now c.args.rows
     (c.as_slice-2.ensures.len ∙ c.in-Ok.ensures.len ∙ ap length c.as_slice.ensures) in
-    rw told at (c.write_files.ensures.committed_after_error junit_path junit)
+    rw told at (c.put_files.ensures.committed_after_error junit_path junit)

@@ -11,7 +11,7 @@ returns-clause-out_written g c = λ report_path junit_path report junit.
     let planned = c.args.planned.now in
     let ahead = streamed_rows c.args.context.old planned.indices.now c.args.rows in
     out_same _ _ junit_path report_path _ _ _ _
-    (rw c.report_with_context.ensures.rows at (c.in_ok-write_files.ensures.out_written ahead report_path junit_path report junit))
+    (rw c.report_with_context.ensures.rows at (c.in_ok-put_files.ensures.out_written ahead report_path junit_path report junit))
     (same_junit _ _ (judge_view planned.reporter.now.judge) _ _ planned.indices.now c.args.rows
     (c.as_bytes.ensures.value ∙ c.suite_name.ensures)
     refl)
@@ -23,7 +23,7 @@ returns-clause-committed g c = λ report_path junit_path report junit.
     let planned = c.args.planned.now in
     let ahead = streamed_rows c.args.context.old planned.indices.now c.args.rows in
     placed_same _ _ junit_path report_path _ _ _ _
-    (rw c.report_with_context.ensures.rows at (c.in_ok-write_files.ensures.committed ahead report_path junit_path report junit))
+    (rw c.report_with_context.ensures.rows at (c.in_ok-put_files.ensures.committed ahead report_path junit_path report junit))
     (same_junit _ _ (judge_view planned.reporter.now.judge) _ _ planned.indices.now c.args.rows
     (c.as_bytes.ensures.value ∙ c.suite_name.ensures)
     refl)
@@ -32,11 +32,11 @@ returns-clause-committed g c = λ report_path junit_path report junit.
     ∙ run_report_split c.args.context.old _ planned.indices.now c.args.context.shard c.args.rows planned.rising planned.within
     c.requires.same_length)
 
-pub returns-in_err-write_files-clause-committed_after_error : goal.returns-in_err-write_files-clause-committed_after_error
-returns-in_err-write_files-clause-committed_after_error g c = λ junit_path junit.
+pub returns-in_err-put_files-clause-committed_after_error : goal.returns-in_err-put_files-clause-committed_after_error
+returns-in_err-put_files-clause-committed_after_error g c = λ junit_path junit.
     let planned = c.args.planned.now in
     OnErr-from c.from_residual.result _
-    (part_same _ _ junit_path _ _ (rw c.report_with_context.ensures.rows at (c.in_err-write_files.ensures.committed_after_error junit_path junit))
+    (part_same _ _ junit_path _ _ (rw c.report_with_context.ensures.rows at (c.in_err-put_files.ensures.committed_after_error junit_path junit))
     (same_junit _ _ (judge_view planned.reporter.now.judge) _ _ planned.indices.now c.args.rows
     (c.as_bytes.ensures.value ∙ c.suite_name.ensures)
     refl))

@@ -1,7 +1,7 @@
 use Rattle.rvtest_app.proofs.WriteStops.{put_of_unplaced}
 use Rattle.rvtest_app.proofs.PutTexts.{both_placed, first_placed}
 use Rattle.rvtest_app.proofs.Results.{OnErr-map, OnOk-map}
-use Rattle.rvtest_app.proofs.output_writes.write_files.Goals as goal
+use Rattle.rvtest_app.proofs.output_writes.put_files.Goals as goal
 
 pub returns-in-Ok-clause-committed : goal.returns-in-Ok-clause-committed
 returns-in-Ok-clause-committed g c = λ had report_path junit_path report junit.
