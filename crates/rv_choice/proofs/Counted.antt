@@ -24,7 +24,7 @@ beside_count contents (Some path) pattern args rule jobs selection notes are =
 wanted_count : (contents : Option FileContents) (args : RunArgs) (rule : Rule) (jobs : List Job) (selection : List Bool)
     (notes : List ℕ) → AreRequested contents args rule jobs (Some selection) notes → length selection ≡ length jobs
 wanted_count contents args rule jobs selection notes are =
-    beside_count contents args.failed _ args rule jobs selection notes are.by
+    beside_count contents args.failed _ args rule jobs selection notes are.chosen_by
 
 -- the jobs that words want have a mark each
 pub wanted_counts : (contents : Option FileContents) (args : RunArgs) (rule : Rule) (jobs : List Job)

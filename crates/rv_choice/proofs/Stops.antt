@@ -16,7 +16,7 @@ use Rattle.rv_expect.specs.declared_job.Job.{Job}
 use Rattle.regex.specs.Strings.{regex_source}
 use Rattle.regex.specs.declared.string.regex.Regex.{Regex}
 use Rattle.rv_choice.specs.Choice.{HasDefaultOptions}
-use Rattle.rv_choice.specs.ChoiceStops.{IsChoiceStop, IsEmptiedStop, IsPatternStop, IsInvalidPatternStop, exclusion, memory, pattern, report}
+use Rattle.rv_choice.specs.ChoiceStops.{IsChoiceStop, IsNothingLeftStop, IsPatternStop, IsInvalidPatternStop, exclusion, memory, pattern, report}
 use Rattle.rv_choice.specs.ChoiceStops.{unknown}
 use Rattle.rv_choice.specs.ChosenJobs.{AreRequested}
 use Rattle.rv_choice.specs.declared.chooser.Choice.{Choice}
@@ -56,17 +56,17 @@ stop_of_no_exclusion contents args rule jobs stop said =
 emptied_by : (contents : Option FileContents) (args : RunArgs) (rule : Rule) (jobs : List Job) (notes : List ℕ) (stop : Stop)
     (selection : Vec Bool Global) (regex : Regex) → AreRequested contents args rule jobs (Some selection.items) notes
     → Some (regex_source regex) ≡ borrowed_text args.exclude → HasDefaultOptions regex
-    → IsEmptiedStop args.list.now jobs selection.items regex stop → IsChoiceStop contents args rule jobs stop
+    → IsNothingLeftStop args.list.now jobs selection.items regex stop → IsChoiceStop contents args rule jobs stop
 emptied_by contents args rule jobs notes stop selection regex are source read is =
     exclusion (regex_source regex) (sym source) (inr (
       record {
-        requested = selection.items;
+        requested_selection = selection.items;
         notes = notes;
-        are = are;
+        are_requested = are;
         pattern = regex;
         source = refl;
-        read = read;
-        emptied = is.0;
+        default_options = read;
+        nothing_left = is.0;
       },
       is.1,
     ))
@@ -78,7 +78,7 @@ pub stop_of_emptied : (contents : Option FileContents) (args : RunArgs) (rule : 
     → option_map regex_source excluded ≡ borrowed_text args.exclude → IfSome excluded HasDefaultOptions
     → option_map (λ regex. regex.now) by ≡ excluded
     → (stop ≡ stops.OutOfMemory) ⊎ IsSomeAnd by (λ regex. IsSomeAnd selection
-    (λ selection. IsEmptiedStop args.list.now jobs selection.items regex.now stop))
+    (λ selection. IsNothingLeftStop args.list.now jobs selection.items regex.now stop))
     → IsChoiceStop contents args rule jobs stop
 stop_of_emptied contents args rule jobs notes stop selection excluded by are source read same (inl is) = memory is
 stop_of_emptied contents args rule jobs notes stop (Some selection) excluded (Some regex) are source read same (inr is) =

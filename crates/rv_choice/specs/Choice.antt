@@ -85,18 +85,18 @@ is_found_in_names pattern jobs = list_any (λ job. is_some (find_str pattern job
 
 -- whether a job stays selected: it is selected, and the pattern of `--exclude` is not found in its name
 abbrev pub stays_selected : Bool → Bool → Bool
-stays_selected mark is_found = mark && not is_found
+stays_selected is_selected is_found = is_selected && not is_found
 
 -- the selection without the jobs whose names the pattern of `--exclude` matches
 unfoldable pub remaining_selection : Re → List Job → List Bool → List Bool
 remaining_selection pattern [] selection = []
 remaining_selection pattern (job ∷ jobs) [] = []
-remaining_selection pattern (job ∷ jobs) (mark ∷ selection) =
-    stays_selected mark (is_some (find_str pattern job.name 0)) ∷ remaining_selection pattern jobs selection
+remaining_selection pattern (job ∷ jobs) (is_selected ∷ selection) =
+    stays_selected is_selected (is_some (find_str pattern job.name 0)) ∷ remaining_selection pattern jobs selection
 
 -- whether at least one job is selected
 abbrev pub is_any_selected : List Bool → Bool
-is_any_selected selection = list_any (λ mark. mark) selection
+is_any_selected selection = list_any (λ is_selected. is_selected) selection
 
 -- whether some job is selected in `selection`, but none in `remaining`
 abbrev pub is_emptied : List Bool → List Bool → Bool

@@ -4,7 +4,7 @@ use Rattle.regex.specs.Patterns.{default_config}
 use Rattle.regex.specs.Sources.{IsTextRefusal}
 use Rattle.regex.specs.Strings.{regex_pattern, regex_source}
 use Rattle.regex.specs.declared.error.Error as patterns
-use Rattle.regex.specs.declared.error.Error.TheVariants as refused
+use Rattle.regex.specs.declared.error.Error.TheVariants as regex_error
 use Rattle.regex.specs.declared.string.regex.Regex.{Regex}
 use Rattle.rv_command.specs.Files.{FileContents}
 use Rattle.rv_command.specs.RvtestArgs.{borrowed_text}
@@ -22,7 +22,7 @@ use Rattle.rv_choice.specs.UnknownName.{IsUnknownNameStop, unknown_name}
 
 -- the text is not a regular expression: the parser rejects it, and not because memory ran out
 abbrev pub IsNotAPattern : List ℕ → Type 0
-IsNotAPattern text = (error : patterns.Error) × (error ≢ refused.OutOfMemory) × IsTextRefusal default_config text error
+IsNotAPattern text = (error : patterns.Error) × (error ≢ regex_error.OutOfMemory) × IsTextRefusal default_config text error
 
 -- the text of the option is not a regular expression, and the stop reports this
 abbrev pub IsInvalidPatternStop : List ℕ → List ℕ → Stop → Type 0
@@ -33,38 +33,38 @@ abbrev pub IsUnmatchedPattern : List ℕ → List Job → Type 0
 IsUnmatchedPattern text jobs = (pattern : Regex) × (regex_source pattern ≡ text) × HasDefaultOptions pattern
     × (is_found_in_names (regex_pattern pattern) jobs ≡ false)
 
--- the message that the pattern of `--match` matches the name of no job of the list
-abbrev pub unmatched_pattern : List ℕ → List ℕ → List ℕ
-unmatched_pattern list text = codes "rvtest: " ++ printable_text list ++ codes ": no job name matches \""
-    ++ printable_value text ++ codes "\"\n"
+-- the message that the pattern of `--match` matches the name of no job of the list at `list_path`
+abbrev pub unmatched_pattern_message : List ℕ → List ℕ → List ℕ
+unmatched_pattern_message list_path pattern = codes "rvtest: " ++ printable_text list_path ++ codes ": no job name matches \""
+    ++ printable_value pattern ++ codes "\"\n"
 
 -- why a command stopped: memory ran out, or the text of `--match` is not a regular expression, or it matches the name of no job
 abbrev pub IsPatternStop : List ℕ → List ℕ → List Job → Stop → Type 0
-IsPatternStop list text jobs stop = (stop ≡ stops.OutOfMemory)
+IsPatternStop list_path text jobs stop = (stop ≡ stops.OutOfMemory)
     ⊎ (IsInvalidPatternStop (codes "--match <REGEX>") text stop
-    ⊎ (IsUnmatchedPattern text jobs × IsStop 2 (unmatched_pattern list text) stop))
+    ⊎ (IsUnmatchedPattern text jobs × IsStop 2 (unmatched_pattern_message list_path text) stop))
 
 -- the pattern with this text excludes all requested jobs
 pub record ExcludesAll (contents : Option FileContents) (args : RunArgs) (rule : Rule) (jobs : List Job) (text : List ℕ)
     : Type 0 where
   -- the selection before any jobs are excluded
-  pub requested : List Bool
+  pub requested_selection : List Bool
   pub notes : List ℕ
-  pub are : AreRequested contents args rule jobs (Some requested) notes
+  pub are_requested : AreRequested contents args rule jobs (Some requested_selection) notes
   pub pattern : Regex
   pub source : regex_source pattern ≡ text
-  pub read : HasDefaultOptions pattern
-  pub emptied : is_emptied requested (remaining_selection (regex_pattern pattern) jobs requested) ≡ true
+  pub default_options : HasDefaultOptions pattern
+  pub nothing_left : is_emptied requested_selection (remaining_selection (regex_pattern pattern) jobs requested_selection) ≡ true
 
--- the message that the pattern of `--exclude` leaves no jobs of the list
+-- the message that the pattern of `--exclude` leaves no jobs of the list at `list_path`
 abbrev pub nothing_left_message : List ℕ → List ℕ → List ℕ
-nothing_left_message list text = codes "rvtest: " ++ printable_text list ++ codes ": no jobs left after --exclude \"" ++ printable_value text
+nothing_left_message list_path pattern = codes "rvtest: " ++ printable_text list_path ++ codes ": no jobs left after --exclude \"" ++ printable_value pattern
     ++ codes "\"\n"
 
 -- the pattern excludes all selected jobs, and the stop reports this
-abbrev pub IsEmptiedStop : List ℕ → List Job → List Bool → Regex → Stop → Type 0
-IsEmptiedStop list jobs selection pattern stop = (is_emptied selection (remaining_selection (regex_pattern pattern) jobs selection) ≡ true)
-    × IsStop 2 (nothing_left_message list (regex_source pattern)) stop
+abbrev pub IsNothingLeftStop : List ℕ → List Job → List Bool → Regex → Stop → Type 0
+IsNothingLeftStop list_path jobs selection pattern stop = (is_emptied selection (remaining_selection (regex_pattern pattern) jobs selection) ≡ true)
+    × IsStop 2 (nothing_left_message list_path (regex_source pattern)) stop
 
 -- why a command stopped: the text of `--exclude` is not a regular expression, or it excludes all requested jobs
 abbrev pub IsExclusionStop : Option FileContents → RunArgs → Rule → List Job → List ℕ → Stop → Type 0

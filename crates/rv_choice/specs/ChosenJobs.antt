@@ -21,21 +21,21 @@ use Rattle.rv_choice.specs.UnknownName.{unknown_name}
 -- have no row; it may be absent only if nothing but failed jobs is requested, and none failed
 pub record AreChosenFrom (path : List ℕ) (failed : ChosenNames) (missing : ℕ) (pattern : Option Re) (args : RunArgs)
     (jobs : List Job) (selection : Option (List Bool)) (notes : List ℕ) : Type 0 where
-  pub told : notes ≡ failed_job_notes path jobs failed missing
+  pub notes_are : notes ≡ failed_job_notes path jobs failed missing
   pub selected : IfSome selection (λ selection. selection
       ≡ selection_by_criteria (requested_names args.only.items) pattern (Some failed) jobs)
-  pub none : (selection ≡ None) ↔ ((failed ≡ []) × (args.only.items ≡ []) × (pattern ≡ None))
+  pub no_selection : (selection ≡ None) ↔ ((failed ≡ []) × (args.only.items ≡ []) × (pattern ≡ None))
 
 -- `selection` is the selection by `--only`, by the pattern, and by the failed rows of the report at `path`; if the report is truncated, the
 -- notes begin with the number of its rows
 pub record AreChosenFromReport (contents : Option FileContents) (path : List ℕ) (pattern : Option Re) (args : RunArgs)
     (rule : Rule) (jobs : List Job) (selection : Option (List Bool)) (notes : List ℕ) : Type 0 where
-  pub found : PartialReport
-  pub read : IsReportReadAt contents args.partial path found
-  pub failed : List ℕ
-  pub noted : notes ≡ truncation_note path found ++ failed
-  pub chosen : AreChosenFrom path (failed_job_names rule found.report.rows)
-      (count_jobs_without_row jobs found.report.rows) pattern args jobs selection failed
+  pub partial_report : PartialReport
+  pub read : IsReportReadAt contents args.partial path partial_report
+  pub failure_notes : List ℕ
+  pub notes_are : notes ≡ truncation_note path partial_report ++ failure_notes
+  pub chosen : AreChosenFrom path (failed_job_names rule partial_report.report.rows)
+      (count_jobs_without_row jobs partial_report.report.rows) pattern args jobs selection failure_notes
 
 -- `selection` is the selection by `--only`, by the pattern and, if a report is given, by its failed rows; without a report there are no
 -- notes
@@ -56,26 +56,26 @@ AreChosenBy contents pattern args rule jobs selection notes =
 -- job, and the pattern of `--match` matches the name of at least one job
 pub record AreRequested (contents : Option FileContents) (args : RunArgs) (rule : Rule) (jobs : List Job)
     (selection : Option (List Bool)) (notes : List ℕ) : Type 0 where
-  pub named : unknown_name jobs args.only.items ≡ None
+  pub names_exist : unknown_name jobs args.only.items ≡ None
   pub pattern : Option Regex
   pub source : option_map regex_source pattern ≡ borrowed_text args.pattern
-  pub read : IfSome pattern HasDefaultOptions
-  pub found : IfSome pattern (λ regex. is_found_in_names (regex_pattern regex) jobs ≡ true)
-  pub by : AreChosenBy contents (option_map regex_pattern pattern) args rule jobs selection notes
+  pub default_options : IfSome pattern HasDefaultOptions
+  pub matches_a_name : IfSome pattern (λ regex. is_found_in_names (regex_pattern regex) jobs ≡ true)
+  pub chosen_by : AreChosenBy contents (option_map regex_pattern pattern) args rule jobs selection notes
 
 -- `remaining` is the selection without the excluded jobs; it is not empty unless the selection was empty before
 abbrev pub IsRemainingSelection : Option Re → List Job → Option (List Bool) → Option (List Bool) → Type 0
-IsRemainingSelection (Some pattern) jobs (Some wanted) remaining =
-    (remaining ≡ Some (remaining_selection pattern jobs wanted)) × (is_emptied wanted (remaining_selection pattern jobs wanted) ≡ false)
-IsRemainingSelection _ jobs wanted remaining = remaining ≡ wanted
+IsRemainingSelection (Some pattern) jobs (Some selection) remaining =
+    (remaining ≡ Some (remaining_selection pattern jobs selection)) × (is_emptied selection (remaining_selection pattern jobs selection) ≡ false)
+IsRemainingSelection _ jobs selection remaining = remaining ≡ selection
 
 -- `selection` selects the jobs that the arguments choose, without the excluded ones; `notes` are the notes about the choice
 pub record IsChoice (contents : Option FileContents) (args : RunArgs) (rule : Rule) (jobs : List Job)
     (selection : Option (List Bool)) (notes : List ℕ) : Type 0 where
   -- the selection before any jobs are excluded
-  pub requested : Option (List Bool)
-  pub are : AreRequested contents args rule jobs requested notes
+  pub requested_selection : Option (List Bool)
+  pub are_requested : AreRequested contents args rule jobs requested_selection notes
   pub excluded : Option Regex
   pub source : option_map regex_source excluded ≡ borrowed_text args.exclude
-  pub read : IfSome excluded HasDefaultOptions
-  pub remaining : IsRemainingSelection (option_map regex_pattern excluded) jobs requested selection
+  pub default_options : IfSome excluded HasDefaultOptions
+  pub remaining : IsRemainingSelection (option_map regex_pattern excluded) jobs requested_selection selection

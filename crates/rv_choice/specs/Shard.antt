@@ -34,9 +34,9 @@ number_after_slash text = digits_value 10 (after_slash text)
 pub record IsShardText (text : List ℕ) : Type 0 where
   pub number : IsNumeral 10 (before_slash text)
   pub shards : IsNumeral 10 (after_slash text)
-  pub first : 0 < number_before_slash text
-  pub within : number_before_slash text ≤ number_after_slash text
-  pub few : number_after_slash text ≤ max_jobs
+  pub at_least_one : 0 < number_before_slash text
+  pub in_range : number_before_slash text ≤ number_after_slash text
+  pub at_most_max : number_after_slash text ≤ max_jobs
 
 -- there is a shard exactly if there is a text, and then the shard has the numbers K and N of the text K/N
 abbrev pub IsShardOf : Option (Bor (List ℕ)) → Option Shard → Type 0

@@ -16,10 +16,10 @@ use Rattle.rv_choice.specs.Choice.{has_job_named}
 abbrev pub unknown_name : List Job → List (Bor (List ℕ)) → Option (List ℕ)
 unknown_name jobs names = option_map (λ name. name.now) (find (λ name. not (has_job_named jobs name.now)) names)
 
--- the beginning of the message that no job of the list at `list` has this name
+-- the beginning of the message that no job of the list at `list_path` has this name
 abbrev pub no_such_job_message : List ℕ → List ℕ → List ℕ
-no_such_job_message list name =
-    codes "rvtest: " ++ printable_text list ++ codes ": no job named \"" ++ printable_value name
+no_such_job_message list_path name =
+    codes "rvtest: " ++ printable_text list_path ++ codes ": no job named \"" ++ printable_value name
 
 -- the text before the name at index `index` in a message with `count` names
 abbrev pub text_before_name : ℕ → ℕ → List ℕ
@@ -31,7 +31,7 @@ unfoldable pub names_from : ℕ → ℕ → List Job → List ℕ
 names_from index count [] = []
 names_from index count (job ∷ jobs) = (text_before_name index count ++ job.name) ++ names_from (index + 1) count jobs
 
--- how many of `count` names are not among the first 20; empty if there are no more than 20
+-- " and ", how many of `count` names are not among the first 20, and " more"; empty if there are no more than 20
 abbrev pub more_names_text : ℕ → List ℕ
 more_names_text count = if nat_lt 20 count then codes " and " ++ decimal (count - 20) ++ codes " more" else []
 
@@ -51,10 +51,10 @@ IsNameHint jobs name hint =
 
 -- the message says that no job of the list has this name, with a hint
 abbrev pub IsUnknownNameMessage : List ℕ → List Job → List ℕ → List ℕ → Type 0
-IsUnknownNameMessage list jobs name message =
-    (hint : List ℕ) × IsNameHint jobs name hint × (message ≡ no_such_job_message list name ++ hint ++ codes "\n")
+IsUnknownNameMessage list_path jobs name message =
+    (hint : List ℕ) × IsNameHint jobs name hint × (message ≡ no_such_job_message list_path name ++ hint ++ codes "\n")
 
 -- memory ran out, or the stop reports that no job of the list has this name
 abbrev pub IsUnknownNameStop : List ℕ → List Job → List ℕ → Stop → Type 0
-IsUnknownNameStop list jobs name stop = (stop ≡ stops.OutOfMemory)
-    ⊎ ((message : List ℕ) × IsUnknownNameMessage list jobs name message × IsStop 2 message stop)
+IsUnknownNameStop list_path jobs name stop = (stop ≡ stops.OutOfMemory)
+    ⊎ ((message : List ℕ) × IsUnknownNameMessage list_path jobs name message × IsStop 2 message stop)

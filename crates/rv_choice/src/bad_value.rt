@@ -25,18 +25,18 @@ pub(crate) fn bad_value_text(
     Ok(text)
 }
 
-/// Returns the error for an invalid value: the message `what` with the usage of the command, or out of memory if there is none.
+/// Returns the error for an invalid value: this message with the usage of the command, or out of memory if the message could not be made.
 pub(crate) fn bad_value_stop(
     alloc: Global,
     command: ChoosingCommand,
-    what: Result<String, AllocError>,
+    message: Result<String, AllocError>,
 ) -> Stop
-    ensures { IsBadValueStop what result }
+    ensures { IsBadValueStop message result }
 {
-    match what {
-        Ok(what) => {
+    match message {
+        Ok(message) => {
             let kind = ErrorKind::ValueValidation;
-            Stop::of_args_error(usage_error(alloc, command.command(alloc), kind, what.as_str()))
+            Stop::of_args_error(usage_error(alloc, command.command(alloc), kind, message.as_str()))
         }
         Err(error) => Stop::from(error),
     }

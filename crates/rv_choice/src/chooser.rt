@@ -6,8 +6,8 @@ ghost use Rattle.regex.specs.Strings.{regex_pattern, regex_source};
 ghost use Rattle.rv_choice.specs.BadValues.{IsBadPatternText, IsBadPatternStop};
 ghost use Rattle.rv_choice.specs.Choice.{HasDefaultOptions, is_emptied, borrowed_names, selection_by_criteria, failed_job_names, is_any_selected};
 ghost use Rattle.rv_choice.specs.Choice.{is_found_in_names, count_jobs_without_row, remaining_selection, optional_names, pattern_of, requested_names};
-ghost use Rattle.rv_choice.specs.ChoiceStops.{IsChoiceStop, IsEmptiedStop, IsPatternStop, IsInvalidPatternStop, nothing_left_message};
-ghost use Rattle.rv_choice.specs.ChoiceStops.{unmatched_pattern};
+ghost use Rattle.rv_choice.specs.ChoiceStops.{IsChoiceStop, IsNothingLeftStop, IsPatternStop, IsInvalidPatternStop, nothing_left_message};
+ghost use Rattle.rv_choice.specs.ChoiceStops.{unmatched_pattern_message};
 ghost use Rattle.rv_choice.specs.ChosenJobs.{AreChosenBy, AreChosenFrom, IsRemainingSelection, AreRequested, IsChoice};
 ghost use Rattle.rv_choice.specs.FailedJobNotes.{failed_job_notes};
 ghost use Rattle.rv_choice.specs.UnknownName.{IsUnknownNameStop, unknown_name};
@@ -68,7 +68,7 @@ impl<'x, D: Inputs> Chooser<'x, D> {
     pub fn choose(&self, jobs: &[Job]) -> Result<Choice, Stop>
         ensures chosen { IfOk result (λ choice. IsChoice (D.contents self.now.inputs.now) self.now.args.now
             self.now.rule jobs.now (option_map (λ selection. selection.items) choice.selection) choice.notes.items) }
-        ensures stop { IfErr result
+        ensures stopped { IfErr result
             (IsChoiceStop (D.contents self.now.inputs.now) self.now.args.now self.now.rule jobs.now) }
     {
         let excluded = self.requested_exclusion()?;
@@ -79,9 +79,9 @@ impl<'x, D: Inputs> Chooser<'x, D> {
 
     // Returns the jobs that the arguments request, before any are excluded.
     fn requested_selection(&self, jobs: &[Job]) -> Result<Choice, Stop>
-        ensures wanted { IfOk result (λ choice. AreRequested (D.contents self.now.inputs.now) self.now.args.now
+        ensures requested { IfOk result (λ choice. AreRequested (D.contents self.now.inputs.now) self.now.args.now
             self.now.rule jobs.now (option_map (λ selection. selection.items) choice.selection) choice.notes.items) }
-        ensures stop { IfErr result
+        ensures stopped { IfErr result
             (IsChoiceStop (D.contents self.now.inputs.now) self.now.args.now self.now.rule jobs.now) }
     {
         self.check_exact_names(jobs)?;
@@ -92,7 +92,7 @@ impl<'x, D: Inputs> Chooser<'x, D> {
     // Returns an error for the first name of `--only` that no job has.
     fn check_exact_names(&self, jobs: &[Job]) -> Result<(), Stop>
         ensures known { OnOk result (unknown_name jobs.now self.now.args.now.only.items ≡ None) }
-        ensures unknown { IfErr result (λ stop. IsSomeAnd (unknown_name jobs.now self.now.args.now.only.items)
+        ensures stopped { IfErr result (λ stop. IsSomeAnd (unknown_name jobs.now self.now.args.now.only.items)
             (λ name. IsUnknownNameStop self.now.args.now.list.now jobs.now name stop)) }
     {
         match first_unknown_name(jobs, self.args.only.as_slice()) {
@@ -105,10 +105,10 @@ impl<'x, D: Inputs> Chooser<'x, D> {
     fn requested_pattern(&self, jobs: &[Job]) -> Result<Option<Regex>, Stop>
         ensures source { IfOk result (λ pattern.
             option_map regex_source pattern ≡ borrowed_text self.now.args.now.pattern) }
-        ensures read { IfOk result (λ pattern. IfSome pattern HasDefaultOptions) }
-        ensures found { IfOk result (λ pattern. IfSome pattern
+        ensures default_options { IfOk result (λ pattern. IfSome pattern HasDefaultOptions) }
+        ensures matches_a_name { IfOk result (λ pattern. IfSome pattern
             (λ regex. is_found_in_names (regex_pattern regex) jobs.now ≡ true)) }
-        ensures refused { IfErr result (λ stop. IsSomeAnd (borrowed_text self.now.args.now.pattern)
+        ensures stopped { IfErr result (λ stop. IsSomeAnd (borrowed_text self.now.args.now.pattern)
             (λ text. IsPatternStop self.now.args.now.list.now text jobs.now stop)) }
     {
         let Some(text) = self.args.pattern else {
@@ -126,8 +126,8 @@ impl<'x, D: Inputs> Chooser<'x, D> {
     fn requested_exclusion(&self) -> Result<Option<Regex>, Stop>
         ensures source { IfOk result (λ excluded.
             option_map regex_source excluded ≡ borrowed_text self.now.args.now.exclude) }
-        ensures read { IfOk result (λ excluded. IfSome excluded HasDefaultOptions) }
-        ensures refused { IfErr result (λ stop. IsSomeAnd (borrowed_text self.now.args.now.exclude)
+        ensures default_options { IfOk result (λ excluded. IfSome excluded HasDefaultOptions) }
+        ensures stopped { IfErr result (λ stop. IsSomeAnd (borrowed_text self.now.args.now.exclude)
             (λ text. (stop ≡ Stop.OutOfMemory) ⊎ IsInvalidPatternStop (codes "--exclude <REGEX>") text stop)) }
     {
         match self.args.exclude {
@@ -144,12 +144,12 @@ impl<'x, D: Inputs> Chooser<'x, D> {
         selection: Option<Vec<bool>>,
         jobs: &[Job],
     ) -> Result<Option<Vec<bool>>, Stop>
-        requires counted { IfSome selection (λ selection. length selection.items ≡ length jobs.now) }
+        requires same_length { IfSome selection (λ selection. length selection.items ≡ length jobs.now) }
         ensures remaining { IfOk result (λ remaining. IsRemainingSelection (pattern_of excluded.entry) jobs.now
             (option_map (λ selection. selection.items) selection) (option_map (λ selection. selection.items) remaining)) }
-        ensures stop { IfErr result (λ stop. (stop ≡ Stop.OutOfMemory)
+        ensures stopped { IfErr result (λ stop. (stop ≡ Stop.OutOfMemory)
             ⊎ IsSomeAnd excluded.entry (λ regex. IsSomeAnd selection
-            (λ selection. IsEmptiedStop self.now.args.now.list.now jobs.now selection.items regex.now stop))) }
+            (λ selection. IsNothingLeftStop self.now.args.now.list.now jobs.now selection.items regex.now stop))) }
     {
         let Some(excluded) = excluded else {
             return Ok(selection);
@@ -168,15 +168,15 @@ impl<'x, D: Inputs> Chooser<'x, D> {
         excluded: &Regex,
         jobs: &[Job],
     ) -> Result<Vec<bool>, Stop>
-        requires counted { length selection.now ≡ length jobs.now }
+        requires same_length { length selection.now ≡ length jobs.now }
         ensures remaining { IfOk result (λ remaining. remaining.items ≡ remaining_selection (regex_pattern excluded.now) jobs.now selection.now) }
-        ensures some { IfOk result (λ remaining. is_emptied selection.now remaining.items ≡ false) }
-        ensures stop { IfErr result (λ stop. (stop ≡ Stop.OutOfMemory)
-            ⊎ IsEmptiedStop self.now.args.now.list.now jobs.now selection.now excluded.now stop) }
+        ensures not_emptied { IfOk result (λ remaining. is_emptied selection.now remaining.items ≡ false) }
+        ensures stopped { IfErr result (λ stop. (stop ≡ Stop.OutOfMemory)
+            ⊎ IsNothingLeftStop self.now.args.now.list.now jobs.now selection.now excluded.now stop) }
     {
         let remaining = remaining_selection(self.alloc, jobs, selection, excluded)?;
         if is_any_selected(selection) && !is_any_selected(remaining.as_slice()) {
-            return Err(emptied_choice_stop(self.alloc, self.args.list, excluded.as_str()));
+            return Err(nothing_left_stop(self.alloc, self.args.list, excluded.as_str()));
         }
         Ok(remaining)
     }
@@ -187,7 +187,7 @@ impl<'x, D: Inputs> Chooser<'x, D> {
         ensures chosen { IfOk result (λ choice. AreChosenBy (D.contents self.now.inputs.now)
             (pattern_of pattern.entry) self.now.args.now self.now.rule jobs.now
             (option_map (λ selection. selection.items) choice.selection) choice.notes.items) }
-        ensures unread { IfErr result (λ stop. (stop ≡ Stop.OutOfMemory)
+        ensures stopped { IfErr result (λ stop. (stop ≡ Stop.OutOfMemory)
             ⊎ IsSomeAnd (borrowed_text self.now.args.now.failed)
             (λ path. IsRequestedUnreadStop (D.contents self.now.inputs.now) self.now.args.now.partial path stop)) }
     {
@@ -202,9 +202,9 @@ impl<'x, D: Inputs> Chooser<'x, D> {
             path,
             partial: self.args.partial,
         };
-        let found = read_requested_report(self.inputs, self.alloc, requested)?;
-        let note = truncation_note(self.alloc, path, &found)?;
-        let rows = found.report.rows.as_slice();
+        let partial_report = read_requested_report(self.inputs, self.alloc, requested)?;
+        let note = truncation_note(self.alloc, path, &partial_report)?;
+        let rows = partial_report.report.rows.as_slice();
         let choice = self.choose_from_failed_rows(path, rows, pattern, jobs)?;
         Ok(choice.with_leading_note(note)?)
     }
@@ -256,8 +256,8 @@ impl<'x, D: Inputs> Chooser<'x, D> {
     // Compiles the text of an option as a regular expression. If it is not one, returns an error with the usage of the command.
     fn compile_pattern(&self, option: &str, text: &str) -> Result<Regex, Stop>
         ensures source { IfOk result (λ pattern. regex_source pattern ≡ text.now) }
-        ensures read { IfOk result HasDefaultOptions }
-        ensures refused { IfErr result (λ stop. (stop ≡ Stop.OutOfMemory)
+        ensures default_options { IfOk result HasDefaultOptions }
+        ensures stopped { IfErr result (λ stop. (stop ≡ Stop.OutOfMemory)
             ⊎ IsInvalidPatternStop option.now text.now stop) }
     {
         let alloc = self.alloc;
@@ -279,12 +279,12 @@ impl<'x, D: Inputs> Chooser<'x, D> {
             ≡ selection_by_criteria (requested_names self.now.args.now.only.items) (pattern_of pattern.entry)
             (optional_names failed.entry) jobs.now) }
     {
-        let wanted = Criteria {
+        let criteria = Criteria {
             only: requested_names(self.args),
             pattern,
             failed,
         };
-        selection_by_criteria(self.alloc, jobs, wanted)
+        selection_by_criteria(self.alloc, jobs, criteria)
     }
 }
 
@@ -298,8 +298,8 @@ fn bad_pattern_stop(
 ) -> Stop
     ensures { IsBadPatternStop option.now text.now result }
 {
-    let what = bad_pattern_text(alloc, option, text, error);
-    bad_value_stop(alloc, command, what)
+    let message = bad_pattern_text(alloc, option, text, error);
+    bad_value_stop(alloc, command, message)
 }
 
 // Returns the message that the text of an option is not a regular expression, and why.
@@ -309,7 +309,7 @@ fn bad_pattern_text(
     text: &str,
     error: &regex::Error,
 ) -> Result<String, AllocError>
-    ensures { IfOk result (λ what. IsBadPatternText option.now text.now (string_bytes what)) }
+    ensures { IfOk result (λ message. IsBadPatternText option.now text.now (string_bytes message)) }
 {
     let reason = error.to_string(alloc)?;
     bad_value_text(alloc, option, text, reason.as_str())
@@ -330,14 +330,14 @@ fn requested_names<'a>(args: &'a RunArgs<'_>) -> Option<&'a [&'a str]>
 #[tactic(auto, using(crate::proofs::Names::found_marks))]
 fn is_found_in_job_names(alloc: Global, pattern: &Regex, jobs: &[Job]) -> Result<bool, AllocError>
     ensures { IfOk result
-        (λ found. found ≡ is_found_in_names (regex_pattern pattern.now) jobs.now) }
+        (λ is_found. is_found ≡ is_found_in_names (regex_pattern pattern.now) jobs.now) }
 {
-    let wanted = Criteria {
+    let criteria = Criteria {
         only: None,
         pattern: Some(pattern),
         failed: None,
     };
-    let selection = selection_by_criteria(alloc, jobs, wanted)?;
+    let selection = selection_by_criteria(alloc, jobs, criteria)?;
     Ok(is_any_selected(selection.as_slice()))
 }
 
@@ -345,29 +345,29 @@ fn is_found_in_job_names(alloc: Global, pattern: &Regex, jobs: &[Job]) -> Result
 fn is_any_selected(selection: &[bool]) -> bool
     ensures { result ≡ is_any_selected selection.now }
 {
-    selection.iter().any(|mark| *mark)
+    selection.iter().any(|is_selected| *is_selected)
 }
 
-// Returns the error that the pattern of `--match` matches the name of no job in the list.
-fn unmatched_pattern_stop(alloc: Global, list: &str, pattern: &str) -> Stop
-    ensures { IsStop 2 (unmatched_pattern list.now pattern.now) result }
+// Returns the error that the pattern of `--match` matches the name of no job of the list at `list_path`.
+fn unmatched_pattern_stop(alloc: Global, list_path: &str, pattern: &str) -> Stop
+    ensures { IsStop 2 (unmatched_pattern_message list_path.now pattern.now) result }
 {
-    Stop::rejection(unmatched_pattern_message(alloc, list, pattern))
+    Stop::rejection(unmatched_pattern_message(alloc, list_path, pattern))
 }
 
-// Returns the message that the pattern of `--match` matches the name of no job in the list.
+// Returns the message that the pattern of `--match` matches the name of no job of the list at `list_path`.
 fn unmatched_pattern_message<'a>(
     alloc: Global,
-    list: &'a str,
+    list_path: &'a str,
     pattern: &'a str,
 ) -> Result<Vec<u8>, AllocError>
-    ensures { IfOk result (λ text. text.items ≡ unmatched_pattern list.now pattern.now) }
+    ensures { IfOk result (λ text. text.items ≡ unmatched_pattern_message list_path.now pattern.now) }
 {
     text_of_spans(
         alloc,
         &[
             Span::Text("rvtest: "),
-            Span::Printable(list.as_bytes()),
+            Span::Printable(list_path.as_bytes()),
             Span::Text(": no job name matches \""),
             Span::Value(pattern.as_bytes()),
             Span::Text("\"\n"),
@@ -375,26 +375,26 @@ fn unmatched_pattern_message<'a>(
     )
 }
 
-// Returns the error that the pattern of `--exclude` leaves no jobs of the list.
-fn emptied_choice_stop(alloc: Global, list: &str, pattern: &str) -> Stop
-    ensures { IsStop 2 (nothing_left_message list.now pattern.now) result }
+// Returns the error that the pattern of `--exclude` leaves no jobs of the list at `list_path`.
+fn nothing_left_stop(alloc: Global, list_path: &str, pattern: &str) -> Stop
+    ensures { IsStop 2 (nothing_left_message list_path.now pattern.now) result }
 {
-    Stop::rejection(nothing_left_message(alloc, list, pattern))
+    Stop::rejection(nothing_left_message(alloc, list_path, pattern))
 }
 
-// Returns the message that the pattern of `--exclude` leaves no jobs of the list.
+// Returns the message that the pattern of `--exclude` leaves no jobs of the list at `list_path`.
 fn nothing_left_message<'a>(
     alloc: Global,
-    list: &'a str,
+    list_path: &'a str,
     pattern: &'a str,
 ) -> Result<Vec<u8>, AllocError>
-    ensures { IfOk result (λ text. text.items ≡ nothing_left_message list.now pattern.now) }
+    ensures { IfOk result (λ text. text.items ≡ nothing_left_message list_path.now pattern.now) }
 {
     text_of_spans(
         alloc,
         &[
             Span::Text("rvtest: "),
-            Span::Printable(list.as_bytes()),
+            Span::Printable(list_path.as_bytes()),
             Span::Text(": no jobs left after --exclude \""),
             Span::Value(pattern.as_bytes()),
             Span::Text("\"\n"),

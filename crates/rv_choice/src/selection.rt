@@ -25,15 +25,15 @@ pub(crate) struct Criteria<'a> {
 pub(crate) fn selection_by_criteria(
     alloc: Global,
     jobs: &[Job],
-    wanted: Criteria<'_>,
+    criteria: Criteria<'_>,
 ) -> Result<Vec<bool>, AllocError>
-    ensures { IfOk result (λ selection. selection.items ≡ selection_by_criteria (optional_names wanted.entry.only)
-        (pattern_of wanted.entry.pattern) (optional_names wanted.entry.failed) jobs.now) }
+    ensures { IfOk result (λ selection. selection.items ≡ selection_by_criteria (optional_names criteria.entry.only)
+        (pattern_of criteria.entry.pattern) (optional_names criteria.entry.failed) jobs.now) }
 {
-    let mut matcher = matcher_of(alloc, wanted.pattern)?;
+    let mut matcher = matcher_of(alloc, criteria.pattern)?;
     let mut selection = Vec::new(alloc);
     for index in 0..jobs.len() {
-        selection.push(is_chosen_name(wanted, &mut matcher, jobs[index].name.as_str()))?;
+        selection.push(is_chosen_name(criteria, &mut matcher, jobs[index].name.as_str()))?;
     }
     Ok(selection)
 }
@@ -58,10 +58,10 @@ pub(crate) fn remaining_selection(
 }
 
 // Whether a job stays selected: it is selected, and the pattern is not found in its name.
-fn stays_selected(mark: bool, is_found: bool) -> bool
-    ensures { result ≡ stays_selected mark is_found }
+fn stays_selected(is_selected: bool, is_found: bool) -> bool
+    ensures { result ≡ stays_selected is_selected is_found }
 {
-    mark && !is_found
+    is_selected && !is_found
 }
 
 // Returns a matcher for the pattern, or `None` if there is no pattern.
@@ -77,16 +77,16 @@ fn matcher_of(alloc: Global, pattern: Option<&Regex>) -> Result<Option<Matcher<'
 
 // Whether a job with this name is chosen: by the names of `--only`, by the pattern, or by the names of failed jobs; every job is, if none
 // of these is given.
-fn is_chosen_name(wanted: Criteria<'_>, matcher: &mut Option<Matcher<'_>>, name: &str) -> bool
-    requires { option_map matcher_pattern matcher.old ≡ pattern_of wanted.pattern }
-    ensures chosen { result ≡ is_chosen_name (optional_names wanted.entry.only)
-        (pattern_of wanted.entry.pattern) (optional_names wanted.entry.failed) name.now }
-    ensures same { option_map matcher_pattern matcher.new ≡ option_map matcher_pattern matcher.old }
+fn is_chosen_name(criteria: Criteria<'_>, matcher: &mut Option<Matcher<'_>>, name: &str) -> bool
+    requires { option_map matcher_pattern matcher.old ≡ pattern_of criteria.pattern }
+    ensures chosen { result ≡ is_chosen_name (optional_names criteria.entry.only)
+        (pattern_of criteria.entry.pattern) (optional_names criteria.entry.failed) name.now }
+    ensures pattern_unchanged { option_map matcher_pattern matcher.new ≡ option_map matcher_pattern matcher.old }
 {
     is_chosen(
-        choice_by_names(wanted.only, name),
+        choice_by_names(criteria.only, name),
         choice_by_pattern(matcher, name),
-        choice_by_names(wanted.failed, name),
+        choice_by_names(criteria.failed, name),
     )
 }
 
@@ -122,8 +122,8 @@ fn is_among_names(names: &[&str], name: &str) -> bool
 
 // Whether the pattern matches anywhere in this name, or `None` if there is no pattern.
 fn choice_by_pattern(matcher: &mut Option<Matcher<'_>>, name: &str) -> Option<bool>
-    ensures found { result ≡ choice_by_pattern (option_map matcher_pattern matcher.old) name.now }
-    ensures same { option_map matcher_pattern matcher.new ≡ option_map matcher_pattern matcher.old }
+    ensures value { result ≡ choice_by_pattern (option_map matcher_pattern matcher.old) name.now }
+    ensures pattern_unchanged { option_map matcher_pattern matcher.new ≡ option_map matcher_pattern matcher.old }
 {
     match matcher {
         Some(matcher) => Some(matcher.is_match(name)),

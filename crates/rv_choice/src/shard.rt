@@ -29,13 +29,13 @@ pub fn requested_shard(
 ) -> Result<Option<Shard>, Stop>
     requires { jobs ≤ max_jobs }
     ensures requested { IfOk result (IsShardOf args.now.shard) }
-    ensures stamped { IfOk result (λ shard. IfSome shard (λ s.
-        s.stamp ≡ stamp_for args.now.stamp text.now)) }
-    ensures within { IfOk result (λ shard. IfSome shard (λ s.
-        (s.jobs ≡ jobs) × (0 < s.number) × (s.number ≤ s.shards) × (s.shards ≤ max_jobs))) }
-    ensures named { IfOk result (λ shard. IfSome shard (λ _.
+    ensures stamp { IfOk result (λ shard. IfSome shard (λ given.
+        given.stamp ≡ stamp_for args.now.stamp text.now)) }
+    ensures in_range { IfOk result (λ shard. IfSome shard (λ given.
+        (given.jobs ≡ jobs) × (0 < given.number) × (given.number ≤ given.shards) × (given.shards ≤ max_jobs))) }
+    ensures stamp_is_name { IfOk result (λ shard. IfSome shard (λ _.
         IfSome args.now.stamp (λ stamp. is_name stamp.now ≡ true))) }
-    ensures refused { IfErr result (IsShardStop args.now.shard args.now.stamp) }
+    ensures stopped { IfErr result (IsShardStop args.now.shard args.now.stamp) }
 {
     let Some(shard_text) = args.shard else {
         return Ok(None);
@@ -58,10 +58,10 @@ pub fn requested_shard(
 
 // Parses `K/N`, where 1 <= K <= N <= 4096. Returns K and N, or `None` for any other text.
 fn shard_numbers(text: &str) -> Option<(u32, u32)>
-    ensures numbers { IfSome result (λ n. (n.0 ≡ number_before_slash text.now)
-        × (n.1 ≡ number_after_slash text.now)) }
-    ensures within { IfSome result (λ n. (0 < n.0) × (n.0 ≤ n.1) × (n.1 ≤ max_jobs)) }
-    ensures refused { IfNone result (IsShardText text.now → ⊥) }
+    ensures numbers { IfSome result (λ numbers. (numbers.0 ≡ number_before_slash text.now)
+        × (numbers.1 ≡ number_after_slash text.now)) }
+    ensures in_range { IfSome result (λ numbers. (0 < numbers.0) × (numbers.0 ≤ numbers.1) × (numbers.1 ≤ max_jobs)) }
+    ensures not_a_shard { IfNone result (IsShardText text.now → ⊥) }
 {
     let (number, shards) = text.split_once('/')?;
     let number = parse_digits(number)?;
@@ -106,8 +106,8 @@ fn bad_shard_stop(alloc: Global, command: ChoosingCommand, text: &str) -> Stop
     ensures { IsUsageStop (bad_shard_text text.now) result }
 {
     let reason = "expected K/N with 1 <= K <= N <= 4096";
-    let what = bad_value_text(alloc, "--shard <K/N>", text, reason);
-    bad_value_stop(alloc, command, what)
+    let message = bad_value_text(alloc, "--shard <K/N>", text, reason);
+    bad_value_stop(alloc, command, message)
 }
 
 // Returns the error that the text of `--stamp` is not a name, with the usage of the command.
@@ -115,6 +115,6 @@ fn bad_stamp_stop(alloc: Global, command: ChoosingCommand, stamp: &str) -> Stop
     ensures { IsUsageStop (bad_stamp_text stamp.now) result }
 {
     let reason = "expected 1 to 64 letters, digits, '.', '_' or '-'";
-    let what = bad_value_text(alloc, "--stamp <TEXT>", stamp, reason);
-    bad_value_stop(alloc, command, what)
+    let message = bad_value_text(alloc, "--stamp <TEXT>", stamp, reason);
+    bad_value_stop(alloc, command, message)
 }

@@ -8,41 +8,43 @@ use rv_command::{Span, Stop, near_job, push_spans, push_text, text_of_spans};
 use rv_expect::Job;
 use std::alloc::{AllocError, Global};
 
-/// Returns the error that no job of the list has this name. It suggests the nearest name or, if none is near, shows the names of the jobs.
-pub fn unknown_name_stop(alloc: Global, list: &str, jobs: &[Job], name: &str) -> Stop
-    ensures { IsUnknownNameStop list.now jobs.now name.now result }
+/// Returns the error that no job of the list at `list_path` has this name. It suggests the nearest name or, if none is near, shows the
+/// names of the jobs.
+pub fn unknown_name_stop(alloc: Global, list_path: &str, jobs: &[Job], name: &str) -> Stop
+    ensures { IsUnknownNameStop list_path.now jobs.now name.now result }
 {
-    Stop::rejection(unknown_name_message(alloc, list, jobs, name))
+    Stop::rejection(unknown_name_message(alloc, list_path, jobs, name))
 }
 
-// Returns the message that no job of the list has this name, with the nearest name or, if none is near, the names of the jobs.
+// Returns the message that no job of the list at `list_path` has this name, with the nearest name or, if none is near, the names of the
+// jobs.
 fn unknown_name_message(
     alloc: Global,
-    list: &str,
+    list_path: &str,
     jobs: &[Job],
     name: &str,
 ) -> Result<Vec<u8>, AllocError>
-    ensures { IfOk result (λ message. IsUnknownNameMessage list.now jobs.now name.now message.items) }
+    ensures { IfOk result (λ message. IsUnknownNameMessage list_path.now jobs.now name.now message.items) }
 {
-    let mut message = no_such_job_message(alloc, list, name)?;
+    let mut message = no_such_job_message(alloc, list_path, name)?;
     push_name_hint(&mut message, alloc, jobs, name)?;
     push_text(&mut message, "\n")?;
     Ok(message)
 }
 
-// Returns the beginning of the message that no job of the list has this name.
+// Returns the beginning of the message that no job of the list at `list_path` has this name.
 fn no_such_job_message<'a>(
     alloc: Global,
-    list: &'a str,
+    list_path: &'a str,
     name: &'a str,
 ) -> Result<Vec<u8>, AllocError>
-    ensures { IfOk result (λ message. message.items ≡ no_such_job_message list.now name.now) }
+    ensures { IfOk result (λ message. message.items ≡ no_such_job_message list_path.now name.now) }
 {
     text_of_spans(
         alloc,
         &[
             Span::Text("rvtest: "),
-            Span::Printable(list.as_bytes()),
+            Span::Printable(list_path.as_bytes()),
             Span::Text(": no job named \""),
             Span::Value(name.as_bytes()),
         ],

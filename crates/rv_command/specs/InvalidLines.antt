@@ -57,7 +57,7 @@ is_error_of_jobs _ = true
 -- whether the errors of a text show that it is a TOML document with jobs, valid or not
 abbrev pub are_job_list_errors : List JobError → Bool
 are_job_list_errors [] = true
-are_job_list_errors (fault ∷ faults) = is_error_of_jobs fault.what
+are_job_list_errors (error ∷ errors) = is_error_of_jobs error.what
 
 -- whether a text is a TOML document with jobs, valid or not
 abbrev pub is_job_list : List ℕ → Bool
@@ -93,16 +93,16 @@ kind_text expected.Part = codes "the report of a shard"
 
 -- the message that the line with this number is invalid in the file at the path: it shows the line, and what was expected instead
 abbrev pub line_message : ResultKind → List ℕ → List ℕ → ℕ → List ℕ
-line_message wanted path text number =
-    codes "rvtest: " ++ printable_text path ++ codes ":" ++ decimal number ++ codes ": invalid " ++ kind_noun wanted ++ codes " line \""
+line_message kind path text number =
+    codes "rvtest: " ++ printable_text path ++ codes ":" ++ decimal number ++ codes ": invalid " ++ kind_noun kind ++ codes " line \""
     ++ printable_value (numbered_line text number) ++ codes "\": expected " ++ expected_after (line_before text number) ++ codes "\n"
 
 -- the message that the text at the path is a job list, not the expected kind
 abbrev pub job_list_message : ResultKind → List ℕ → List ℕ
-job_list_message wanted path =
-    codes "rvtest: " ++ printable_text path ++ codes ": this is a job list, not " ++ kind_text wanted ++ codes "\n"
+job_list_message kind path =
+    codes "rvtest: " ++ printable_text path ++ codes ": this is a job list, not " ++ kind_text kind ++ codes "\n"
 
 -- the message that the text at a path is not of the expected kind: it is a job list, or its line with this number is invalid
 abbrev pub invalid_line_message : ResultKind → List ℕ → List ℕ → ℕ → List ℕ
-invalid_line_message wanted path text number =
-    if is_job_list text then job_list_message wanted path else line_message wanted path text number
+invalid_line_message kind path text number =
+    if is_job_list text then job_list_message kind path else line_message kind path text number

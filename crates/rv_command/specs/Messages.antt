@@ -15,14 +15,15 @@ IsMessageWritten before after failures_before failures_after text =
     (Appends before after text × (failures_after ≡ failures_before))
     ⊎ (AppendsPrefix before after text × (failures_after ≡ one_more failures_before))
 
--- the message that says `what` is wrong with the file at the path
+-- the message about the file at the path, with the reason
 abbrev pub path_message : List ℕ → List ℕ → List ℕ
-path_message path what = codes "rvtest: " ++ printable_text path ++ codes ": " ++ what ++ codes "\n"
+path_message path reason = codes "rvtest: " ++ printable_text path ++ codes ": " ++ reason ++ codes "\n"
 
--- the message that says `what` is wrong with a line or a job in the file at the path; `place` is the text before its number
+-- the message about a numbered line or job of the file at the path: `label` is the text before the number, and `reason` is the text after
+-- it
 abbrev pub path_number_message : List ℕ → List ℕ → ℕ → List ℕ → List ℕ
-path_number_message path place number what =
-    codes "rvtest: " ++ printable_text path ++ place ++ decimal number ++ what
+path_number_message path label number reason =
+    codes "rvtest: " ++ printable_text path ++ label ++ decimal number ++ reason
 
 -- ` complete row` for one row and ` complete rows` for any other number, with a line feed
 abbrev pub complete_rows_text : ℕ → List ℕ
@@ -30,14 +31,14 @@ complete_rows_text rows = if rows == 1 then codes " complete row\n" else codes "
 
 -- the note about a truncated report: how many complete rows it has; empty for a complete report
 abbrev pub truncation_note : List ℕ → PartialReport → List ℕ
-truncation_note path read = if read.is_truncated
-    then path_number_message path (codes ": note: the report is truncated; using its ") (length read.report.rows)
-    (complete_rows_text (length read.report.rows))
+truncation_note path partial_report = if partial_report.is_truncated
+    then path_number_message path (codes ": note: the report is truncated; using its ") (length partial_report.report.rows)
+    (complete_rows_text (length partial_report.report.rows))
     else []
 
 -- the message that reports this stop
 abbrev pub stop_message : Stop → List ℕ
-stop_message (stops.Message lines text) = text.items
+stop_message (stops.Message kind text) = text.items
 stop_message stops.OutOfMemory = codes "rvtest: out of memory\n"
 stop_message stops.NoWorker = codes "rvtest: no thread could be started\n"
 stop_message stops.WriteFailed = codes "rvtest: standard output: write failed\n"
@@ -45,4 +46,4 @@ stop_message stops.WriteFailed = codes "rvtest: standard output: write failed\n"
 -- the message that reports this stop; empty for a failed write, if the Bool says that the reader of the results closed them
 abbrev pub end_message : Bool → Stop → List ℕ
 end_message true stops.WriteFailed = []
-end_message _ why = stop_message why
+end_message _ stop = stop_message stop

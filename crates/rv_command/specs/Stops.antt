@@ -27,14 +27,14 @@ use Rattle.rv_command.specs.InvalidLines.{invalid_line_message}
 use Rattle.rv_command.specs.declared.invalid_line.ResultKind.TheVariants as expected
 use Rattle.rv_command.specs.Texts.{IsReportText, IsTextAt}
 
--- the exit status for these lines: 2 if the request is rejected, 3 if the system failed
+-- the exit status for a message of this kind: 2 if the request is rejected, 3 if the system failed
 abbrev pub message_status : MessageKind → ℕ
 message_status kinds.Rejection = 2
 message_status kinds.Failure = 3
 
 -- the exit status for a stop: 2 if the request is rejected, 3 if the system failed
 abbrev pub stop_status : Stop → ℕ
-stop_status (stops.Message lines text) = message_status lines
+stop_status (stops.Message kind text) = message_status kind
 stop_status stops.OutOfMemory = 3
 stop_status stops.NoWorker = 3
 stop_status stops.WriteFailed = 3
@@ -46,9 +46,9 @@ broken_pipe_status = 128 + 13
 -- the exit status for a stop; for a failed write it is `broken_pipe_status`, if the Bool says that the reader of the results closed them
 abbrev pub end_status : Bool → Stop → ℕ
 end_status true stops.WriteFailed = broken_pipe_status
-end_status _ why = stop_status why
+end_status _ stop = stop_status stop
 
--- the stop with these lines of this kind, or out of memory if the lines could not be made
+-- the stop with this message, which is of this kind, or out of memory if the message could not be made
 abbrev pub stop_with_message : MessageKind → Result (Vec ℕ Global) AllocError → Stop
 stop_with_message kind (Ok text) = stops.Message kind text
 stop_with_message kind (Err error) = stops.OutOfMemory
@@ -71,9 +71,9 @@ abbrev pub IsArgsRejection : ArgsError → Stop → Type 0
 IsArgsRejection error.OutOfMemory stop = stop ≡ stops.OutOfMemory
 IsArgsRejection (error.Message fault text) stop = IsRejectedWith (string_bytes text) stop
 
--- the stop is out of memory, or it rejects the arguments with the message `what` and the usage of a command
+-- the stop is out of memory, or it rejects the arguments with this message and the usage of a command
 abbrev pub IsUsageStop : List ℕ → Stop → Type 0
-IsUsageStop what stop = (stop ≡ stops.OutOfMemory) ⊎ ((stop_status stop ≡ 2) × IsUsageText what (stop_message stop))
+IsUsageStop message stop = (stop ≡ stops.OutOfMemory) ⊎ ((stop_status stop ≡ 2) × IsUsageText message (stop_message stop))
 
 -- ---- files
 
@@ -81,9 +81,9 @@ IsUsageStop what stop = (stop ≡ stops.OutOfMemory) ⊎ ((stop_status stop ≡ 
 abbrev pub IsMissingAt : Option FileContents → List ℕ → Type 0
 IsMissingAt contents path = IfSome contents (λ files. files path ≡ None)
 
--- if the contents of files are known, the file at the path has more than `most` bytes
+-- if the contents of files are known, the file at the path has more than `max_bytes` bytes
 abbrev pub IsTooLongAt : Option FileContents → List ℕ → ℕ → Type 0
-IsTooLongAt contents path most = IfSome contents (λ files. IsSomeAnd (files path) (λ bytes. most < length bytes))
+IsTooLongAt contents path max_bytes = IfSome contents (λ files. IsSomeAnd (files path) (λ bytes. max_bytes < length bytes))
 
 -- memory ran out, or the stop reports the system's reason why the file at the path could not be read or written
 abbrev pub IsSystemStop : List ℕ → ErrorKind → Stop → Type 0
@@ -122,8 +122,8 @@ IsListUnreadStop contents path stop = IsUnreadStop contents path stop
 -- memory ran out, or the text at the path is an invalid list, and the stop reports its first error
 abbrev pub IsListFaultStop : List ℕ → List ℕ → Stop → Type 0
 IsListFaultStop path text stop = (stop ≡ stops.OutOfMemory)
-    ⊎ ((fault : JobError) × (job_list_of text ≡ Err fault)
-    × ((told : List ℕ) × AppendsFaultLines (fault_head path text) (fault ∷ []) [] told × IsStop 2 told stop))
+    ⊎ ((error : JobError) × (job_list_of text ≡ Err error)
+    × ((message : List ℕ) × AppendsFaultLines (fault_head path text) (error ∷ []) [] message × IsStop 2 message stop))
 
 -- ---- reports
 
@@ -144,11 +144,11 @@ IsReportFaultReported path bytes stop =
 
 -- memory ran out, or the stop reports the first error of the bytes, which were read as a report from the path
 pub record IsReportFaultStop (path bytes : List ℕ) (stop : Stop) : Type 0 where
-  pub told : (stop ≡ stops.OutOfMemory) ⊎ IsReportFaultReported path bytes stop
+  pub reported : (stop ≡ stops.OutOfMemory) ⊎ IsReportFaultReported path bytes stop
   -- a prefix of a report is reported as truncated
-  pub cut : IsReportPrefix bytes → IsTruncatedStop path stop
+  pub report_prefix : IsReportPrefix bytes → IsTruncatedStop path stop
   -- a complete report has no error
-  pub whole : (report : SavedReport) → IsReportText bytes report → stop ≡ stops.OutOfMemory
+  pub valid_report : (report : SavedReport) → IsReportText bytes report → stop ≡ stops.OutOfMemory
 
 -- why a command stopped: the report at the path could not be read, or it has an error
 abbrev pub IsReportReadStop : Option FileContents → List ℕ → Stop → Type 0
@@ -159,9 +159,9 @@ IsReportReadStop contents path stop = IsResultUnreadStop contents path stop
 
 -- memory ran out, or the stop reports the first invalid line of the bytes; a prefix of a report has no invalid line
 pub record IsPartialFaultStop (path bytes : List ℕ) (stop : Stop) : Type 0 where
-  pub told : (stop ≡ stops.OutOfMemory)
+  pub reported : (stop ≡ stops.OutOfMemory)
       ⊎ ((line : ℕ) × IsFirstInvalidLine line bytes × IsLineStop path bytes line stop)
-  pub beginning : IsReportPrefix bytes → stop ≡ stops.OutOfMemory
+  pub report_prefix : IsReportPrefix bytes → stop ≡ stops.OutOfMemory
 
 -- why a command stopped: the bytes are not a report, nor a truncated report if the Bool allows that
 abbrev pub IsRequestedFaultStop : Bool → List ℕ → List ℕ → Stop → Type 0

@@ -24,16 +24,16 @@ pub record IsReportText (bytes : List ℕ) (report : SavedReport) : Type 0 where
 pub record IsReportAt (contents : Option FileContents) (path : List ℕ) (report : SavedReport) : Type 0 where
   pub bytes : List ℕ
   pub read : IsTextAt contents path bytes
-  pub of : IsReportText bytes report
+  pub report_text : IsReportText bytes report
 
--- the bytes are parsed as this report, which may be truncated only if `partial` is true
-pub record IsReportRead (partial : Bool) (bytes : List ℕ) (read : PartialReport) : Type 0 where
-  pub is : IsReadAs bytes read.is_truncated read.report
-  pub taken : read.is_truncated ≡ true → partial ≡ true
+-- the bytes are parsed as `report`, which may be truncated only if `partial` is true
+pub record IsReportRead (partial : Bool) (bytes : List ℕ) (report : PartialReport) : Type 0 where
+  pub read_as : IsReadAs bytes report.is_truncated report.report
+  pub only_if_partial : report.is_truncated ≡ true → partial ≡ true
 
--- if the contents of files are known, the file at the path is parsed as this report, which may be truncated only if `partial` is true
-pub record IsReportReadAt (contents : Option FileContents) (partial : Bool) (path : List ℕ) (read : PartialReport)
+-- if the contents of files are known, the file at the path is parsed as `report`, which may be truncated only if `partial` is true
+pub record IsReportReadAt (contents : Option FileContents) (partial : Bool) (path : List ℕ) (report : PartialReport)
     : Type 0 where
   pub bytes : List ℕ
-  pub found : IsTextAt contents path bytes
-  pub of : IsReportRead partial bytes read
+  pub read : IsTextAt contents path bytes
+  pub parsed : IsReportRead partial bytes report

@@ -18,14 +18,14 @@ pub(crate) fn read_file_up_to<D: Inputs>(
     max_bytes: usize,
 ) -> Result<Option<Vec<u8>>, Stop>
     requires { max_bytes + 1 < 2 ^ 64 }
-    ensures whole { IfOk result
-        (λ found. IfSome found (λ bytes. IsTextAt (D.contents inputs.now) path.now bytes.items)) }
-    ensures within { IfOk result (λ found. IfSome found (λ bytes. length bytes.items ≤ max_bytes)) }
-    ensures long { IfOk result (λ found. IfNone found (IsTooLongAt (D.contents inputs.now) path.now max_bytes)) }
-    ensures unread { IfErr result (IsUnreadStop (D.contents inputs.now) path.now) }
+    ensures contents { IfOk result
+        (λ contents. IfSome contents (λ bytes. IsTextAt (D.contents inputs.now) path.now bytes.items)) }
+    ensures at_most_max { IfOk result (λ contents. IfSome contents (λ bytes. length bytes.items ≤ max_bytes)) }
+    ensures too_long { IfOk result (λ contents. IfNone contents (IsTooLongAt (D.contents inputs.now) path.now max_bytes)) }
+    ensures stopped { IfErr result (IsUnreadStop (D.contents inputs.now) path.now) }
 {
     match read_whole_up_to(inputs, alloc, path, max_bytes) {
-        Ok(found) => Ok(found),
+        Ok(contents) => Ok(contents),
         Err(InputError::OutOfMemory) => Err(Stop::OutOfMemory),
         Err(InputError::Failed(reason)) => Err(io_error_stop(alloc, path, reason)),
     }
@@ -37,14 +37,14 @@ const MAX_RESULT_BYTES: usize = 0x4000_0000;
 /// Reads the file of a report or a table of counts. Returns an error if it is too long.
 pub fn read_result_file<D: Inputs>(inputs: &D, alloc: Global, path: &str) -> Result<Vec<u8>, Stop>
     ensures read { IfOk result (λ bytes. IsTextAt (D.contents inputs.now) path.now bytes.items) }
-    ensures within { IfOk result (λ bytes. length bytes.items ≤ max_result_bytes) }
-    ensures unread { IfErr result (IsResultUnreadStop (D.contents inputs.now) path.now) }
+    ensures at_most_max { IfOk result (λ bytes. length bytes.items ≤ max_result_bytes) }
+    ensures stopped { IfErr result (IsResultUnreadStop (D.contents inputs.now) path.now) }
 {
     match read_file_up_to(inputs, alloc, path, MAX_RESULT_BYTES)? {
         Some(bytes) => Ok(bytes),
         None => {
-            let what = "the file is larger than 1073741824 bytes";
-            Err(Stop::system_failure(path_message(alloc, path, what)))
+            let reason = "the file is larger than 1073741824 bytes";
+            Err(Stop::system_failure(path_message(alloc, path, reason)))
         }
     }
 }
@@ -55,7 +55,7 @@ const UNLIMITED: usize = usize::MAX - 1;
 /// Reads a file that this command has written, whatever its size.
 pub fn read_file<D: Inputs>(inputs: &D, alloc: Global, path: &str) -> Result<Vec<u8>, Stop>
     ensures read { IfOk result (λ bytes. IsTextAt (D.contents inputs.now) path.now bytes.items) }
-    ensures unread { IfErr result (IsUnreadStop (D.contents inputs.now) path.now) }
+    ensures stopped { IfErr result (IsUnreadStop (D.contents inputs.now) path.now) }
 {
     match read_file_up_to(inputs, alloc, path, UNLIMITED)? {
         Some(bytes) => Ok(bytes),
@@ -64,15 +64,15 @@ pub fn read_file<D: Inputs>(inputs: &D, alloc: Global, path: &str) -> Result<Vec
     }
 }
 
-/// Returns the error that the file at the path cannot be opened or written.
+/// Returns the stop for an error in opening or writing the file at the path.
 pub fn file_error_stop(alloc: Global, path: &str, error: FileError) -> Stop
     ensures { IsFileErrorStop path.now error result }
 {
     match error {
         FileError::OutOfMemory => Stop::OutOfMemory,
         FileError::SameFile => {
-            let what = "another output of this command is the same file";
-            Stop::rejection(path_message(alloc, path, what))
+            let reason = "another output of this command is the same file";
+            Stop::rejection(path_message(alloc, path, reason))
         }
         FileError::Failed(reason) => io_error_stop(alloc, path, reason),
     }

@@ -28,7 +28,7 @@ pub fn invalid_line_message<'a>(
     text: &'a [u8],
     number: usize,
 ) -> Result<Vec<u8>, AllocError>
-    ensures { IfOk result (λ told. told.items ≡ invalid_line_message kind path.now text.now number) }
+    ensures { IfOk result (λ message. message.items ≡ invalid_line_message kind path.now text.now number) }
 {
     if is_job_list(alloc, text)? {
         job_list_message(alloc, kind, path)
@@ -43,7 +43,7 @@ fn job_list_message<'a>(
     kind: ResultKind,
     path: &'a str,
 ) -> Result<Vec<u8>, AllocError>
-    ensures { IfOk result (λ told. told.items ≡ job_list_message kind path.now) }
+    ensures { IfOk result (λ message. message.items ≡ job_list_message kind path.now) }
 {
     text_of_spans(
         alloc,
@@ -65,7 +65,7 @@ fn line_message<'a>(
     text: &'a [u8],
     number: usize,
 ) -> Result<Vec<u8>, AllocError>
-    ensures { IfOk result (λ told. told.items ≡ line_message kind path.now text.now number) }
+    ensures { IfOk result (λ message. message.items ≡ line_message kind path.now text.now number) }
 {
     text_of_spans(
         alloc,
@@ -109,16 +109,16 @@ fn kind_text(kind: ResultKind) -> &'static str
 fn is_job_list(alloc: Global, text: &[u8]) -> Result<bool, AllocError>
     ensures { IfOk result (λ is_list. is_list ≡ is_job_list text.now) }
 {
-    let faults = read_faults(alloc, text)?;
-    Ok(are_job_list_errors(faults.as_slice()))
+    let errors = read_faults(alloc, text)?;
+    Ok(are_job_list_errors(errors.as_slice()))
 }
 
 // Whether the errors of a text show that it is a TOML document with jobs, valid or not.
-fn are_job_list_errors(faults: &[JobError]) -> bool
-    ensures { result ≡ are_job_list_errors faults.now }
+fn are_job_list_errors(errors: &[JobError]) -> bool
+    ensures { result ≡ are_job_list_errors errors.now }
 {
-    match faults.first() {
-        Some(fault) => !matches!(fault.what, What::NotToml | What::NoJobs),
+    match errors.first() {
+        Some(error) => !matches!(error.what, What::NotToml | What::NoJobs),
         None => true,
     }
 }
@@ -158,7 +158,7 @@ fn first_line(text: &[u8]) -> &[u8]
     ensures { result.now ≡ first_line text.now }
 {
     match line_feed_offset(text) {
-        Some(place) => &text[..place],
+        Some(offset) => &text[..offset],
         None => text,
     }
 }
@@ -168,15 +168,15 @@ fn text_after_line(text: &[u8]) -> &[u8]
     ensures { result.now ≡ text_after_line text.now }
 {
     match line_feed_offset(text) {
-        Some(place) => &text[place + 1..],
+        Some(offset) => &text[offset + 1..],
         None => &[],
     }
 }
 
 // Returns the offset of the first line feed, or `None` if there is none.
 fn line_feed_offset(text: &[u8]) -> Option<usize>
-    ensures place { result ≡ position is_line_feed text.now }
-    ensures within { IfSome result (λ place. place < length text.now) }
+    ensures offset { result ≡ position is_line_feed text.now }
+    ensures within { IfSome result (λ offset. offset < length text.now) }
 {
     text.iter().position(|byte| *byte == b'\n')
 }

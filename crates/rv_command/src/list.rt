@@ -21,14 +21,14 @@ use std::alloc::{AllocError, Global};
 /// Reads the text of a job list or of a file of known failures. Returns an error if it is too long.
 pub fn read_list_text<D: Inputs>(inputs: &D, alloc: Global, path: &str) -> Result<Vec<u8>, Stop>
     ensures read { IfOk result (λ text. IsTextAt (D.contents inputs.now) path.now text.items) }
-    ensures within { IfOk result (λ text. length text.items ≤ max_file_size) }
-    ensures unread { IfErr result (IsListUnreadStop (D.contents inputs.now) path.now) }
+    ensures at_most_max { IfOk result (λ text. length text.items ≤ max_file_size) }
+    ensures stopped { IfErr result (IsListUnreadStop (D.contents inputs.now) path.now) }
 {
     match read_file_up_to(inputs, alloc, path, MAX_FILE_SIZE)? {
         Some(text) => Ok(text),
         None => {
-            let what = "the file is larger than 16777216 bytes";
-            Err(Stop::system_failure(path_message(alloc, path, what)))
+            let reason = "the file is larger than 16777216 bytes";
+            Err(Stop::system_failure(path_message(alloc, path, reason)))
         }
     }
 }
@@ -36,7 +36,7 @@ pub fn read_list_text<D: Inputs>(inputs: &D, alloc: Global, path: &str) -> Resul
 /// Parses the text of a list. The error reports the first mistake in the list.
 pub fn parse_list(alloc: Global, path: &str, text: &[u8]) -> Result<JobList, Stop>
     ensures jobs { IfOk result (λ jobs. job_list_of text.now ≡ Ok jobs) }
-    ensures fault { IfErr result (IsListFaultStop path.now text.now) }
+    ensures stopped { IfErr result (IsListFaultStop path.now text.now) }
 {
     match read_jobs(alloc, text) {
         Ok(jobs) => Ok(jobs),
@@ -45,13 +45,13 @@ pub fn parse_list(alloc: Global, path: &str, text: &[u8]) -> Result<JobList, Sto
 }
 
 // Returns the stop for an error of a list: out of memory, or the line that reports the error.
-fn list_fault_stop(alloc: Global, path: &str, text: &[u8], fault: JobError) -> Stop
-    requires { (fault.what ≡ What.OutOfMemory → ⊥) → job_list_of text.now ≡ Err fault }
+fn list_fault_stop(alloc: Global, path: &str, text: &[u8], error: JobError) -> Stop
+    requires { (error.what ≡ What.OutOfMemory → ⊥) → job_list_of text.now ≡ Err error }
     ensures { IsListFaultStop path.now text.now result }
 {
-    match fault.what {
+    match error.what {
         What::OutOfMemory => Stop::OutOfMemory,
-        _ => Stop::rejection(list_faults_text(alloc, path, text, &[fault])),
+        _ => Stop::rejection(list_faults_text(alloc, path, text, &[error])),
     }
 }
 
@@ -66,9 +66,9 @@ pub fn list_faults_text(
     ensures heads { IfOk result
         (λ lines. AppendsFaultLines (fault_head path.now text.now) faults.now [] lines.items) }
 {
-    let mut told = Vec::new(alloc);
-    push_faults(alloc, &mut told, path, text, faults)?;
-    Ok(told)
+    let mut lines = Vec::new(alloc);
+    push_faults(alloc, &mut lines, path, text, faults)?;
+    Ok(lines)
 }
 
 /// Returns the lines that report all errors of a list. `faults` has the first error of each invalid job.
@@ -81,7 +81,7 @@ pub fn all_faults_text(
     ensures { IfOk result
         (λ lines. AppendsLinesOfEach (IsFaultMessage path.now text.now) faults.now [] lines.items) }
 {
-    let mut told = Vec::new(alloc);
-    push_all_faults(alloc, &mut told, path, text, faults)?;
-    Ok(told)
+    let mut lines = Vec::new(alloc);
+    push_all_faults(alloc, &mut lines, path, text, faults)?;
+    Ok(lines)
 }

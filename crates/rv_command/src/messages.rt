@@ -13,9 +13,13 @@ use rv_files::{Sink, put_all};
 use rv_list_errors::{Span, text_of_spans};
 use std::alloc::{AllocError, Global};
 
-/// Returns a line that says `what` is wrong with the file at the path.
-pub fn path_message<'a>(alloc: Global, path: &'a str, what: &'a str) -> Result<Vec<u8>, AllocError>
-    ensures { IfOk result (λ text. text.items ≡ path_message path.now what.now) }
+/// Returns a line about the file at the path, with the reason.
+pub fn path_message<'a>(
+    alloc: Global,
+    path: &'a str,
+    reason: &'a str,
+) -> Result<Vec<u8>, AllocError>
+    ensures { IfOk result (λ text. text.items ≡ path_message path.now reason.now) }
 {
     text_of_spans(
         alloc,
@@ -23,31 +27,31 @@ pub fn path_message<'a>(alloc: Global, path: &'a str, what: &'a str) -> Result<V
             Span::Text("rvtest: "),
             Span::Printable(path.as_bytes()),
             Span::Text(": "),
-            Span::Text(what),
+            Span::Text(reason),
             Span::Text("\n"),
         ],
     )
 }
 
-/// Returns a line that says `what` is wrong with a line or a job in the file at the path. `number` is its number, and `place` is the text
-/// before the number.
+/// Returns the message about a numbered line or job of the file at the path: `label` is the text before the number, and `reason` is the
+/// text after it.
 pub fn path_number_message<'a>(
     alloc: Global,
     path: &'a str,
-    place: &'a str,
+    label: &'a str,
     number: usize,
-    what: &'a str,
+    reason: &'a str,
 ) -> Result<Vec<u8>, AllocError>
-    ensures { IfOk result (λ text. text.items ≡ path_number_message path.now place.now number what.now) }
+    ensures { IfOk result (λ text. text.items ≡ path_number_message path.now label.now number reason.now) }
 {
     text_of_spans(
         alloc,
         &[
             Span::Text("rvtest: "),
             Span::Printable(path.as_bytes()),
-            Span::Text(place),
+            Span::Text(label),
             Span::Number(number as u64),
-            Span::Text(what),
+            Span::Text(reason),
         ],
     )
 }
@@ -62,9 +66,9 @@ pub fn write_message<E: Sink>(errors: &mut E, text: &[u8])
 
 /// Writes results to standard output. If a write fails, returns `WriteFailed`, and only a prefix of the results is written.
 pub fn write_results<O: Sink>(out: &mut O, text: &[u8]) -> Result<(), Stop>
-    ensures put { OnOk result (Appends (O.accepted out.old) (O.accepted out.new) text.now) }
-    ensures counted { OnOk result (O.failure_count out.new ≡ O.failure_count out.old) }
-    ensures part { OnErr result (AppendsPrefix (O.accepted out.old) (O.accepted out.new) text.now) }
+    ensures written { OnOk result (Appends (O.accepted out.old) (O.accepted out.new) text.now) }
+    ensures no_failed_writes { OnOk result (O.failure_count out.new ≡ O.failure_count out.old) }
+    ensures prefix_written { OnErr result (AppendsPrefix (O.accepted out.old) (O.accepted out.new) text.now) }
     ensures failed { IfErr result (λ stop.
         (stop ≡ Stop.WriteFailed) × (O.failure_count out.new ≡ one_more (O.failure_count out.old))) }
 {
@@ -78,7 +82,7 @@ pub fn write_results<O: Sink>(out: &mut O, text: &[u8]) -> Result<(), Stop>
 /// reported, and the status is 141, as if the signal `SIGPIPE` had ended the program.
 pub fn put_end_message<E: Sink>(errors: &mut E, stop: Stop, is_out_closed: bool) -> u8
     ensures status { result ≡ end_status is_out_closed stop }
-    ensures told { IsMessageWritten (E.accepted errors.old) (E.accepted errors.new)
+    ensures reported { IsMessageWritten (E.accepted errors.old) (E.accepted errors.new)
         (E.failure_count errors.old) (E.failure_count errors.new) (end_message is_out_closed stop) }
     ensures status_bound { is_out_closed ≡ false → result ≤ 3 }
 {
@@ -91,14 +95,14 @@ pub fn put_end_message<E: Sink>(errors: &mut E, stop: Stop, is_out_closed: bool)
 /// Reports why a command stopped early, and returns the exit status: 2 or 3.
 pub fn write_stop_message<E: Sink>(errors: &mut E, stop: Stop) -> u8
     ensures status { result ≡ stop_status stop }
-    ensures told { IsMessageWritten (E.accepted errors.old) (E.accepted errors.new)
+    ensures reported { IsMessageWritten (E.accepted errors.old) (E.accepted errors.new)
         (E.failure_count errors.old) (E.failure_count errors.new) (stop_message stop) }
     ensures status_bound { result ≤ 3 }
 {
     match stop {
-        Stop::Message(lines, text) => {
+        Stop::Message(kind, text) => {
             write_message(errors, text.as_slice());
-            message_status(lines)
+            message_status(kind)
         }
         Stop::OutOfMemory => write_failure_message(errors, "rvtest: out of memory\n"),
         Stop::NoWorker => write_failure_message(errors, "rvtest: no thread could be started\n"),
@@ -109,7 +113,7 @@ pub fn write_stop_message<E: Sink>(errors: &mut E, stop: Stop) -> u8
     }
 }
 
-// Returns the exit status for these lines: 2 if the request is rejected, 3 if the system failed.
+// Returns the exit status for a message of this kind: 2 if the request is rejected, 3 if the system failed.
 fn message_status(kind: MessageKind) -> u8
     ensures { result ≡ message_status kind }
 {
@@ -122,7 +126,7 @@ fn message_status(kind: MessageKind) -> u8
 /// Writes a message about a system failure to standard error, and returns the exit status 3.
 pub fn write_failure_message<E: Sink>(errors: &mut E, text: &str) -> u8
     ensures status { result ≡ FAILED }
-    ensures told { IsMessageWritten (E.accepted errors.old) (E.accepted errors.new)
+    ensures reported { IsMessageWritten (E.accepted errors.old) (E.accepted errors.new)
         (E.failure_count errors.old) (E.failure_count errors.new) text.now }
 {
     write_message(errors, text.as_bytes());

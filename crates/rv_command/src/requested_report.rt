@@ -29,8 +29,8 @@ pub fn read_requested_report<D: Inputs>(
     requested: RequestedReport<'_>,
 ) -> Result<PartialReport, Stop>
     ensures read { IfOk result (IsReportReadAt (D.contents inputs.now) requested.entry.partial requested.entry.path.now) }
-    ensures few { IfOk result (λ read. length read.report.rows ≤ max_jobs) }
-    ensures unread { IfErr result
+    ensures at_most_max { IfOk result (λ report. length report.report.rows ≤ max_jobs) }
+    ensures stopped { IfErr result
         (IsRequestedUnreadStop (D.contents inputs.now) requested.entry.partial requested.entry.path.now) }
 {
     let text = read_result_file(inputs, alloc, requested.path)?;
@@ -44,8 +44,8 @@ pub fn parse_requested_report(
     text: &[u8],
 ) -> Result<PartialReport, Stop>
     ensures read { IfOk result (IsReportRead requested.entry.partial text.now) }
-    ensures few { IfOk result (λ read. length read.report.rows ≤ max_jobs) }
-    ensures fault { IfErr result (IsRequestedFaultStop requested.entry.partial requested.entry.path.now text.now) }
+    ensures at_most_max { IfOk result (λ report. length report.report.rows ≤ max_jobs) }
+    ensures stopped { IfErr result (IsRequestedFaultStop requested.entry.partial requested.entry.path.now text.now) }
 {
     if requested.partial {
         return parse_partial_report(alloc, requested.path, text);
@@ -59,12 +59,12 @@ pub fn parse_requested_report(
 
 // Parses the text of a report that may be truncated: then its complete rows are returned.
 fn parse_partial_report(alloc: Global, path: &str, text: &[u8]) -> Result<PartialReport, Stop>
-    ensures read { IfOk result (λ read. IsReadAs text.now read.is_truncated read.report) }
-    ensures few { IfOk result (λ read. length read.report.rows ≤ max_jobs) }
-    ensures fault { IfErr result (IsPartialFaultStop path.now text.now) }
+    ensures read { IfOk result (λ report. IsReadAs text.now report.is_truncated report.report) }
+    ensures at_most_max { IfOk result (λ report. length report.report.rows ≤ max_jobs) }
+    ensures stopped { IfErr result (IsPartialFaultStop path.now text.now) }
 {
     match read_partial_report(alloc, text) {
-        Ok(read) => Ok(read),
+        Ok(report) => Ok(report),
         Err(ReadError::Line(line)) => Err(report_line_stop(alloc, path, text, line)),
         // A truncated report is accepted.
         Err(ReadError::OutOfMemory | ReadError::Truncated) => Err(Stop::OutOfMemory),
@@ -75,16 +75,16 @@ fn parse_partial_report(alloc: Global, path: &str, text: &[u8]) -> Result<Partia
 pub fn truncation_note(
     alloc: Global,
     path: &str,
-    read: &PartialReport,
+    partial_report: &PartialReport,
 ) -> Result<Vec<u8>, AllocError>
-    ensures { IfOk result (λ note. note.items ≡ truncation_note path.now read.now) }
+    ensures { IfOk result (λ note. note.items ≡ truncation_note path.now partial_report.now) }
 {
-    if !read.is_truncated {
+    if !partial_report.is_truncated {
         return Ok(Vec::new(alloc));
     }
-    let rows = read.report.rows.as_slice().len();
-    let what = ": note: the report is truncated; using its ";
-    path_number_message(alloc, path, what, rows, complete_rows_text(rows))
+    let rows = partial_report.report.rows.as_slice().len();
+    let label = ": note: the report is truncated; using its ";
+    path_number_message(alloc, path, label, rows, complete_rows_text(rows))
 }
 
 // Returns ` complete row` for one row and ` complete rows` for any other number, with a line feed.

@@ -20,8 +20,8 @@ pub fn read_report_file<D: Inputs>(
     path: &str,
 ) -> Result<SavedReport, Stop>
     ensures read { IfOk result (IsReportAt (D.contents inputs.now) path.now) }
-    ensures few { IfOk result (λ report. length report.rows ≤ max_jobs) }
-    ensures unread { IfErr result (IsReportReadStop (D.contents inputs.now) path.now) }
+    ensures at_most_max { IfOk result (λ report. length report.rows ≤ max_jobs) }
+    ensures stopped { IfErr result (IsReportReadStop (D.contents inputs.now) path.now) }
 {
     let text = read_result_file(inputs, alloc, path)?;
     parse_report(alloc, path, text.as_slice())
@@ -30,15 +30,15 @@ pub fn read_report_file<D: Inputs>(
 /// Parses the text of a report that was read from the path.
 pub fn parse_report(alloc: Global, path: &str, text: &[u8]) -> Result<SavedReport, Stop>
     ensures report { IfOk result (IsReportText text.now) }
-    ensures few { IfOk result (λ report. length report.rows ≤ max_jobs) }
-    ensures fault { IfErr result (IsReportFaultStop path.now text.now) }
+    ensures at_most_max { IfOk result (λ report. length report.rows ≤ max_jobs) }
+    ensures stopped { IfErr result (IsReportFaultStop path.now text.now) }
 {
     match read_report(alloc, text) {
         Ok(report) => Ok(report),
         Err(ReadError::OutOfMemory) => Err(Stop::OutOfMemory),
         Err(ReadError::Truncated) => {
-            let told = path_message(alloc, path, "the report is truncated");
-            Err(Stop::rejection(told))
+            let message = path_message(alloc, path, "the report is truncated");
+            Err(Stop::rejection(message))
         }
         Err(ReadError::Line(line)) => Err(report_line_stop(alloc, path, text, line)),
     }
@@ -48,6 +48,6 @@ pub fn parse_report(alloc: Global, path: &str, text: &[u8]) -> Result<SavedRepor
 pub(crate) fn report_line_stop(alloc: Global, path: &str, text: &[u8], line: usize) -> Stop
     ensures { IsLineStop path.now text.now line result }
 {
-    let told = invalid_line_message(alloc, ResultKind::Report, path, text, line);
-    Stop::rejection(told)
+    let message = invalid_line_message(alloc, ResultKind::Report, path, text, line);
+    Stop::rejection(message)
 }

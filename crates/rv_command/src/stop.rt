@@ -39,25 +39,25 @@ impl Stop {
         }
     }
 
-    /// Returns the stop that rejects the request with the lines in `told`, or out of memory if `told` is an error.
-    pub fn rejection(told: Result<Vec<u8>, AllocError>) -> Stop
-        ensures { result ≡ stop_with_message MessageKind.Rejection told }
+    /// Returns the stop that rejects the request with this message, or out of memory if the message could not be made.
+    pub fn rejection(message: Result<Vec<u8>, AllocError>) -> Stop
+        ensures { result ≡ stop_with_message MessageKind.Rejection message }
     {
-        Stop::with_message(MessageKind::Rejection, told)
+        Stop::with_message(MessageKind::Rejection, message)
     }
 
-    /// Returns the stop that reports a system failure with the lines in `told`, or out of memory if `told` is an error.
-    pub fn system_failure(told: Result<Vec<u8>, AllocError>) -> Stop
-        ensures { result ≡ stop_with_message MessageKind.Failure told }
+    /// Returns the stop that reports a system failure with this message, or out of memory if the message could not be made.
+    pub fn system_failure(message: Result<Vec<u8>, AllocError>) -> Stop
+        ensures { result ≡ stop_with_message MessageKind.Failure message }
     {
-        Stop::with_message(MessageKind::Failure, told)
+        Stop::with_message(MessageKind::Failure, message)
     }
 
-    // Returns the stop with the lines in `told`, which are of this kind, or out of memory if `told` is an error.
-    fn with_message(kind: MessageKind, told: Result<Vec<u8>, AllocError>) -> Stop
-        ensures { result ≡ stop_with_message kind told }
+    // Returns the stop with this message, which is of this kind, or out of memory if the message could not be made.
+    fn with_message(kind: MessageKind, message: Result<Vec<u8>, AllocError>) -> Stop
+        ensures { result ≡ stop_with_message kind message }
     {
-        match told {
+        match message {
             Ok(text) => Stop::Message(kind, text),
             Err(error) => Stop::from(error),
         }

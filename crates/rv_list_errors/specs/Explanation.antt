@@ -17,7 +17,7 @@ use Rattle.rv_list_locations.specs.LinesAndColumns.{column_at, line_at}
 use Rattle.rv_list_errors.specs.declared.explanations.InsertedText.{InsertedText}
 use Rattle.rv_list_errors.specs.declared.explanations.InsertedText.TheVariants as rest
 use Rattle.rv_list_errors.specs.declared.explanations.Explanation.{Explanation}
-use Rattle.rv_list_errors.specs.declared.explanations.Explanation.TheVariants as told
+use Rattle.rv_list_errors.specs.declared.explanations.Explanation.TheVariants as explanation
 use Rattle.rv_list_errors.specs.declared.keys.Owner.{Owner}
 use Rattle.rv_list_errors.specs.declared.keys.Owner.TheVariants as owner
 use Rattle.rv_list_errors.specs.declared.message.Message.{Message}
@@ -40,23 +40,23 @@ IsShownValue value shown = MatchOption (as_str value)
 abbrev pub missing_key_text : List ℕ → List ℕ
 missing_key_text key = codes "missing key \"" ++ (key ++ codes "\"")
 
--- `told` is the key with its value, or that the key is missing
+-- `text` is the key with its value, or that the key is missing
 abbrev pub IsKeyAndValue : List ℕ → Option Data → List ℕ → Type 0
-IsKeyAndValue key None told = told ≡ missing_key_text key
-IsKeyAndValue key (Some value) told = (shown : List ℕ) × IsShownValue value shown × (told ≡ key ++ codes " = " ++ shown)
+IsKeyAndValue key None text = text ≡ missing_key_text key
+IsKeyAndValue key (Some value) text = (shown : List ℕ) × IsShownValue value shown × (text ≡ key ++ codes " = " ++ shown)
 
--- `told` is the key with its value, or that it is missing, and then `expected`, which is expected of the value
+-- `message` is the key with its value, or that it is missing, and then `expected`, which is expected of the value
 abbrev pub IsExpectedValue : List ℕ → Option Data → List ℕ → List ℕ → Type 0
-IsExpectedValue key value expected told =
-    (met : List ℕ) × IsKeyAndValue key value met × (told ≡ met ++ (codes ": " ++ expected))
+IsExpectedValue key value expected message =
+    (key_and_value : List ℕ) × IsKeyAndValue key value key_and_value × (message ≡ key_and_value ++ (codes ": " ++ expected))
 
 -- ---- errors of the whole list
 
--- `told` is the explanation of a text that is not TOML: the line and column of the byte at the index `place`, where the error is, and a
+-- `message` is the explanation of a text that is not TOML: the line and column of the byte at index `index`, where the error is, and a
 -- reason
 abbrev pub ExplainsNotToml : List ℕ → ℕ → List ℕ → Type 0
-ExplainsNotToml text place told = (reason : List ℕ) × (told
-    ≡ codes ":" ++ (decimal (line_at place text) ++ (codes ":" ++ (decimal (column_at place text)
+ExplainsNotToml text index message = (reason : List ℕ) × (message
+    ≡ codes ":" ++ (decimal (line_at index text) ++ (codes ":" ++ (decimal (column_at index text)
     ++ (codes ": error: invalid TOML: " ++ reason)))))
 
 -- the first bytes of an ELF file
@@ -95,7 +95,7 @@ unknown_key_text key = codes "unknown key " ++ quoted key
 
 -- the number of the region at an index, counted from 1, as in `region 1`
 abbrev pub region_number_text : ℕ → List ℕ
-region_number_text place = codes "region " ++ decimal (place + 1)
+region_number_text index = codes "region " ++ decimal (index + 1)
 
 -- ---- names
 
@@ -105,18 +105,18 @@ abbrev pub nearest_job_text : List (Option (List ℕ)) → Option (List ℕ) →
 nearest_job_text names (Some name) = codes "; a similar name exists: " ++ quoted name
 nearest_job_text names None = codes "; the earlier jobs are " ++ names_text (present names)
 
--- `told` suggests the name that is probably meant by the job name `expected`, or else all of these names
+-- `message` suggests the name that is probably meant by the job name `expected`, or else all of these names
 abbrev pub IsJobNameSuggestion : List (Option (List ℕ)) → List ℕ → List ℕ → Type 0
-IsJobNameSuggestion names expected told =
-    (near : Option (List ℕ)) × IsNearName names expected near × (told ≡ nearest_job_text names near)
+IsJobNameSuggestion names expected message =
+    (near : Option (List ℕ)) × IsNearName names expected near × (message ≡ nearest_job_text names near)
 
 -- ---- expected values
 
 -- the name of the fault kind at an index, in quotes, with the separator before it
 abbrev pub kind_text : ℕ → List ℕ
-kind_text place =
-    (if place == 0 then [] else if place + 1 == length fault_kinds then codes " or " else codes ", ")
-    ++ quoted (fault_name (slice_index_or fault_kinds place fault.FetchAccess))
+kind_text index =
+    (if index == 0 then [] else if index + 1 == length fault_kinds then codes " or " else codes ", ")
+    ++ quoted (fault_name (slice_index_or fault_kinds index fault.FetchAccess))
 
 -- the names of the first kinds of faults, as a sentence lists them; the number is how many there are
 unfoldable pub first_fault_kinds_text : ℕ → List ℕ
@@ -131,8 +131,8 @@ inserted_text rest.FaultKinds = first_fault_kinds_text (length fault_kinds)
 
 -- the words of an explanation, without the key and its value
 abbrev pub explained_text : Explanation → List ℕ
-explained_text (told.Text text) = text.now
-explained_text (told.Expected expected) = expected.now.before.now ++ (inserted_text expected.now.rest ++ expected.now.behind.now)
+explained_text (explanation.Text text) = text.now
+explained_text (explanation.Expected expected) = expected.now.before.now ++ (inserted_text expected.now.rest ++ expected.now.behind.now)
 
 -- the text that says what is expected of the bad value, given the error, or `None` if it depends on more than the error
 abbrev pub expected_of_error : What → Option (List ℕ)

@@ -50,7 +50,7 @@ abbrev pub job_number_and_name : List (Option (List ℕ)) → ℕ → List ℕ
 job_number_and_name names number =
     codes ": error: job " ++ (decimal number ++ (name_text (slice_index_or names (number - 1) None) ++ codes ": "))
 
--- `:WORD_LINE_LEN: error: job NUMBER "NAME": ` for the job with this number, given the lines on which the jobs begin and their names
+-- `:LINE: error: job NUMBER "NAME": ` for the job with this number, given the lines on which the jobs begin and their names
 abbrev pub job_heading : List ℕ → List (Option (List ℕ)) → ℕ → List ℕ
 job_heading line_numbers names number = line_text (slice_get line_numbers (number - 1)) ++ job_number_and_name names number
 

@@ -10,7 +10,7 @@ use Rattle.toml.specs.Data.{Data, Items, Members, get_member, item, no_items, ta
 use Rattle.toml.specs.View.{items_view}
 use Rattle.rv_lists.specs.Keys.{is_absent_or, is_number, is_region_array, is_text, is_text_array, text_at_key}
 use Rattle.rv_lists.specs.declared.keys.ValueType.{ValueType}
-use Rattle.rv_lists.specs.declared.keys.ValueType.TheVariants as kind
+use Rattle.rv_lists.specs.declared.keys.ValueType.TheVariants as value_type
 use Rattle.rv_lists.specs.Limits.{max_script_len}
 use Rattle.rv_lists.specs.Faults.{job_error_name}
 use Rattle.rv_lists.specs.declared.error.JobError.{JobError}
@@ -32,7 +32,7 @@ use Rattle.rv_list_errors.specs.declared.explanations.InsertedText.{InsertedText
 use Rattle.rv_list_errors.specs.declared.explanations.InsertedText.TheVariants as rest
 use Rattle.rv_list_errors.specs.declared.explanations.Expected.{Expected}
 use Rattle.rv_list_errors.specs.declared.explanations.Explanation.{Explanation}
-use Rattle.rv_list_errors.specs.declared.explanations.Explanation.TheVariants as told
+use Rattle.rv_list_errors.specs.declared.explanations.Explanation.TheVariants as explanation
 
 -- ---- names of jobs
 
@@ -44,7 +44,7 @@ is_name_of name (Some other) = bytes_eq other name
 -- the number, counted from 1, of the first job with this name, or `None` if there is no name or no job has it
 abbrev pub number_of_name : List (Option (List ℕ)) → Option (List ℕ) → Option ℕ
 number_of_name names None = None
-number_of_name names (Some name) = option_map (λ place. place + 1) (position (is_name_of name) names)
+number_of_name names (Some name) = option_map (λ index. index + 1) (position (is_name_of name) names)
 
 -- ---- regions
 
@@ -68,49 +68,49 @@ no_region = record { base = 0; size = 0; writable = false }
 
 -- the region at an index of a list
 abbrev pub region_at : List Region → ℕ → Region
-region_at regions place = slice_index_or regions place no_region
+region_at regions index = slice_index_or regions index no_region
 
--- the regions at the indices `place` and `later` overlap, and `address` is the first address that they share
-pub record IsOverlap (regions : List Region) (place later address : ℕ) : Type 0 where
-  pub before : place < later
+-- the regions at the indices `index` and `later` overlap, and `address` is the first address that they share
+pub record IsOverlap (regions : List Region) (index later address : ℕ) : Type 0 where
+  pub before : index < later
   pub within : later < length regions
-  pub shared : IsFirstSharedAddress (region_at regions place) (region_at regions later) address
+  pub shared : IsFirstSharedAddress (region_at regions index) (region_at regions later) address
 
--- no region at a greater index shares an address with the region at the index `place`
+-- no region at a greater index shares an address with the region at index `index`
 abbrev pub IsDisjointFromRest : List Region → ℕ → Type 0
-IsDisjointFromRest regions place = (later : ℕ) → place < later → later < length regions
-    → AreApart (region_at regions place) (region_at regions later)
+IsDisjointFromRest regions index = (later : ℕ) → index < later → later < length regions
+    → AreApart (region_at regions index) (region_at regions later)
 
--- no region at an index between `place` and `later` shares an address with the region at the index `place`
+-- no region at an index between `index` and `later` shares an address with the region at index `index`
 abbrev pub IsApartBefore : List Region → ℕ → ℕ → Type 0
-IsApartBefore regions place later = (between : ℕ) → place < between → between < later
-    → AreApart (region_at regions place) (region_at regions between)
+IsApartBefore regions index later = (between : ℕ) → index < between → between < later
+    → AreApart (region_at regions index) (region_at regions between)
 
--- the regions at the indices `place` and `later` are the first two that overlap, ordered by the first index and then by the second, and
+-- the regions at the indices `index` and `later` are the first two that overlap, ordered by the first index and then by the second, and
 -- `address` is the first address that they share
-pub record IsFirstOverlap (regions : List Region) (place later address : ℕ) : Type 0 where
-  pub overlaps : IsOverlap regions place later address
-  pub first : (other : ℕ) → other < place → IsDisjointFromRest regions other
-  pub nearest : IsApartBefore regions place later
+pub record IsFirstOverlap (regions : List Region) (index later address : ℕ) : Type 0 where
+  pub overlaps : IsOverlap regions index later address
+  pub first : (other : ℕ) → other < index → IsDisjointFromRest regions other
+  pub nearest : IsApartBefore regions index later
 
 -- no two regions of a list share an address
 abbrev pub AreAllApart : List Region → Type 0
-AreAllApart regions = (place : ℕ) → IsDisjointFromRest regions place
+AreAllApart regions = (index : ℕ) → IsDisjointFromRest regions index
 
--- the explanation that the regions at the indices `place` and `later` overlap at this address
+-- the explanation that the regions at the indices `index` and `later` overlap at this address
 abbrev pub overlap_text : ℕ → ℕ → ℕ → List ℕ
-overlap_text place later address = region_number_text place ++ (codes " and " ++ (region_number_text later
+overlap_text index later address = region_number_text index ++ (codes " and " ++ (region_number_text later
     ++ (codes " overlap at 0x" ++ (word_digits address ++ codes ": expected disjoint regions"))))
 
--- `told` explains the first overlap of the regions
+-- `message` explains the first overlap of the regions
 abbrev pub ExplainsOverlap : List Region → List ℕ → Type 0
-ExplainsOverlap regions told = (place later address : ℕ) × IsFirstOverlap regions place later address
-    × (told ≡ overlap_text place later address)
+ExplainsOverlap regions message = (index later address : ℕ) × IsFirstOverlap regions index later address
+    × (message ≡ overlap_text index later address)
 
--- `told` explains why regions do not form a map: it begins with a region's number or the number of regions, or says what their sizes add up
+-- `message` explains why regions do not form a map: it begins with a region's number or the number of regions, or says what their sizes add up
 -- to
 abbrev pub ExplainsRegions : List ℕ → Type 0
-ExplainsRegions told = BeginsWith (codes "region") told ⊎ BeginsWith (codes "the sizes of the regions add up to ") told
+ExplainsRegions message = BeginsWith (codes "region") message ⊎ BeginsWith (codes "the sizes of the regions add up to ") message
 
 -- ---- the script
 
@@ -140,8 +140,8 @@ script_explanation_of ms = script_explanation (text_at_key (codes "input") ms) (
 
 -- the key whose value this explanation shows, or `None` if it shows none
 abbrev pub explained_key : Explanation → Option (List ℕ)
-explained_key (told.Text text) = None
-explained_key (told.Expected expected) = Some expected.now.key.now
+explained_key (explanation.Text text) = None
+explained_key (explanation.Expected expected) = Some expected.now.key.now
 
 -- the number of bytes that a text of this length represents, or 0 if the number is never shown
 abbrev pub shown_byte_count : Bytes → ℕ → ℕ
@@ -163,16 +163,16 @@ text_length (Some text) = length text
 abbrev pub expected_text : Expected → List ℕ
 expected_text expected = expected.before.now ++ (inserted_text expected.rest ++ expected.behind.now)
 
--- `told` is the key with its value, or that it is missing, then the number of bytes if there are too many, and then what is expected
+-- `message` is the key with its value, or that it is missing, then the number of bytes if there are too many, and then what is expected
 abbrev pub ExplainsExpectedValue : Expected → Members → List ℕ → Type 0
-ExplainsExpectedValue expected ms told = (met : List ℕ) × IsKeyAndValue expected.key.now (get_member expected.key.now ms) met
-    × (told ≡ met ++ (bytes_text expected.rest (shown_byte_count expected.bytes (text_length (text_at_key expected.key.now ms)))
+ExplainsExpectedValue expected ms message = (key_and_value : List ℕ) × IsKeyAndValue expected.key.now (get_member expected.key.now ms) key_and_value
+    × (message ≡ key_and_value ++ (bytes_text expected.rest (shown_byte_count expected.bytes (text_length (text_at_key expected.key.now ms)))
     ++ (codes ": " ++ expected_text expected)))
 
--- `told` is the text of an explanation, given the values of the job
+-- `message` is the text of an explanation, given the values of the job
 abbrev pub IsTextOfExplanation : Explanation → Members → List ℕ → Type 0
-IsTextOfExplanation (told.Text text) ms told = told ≡ text.now
-IsTextOfExplanation (told.Expected expected) ms told = ExplainsExpectedValue expected.now ms told
+IsTextOfExplanation (explanation.Text text) ms message = message ≡ text.now
+IsTextOfExplanation (explanation.Expected expected) ms message = ExplainsExpectedValue expected.now ms message
 
 -- the key whose value is bad, given the error, or `None` if it depends on more than the error
 abbrev pub key_of : What → Option (List ℕ)
@@ -184,48 +184,48 @@ key_of what.Signature = Some (codes "signature")
 key_of what.Misaligned = Some (codes "misaligned")
 key_of _ = None
 
--- ---- values of the wrong type
+-- ---- values of the kind type
 
--- `told` begins with the key and its value, or that it is missing
+-- `message` begins with the key and its value, or that it is missing
 abbrev pub BeginsWithValue : List ℕ → Members → List ℕ → Type 0
-BeginsWithValue key ms told = (met : List ℕ) × IsKeyAndValue key (get_member key ms) met × BeginsWith met told
+BeginsWithValue key ms message = (key_and_value : List ℕ) × IsKeyAndValue key (get_member key ms) key_and_value × BeginsWith key_and_value message
 
--- `told` begins with the key and its value, or with the number of a region
+-- `message` begins with the key and its value, or with the number of a region
 abbrev pub BeginsWithRegion : List ℕ → Members → List ℕ → Type 0
-BeginsWithRegion key ms told = BeginsWithValue key ms told ⊎ BeginsWith (codes "region ") told
+BeginsWithRegion key ms message = BeginsWithValue key ms message ⊎ BeginsWith (codes "region ") message
 
--- `told` explains that the value of this key does not have the type of this kind
+-- `message` explains that the value of this key does not have the type of this kind
 abbrev pub ExplainsWrongType : List ℕ → ValueType → Members → List ℕ → Type 0
-ExplainsWrongType key kind.Regions ms told = BeginsWithRegion key ms told
-ExplainsWrongType key _ ms told = BeginsWithValue key ms told
+ExplainsWrongType key value_type.Regions ms message = BeginsWithRegion key ms message
+ExplainsWrongType key _ ms message = BeginsWithValue key ms message
 
 -- the keys of a job in the order of the format, each with the type of its value
 abbrev pub types_of_keys : List (List ℕ × ValueType)
 types_of_keys =
-    (codes "name", kind.Text)
-    ∷ (codes "image", kind.Text)
-    ∷ (codes "budget", kind.Number)
-    ∷ (codes "input", kind.Text)
-    ∷ (codes "input_hex", kind.Text)
-    ∷ (codes "region", kind.Regions)
-    ∷ (codes "load", kind.Text)
-    ∷ (codes "signature", kind.Texts)
-    ∷ (codes "expect_exit", kind.Number)
-    ∷ (codes "expect_signature", kind.Text)
-    ∷ (codes "expect_console", kind.Text)
-    ∷ (codes "expect_console_file", kind.Text)
-    ∷ (codes "expect_end", kind.Text)
-    ∷ (codes "same_as", kind.Text)
-    ∷ (codes "isa", kind.Text)
-    ∷ (codes "misaligned", kind.Text)
+    (codes "name", value_type.Text)
+    ∷ (codes "image", value_type.Text)
+    ∷ (codes "budget", value_type.Number)
+    ∷ (codes "input", value_type.Text)
+    ∷ (codes "input_hex", value_type.Text)
+    ∷ (codes "region", value_type.Regions)
+    ∷ (codes "load", value_type.Text)
+    ∷ (codes "signature", value_type.Texts)
+    ∷ (codes "expect_exit", value_type.Number)
+    ∷ (codes "expect_signature", value_type.Text)
+    ∷ (codes "expect_console", value_type.Text)
+    ∷ (codes "expect_console_file", value_type.Text)
+    ∷ (codes "expect_end", value_type.Text)
+    ∷ (codes "same_as", value_type.Text)
+    ∷ (codes "isa", value_type.Text)
+    ∷ (codes "misaligned", value_type.Text)
     ∷ []
 
 -- whether a value has this type
 abbrev pub is_value_of_type : ValueType → Data → Bool
-is_value_of_type kind.Text = is_text
-is_value_of_type kind.Number = is_number
-is_value_of_type kind.Texts = is_text_array
-is_value_of_type kind.Regions = is_region_array
+is_value_of_type value_type.Text = is_text
+is_value_of_type value_type.Number = is_number
+is_value_of_type value_type.Texts = is_text_array
+is_value_of_type value_type.Regions = is_region_array
 
 -- whether the job has this key, with a value that does not have the type of the key
 abbrev pub has_wrong_type_at : Members → List ℕ × ValueType → Bool
@@ -239,14 +239,14 @@ key_and_type key = (key.0.now, key.1)
 abbrev pub has_wrong_type_at_key : Members → Bor (List ℕ) × ValueType → Bool
 has_wrong_type_at_key ms key = has_wrong_type_at ms (key_and_type key)
 
--- `told` explains that the value of this key has the wrong type; without a key, that some type is invalid
+-- `message` explains that the value of this key has the kind type; without a key, that some type is invalid
 abbrev pub ExplainsWrongTypeOfKey : Members → Option (List ℕ × ValueType) → List ℕ → Type 0
-ExplainsWrongTypeOfKey ms None told = told ≡ codes "invalid type"
-ExplainsWrongTypeOfKey ms (Some key) told = ExplainsWrongType key.0 key.1 ms told
+ExplainsWrongTypeOfKey ms None message = message ≡ codes "invalid type"
+ExplainsWrongTypeOfKey ms (Some key) message = ExplainsWrongType key.0 key.1 ms message
 
--- `told` explains the first key of the job, in the order of the format, whose value has the wrong type
+-- `message` explains the first key of the job, in the order of the format, whose value has the kind type
 abbrev pub ExplainsFirstWrongType : Members → List ℕ → Type 0
-ExplainsFirstWrongType ms told = ExplainsWrongTypeOfKey ms (find (has_wrong_type_at ms) types_of_keys) told
+ExplainsFirstWrongType ms message = ExplainsWrongTypeOfKey ms (find (has_wrong_type_at ms) types_of_keys) message
 
 -- ---- errors of a job
 
@@ -255,71 +255,71 @@ abbrev pub job_of_name_text : Option ℕ → List ℕ
 job_of_name_text None = []
 job_of_name_text (Some number) = codes ", but job " ++ (decimal number ++ codes " has this name")
 
--- `told` is a key for a name with its value, then `expected`, which is expected, and then the number of the first job with this name, if
+-- `message` is a key for a name with its value, then `expected`, which is expected, and then the number of the first job with this name, if
 -- any
 abbrev pub ExplainsName : List (Option (List ℕ)) → List ℕ → List ℕ → Members → List ℕ → Type 0
-ExplainsName names key expected ms told = (met : List ℕ) × IsKeyAndValue key (get_member key ms) met
-    × (told ≡ met ++ (codes ": " ++ (expected ++ job_of_name_text (number_of_name names (text_at_key key ms)))))
+ExplainsName names key expected ms message = (key_and_value : List ℕ) × IsKeyAndValue key (get_member key ms) key_and_value
+    × (message ≡ key_and_value ++ (codes ": " ++ (expected ++ job_of_name_text (number_of_name names (text_at_key key ms)))))
 
 -- the text that says what is expected of a job's name that an earlier job has
 abbrev pub unique_name_text : List ℕ
 unique_name_text = codes "expected a unique name"
 
--- `told` begins with `same_as` and its value, what is expected of it, and the number of the first job with this name, if any
+-- `message` begins with `same_as` and its value, what is expected of it, and the number of the first job with this name, if any
 abbrev pub ExplainsSameAs : List (Option (List ℕ)) → Members → List ℕ → Type 0
-ExplainsSameAs names ms told = (head : List ℕ)
-    × ExplainsName names (codes "same_as") (codes "expected the name of an earlier job") ms head × BeginsWith head told
+ExplainsSameAs names ms message = (head : List ℕ)
+    × ExplainsName names (codes "same_as") (codes "expected the name of an earlier job") ms head × BeginsWith head message
 
 -- this explanation of a bad value belongs to this error of the job
-pub record IsExplanationOf (wrong : What) (ms : Members) (explained : Explanation) : Type 0 where
+pub record IsExplanationOf (kind : What) (ms : Members) (explained : Explanation) : Type 0 where
   -- the words are those of the error, if they depend on nothing else
-  pub words : IfSome (expected_of_error wrong) (λ words. explained_text explained ≡ words)
+  pub words : IfSome (expected_of_error kind) (λ words. explained_text explained ≡ words)
   -- the key is that of the error, if it depends on nothing else
-  pub key : IfSome (key_of wrong) (λ key. explained_key explained ≡ Some key)
-  pub script : wrong ≡ what.Input → (explained_key explained, explained_text explained) ≡ script_explanation_of ms
-  pub expectation : wrong ≡ what.Expect → IsExpectationExplanation ms (explained_key explained, explained_text explained)
-  pub isa : wrong ≡ what.Isa → (explained_key explained, explained_text explained) ≡ isa_explanation ms
+  pub key : IfSome (key_of kind) (λ key. explained_key explained ≡ Some key)
+  pub script : kind ≡ what.Input → (explained_key explained, explained_text explained) ≡ script_explanation_of ms
+  pub expectation : kind ≡ what.Expect → IsExpectationExplanation ms (explained_key explained, explained_text explained)
+  pub isa : kind ≡ what.Isa → (explained_key explained, explained_text explained) ≡ isa_explanation ms
 
--- `told` explains this error of a job, which does not depend on the other jobs
+-- `message` explains this error of a job, which does not depend on the other jobs
 abbrev pub ExplainsOwnFault : What → Members → List ℕ → Type 0
-ExplainsOwnFault what.WrongType ms told = ExplainsFirstWrongType ms told
-ExplainsOwnFault what.UnknownKey ms told = ExplainsUnknownKey ms told
-ExplainsOwnFault what.Region ms told = ExplainsRegions told
-ExplainsOwnFault wrong ms told = (explained : Explanation) × IsExplanationOf wrong ms explained × IsTextOfExplanation explained ms told
+ExplainsOwnFault what.WrongType ms message = ExplainsFirstWrongType ms message
+ExplainsOwnFault what.UnknownKey ms message = ExplainsUnknownKey ms message
+ExplainsOwnFault what.Region ms message = ExplainsRegions message
+ExplainsOwnFault kind ms message = (explained : Explanation) × IsExplanationOf kind ms explained × IsTextOfExplanation explained ms message
 
--- `told` explains this error of a job that is a table, in a list whose jobs have these names
+-- `message` explains this error of a job that is a table, in a list whose jobs have these names
 abbrev pub ExplainsFaultOfTable : List (Option (List ℕ)) → Members → What → List ℕ → Type 0
-ExplainsFaultOfTable names ms what.Duplicate told = ExplainsName names (codes "name") unique_name_text ms told
-ExplainsFaultOfTable names ms what.SameAs told = ExplainsSameAs names ms told
-ExplainsFaultOfTable names ms wrong told = ExplainsOwnFault wrong ms told
+ExplainsFaultOfTable names ms what.Duplicate message = ExplainsName names (codes "name") unique_name_text ms message
+ExplainsFaultOfTable names ms what.SameAs message = ExplainsSameAs names ms message
+ExplainsFaultOfTable names ms kind message = ExplainsOwnFault kind ms message
 
--- `told` explains that an element of `job` is not a table
+-- `message` explains that an element of `job` is not a table
 abbrev pub ExplainsNonTable : Data → List ℕ → Type 0
-ExplainsNonTable value told = (shown : List ℕ) × IsShownValue value shown × (told ≡ codes "expected a table, found " ++ shown)
+ExplainsNonTable value message = (shown : List ℕ) × IsShownValue value shown × (message ≡ codes "expected a table, found " ++ shown)
 
--- `told` explains this error of an element of `job`, in a list whose jobs have these names; for a missing element it is only the error's
+-- `message` explains this error of an element of `job`, in a list whose jobs have these names; for a missing element it is only the error's
 -- name
 abbrev pub ExplainsJobFault : List (Option (List ℕ)) → Option Data → What → List ℕ → Type 0
-ExplainsJobFault names None wrong told = told ≡ job_error_name wrong
-ExplainsJobFault names (Some (table ms)) wrong told = ExplainsFaultOfTable names ms wrong told
-ExplainsJobFault names (Some value) wrong told = ExplainsNonTable value told
+ExplainsJobFault names None kind message = message ≡ job_error_name kind
+ExplainsJobFault names (Some (table ms)) kind message = ExplainsFaultOfTable names ms kind message
+ExplainsJobFault names (Some value) kind message = ExplainsNonTable value message
 
 -- the element at an index, or `None` if there are too few elements
 abbrev pub element_at : Items → ℕ → Option Data
-element_at no_items place = None
+element_at no_items index = None
 element_at (item d ds) zero = Some d
-element_at (item d ds) (suc place) = element_at ds place
+element_at (item d ds) (suc index) = element_at ds index
 
--- `told` explains this error of a list, if it is an error of a job, by the values of that job
+-- `message` explains this error of a list, if it is an error of a job, by the values of that job
 abbrev pub ExplainsFaultOfList : listed.List → JobError → List ℕ → Type 0
-ExplainsFaultOfList list fault told = 0 < fault.job → ExplainsJobFault
-    (borrowed_names list.names.items) (element_at (items_view list.jobs.now) (fault.job - 1)) fault.what told
+ExplainsFaultOfList list fault message = 0 < fault.job → ExplainsJobFault
+    (borrowed_names list.names.items) (element_at (items_view list.jobs.now) (fault.job - 1)) fault.what message
 
--- `told` explains this error of a list that was parsed again; if it is not a document, any text will do
+-- `message` explains this error of a list that was parsed again; if it is not a document, any text will do
 abbrev pub ExplainsFaultInView : FaultView → JobError → List ℕ → Type 0
-ExplainsFaultInView (look.NoToml text error) fault told = ⊤
-ExplainsFaultInView (look.List list) fault told = ExplainsFaultOfList list fault told
+ExplainsFaultInView (look.NoToml text error) fault message = ⊤
+ExplainsFaultInView (look.List list) fault message = ExplainsFaultOfList list fault message
 
 -- the message is `head`, followed by a text that satisfies the predicate
 abbrev pub HasHeadAndTail : (List ℕ → Type 0) → List ℕ → List ℕ → Type 0
-HasHeadAndTail IsSo head message = (told : List ℕ) × IsSo told × (message ≡ head ++ told)
+HasHeadAndTail IsSo head message = (tail : List ℕ) × IsSo tail × (message ≡ head ++ tail)

@@ -9,18 +9,18 @@ use Rattle.rv_list_errors.specs.FaultHeads.{job_names, job_number_and_name}
 use Rattle.rv_list_errors.specs.Lines.{BeginsWith, printable_line}
 use Rattle.rv_list_locations.specs.LinesAndColumns.{column_at, line_at}
 
--- the line and column of the byte at an index of a text, as `:WORD_LINE_LEN:COLUMN`
-abbrev pub place_text : ℕ → List ℕ → List ℕ
-place_text place text = codes ":" ++ (decimal (line_at place text) ++ (codes ":" ++ decimal (column_at place text)))
+-- the line and column of the byte at an index of a text, as `:LINE:COLUMN`
+abbrev pub location_text : ℕ → List ℕ → List ℕ
+location_text index text = codes ":" ++ (decimal (line_at index text) ++ (codes ":" ++ decimal (column_at index text)))
 
--- the beginning of the line that reports an error of the job with this number at the index `place` of the text: the path, the line and
+-- the beginning of the line that reports an error of the job with this number at index `index` of the text: the path, the line and
 -- column, and the job's number and name
 abbrev pub located_head : List ℕ → List ℕ → List (Option (List ℕ)) → ℕ → ℕ → List ℕ
-located_head path text names number place = path ++ (place_text place text ++ job_number_and_name names number)
+located_head path text names number index = path ++ (location_text index text ++ job_number_and_name names number)
 
 -- the message reports an error of the job with this number, at some line and column of the text
 abbrev pub IsLocatedMessage : List ℕ → List ℕ → List (Option (List ℕ)) → ℕ → List ℕ → Type 0
-IsLocatedMessage path text names number message = (place : ℕ) × BeginsWith (located_head path text names number place) message
+IsLocatedMessage path text names number message = (index : ℕ) × BeginsWith (located_head path text names number index) message
 
 -- the message reports this error of the list with these job names, which is an error of the whole list or of a job
 abbrev pub IsFaultMessageInList : List ℕ → List ℕ → List (Option (List ℕ)) → JobError → List ℕ → Type 0

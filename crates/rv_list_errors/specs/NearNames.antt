@@ -33,24 +33,24 @@ name_distance text (Some name) =
 
 -- the distance of a text from the name at an index
 abbrev pub distance_at : List (Option (List ℕ)) → List ℕ → ℕ → ℕ
-distance_at names text place = name_distance text (slice_index_or names place None)
+distance_at names text index = name_distance text (slice_index_or names index None)
 
--- the name at the index `place` is the first of those nearest to the text
-pub record IsNearestName (names : List (Option (List ℕ))) (text : List ℕ) (place : ℕ) : Type 0 where
-  pub within : place < length names
-  pub least : (other : ℕ) → other < length names → distance_at names text place ≤ distance_at names text other
-  pub first : (other : ℕ) → other < place → distance_at names text place < distance_at names text other
+-- the name at index `index` is the first of those nearest to the text
+pub record IsNearestName (names : List (Option (List ℕ))) (text : List ℕ) (index : ℕ) : Type 0 where
+  pub within : index < length names
+  pub least : (other : ℕ) → other < length names → distance_at names text index ≤ distance_at names text other
+  pub first : (other : ℕ) → other < index → distance_at names text index < distance_at names text other
 
--- the name at the index `place` is near the text: at most a third of its characters differ
+-- the name at index `index` is near the text: at most a third of its characters differ
 abbrev pub IsNearAt : List (Option (List ℕ)) → List ℕ → ℕ → Type 0
-IsNearAt names text place = (distance_at names text place < farthest)
-    × IsNear (distance_at names text place) (unwrap_or (slice_index_or names place None) [])
+IsNearAt names text index = (distance_at names text index < farthest)
+    × IsNear (distance_at names text index) (unwrap_or (slice_index_or names index None) [])
 
 -- `Some name` is the nearest name, the first one if there are several, and is near the text; `None` means that the nearest name is not near
 abbrev pub IsNearName : List (Option (List ℕ)) → List ℕ → Option (List ℕ) → Type 0
-IsNearName names text None = (place : ℕ) → IsNearestName names text place → IsNearAt names text place → ⊥
-IsNearName names text (Some name) = (place : ℕ) × IsNearestName names text place × IsNearAt names text place
-    × (slice_index_or names place None ≡ Some name)
+IsNearName names text None = (index : ℕ) → IsNearestName names text index → IsNearAt names text index → ⊥
+IsNearName names text (Some name) = (index : ℕ) × IsNearestName names text index × IsNearAt names text index
+    × (slice_index_or names index None ≡ Some name)
 
 -- ---- lists of names
 
@@ -70,12 +70,12 @@ quoted name = codes "\"" ++ (printable_value name ++ codes "\"")
 
 -- the separator before the name at an index of `count` names, as a sentence lists them
 abbrev pub separator : ℕ → ℕ → List ℕ
-separator count place = if place == 0 then [] else if place + 1 == count then codes " and " else codes ", "
+separator count index = if index == 0 then [] else if index + 1 == count then codes " and " else codes ", "
 
--- the names in quotes, as a sentence lists them; the first has the index `place` of `count` names
+-- the names in quotes, as a sentence lists them; the first has the index `index` of `count` names
 unfoldable pub names_from : ℕ → ℕ → List (List ℕ) → List ℕ
-names_from count place [] = []
-names_from count place (name ∷ names) = separator count place ++ (quoted name ++ names_from count (place + 1) names)
+names_from count index [] = []
+names_from count index (name ∷ names) = separator count index ++ (quoted name ++ names_from count (index + 1) names)
 
 -- ` and COUNT more` for the names that are not listed, or nothing if all are listed
 abbrev pub more_names_text : ℕ → List ℕ

@@ -8,26 +8,26 @@ use Rattle.strsim.specs.Edits.{levenshtein_row}
 
 -- the name of the job at an index
 abbrev pub job_name : List Job → ℕ → List ℕ
-job_name jobs place = (slice_index_or jobs place (single_job [] 0 [])).name
+job_name jobs index = (slice_index_or jobs index (single_job [] 0 [])).name
 
 -- the edit distance of a text from the name of the job at an index: the least number of characters to insert, delete or change
 abbrev pub job_name_distance : List ℕ → List Job → ℕ → ℕ
-job_name_distance text jobs place =
-    let name = job_name jobs place in
+job_name_distance text jobs index =
+    let name = job_name jobs index in
     levenshtein_row nat_eq (chars text) (chars name) (length (chars name))
 
--- the job at the index `place` has the first of the names that are nearest to the text
-pub record IsJobNameSuggestion (jobs : List Job) (text : List ℕ) (place : ℕ) : Type 0 where
-  pub within : place < length jobs
+-- the job at index `index` has the first of the names that are nearest to the text
+pub record IsJobNameSuggestion (jobs : List Job) (text : List ℕ) (index : ℕ) : Type 0 where
+  pub within : index < length jobs
   pub least : (other : ℕ) → other < length jobs →
-      job_name_distance text jobs place ≤ job_name_distance text jobs other
-  pub first : (other : ℕ) → other < place → job_name_distance text jobs place < job_name_distance text jobs other
+      job_name_distance text jobs index ≤ job_name_distance text jobs other
+  pub first : (other : ℕ) → other < index → job_name_distance text jobs index < job_name_distance text jobs other
 
 -- this edit distance is at most a third of the length of the name, whose characters have one byte each
 abbrev pub IsNear : ℕ → List ℕ → Type 0
 IsNear distance name = 3 * distance ≤ length name
 
--- the text is no longer than a name may be, and at most a third of the characters differ from the name of the job at the index `place`
+-- the text is no longer than a name may be, and at most a third of the characters differ from the name of the job at index `index`
 abbrev pub IsNearJob : List Job → List ℕ → ℕ → Type 0
-IsNearJob jobs text place =
-    (length text ≤ max_name_len) × IsNear (job_name_distance text jobs place) (job_name jobs place)
+IsNearJob jobs text index =
+    (length text ≤ max_name_len) × IsNear (job_name_distance text jobs index) (job_name jobs index)

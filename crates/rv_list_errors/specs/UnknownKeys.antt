@@ -5,15 +5,15 @@ use Rattle.rv_list_errors.specs.Lines.{BeginsWith}
 use Rattle.rv_list_errors.specs.Explanation.{first_unknown_key, is_key_of_owner, unknown_key_text}
 use Rattle.rv_list_errors.specs.declared.keys.Owner.TheVariants as owner
 
--- `told` explains which region of the job has an unknown key, or only says that there is one
+-- `message` explains which region of the job has an unknown key, or only says that there is one
 abbrev pub ExplainsUnknownRegionKey : List ℕ → Type 0
-ExplainsUnknownRegionKey told = BeginsWith (codes "region ") told ⊎ (told ≡ codes "unknown key")
+ExplainsUnknownRegionKey message = BeginsWith (codes "region ") message ⊎ (message ≡ codes "unknown key")
 
--- `told` explains that this key of the job is unknown; without a key, that a region has an unknown key
+-- `message` explains that this key of the job is unknown; without a key, that a region has an unknown key
 abbrev pub ExplainsUnknownJobOrRegionKey : Option (List ℕ) → List ℕ → Type 0
-ExplainsUnknownJobOrRegionKey None told = ExplainsUnknownRegionKey told
-ExplainsUnknownJobOrRegionKey (Some key) told = BeginsWith (unknown_key_text key) told
+ExplainsUnknownJobOrRegionKey None message = ExplainsUnknownRegionKey message
+ExplainsUnknownJobOrRegionKey (Some key) message = BeginsWith (unknown_key_text key) message
 
--- `told` explains the first key of the job that jobs do not have, or that a region has an unknown key
+-- `message` explains the first key of the job that jobs do not have, or that a region has an unknown key
 abbrev pub ExplainsUnknownKey : Members → List ℕ → Type 0
-ExplainsUnknownKey ms told = ExplainsUnknownJobOrRegionKey (first_unknown_key (is_key_of_owner owner.Job) ms) told
+ExplainsUnknownKey ms message = ExplainsUnknownJobOrRegionKey (first_unknown_key (is_key_of_owner owner.Job) ms) message

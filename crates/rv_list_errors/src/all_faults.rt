@@ -100,8 +100,8 @@ impl<'a> FaultLineWriter<'a> {
             let message = list_fault_message(alloc, self.file, &self.list, fault.what)?;
             return push_message_line(bytes, message.as_slice());
         }
-        let found = faults_of_job(alloc, &self.list, self.jobs.as_slice(), fault, suggestion)?;
-        self.push_located_faults(alloc, bytes, fault.job, found.as_slice())
+        let faults = faults_of_job(alloc, &self.list, self.jobs.as_slice(), fault, suggestion)?;
+        self.push_located_faults(alloc, bytes, fault.job, faults.as_slice())
     }
 
     // Appends a line for each error in `faults`, all of which are errors of the job with this number, counted from 1.
@@ -142,30 +142,30 @@ impl<'a> FaultLineWriter<'a> {
         ensures text { self.new.cursor.text.now ≡ self.old.cursor.text.now }
         ensures message { IfOk result (λ message. BeginsWith
             (located_head self.old.file.now self.old.cursor.text.now (borrowed_names self.old.list.names.items) number
-            fault.now.place) message.items) }
+            fault.now.offset) message.items) }
     {
-        let place = self.cursor.location_at(fault.place);
+        let location = self.cursor.location_at(fault.offset);
         let mut message = Vec::new(alloc);
         push_text(&mut message, self.file)?;
-        push_line_and_column(&mut message, place)?;
+        push_line_and_column(&mut message, location)?;
         push_job_number_and_name(&mut message, &self.list, number)?;
         message.extend_from_slice(fault.explanation.as_slice())?;
         Ok(message)
     }
 }
 
-// Appends a location as `:WORD_LINE_LEN:COLUMN`.
-fn push_line_and_column(message: &mut Vec<u8>, place: Location) -> Result<(), AllocError>
+// Appends a location as `:LINE:COLUMN`.
+fn push_line_and_column(message: &mut Vec<u8>, location: Location) -> Result<(), AllocError>
     ensures { OnOk result (message.new.items ≡ message.old.items
-        ++ (codes ":" ++ (decimal place.line ++ (codes ":" ++ decimal place.column)))) }
+        ++ (codes ":" ++ (decimal location.line ++ (codes ":" ++ decimal location.column)))) }
 {
     push_spans(
         message,
         &[
             Span::Text(":"),
-            Span::Number(place.line as u64),
+            Span::Number(location.line as u64),
             Span::Text(":"),
-            Span::Number(place.column as u64),
+            Span::Number(location.column as u64),
         ],
     )
 }

@@ -214,7 +214,7 @@ pub(crate) const MISALIGNED: Expected = Expected {
 
 /// Returns what is expected of the value of a key that accepts only a few texts, or `None` for any other key.
 pub(crate) fn accepted_texts(key: &str) -> Option<&'static Expected>
-    ensures { IfSome result (λ wanted. wanted.now.key.now ≡ key.now) }
+    ensures { IfSome result (λ expected. expected.now.key.now ≡ key.now) }
 {
     match key {
         "load" => Some(&LOAD),
@@ -226,12 +226,12 @@ pub(crate) fn accepted_texts(key: &str) -> Option<&'static Expected>
 }
 
 /// Appends the text of an explanation of a bad value. `table` is the job: its value at the key is shown.
-pub(crate) fn push_explanation(message: &mut Message, table: &Table, told: Explanation)
-    ensures { AppendsTextThat message.old message.new (IsTextOfExplanation told (table_view table.now)) }
+pub(crate) fn push_explanation(message: &mut Message, table: &Table, explanation: Explanation)
+    ensures { AppendsTextThat message.old message.new (IsTextOfExplanation explanation (table_view table.now)) }
 {
-    match told {
+    match explanation {
         Explanation::Text(text) => message.push(text),
-        Explanation::Expected(wanted) => push_expected(message, table, wanted),
+        Explanation::Expected(expected) => push_expected(message, table, expected),
     }
 }
 
@@ -255,11 +255,11 @@ fn push_expected_text(message: &mut Message, bytes: u64, expected: &Expected)
 }
 
 // Appends the number of bytes in parentheses, if it exceeds the maximum, or else nothing.
-fn push_byte_count(message: &mut Message, bytes: u64, rest: InsertedText)
-    ensures { Adds message.old message.new (bytes_text rest bytes) }
+fn push_byte_count(message: &mut Message, bytes: u64, inserted: InsertedText)
+    ensures { Adds message.old message.new (bytes_text inserted bytes) }
 {
-    match rest {
-        InsertedText::Maximum(most) if most < bytes => message.push_number_between(
+    match inserted {
+        InsertedText::Maximum(maximum) if maximum < bytes => message.push_number_between(
             " (", bytes, " bytes)",
         ),
         _ => {}
@@ -267,12 +267,12 @@ fn push_byte_count(message: &mut Message, bytes: u64, rest: InsertedText)
 }
 
 // Appends the text that completes what is expected of a value: nothing, a maximum, or the names of all kinds of faults.
-fn push_inserted_text(message: &mut Message, rest: InsertedText)
-    ensures { Adds message.old message.new (inserted_text rest) }
+fn push_inserted_text(message: &mut Message, inserted: InsertedText)
+    ensures { Adds message.old message.new (inserted_text inserted) }
 {
-    match rest {
+    match inserted {
         InsertedText::Nothing => {}
-        InsertedText::Maximum(most) => message.push_number(most),
+        InsertedText::Maximum(maximum) => message.push_number(maximum),
         InsertedText::FaultKinds => push_fault_kinds(message),
     }
 }
@@ -281,22 +281,22 @@ fn push_inserted_text(message: &mut Message, rest: InsertedText)
 fn push_fault_kinds(message: &mut Message)
     ensures { Adds message.old message.new (first_fault_kinds_text (length fault_kinds)) }
 {
-    for place in 0..FaultKind::ALL.len() {
-        push_fault_kind(message, place);
+    for index in 0..FaultKind::ALL.len() {
+        push_fault_kind(message, index);
     }
 }
 
 // Appends the name of the fault kind at an index in quotes, with the separator before it.
-fn push_fault_kind(message: &mut Message, place: usize)
-    requires { place < length fault_kinds }
-    ensures { Adds message.old message.new (kind_text place) }
+fn push_fault_kind(message: &mut Message, index: usize)
+    requires { index < length fault_kinds }
+    ensures { Adds message.old message.new (kind_text index) }
 {
-    message.push(match place {
+    message.push(match index {
         0 => "",
-        _ if place + 1 == FaultKind::ALL.len() => " or ",
+        _ if index + 1 == FaultKind::ALL.len() => " or ",
         _ => ", ",
     });
-    message.push_quoted(FaultKind::ALL[place].name());
+    message.push_quoted(FaultKind::ALL[index].name());
 }
 
 // Returns the number of bytes that the text at the key of `expected` represents, or 0 if there is no text, or if `expected` says that the

@@ -51,14 +51,14 @@ pub(crate) fn list_fault_message(
     alloc: Global,
     file: &str,
     list: &List<'_>,
-    what: What,
+    kind: What,
 ) -> Result<Vec<u8>, AllocError>
     ensures { IfOk result (λ message. BeginsWith (file.now ++ codes ": error: ") message.items) }
 {
     let mut message = Vec::new(alloc);
     push_spans(&mut message, &[Span::Text(file), Span::Text(": error: ")])?;
     let mut explanation = Message::new(alloc);
-    push_list_fault(&mut explanation, list, what);
+    push_list_fault(&mut explanation, list, kind);
     message.extend_from_slice(explanation.finish()?.as_slice())?;
     Ok(message)
 }
@@ -97,8 +97,8 @@ fn push_job_heading(message: &mut Vec<u8>, list: &List<'_>, number: u32) -> Resu
     ensures { OnOk result (message.new.items ≡ message.old.items
         ++ job_heading list.now.lines.items (borrowed_names list.now.names.items) number) }
 {
-    let place = number as usize - 1;
-    push_line_number(message, &list.lines, place)?;
+    let index = number as usize - 1;
+    push_line_number(message, &list.lines, index)?;
     push_job_number_and_name(message, list, number)
 }
 
@@ -121,21 +121,21 @@ pub(crate) fn push_job_number_and_name(
 }
 
 // Appends the line number at an index as `:NUMBER`, or nothing if there is none.
-fn push_line_number(message: &mut Vec<u8>, lines: &[usize], place: usize) -> Result<(), AllocError>
-    ensures { OnOk result (message.new.items ≡ message.old.items ++ line_text (slice_get lines.now place)) }
+fn push_line_number(message: &mut Vec<u8>, lines: &[usize], index: usize) -> Result<(), AllocError>
+    ensures { OnOk result (message.new.items ≡ message.old.items ++ line_text (slice_get lines.now index)) }
 {
-    match lines.get(place) {
+    match lines.get(index) {
         Some(line) => push_spans(message, &[Span::Text(":"), Span::Number(*line as u64)]),
         None => Ok(()),
     }
 }
 
 // Returns the name at an index, or `None` if there is none.
-fn name_at<'a>(names: &[Option<&'a str>], place: usize) -> Option<&'a str>
-    ensures { borrowed_name result ≡ slice_index_or (borrowed_names names.now) place None }
+fn name_at<'a>(names: &[Option<&'a str>], index: usize) -> Option<&'a str>
+    ensures { borrowed_name result ≡ slice_index_or (borrowed_names names.now) index None }
 {
-    if place < names.len() {
-        names[place]
+    if index < names.len() {
+        names[index]
     } else {
         None
     }
@@ -165,7 +165,7 @@ fn fault_explanation(
     fault: JobError,
     suggestion: Suggestion,
 ) -> Result<Vec<u8>, AllocError>
-    ensures { IfOk result (λ told. ExplainsFaultInView view.now fault told.items) }
+    ensures { IfOk result (λ text. ExplainsFaultInView view.now fault text.items) }
 {
     match view {
         FaultView::NoToml(text, error) => not_toml_explanation(alloc, text, error),
@@ -175,7 +175,7 @@ fn fault_explanation(
 
 // Returns why a text is not TOML, or that it is an ELF file, which cannot be TOML.
 fn not_toml_explanation(alloc: Global, text: &[u8], error: &Error) -> Result<Vec<u8>, AllocError>
-    ensures { IfOk result (λ told. IsTrue (is_elf_file text.now) → told.items ≡ elf_file_text) }
+    ensures { IfOk result (λ explanation. IsTrue (is_elf_file text.now) → explanation.items ≡ elf_file_text) }
 {
     if text.starts_with(b"\x7fELF") {
         elf_file_explanation(alloc)
@@ -186,7 +186,7 @@ fn not_toml_explanation(alloc: Global, text: &[u8], error: &Error) -> Result<Vec
 
 // Returns the text that the file is an ELF file, not a job list.
 fn elf_file_explanation(alloc: Global) -> Result<Vec<u8>, AllocError>
-    ensures { IfOk result (λ told. told.items ≡ elf_file_text) }
+    ensures { IfOk result (λ text. text.items ≡ elf_file_text) }
 {
     let mut text = Vec::new(alloc);
     push_text(&mut text, ": error: this is an ELF file, not a job list")?;
@@ -216,8 +216,8 @@ fn explanation_in_list(
     if fault.job == 0 {
         push_list_fault(&mut message, list, fault.what);
     } else {
-        let place = fault.job as usize - 1;
-        push_job_fault(&mut message, list, place, fault.what, suggestion);
+        let job_index = fault.job as usize - 1;
+        push_job_fault(&mut message, list, job_index, fault.what, suggestion);
     }
     message.finish()
 }

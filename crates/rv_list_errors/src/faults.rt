@@ -71,8 +71,8 @@ fn push_fault_lines(
 }
 
 /// Returns `Nearest` for the first `MAX_SUGGESTIONS` errors, which suggest the nearest name or key, and `Nothing` for later errors.
-pub(crate) fn suggestion_for_fault(place: usize) -> Suggestion {
-    if place < MAX_SUGGESTIONS {
+pub(crate) fn suggestion_for_fault(index: usize) -> Suggestion {
+    if index < MAX_SUGGESTIONS {
         Suggestion::Nearest
     } else {
         Suggestion::Nothing

@@ -31,35 +31,35 @@ use toml::{Table, Value};
 pub(crate) fn push_job_fault(
     message: &mut Message,
     list: &List<'_>,
-    place: usize,
-    what: What,
+    job_index: usize,
+    kind: What,
     suggestion: Suggestion,
 )
     ensures { AppendsTextThat message.old message.new (ExplainsJobFault
-        (borrowed_names list.now.names.items) (element_at (items_view list.now.jobs.now) place) what) }
+        (borrowed_names list.now.names.items) (element_at (items_view list.now.jobs.now) job_index) kind) }
 {
-    match element_at(list.jobs, place) {
+    match element_at(list.jobs, job_index) {
         Some(element) => match element.as_table() {
             Some(table) => {
                 let job = FaultyJob {
                     list,
-                    place,
+                    job_index,
                     table,
                     suggestion,
                 };
-                push_fault_of_table(message, job, what)
+                push_fault_of_table(message, job, kind)
             }
             None => push_not_a_table(message, element),
         },
-        None => message.push(what.name()),
+        None => message.push(kind.name()),
     }
 }
 
 // Returns the element at an index, or `None` if there are too few elements.
-fn element_at(elements: &[Value], place: usize) -> Option<&Value>
-    ensures { option_map (λ element. view element.now) result ≡ element_at (items_view elements.now) place }
+fn element_at(elements: &[Value], index: usize) -> Option<&Value>
+    ensures { option_map (λ element. view element.now) result ≡ element_at (items_view elements.now) index }
 {
-    elements.get(place)
+    elements.get(index)
 }
 
 // Appends that a table was expected, and the element that was found instead.
@@ -71,20 +71,20 @@ fn push_not_a_table(message: &mut Message, element: &Value)
 }
 
 // Appends the explanation of an error of a job that is a table.
-fn push_fault_of_table(message: &mut Message, job: FaultyJob<'_>, what: What)
+fn push_fault_of_table(message: &mut Message, job: FaultyJob<'_>, kind: What)
     ensures { AppendsTextThat message.old message.new (ExplainsFaultOfTable
-        (borrowed_names job.entry.list.now.names.items) (table_view job.entry.table.now) what) }
+        (borrowed_names job.entry.list.now.names.items) (table_view job.entry.table.now) kind) }
 {
-    match what {
+    match kind {
         What::Duplicate => push_duplicate_name(message, job.list, job.table),
         What::SameAs => push_unknown_same_as(
             message,
             job.list,
             job.table,
-            job.place,
+            job.job_index,
             job.suggestion,
         ),
-        _ => push_fault_within_job(message, job.table, what),
+        _ => push_fault_within_job(message, job.table, kind),
     }
 }
 
@@ -99,26 +99,26 @@ pub(crate) fn push_duplicate_name(message: &mut Message, list: &List<'_>, table:
 const UNIQUE_NAME: &str = "expected a unique name";
 
 // Appends the explanation of an error that does not depend on the other jobs.
-fn push_fault_within_job(message: &mut Message, table: &Table, what: What)
-    ensures { AppendsTextThat message.old message.new (ExplainsOwnFault what (table_view table.now)) }
+fn push_fault_within_job(message: &mut Message, table: &Table, kind: What)
+    ensures { AppendsTextThat message.old message.new (ExplainsOwnFault kind (table_view table.now)) }
 {
-    match what {
+    match kind {
         What::UnknownKey => push_unknown_job_key(message, table),
         What::WrongType => push_wrong_type(message, table),
         What::Region => push_region_fault(message, table),
-        _ => push_explanation(message, table, key_explanation(table, what)),
+        _ => push_explanation(message, table, key_explanation(table, kind)),
     }
 }
 
 // Returns the explanation of an error of a single value.
-fn key_explanation(table: &Table, what: What) -> Explanation
-    ensures words { IfSome (expected_of_error what) (λ words. explained_text result ≡ words) }
-    ensures key { IfSome (key_of what) (λ key. explained_key result ≡ Some key) }
-    ensures script { what ≡ Input → (explained_key result, explained_text result) ≡ script_explanation_of (table_view table.now) }
-    ensures expectation { what ≡ Expect → IsExpectationExplanation (table_view table.now) (explained_key result, explained_text result) }
-    ensures isa { what ≡ Isa → (explained_key result, explained_text result) ≡ isa_explanation (table_view table.now) }
+fn key_explanation(table: &Table, kind: What) -> Explanation
+    ensures words { IfSome (expected_of_error kind) (λ words. explained_text result ≡ words) }
+    ensures key { IfSome (key_of kind) (λ key. explained_key result ≡ Some key) }
+    ensures script { kind ≡ Input → (explained_key result, explained_text result) ≡ script_explanation_of (table_view table.now) }
+    ensures expectation { kind ≡ Expect → IsExpectationExplanation (table_view table.now) (explained_key result, explained_text result) }
+    ensures isa { kind ≡ Isa → (explained_key result, explained_text result) ≡ isa_explanation (table_view table.now) }
 {
-    match what {
+    match kind {
         What::Name => Explanation::Expected(&NAME),
         What::Image => Explanation::Expected(&IMAGE),
         What::Budget => Explanation::Expected(&BUDGET),
@@ -128,7 +128,7 @@ fn key_explanation(table: &Table, what: What) -> Explanation
         What::Expect => expectation_explanation(table),
         What::Isa => isa_explanation(table),
         What::Misaligned => Explanation::Expected(&MISALIGNED),
-        _ => Explanation::Text(what.name()),
+        _ => Explanation::Text(kind.name()),
     }
 }
 

@@ -49,7 +49,7 @@ impl<'k> CheckedKeys<'k> {
 
 // Returns the index of a key in `JOB_KEYS`, the keys that jobs may have, or `None` if it is not one of them.
 fn index_of_key(name: &str) -> Option<usize>
-    ensures { IfSome result (λ place. place < 16) }
+    ensures { IfSome result (λ index. index < 16) }
 {
     for at in 0..16 {
         if JOB_KEYS[at].0 == name {
@@ -64,7 +64,7 @@ fn index_of_key(name: &str) -> Option<usize>
 pub(crate) struct FaultyJob<'a> {
     pub(crate) list: &'a List<'a>,
     /// The index of the job, counted from 0.
-    pub(crate) place: usize,
+    pub(crate) job_index: usize,
     pub(crate) table: &'a Table,
     pub(crate) suggestion: Suggestion,
 }
@@ -88,9 +88,9 @@ impl<'a> FaultyJob<'a> {
         &self,
         message: &mut Message,
         key: &str,
-        met: &CheckedKeys<'_>,
+        earlier_keys: &CheckedKeys<'_>,
     ) -> bool {
-        let Some(fault) = self.key_fault(key, met) else {
+        let Some(fault) = self.key_fault(key, earlier_keys) else {
             return false;
         };
         match fault {
@@ -103,7 +103,7 @@ impl<'a> FaultyJob<'a> {
                 message,
                 self.list,
                 self.table,
-                self.place,
+                self.job_index,
                 self.suggestion,
             ),
             KeyFault::NoMap => push_region_fault(message, self.table),
@@ -111,14 +111,14 @@ impl<'a> FaultyJob<'a> {
         true
     }
 
-    // Returns the error of a key, or `None` if it is valid. `met` are the keys before it.
-    fn key_fault(&self, key: &str, met: &CheckedKeys<'_>) -> Option<KeyFault> {
-        let Some(place) = index_of_key(key) else {
+    // Returns the error of a key, or `None` if it is valid. `earlier_keys` are the keys before it.
+    fn key_fault(&self, key: &str, earlier_keys: &CheckedKeys<'_>) -> Option<KeyFault> {
+        let Some(index) = index_of_key(key) else {
             return Some(KeyFault::Unknown);
         };
-        let kind = JOB_KEYS[place].1;
+        let kind = JOB_KEYS[index].1;
         match value_at_key(self.table, key) {
-            Some(value) if is_value_of_type(kind, value) => self.value_fault(kind, key, value, met),
+            Some(value) if is_value_of_type(kind, value) => self.value_fault(kind, key, value, earlier_keys),
             _ if key == "region" && has_region_with_unknown_key(self.table) => {
                 Some(KeyFault::UnknownInRegion)
             }
@@ -133,10 +133,10 @@ impl<'a> FaultyJob<'a> {
         kind: ValueType,
         key: &str,
         value: &Value,
-        met: &CheckedKeys<'_>,
+        earlier_keys: &CheckedKeys<'_>,
     ) -> Option<KeyFault> {
         match kind {
-            ValueType::Text => self.text_fault(key, value.as_str().unwrap_or(""), met),
+            ValueType::Text => self.text_fault(key, value.as_str().unwrap_or(""), earlier_keys),
             ValueType::Number => wanted(number_fault(key, value.as_integer().unwrap_or(0))),
             ValueType::Texts => wanted(signature_fault(elements_at_key(self.table, key))),
             ValueType::Regions if has_region_with_unknown_key(self.table) => Some(
@@ -148,13 +148,13 @@ impl<'a> FaultyJob<'a> {
     }
 
     // Returns the error of the text at a key, or `None` if it is valid.
-    fn text_fault(&self, key: &str, text: &str, met: &CheckedKeys<'_>) -> Option<KeyFault> {
+    fn text_fault(&self, key: &str, text: &str, earlier_keys: &CheckedKeys<'_>) -> Option<KeyFault> {
         match key {
             "name" => self.name_fault(text),
             "same_as" if self.is_earlier_job(text) => None,
             "same_as" => Some(KeyFault::NoEarlierJob),
-            "input" | "input_hex" => wanted(self.input_fault(key, text, met)),
-            _ => wanted(self.expectation_or_choice_fault(key, text, met)),
+            "input" | "input_hex" => wanted(self.input_fault(key, text, earlier_keys)),
+            _ => wanted(self.expectation_or_choice_fault(key, text, earlier_keys)),
         }
     }
 
@@ -172,50 +172,50 @@ impl<'a> FaultyJob<'a> {
     // Whether a name is valid, and an earlier job has it.
     fn is_earlier_job(&self, name: &str) -> bool {
         match self.list.job_number_of_name(Some(name)) {
-            Some(number) => number <= self.place as u64 && is_name(name.as_bytes()),
+            Some(number) => number <= self.job_index as u64 && is_name(name.as_bytes()),
             None => false,
         }
     }
 
     // Returns the explanation of an invalid `input` or `input_hex`, or `None` if it is valid.
-    fn input_fault(&self, key: &str, text: &str, met: &CheckedKeys<'_>) -> Option<Explanation> {
+    fn input_fault(&self, key: &str, text: &str, earlier_keys: &CheckedKeys<'_>) -> Option<Explanation> {
         if key == "input" {
             if MAX_SCRIPT_LEN < text.len() {
                 Some(Explanation::Expected(&INPUT))
             } else {
-                self.both_set_explanation("input_hex", met, BOTH_INPUTS)
+                self.both_set_explanation("input_hex", earlier_keys, BOTH_INPUTS)
             }
         } else if !are_hex_digit_pairs(text) {
             Some(Explanation::Expected(&HEX_PAIRS))
         } else if MAX_SCRIPT_LEN < text.len() / 2 {
             Some(Explanation::Expected(&INPUT_HEX))
         } else {
-            self.both_set_explanation("input", met, BOTH_INPUTS)
+            self.both_set_explanation("input", earlier_keys, BOTH_INPUTS)
         }
     }
 
-    // Returns `explanation`, the explanation that two keys cannot both be set, if the key `other` is in `met`, the keys before this one,
+    // Returns `explanation`, the explanation that two keys cannot both be set, if the key `other` is in `earlier_keys`, the keys before this one,
     // and has a text; otherwise `None`.
     fn both_set_explanation(
         &self,
         other: &str,
-        met: &CheckedKeys,
+        earlier_keys: &CheckedKeys,
         explanation: &'static str,
     ) -> Option<Explanation> {
-        if met.has(other) && text_at_key(self.table, other).is_some() {
+        if earlier_keys.has(other) && text_at_key(self.table, other).is_some() {
             Some(Explanation::Text(explanation))
         } else {
             None
         }
     }
 
-    // Returns the explanation of an invalid expectation, path or other text at a key, or `None` if the text is valid. `met` are the keys
+    // Returns the explanation of an invalid expectation, path or other text at a key, or `None` if the text is valid. `earlier_keys` are the keys
     // before it.
     fn expectation_or_choice_fault(
         &self,
         key: &str,
         text: &str,
-        met: &CheckedKeys<'_>,
+        earlier_keys: &CheckedKeys<'_>,
     ) -> Option<Explanation> {
         match key {
             "expect_signature" => self.reference_fault(text),
@@ -224,18 +224,18 @@ impl<'a> FaultyJob<'a> {
             )),
             "expect_console" => self.both_set_explanation(
                 "expect_console_file",
-                met,
+                earlier_keys,
                 BOTH_CONSOLES,
             ),
-            "expect_console_file" if !is_same_path(text) => Some(Explanation::Expected(
+            "expect_console_file" if !is_valid_path(text) => Some(Explanation::Expected(
                 &EXPECT_CONSOLE_FILE,
             )),
             "expect_console_file" => self.both_set_explanation(
                 "expect_console",
-                met,
+                earlier_keys,
                 BOTH_CONSOLES,
             ),
-            "image" if !is_same_path(text) => Some(Explanation::Expected(&IMAGE)),
+            "image" if !is_valid_path(text) => Some(Explanation::Expected(&IMAGE)),
             _ => self.choice_fault(key, text),
         }
     }
@@ -245,7 +245,7 @@ impl<'a> FaultyJob<'a> {
     fn reference_fault(&self, path: &str) -> Option<Explanation> {
         if value_at_key(self.table, "signature").is_none() {
             Some(Explanation::Expected(&WITHOUT_SIGNATURE))
-        } else if !is_same_path(path) {
+        } else if !is_valid_path(path) {
             Some(Explanation::Expected(&EXPECT_SIGNATURE))
         } else {
             None
@@ -287,8 +287,8 @@ fn number_fault(key: &str, number: i64) -> Option<Explanation> {
 
 // Returns the explanation of an invalid `signature` with these elements, or `None` if it is valid.
 fn signature_fault(names: &[Value]) -> Option<Explanation> {
-    let is_good = names.len() == 2 && is_symbol(&names[0]) && is_symbol(&names[1]);
-    if is_good {
+    let is_valid = names.len() == 2 && is_symbol(&names[0]) && is_symbol(&names[1]);
+    if is_valid {
         None
     } else {
         Some(Explanation::Expected(&SIGNATURE))
@@ -306,7 +306,7 @@ fn is_symbol(name: &Value) -> bool {
 }
 
 // Whether a text may be a path: it is 1 to 4,096 bytes long.
-fn is_same_path(text: &str) -> bool {
+fn is_valid_path(text: &str) -> bool {
     1 <= text.len() && text.len() <= MAX_PATH_LEN
 }
 

@@ -141,7 +141,7 @@ pub(crate) fn push_unknown_region_key(message: &mut Message, table: &Table)
 {
     let regions = elements_at_key(table, "region");
     match first_unknown_region_key(regions) {
-        Some((place, key)) => push_unknown_key_of_region(message, place, key),
+        Some((index, key)) => push_unknown_key_of_region(message, index, key),
         None => message.push("unknown key"),
     }
 }
@@ -150,20 +150,20 @@ pub(crate) fn push_unknown_region_key(message: &mut Message, table: &Table)
 fn first_unknown_region_key(regions: &[Value]) -> Option<(usize, &str)>
     ensures { IfSome result (λ unknown. unknown.0 < length regions.now) }
 {
-    for (at, region) in regions.iter().enumerate() {
+    for (index, region) in regions.iter().enumerate() {
         if let Some(key) = unknown_region_key(region) {
-            return Some((at, key));
+            return Some((index, key));
         }
     }
     None
 }
 
 // Appends that the region at an index has this unknown key, and the known keys of regions.
-fn push_unknown_key_of_region(message: &mut Message, at: usize, key: &str)
-    ensures { at + 1 < 2 ^ 64 → Adds message.old message.new (region_number_text at ++ (codes ": "
+fn push_unknown_key_of_region(message: &mut Message, index: usize, key: &str)
+    ensures { index + 1 < 2 ^ 64 → Adds message.old message.new (region_number_text index ++ (codes ": "
         ++ (unknown_key_text key.now ++ codes ": valid keys are \"base\", \"size\" and \"write\""))) }
 {
-    push_region_number(message, at);
+    push_region_number(message, index);
     message.push(": ");
     push_unknown_key(message, key);
     message.push(": valid keys are \"base\", \"size\" and \"write\"");

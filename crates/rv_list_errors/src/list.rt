@@ -71,14 +71,14 @@ fn number_of_given_name(names: &[Option<&str>], name: &str) -> Option<u64>
     ensures { result ≡ number_of_name (borrowed_names names.now) (Some name.now) }
 {
     match index_of_name(names, name) {
-        Some(place) => Some(place as u64 + 1),
+        Some(index) => Some(index as u64 + 1),
         None => None,
     }
 }
 
 // Returns the index of the first name that equals this one, or `None` if none does.
 fn index_of_name(names: &[Option<&str>], name: &str) -> Option<usize>
-    ensures within { IfSome result (λ place. place < length names.now) }
+    ensures within { IfSome result (λ index. index < length names.now) }
     ensures value { result ≡ position (λ other. is_name_of name.now (borrowed_name other)) names.now }
 {
     names.iter().position(|other| is_name_of(name, *other))

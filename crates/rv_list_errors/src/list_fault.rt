@@ -25,9 +25,9 @@ pub(crate) fn push_not_toml(message: &mut Message, text: &[u8], error: &Error)
     let Some(span) = error.span() else {
         return push_reason(message, error.message());
     };
-    let place = line_and_column(text, span.start);
-    message.push_number_between(":", place.line as u64, ":");
-    message.push_number(place.column as u64);
+    let location = line_and_column(text, span.start);
+    message.push_number_between(":", location.line as u64, ":");
+    message.push_number(location.column as u64);
     push_reason(message, error.message());
 }
 
@@ -63,25 +63,25 @@ pub(crate) fn push_repeated_key(message: &mut Message, text: &[u8], repeated: &R
     message.push_printable(repeated.key.last.as_str());
     message.push("\"");
     if let Some(first) = repeated.first {
-        let place = line_and_column(text, text.len().saturating_sub(first.len()));
-        message.push_number_between(": first set on line ", place.line as u64, "");
+        let location = line_and_column(text, text.len().saturating_sub(first.len()));
+        message.push_number_between(": first set on line ", location.line as u64, "");
     }
 }
 
 /// Appends the explanation of an error of the whole list.
-pub(crate) fn push_list_fault(message: &mut Message, list: &List<'_>, what: What) {
-    match what {
+pub(crate) fn push_list_fault(message: &mut Message, list: &List<'_>, kind: What) {
+    match kind {
         What::NoJobs => push_no_jobs(message, list.table),
         What::TooMany => push_too_many_jobs(message, list.jobs.len()),
         What::UnknownKey => push_unknown_list_key(message, list.table),
         What::WrongType => push_not_an_array(message, list.table),
-        _ => message.push(what.name()),
+        _ => message.push(kind.name()),
     }
 }
 
 const EXPECTED_TABLES: &str = "expected an array of tables, [[job]]";
 
-// Appends that `job` is not an array. The contents of a table are not shown: its header, `[job]`, lacks a pair of brackets.
+// Appends that `job` is not an array. If it is a table, its contents are not shown, since the mistake is `[job]` for `[[job]]`.
 fn push_not_an_array(message: &mut Message, table: &Table) {
     match value_at_key(table, "job") {
         Some(value) if value.is_table() => {

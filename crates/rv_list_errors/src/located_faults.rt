@@ -19,7 +19,7 @@ const MAX_FAULTS: usize = 64;
 /// An error of a job: its offset in the list's text, and its explanation.
 #[derive(Drop)]
 pub(crate) struct LocatedFault {
-    pub(crate) place: usize,
+    pub(crate) offset: usize,
     pub(crate) explanation: Vec<u8>,
 }
 
@@ -34,7 +34,7 @@ pub(crate) fn faults_of_job(
     suggestion: Suggestion,
 ) -> Result<Vec<LocatedFault>, AllocError>
     requires { 0 < fault.job }
-    ensures { IfOk result (λ found. 0 < length found.items) }
+    ensures { IfOk result (λ faults. 0 < length faults.items) }
 {
     let at = fault.job as usize - 1;
     let mut found = Vec::new(alloc);
@@ -42,7 +42,7 @@ pub(crate) fn faults_of_job(
     if let Some(Value::Table(table)) = list.jobs.get(at) {
         let job = FaultyJob {
             list,
-            place: at,
+            offset: at,
             table,
             suggestion,
         };
@@ -53,7 +53,7 @@ pub(crate) fn faults_of_job(
         let mut message = Message::new(alloc);
         push_job_fault(&mut message, list, at, fault.what, suggestion);
         found.push(LocatedFault {
-            place: list.offset_of_suffix(text),
+            offset: list.offset_of_suffix(text),
             explanation: message.finish()?,
         })?;
     }
@@ -65,7 +65,7 @@ impl<'a> FaultyJob<'a> {
     fn find_absent_keys(
         &self,
         alloc: Global,
-        place: usize,
+        offset: usize,
         faults: &mut Vec<LocatedFault>,
     ) -> Result<(), AllocError> {
         for key in &REQUIRED_KEYS {
@@ -73,7 +73,7 @@ impl<'a> FaultyJob<'a> {
                 let mut message = Message::new(alloc);
                 push_absent_key(&mut message, self.table, key);
                 let explanation = message.finish()?;
-                faults.push(LocatedFault { place, explanation })?;
+                faults.push(LocatedFault { offset, explanation })?;
             }
         }
         Ok(())
@@ -88,15 +88,15 @@ impl<'a> FaultyJob<'a> {
         faults: &mut Vec<LocatedFault>,
     ) -> Result<(), AllocError> {
         let keys = job_keys(alloc, text)?;
-        let mut met = CheckedKeys::none(alloc);
+        let mut earlier_keys = CheckedKeys::none(alloc);
         for key in keys.as_slice() {
             let name = key.name.as_str();
-            if !met.has(name) {
+            if !earlier_keys.has(name) {
                 if faults.len() == MAX_FAULTS {
                     return self.stop_at_key(alloc, key, faults);
                 }
-                self.find_key_fault(alloc, key, &met, faults)?;
-                met.add(name)?;
+                self.find_key_fault(alloc, key, &earlier_keys, faults)?;
+                earlier_keys.add(name)?;
             }
         }
         Ok(())
@@ -112,24 +112,24 @@ impl<'a> FaultyJob<'a> {
         let mut message = Message::new(alloc);
         message.push("too many errors: the rest of the keys of this job are not checked");
         let explanation = message.finish()?;
-        let place = self.list.offset_of_suffix(key.text);
-        faults.push(LocatedFault { place, explanation })?;
+        let offset = self.list.offset_of_suffix(key.text);
+        faults.push(LocatedFault { offset, explanation })?;
         Ok(())
     }
 
-    // Adds to `faults` the error of a key or of its value, if it has one. `met` are the keys before it.
+    // Adds to `faults` the error of a key or of its value, if it has one. `earlier_keys` are the keys before it.
     fn find_key_fault(
         &self,
         alloc: Global,
         key: &JobKey<'_>,
-        met: &CheckedKeys<'_>,
+        earlier_keys: &CheckedKeys<'_>,
         faults: &mut Vec<LocatedFault>,
     ) -> Result<(), AllocError> {
         let mut message = Message::new(alloc);
-        if self.push_key_fault(&mut message, key.name.as_str(), met) {
+        if self.push_key_fault(&mut message, key.name.as_str(), earlier_keys) {
             let explanation = message.finish()?;
-            let place = self.list.offset_of_suffix(key.text);
-            faults.push(LocatedFault { place, explanation })?;
+            let offset = self.list.offset_of_suffix(key.text);
+            faults.push(LocatedFault { offset, explanation })?;
         }
         Ok(())
     }

@@ -12,26 +12,26 @@ use strsim::levenshtein;
 /// at most a third of the characters of that name differ. A text longer than a name may be is near no name, which bounds the search time.
 pub fn near_job(alloc: Global, jobs: &[Job], text: &str) -> Result<Option<usize>, AllocError>
     ensures { IfOk result (λ near. MatchOption near
-        ((place : ℕ) → IsJobNameSuggestion jobs.now text.now place → IsNearJob jobs.now text.now place → ⊥)
-        (λ place. IsJobNameSuggestion jobs.now text.now place × IsNearJob jobs.now text.now place)) }
+        ((index : ℕ) → IsJobNameSuggestion jobs.now text.now index → IsNearJob jobs.now text.now index → ⊥)
+        (λ index. IsJobNameSuggestion jobs.now text.now index × IsNearJob jobs.now text.now index)) }
 {
     if text.len() > MAX_NAME_LEN {
         return Ok(None);
     }
     match nearest_job(alloc, jobs, text)? {
-        Some(place) if is_job_near(alloc, jobs, text, place)? => Ok(Some(place)),
+        Some(index) if is_job_near(alloc, jobs, text, index)? => Ok(Some(index)),
         _ => Ok(None),
     }
 }
 
 // Whether a text is near the name of the job at an index: at most a third of the characters of that name differ.
-fn is_job_near(alloc: Global, jobs: &[Job], text: &str, place: usize) -> Result<bool, AllocError>
-    requires { place < length jobs.now }
+fn is_job_near(alloc: Global, jobs: &[Job], text: &str, index: usize) -> Result<bool, AllocError>
+    requires { index < length jobs.now }
     ensures { IfOk result (λ near. IsTrue near
-        ↔ IsNear (job_name_distance text.now jobs.now place) (job_name jobs.now place)) }
+        ↔ IsNear (job_name_distance text.now jobs.now index) (job_name jobs.now index)) }
 {
-    let distance = job_name_distance(alloc, jobs, text, place)?;
-    Ok(is_near(distance, jobs[place].name.as_str()))
+    let distance = job_name_distance(alloc, jobs, text, index)?;
+    Ok(is_near(distance, jobs[index].name.as_str()))
 }
 
 /// Whether an edit distance is at most a third of the name's length. A name is ASCII: a byte is a character.
@@ -44,17 +44,17 @@ pub(crate) fn is_near(distance: usize, name: &str) -> bool
 // Returns the index of the first job with the nearest name to a text, by the edit distance, or `None` if there are no jobs.
 fn nearest_job(alloc: Global, jobs: &[Job], text: &str) -> Result<Option<usize>, AllocError>
     ensures { IfOk result (λ nearest. MatchOption nearest (length jobs.now ≡ 0)
-        (λ place. IsJobNameSuggestion jobs.now text.now place)) }
+        (λ index. IsJobNameSuggestion jobs.now text.now index)) }
 {
     if jobs.is_empty() {
         return Ok(None);
     }
     let mut nearest = 0;
     let mut least = job_name_distance(alloc, jobs, text, 0)?;
-    for place in 1..jobs.len() {
-        let distance = job_name_distance(alloc, jobs, text, place)?;
+    for index in 1..jobs.len() {
+        let distance = job_name_distance(alloc, jobs, text, index)?;
         if distance < least {
-            nearest = place;
+            nearest = index;
             least = distance;
         }
     }
@@ -66,10 +66,10 @@ fn job_name_distance(
     alloc: Global,
     jobs: &[Job],
     text: &str,
-    place: usize,
+    index: usize,
 ) -> Result<usize, AllocError>
-    requires { place < length jobs.now }
-    ensures { IfOk result (λ so_many. so_many ≡ job_name_distance text.now jobs.now place) }
+    requires { index < length jobs.now }
+    ensures { IfOk result (λ distance. distance ≡ job_name_distance text.now jobs.now index) }
 {
-    levenshtein(alloc, text, jobs[place].name.as_str())
+    levenshtein(alloc, text, jobs[index].name.as_str())
 }

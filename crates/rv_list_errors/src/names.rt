@@ -59,7 +59,7 @@ pub(crate) fn push_unknown_same_as(
     message: &mut Message,
     list: &List<'_>,
     table: &Table,
-    place: usize,
+    job_index: usize,
     suggestion: Suggestion,
 )
     ensures { AppendsTextThat message.old message.new
@@ -77,7 +77,7 @@ pub(crate) fn push_unknown_same_as(
             message,
             list,
             text_at_key(table, "same_as"),
-            place,
+            job_index,
         ),
         Suggestion::Nothing => {}
     }
@@ -85,13 +85,13 @@ pub(crate) fn push_unknown_same_as(
 
 // Appends the name of a job before an index that is nearest to an unknown name, or all names of these jobs if none is near. Appends nothing
 // if some job has the name.
-fn push_nearest_job(message: &mut Message, list: &List<'_>, name: Option<&str>, place: usize)
+fn push_nearest_job(message: &mut Message, list: &List<'_>, name: Option<&str>, job_index: usize)
     ensures { AppendsTextThat message.old message.new (BeginsWith []) }
 {
     if list.job_number_of_name(name).is_some() {
         return;
     }
-    let earlier = first_names(list.names.as_slice(), place);
+    let earlier = first_names(list.names.as_slice(), job_index);
     if !earlier.is_empty() {
         push_nearest_name(message, earlier, name.unwrap_or(""));
     }
@@ -105,10 +105,10 @@ fn first_names<'n, 'a>(names: &'n [Option<&'a str>], count: usize) -> &'n [Optio
 }
 
 // Appends the name that is nearest to an unknown one, or all names if none is near.
-fn push_nearest_name(message: &mut Message, names: &[Option<&str>], wanted: &str)
-    ensures { AppendsTextThat message.old message.new (IsJobNameSuggestion (borrowed_names names.now) wanted.now) }
+fn push_nearest_name(message: &mut Message, names: &[Option<&str>], text: &str)
+    ensures { AppendsTextThat message.old message.new (IsJobNameSuggestion (borrowed_names names.now) text.now) }
 {
-    match near_name(message, names, wanted) {
+    match near_name(message, names, text) {
         Some(name) => {
             message.push("; a similar name exists: ");
             message.push_quoted(name);
@@ -165,9 +165,9 @@ pub(crate) fn push_names(message: &mut Message, names: &[Option<&str>])
     ensures { Adds message.old message.new (names_text (present (borrowed_names names.now))) }
 {
     let count = present_count(names);
-    let told = push_first_names(message, names, count);
-    if told < count {
-        message.push_number_between(" and ", (count - told) as u64, " more");
+    let listed_count = push_first_names(message, names, count);
+    if listed_count < count {
+        message.push_number_between(" and ", (count - listed_count) as u64, " more");
     }
 }
 
@@ -184,47 +184,47 @@ fn push_first_names(message: &mut Message, names: &[Option<&str>], count: usize)
     ensures listed_count { result ≡ min (length (present (borrowed_names names.now))) max_listed_names }
     ensures text { Adds message.old message.new (names_from count 0 (take max_listed_names (present (borrowed_names names.now)))) }
 {
-    let mut told = 0;
+    let mut listed_count = 0;
     for name in names {
-        told = push_next_name(message, *name, told, count);
+        listed_count = push_next_name(message, *name, listed_count, count);
     }
-    told
+    listed_count
 }
 
 // Appends a name, if it exists and the maximum has not been reached, and returns how many have been appended.
-fn push_next_name(message: &mut Message, name: Option<&str>, listed: usize, count: usize) -> usize
-    requires { listed ≤ max_listed_names }
-    ensures listed_count { result ≡ min (listed + length (present (borrowed_name name.entry ∷ []))) max_listed_names }
+fn push_next_name(message: &mut Message, name: Option<&str>, listed_count: usize, count: usize) -> usize
+    requires { listed_count ≤ max_listed_names }
+    ensures listed_count { result ≡ min (listed_count + length (present (borrowed_name name.entry ∷ []))) max_listed_names }
     ensures text { Adds message.old message.new
-        (names_from count listed (take (max_listed_names - listed) (present (borrowed_name name.entry ∷ [])))) }
+        (names_from count listed_count (take (max_listed_names - listed_count) (present (borrowed_name name.entry ∷ [])))) }
 {
     match name {
-        Some(name) => push_name_if_listed(message, name, listed, count),
-        None => listed,
+        Some(name) => push_name_if_listed(message, name, listed_count, count),
+        None => listed_count,
     }
 }
 
 // Appends a name unless the maximum has been reached, and returns how many have been appended.
-fn push_name_if_listed(message: &mut Message, name: &str, listed: usize, count: usize) -> usize
-    requires { listed ≤ max_listed_names }
-    ensures listed_count { result ≡ min (listed + 1) max_listed_names }
-    ensures text { Adds message.old message.new (names_from count listed (take (max_listed_names - listed) (name.now ∷ []))) }
+fn push_name_if_listed(message: &mut Message, name: &str, listed_count: usize, count: usize) -> usize
+    requires { listed_count ≤ max_listed_names }
+    ensures listed_count { result ≡ min (listed_count + 1) max_listed_names }
+    ensures text { Adds message.old message.new (names_from count listed_count (take (max_listed_names - listed_count) (name.now ∷ []))) }
 {
-    if listed == MAX_LISTED_NAMES {
-        return listed;
+    if listed_count == MAX_LISTED_NAMES {
+        return listed_count;
     }
-    push_listed_name(message, name, listed, count);
-    listed + 1
+    push_listed_name(message, name, listed_count, count);
+    listed_count + 1
 }
 
 // Appends the separator before the name at an index, and the name in quotes.
-fn push_listed_name(message: &mut Message, name: &str, place: usize, count: usize)
-    requires { place < max_listed_names }
-    ensures { Adds message.old message.new (separator count place ++ quoted name.now) }
+fn push_listed_name(message: &mut Message, name: &str, index: usize, count: usize)
+    requires { index < max_listed_names }
+    ensures { Adds message.old message.new (separator count index ++ quoted name.now) }
 {
-    message.push(match place {
+    message.push(match index {
         0 => "",
-        _ if place + 1 == count => " and ",
+        _ if index + 1 == count => " and ",
         _ => ", ",
     });
     message.push_quoted(name);

@@ -102,7 +102,7 @@ pub(crate) fn push_console_overlap(message: &mut Message, regions: &[Region])
     ensures { length regions.now < 2 ^ 64 → AppendsTextThat message.old message.new ExplainsRegions }
 {
     match first_shared_with_console(regions) {
-        Some((place, address)) => push_shared_with_console(message, place, address),
+        Some((index, address)) => push_shared_with_console(message, index, address),
         None => message.push(What::Region.name()),
     }
 }
@@ -111,19 +111,19 @@ pub(crate) fn push_console_overlap(message: &mut Message, regions: &[Region])
 fn first_shared_with_console(regions: &[Region]) -> Option<(usize, u32)>
     ensures { IfSome result (λ shared. shared.0 < length regions.now) }
 {
-    for (at, region) in regions.iter().enumerate() {
+    for (index, region) in regions.iter().enumerate() {
         if let Some(address) = shared_address(region, &CONSOLE) {
-            return Some((at, address));
+            return Some((index, address));
         }
     }
     None
 }
 
 // Appends that the region at an index overlaps the console at an address.
-fn push_shared_with_console(message: &mut Message, at: usize, address: u32)
-    ensures { at + 1 < 2 ^ 64 → AppendsTextThat message.old message.new ExplainsRegions }
+fn push_shared_with_console(message: &mut Message, index: usize, address: u32)
+    ensures { index + 1 < 2 ^ 64 → AppendsTextThat message.old message.new ExplainsRegions }
 {
-    push_region_number(message, at);
+    push_region_number(message, index);
     message.push(" overlaps the console at 0x");
     message.push_hex_word(address);
     message.push(": the console occupies 0x10000000 to 0x1000000f");

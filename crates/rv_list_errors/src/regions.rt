@@ -16,10 +16,10 @@ const EXPECTED_BASE: &str = "expected a multiple of 4 from 0 to 0xfffffffc";
 const EXPECTED_SIZE: &str = "expected a multiple of 4 from 4 to 16777216";
 
 /// Appends the number of the region at an index, counted from 1, as in `region 1`.
-pub(crate) fn push_region_number(message: &mut Message, at: usize)
-    ensures { at + 1 < 2 ^ 64 → Adds message.old message.new (region_number_text at) }
+pub(crate) fn push_region_number(message: &mut Message, index: usize)
+    ensures { index + 1 < 2 ^ 64 → Adds message.old message.new (region_number_text index) }
 {
-    message.push_number_between("region ", (at as u64).saturating_add(1), "");
+    message.push_number_between("region ", (index as u64).saturating_add(1), "");
 }
 
 /// Whether the elements of `region` form a memory map.
@@ -49,14 +49,14 @@ pub(crate) fn push_region_fault(message: &mut Message, table: &Table)
 {
     let elements = elements_at_key(table, "region");
     match index_of_malformed_region(elements) {
-        Some(place) => push_bad_base_or_size(message, place, &elements[place]),
+        Some(index) => push_bad_base_or_size(message, index, &elements[index]),
         None => push_fault_of_regions(message, elements),
     }
 }
 
 // Returns the index of the first element whose base and size are not both 32-bit numbers, or `None` if there is none.
 fn index_of_malformed_region(elements: &[Value]) -> Option<usize>
-    ensures { IfSome result (λ place. place < length elements.now) }
+    ensures { IfSome result (λ index. index < length elements.now) }
 {
     elements
         .iter()
@@ -76,8 +76,8 @@ fn push_fault_of_regions(message: &mut Message, elements: &[Value])
 }
 
 // Returns the region of the element at an index, or an empty one if it is missing or bad.
-fn region_or_empty(elements: &[Value], at: usize) -> Region {
-    let region = match elements.get(at) {
+fn region_or_empty(elements: &[Value], index: usize) -> Region {
+    let region = match elements.get(index) {
         Some(element) => region_of_element(element),
         None => None,
     };
@@ -104,10 +104,10 @@ fn region_of_element(element: &Value) -> Option<Region> {
 }
 
 // Appends what is wrong with the region at an index: its base if that is not a 32-bit number, else its size; or that it is not a table.
-fn push_bad_base_or_size(message: &mut Message, at: usize, element: &Value)
-    ensures { at + 1 < 2 ^ 64 → AppendsTextThat message.old message.new ExplainsRegions }
+fn push_bad_base_or_size(message: &mut Message, index: usize, element: &Value)
+    ensures { index + 1 < 2 ^ 64 → AppendsTextThat message.old message.new ExplainsRegions }
 {
-    push_region_number(message, at);
+    push_region_number(message, index);
     message.push(": ");
     match element {
         Value::Table(table) if word_at_key(table, "base").is_some() => {
@@ -144,14 +144,14 @@ fn push_unaligned_region(message: &mut Message, regions: &[Region])
     ensures { AppendsTextThat message.old message.new ExplainsRegions }
 {
     match index_of_unaligned_region(regions) {
-        Some(place) => push_unaligned(message, place, &regions[place]),
+        Some(index) => push_unaligned(message, index, &regions[index]),
         None => message.push(What::Region.name()),
     }
 }
 
 // Returns the index of the first region whose base or size is not a multiple of 4, or `None` if there is none.
 fn index_of_unaligned_region(regions: &[Region]) -> Option<usize>
-    ensures { IfSome result (λ place. place < length regions.now) }
+    ensures { IfSome result (λ index. index < length regions.now) }
 {
     regions
         .iter()
@@ -159,15 +159,15 @@ fn index_of_unaligned_region(regions: &[Region]) -> Option<usize>
 }
 
 // Appends the base or the size of the region at an index that is not a multiple of 4.
-fn push_unaligned(message: &mut Message, at: usize, region: &Region)
-    ensures { at + 1 < 2 ^ 64 → AppendsTextThat message.old message.new ExplainsRegions }
+fn push_unaligned(message: &mut Message, index: usize, region: &Region)
+    ensures { index + 1 < 2 ^ 64 → AppendsTextThat message.old message.new ExplainsRegions }
 {
     if region.base % 4 != 0 {
-        push_region_base(message, at, region.base);
+        push_region_base(message, index, region.base);
         message.push(": ");
         message.push(EXPECTED_BASE);
     } else {
-        push_wrong_region_size(message, at, region.size);
+        push_wrong_region_size(message, index, region.size);
     }
 }
 
@@ -176,14 +176,14 @@ fn push_region_size_fault(message: &mut Message, regions: &[Region])
     ensures { AppendsTextThat message.old message.new ExplainsRegions }
 {
     match index_of_badly_sized_region(regions) {
-        Some(place) => push_badly_sized_region(message, place, &regions[place]),
+        Some(index) => push_badly_sized_region(message, index, &regions[index]),
         None => push_total_size(message, total_size(regions)),
     }
 }
 
 // Returns the index of the first region that is smaller than 4 bytes or extends past the last address, or `None` if there is none.
 fn index_of_badly_sized_region(regions: &[Region]) -> Option<usize>
-    ensures { IfSome result (λ place. place < length regions.now) }
+    ensures { IfSome result (λ index. index < length regions.now) }
 {
     regions.iter().position(|region| region.size < 4 || region_end(region) > ADDRESS_COUNT)
 }
@@ -192,13 +192,13 @@ fn index_of_badly_sized_region(regions: &[Region]) -> Option<usize>
 const ADDRESS_COUNT: u64 = 0x1_0000_0000;
 
 // Appends that the region at an index is too small, or extends past the last address.
-fn push_badly_sized_region(message: &mut Message, at: usize, region: &Region)
-    ensures { at + 1 < 2 ^ 64 → AppendsTextThat message.old message.new ExplainsRegions }
+fn push_badly_sized_region(message: &mut Message, index: usize, region: &Region)
+    ensures { index + 1 < 2 ^ 64 → AppendsTextThat message.old message.new ExplainsRegions }
 {
     if region.size < 4 {
-        push_wrong_region_size(message, at, region.size);
+        push_wrong_region_size(message, index, region.size);
     } else {
-        push_region_past_end(message, at, region);
+        push_region_past_end(message, index, region);
     }
 }
 
@@ -223,28 +223,28 @@ fn push_total_size(message: &mut Message, total: u64)
 }
 
 // Appends that the region at an index extends past the last address.
-fn push_region_past_end(message: &mut Message, at: usize, region: &Region)
-    ensures { at + 1 < 2 ^ 64 → AppendsTextThat message.old message.new ExplainsRegions }
+fn push_region_past_end(message: &mut Message, index: usize, region: &Region)
+    ensures { index + 1 < 2 ^ 64 → AppendsTextThat message.old message.new ExplainsRegions }
 {
-    push_region_base(message, at, region.base);
-    let wanted = ": the region extends past 0xffffffff";
-    message.push_number_between(", size = ", u64::from(region.size), wanted);
+    push_region_base(message, index, region.base);
+    let expected = ": the region extends past 0xffffffff";
+    message.push_number_between(", size = ", u64::from(region.size), expected);
 }
 
 // Appends the number of the region at an index, and its base.
-fn push_region_base(message: &mut Message, at: usize, base: u32)
-    ensures { at + 1 < 2 ^ 64 → AppendsTextThat message.old message.new ExplainsRegions }
+fn push_region_base(message: &mut Message, index: usize, base: u32)
+    ensures { index + 1 < 2 ^ 64 → AppendsTextThat message.old message.new ExplainsRegions }
 {
-    push_region_number(message, at);
+    push_region_number(message, index);
     message.push(": base = 0x");
     message.push_hex_word(base);
 }
 
 // Appends the number of the region at an index, its size, and what is expected of a size.
-fn push_wrong_region_size(message: &mut Message, at: usize, size: u32)
-    ensures { at + 1 < 2 ^ 64 → AppendsTextThat message.old message.new ExplainsRegions }
+fn push_wrong_region_size(message: &mut Message, index: usize, size: u32)
+    ensures { index + 1 < 2 ^ 64 → AppendsTextThat message.old message.new ExplainsRegions }
 {
-    push_region_number(message, at);
+    push_region_number(message, index);
     message.push_number_between(": size = ", u64::from(size), ": ");
     message.push(EXPECTED_SIZE);
 }

@@ -180,7 +180,7 @@ fn push_text_of_wrong_type(message: &mut Message, table: &Table, key: &str)
     ensures { AppendsTextThat message.old message.new (BeginsWithValue key.now (table_view table.now)) }
 {
     match accepted_texts(key) {
-        Some(wanted) => push_explanation(message, table, Explanation::Expected(wanted)),
+        Some(expected) => push_explanation(message, table, Explanation::Expected(expected)),
         None => push_expected_value(message, table, key, "expected a string"),
     }
 }
@@ -191,24 +191,24 @@ fn push_regions_of_wrong_type(message: &mut Message, table: &Table, key: &str)
 {
     let regions = elements_at_key(table, key);
     match index_of_first_non_region(regions) {
-        Some(place) => push_region_of_wrong_type(message, place, &regions[place]),
+        Some(index) => push_region_of_wrong_type(message, index, &regions[index]),
         None => push_expected_value(message, table, key, "expected an array of tables"),
     }
 }
 
 // Returns the index of the first element that is not a table, or that has a value of the wrong type, or `None` if there is none.
 fn index_of_first_non_region(elements: &[Value]) -> Option<usize>
-    ensures within { IfSome result (λ place. place < length elements.now) }
+    ensures within { IfSome result (λ index. index < length elements.now) }
     ensures value { result ≡ position (λ v. not (is_region (view v))) elements.now }
 {
     elements.iter().position(|element| !is_region(element))
 }
 
 // Appends the number of a region that is not a table, or that has a value of the wrong type, and what was expected.
-fn push_region_of_wrong_type(message: &mut Message, place: usize, region: &Value)
-    ensures { place + 1 < 2 ^ 64 → AppendsTextThat message.old message.new (BeginsWith (region_number_text place)) }
+fn push_region_of_wrong_type(message: &mut Message, index: usize, region: &Value)
+    ensures { index + 1 < 2 ^ 64 → AppendsTextThat message.old message.new (BeginsWith (region_number_text index)) }
 {
-    push_region_number(message, place);
+    push_region_number(message, index);
     match region {
         Value::Table(table) => push_region_table_of_wrong_type(message, table),
         _ => {
@@ -225,7 +225,7 @@ fn push_region_table_of_wrong_type(message: &mut Message, table: &Table)
 {
     message.push(": ");
     match region_key_of_wrong_type(table) {
-        Some((key, wanted)) => push_expected_value(message, table, key, wanted),
+        Some((key, expected)) => push_expected_value(message, table, key, expected),
         None => message.push("invalid type"),
     }
 }

@@ -85,11 +85,11 @@ fn push_missing_key(message: &mut Message, key: &str)
 }
 
 /// Appends a key and its value, or that it is missing, and what is expected of the value.
-pub(crate) fn push_expected_value(message: &mut Message, table: &Table, key: &str, wanted: &str)
+pub(crate) fn push_expected_value(message: &mut Message, table: &Table, key: &str, expected: &str)
     ensures { AppendsTextThat message.old message.new
-        (IsExpectedValue key.now (get_member key.now (table_view table.now)) wanted.now) }
+        (IsExpectedValue key.now (get_member key.now (table_view table.now)) expected.now) }
 {
     push_key_and_value(message, table, key);
     message.push(": ");
-    message.push(wanted);
+    message.push(expected);
 }

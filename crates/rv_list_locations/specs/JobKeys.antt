@@ -5,11 +5,11 @@ use Rattle.toml_parser.specs.Strings.{Key, key}
 
 -- the first part of a dotted key, or the whole key if it has only one part
 abbrev pub first_part : Key → List ℕ
-first_part name = unwrap_or (slice_get name.0 0) name.1
+first_part dotted_key = unwrap_or (slice_get dotted_key.0 0) dotted_key.1
 
 -- the second part of a dotted key, or the last part if the key has fewer than three parts
 abbrev pub second_part : Key → List ℕ
-second_part name = unwrap_or (slice_get name.0 1) name.1
+second_part dotted_key = unwrap_or (slice_get dotted_key.0 1) dotted_key.1
 
 -- the text begins with a key whose first part is `name`
 abbrev pub BeginsWithKey : List ℕ → List ℕ → Type 0

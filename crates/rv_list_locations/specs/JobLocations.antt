@@ -90,7 +90,7 @@ after_equals text = if first text == equals then skip_ws (drop 1 text) else []
 
 -- whether a key is `job`
 abbrev pub is_job : Key → Bool
-is_job name = length name.0 == 0 && bytes_eq name.1 (codes "job")
+is_job dotted_key = length dotted_key.0 == 0 && bytes_eq dotted_key.1 (codes "job")
 
 -- the result of scanning a header, an entry or an element: whether a job begins there, what comes next, and the text after it
 abbrev pub Step : Type 0
@@ -99,14 +99,14 @@ Step = Bool × ScanState × List ℕ
 -- the result of scanning the header of an element of an array of tables, whose opening brackets are already skipped, or `None` if it is
 -- malformed
 unfoldable pub array_header : List ℕ → Option Step
-array_header text = key (skip_ws text) >>= (λ name.
-    if first name.1 == right_bracket && slice_index name.1 1 == right_bracket
-    then Some (is_job name.0, Table, text_after_line (drop 2 name.1)) else None)
+array_header text = key (skip_ws text) >>= (λ parsed.
+    if first parsed.1 == right_bracket && slice_index parsed.1 1 == right_bracket
+    then Some (is_job parsed.0, Table, text_after_line (drop 2 parsed.1)) else None)
 
 -- the result of scanning the header of a table, whose opening bracket is already skipped, or `None` if it is malformed
 unfoldable pub table_header : List ℕ → Option Step
-table_header text = key (skip_ws text) >>= (λ name.
-    if first name.1 == right_bracket then Some (false, Table, text_after_line (drop 1 name.1)) else None)
+table_header text = key (skip_ws text) >>= (λ parsed.
+    if first parsed.1 == right_bracket then Some (false, Table, text_after_line (drop 1 parsed.1)) else None)
 
 -- the result of scanning the header with which the text begins, or `None` if it is malformed
 abbrev pub header : List ℕ → Option Step
@@ -122,10 +122,10 @@ is_top Element = false
 -- the result of scanning the entry with which the text begins, or `None` if it is malformed; before the first header, an array at the key
 -- `job` has the jobs, and its elements come next
 unfoldable pub keyed_entry : ScanState → List ℕ → Option Step
-keyed_entry next text = key text >>= (λ name. let value = after_equals name.1 in
-    if (is_job name.0 && is_top next) && first value == left_bracket
+keyed_entry state text = key text >>= (λ parsed. let value = after_equals parsed.1 in
+    if (is_job parsed.0 && is_top state) && first value == left_bracket
     then Some (false, Element, skip_blank (drop 1 value))
-    else option_map (λ rest. (false, next, text_after_line rest)) (after_value value))
+    else option_map (λ rest. (false, state, text_after_line rest)) (after_value value))
 
 -- the result of scanning the element with which the text begins, or the bracket after the last element; `None` if it is malformed
 unfoldable pub element : List ℕ → Option Step
@@ -135,10 +135,10 @@ element text =
 
 -- the result of scanning the header or the entry with which the text begins, or `None` if it is malformed
 abbrev pub header_or_entry : ScanState → List ℕ → Option Step
-header_or_entry next text = if first text == left_bracket then header text else keyed_entry next text
+header_or_entry state text = if first text == left_bracket then header text else keyed_entry state text
 
--- the result of scanning the header, the entry or the element with which the text begins, or `None` if it is malformed; `next` is what the
--- scan expects here
+-- the result of scanning the header, the entry or the element with which the text begins, or `None` if it is malformed; the first argument
+-- is what the scan expects here
 unfoldable pub step : ScanState → List ℕ → Option Step
 step Element text = element text
 step Top text = header_or_entry Top text
@@ -150,14 +150,14 @@ step Table text = header_or_entry Table text
 -- the later ones
 abbrev pub job_texts_of_step : (ScanState → List ℕ → List (List ℕ)) → List ℕ → Option Step → List (List ℕ)
 job_texts_of_step jobs text None = []
-job_texts_of_step jobs text (Some found) =
-    if found.0 then text ∷ jobs found.1 found.2 else jobs found.1 found.2
+job_texts_of_step jobs text (Some scanned) =
+    if scanned.0 then text ∷ jobs scanned.1 scanned.2 else jobs scanned.1 scanned.2
 
 -- for each job, the suffix of the list's text that begins with it, if at most `n` headers, entries and elements are scanned
 unfoldable pub job_texts_from : ℕ → ScanState → List ℕ → List (List ℕ)
-job_texts_from zero next text = []
-job_texts_from (suc n) next text =
-    if length text == 0 then [] else job_texts_of_step (job_texts_from n) text (step next text)
+job_texts_from zero state text = []
+job_texts_from (suc n) state text =
+    if length text == 0 then [] else job_texts_of_step (job_texts_from n) text (step state text)
 
 -- for each job, the suffix of the list's text that begins with it; the text has no byte order mark
 unfoldable pub jobs_of_text : List ℕ → List (List ℕ)

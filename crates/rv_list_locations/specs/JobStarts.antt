@@ -12,7 +12,7 @@ BeginsWithJobHeader text = (rest : List ℕ) × (expression text ≡ Some ((([],
 
 -- a suffix of a list's text is in an array `job = [..]`, at one of its elements or at the closing bracket
 pub data IsInJobArray (list : List ℕ) : List ℕ → Type 0 where
-  opened : (place : ℕ) (value : List ℕ) → key_equals (drop place list) ≡ Some (([], codes "job"), value) →
+  opened : (index : ℕ) (value : List ℕ) → key_equals (drop index list) ≡ Some (([], codes "job"), value) →
       first value ≡ left_bracket → IsInJobArray list (skip_blank (drop 1 value))
   behind : (element rest : List ℕ) → IsInJobArray list element → after_value element ≡ Some rest →
       IsInJobArray list (after_comma rest)

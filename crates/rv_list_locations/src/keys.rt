@@ -31,11 +31,11 @@ pub(crate) enum KeyContext {
     Subtable,
 }
 
-/// A scanned entry or header of a job: the name of the job's key, if it has one, what comes next, and the text after it.
+/// A scanned entry or header of a job: the name of the job's key, if it has one, the context of what comes next, and the text after it.
 #[derive(Drop)]
 pub(crate) struct KeyStep<'a> {
     pub(crate) name: Option<String>,
-    pub(crate) inside: KeyContext,
+    pub(crate) context: KeyContext,
     pub(crate) rest: &'a str,
 }
 
@@ -60,17 +60,17 @@ fn push_job_keys<'a>(
     requires { All IsNamedKey keys.old.items }
     ensures { All IsNamedKey keys.new.items }
 {
-    let (mut inside, mut here) = skip_job_start(alloc, job)?;
+    let (mut context, mut here) = skip_job_start(alloc, job)?;
     'keys: while !here.is_empty() {
         let KeyStep {
             name,
-            inside: next,
+            context: next,
             rest,
-        } = scan_key_step(alloc, here, inside)?;
+        } = scan_key_step(alloc, here, context)?;
         if let Some(name) = name {
             keys.push(JobKey { name, text: here })?;
         }
-        inside = next;
+        context = next;
         here = rest;
     }
     Ok(())
@@ -90,12 +90,12 @@ fn skip_job_start(alloc: Global, job: &str) -> Result<(KeyContext, &str), ParseE
 pub(crate) fn scan_key_step(
     alloc: Global,
     text: &str,
-    inside: KeyContext,
+    context: KeyContext,
 ) -> Result<KeyStep<'_>, ParseError>
     ensures name { IfOk result (λ step. IfSome step.name (λ name. BeginsWithName (string_bytes name) text.now)) }
     ensures shorter { IfOk result (λ step. length step.rest.now < length text.now) }
 {
-    match inside {
+    match context {
         KeyContext::InlineTable => scan_inline_entry(alloc, text),
         _ if first(text) == b'[' => scan_inner_header(alloc, text),
         KeyContext::Table => scan_job_entry(alloc, text),
@@ -103,7 +103,7 @@ pub(crate) fn scan_key_step(
             let Step { rest, .. } = scan_step(alloc, text, ScanState::Table)?;
             Ok(KeyStep {
                 name: None,
-                inside,
+                context,
                 rest,
             })
         }
@@ -119,7 +119,7 @@ fn scan_job_entry(alloc: Global, text: &str) -> Result<KeyStep<'_>, ParseError>
     let (name, _) = scan_name(alloc, text)?;
     Ok(KeyStep {
         name: Some(name),
-        inside: KeyContext::Table,
+        context: KeyContext::Table,
         rest,
     })
 }
@@ -130,23 +130,23 @@ fn scan_inline_entry(alloc: Global, text: &str) -> Result<KeyStep<'_>, ParseErro
     ensures name { IfOk result (λ step. IfSome step.name (λ name. BeginsWithName (string_bytes name) text.now)) }
     ensures shorter { IfOk result (λ step. length step.rest.now < length text.now) }
 {
-    let (name, behind) = scan_name(alloc, text)?;
-    let rest = skip_value(alloc, skip_equals_sign(behind))?;
+    let (name, after_key) = scan_name(alloc, text)?;
+    let rest = skip_value(alloc, skip_equals_sign(after_key))?;
     Ok(KeyStep {
         name: Some(name),
-        inside: KeyContext::InlineTable,
+        context: KeyContext::InlineTable,
         rest: skip_comma(rest),
     })
 }
 
 // Scans a key, and returns its first part and the text after the key.
 fn scan_name(alloc: Global, text: &str) -> Result<(String, &str), ParseError>
-    ensures key { IfOk result (λ found. BeginsWithKey (string_bytes found.0) text.now) }
-    ensures shorter { IfOk result (λ found. length found.1.now < length text.now) }
+    ensures key { IfOk result (λ parsed. BeginsWithKey (string_bytes parsed.0) text.now) }
+    ensures shorter { IfOk result (λ parsed. length parsed.1.now < length text.now) }
 {
-    let (key, behind) = dotted_key(alloc, text)?;
+    let (key, after_key) = dotted_key(alloc, text)?;
     let name = String::from_str(alloc, part_or_last(&key, 0))?;
-    Ok((name, behind))
+    Ok((name, after_key))
 }
 
 // Scans a header after the beginning of a job. The header of another job or table ends the job; the header of a table in the job has the
@@ -160,13 +160,13 @@ fn scan_inner_header(alloc: Global, text: &str) -> Result<KeyStep<'_>, ParseErro
     if is_job {
         return Ok(KeyStep {
             name: None,
-            inside: KeyContext::Subtable,
+            context: KeyContext::Subtable,
             rest: "",
         });
     }
     Ok(KeyStep {
         name: scan_table_name(alloc, text)?,
-        inside: KeyContext::Subtable,
+        context: KeyContext::Subtable,
         rest,
     })
 }
@@ -174,7 +174,7 @@ fn scan_inner_header(alloc: Global, text: &str) -> Result<KeyStep<'_>, ParseErro
 // Returns the part after `job` of a header's key, or `None` if the key does not begin with `job`.
 fn scan_table_name(alloc: Global, header: &str) -> Result<Option<String>, ParseError>
     requires { slice_index header.now 0 ≡ left_bracket }
-    ensures { IfOk result (λ found. IfSome found (λ name. BeginsWithTable (string_bytes name) header.now)) }
+    ensures { IfOk result (λ table_name. IfSome table_name (λ name. BeginsWithTable (string_bytes name) header.now)) }
 {
     let (key, _) = dotted_key(alloc, after_brackets(header))?;
     match key.path.first() {

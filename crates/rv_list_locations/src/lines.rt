@@ -17,7 +17,7 @@ pub(crate) struct LineRecorder<'a> {
     recorded: Vec<usize>,
     ghost within: { offset ≤ length text.now },
     ghost line_is: { line ≡ line_at offset text.now },
-    ghost within_line: { All (λ line_noted. (0 < line_noted) × (line_noted ≤ line)) recorded.items },
+    ghost within_line: { All (λ recorded_line. (0 < recorded_line) × (recorded_line ≤ line)) recorded.items },
     ghost rising: { IsNonDecreasing recorded.items },
 }
 
@@ -44,9 +44,9 @@ impl<'a> LineRecorder<'a> {
         ensures recorded { OnOk result (self.new.recorded.items
             ≡ self.old.recorded.items ++ line_at self.new.offset self.old.text.now ∷ []) }
     {
-        let place = self.text.len().saturating_sub(remaining).max(self.offset);
-        let line = self.line + line_feed_count(&self.text[self.offset..place]);
-        self.offset = place;
+        let index = self.text.len().saturating_sub(remaining).max(self.offset);
+        let line = self.line + line_feed_count(&self.text[self.offset..index]);
+        self.offset = index;
         self.line = line;
         self.recorded.push(line)?;
         Ok(())

@@ -21,7 +21,7 @@ pub struct RepeatedKey<'a> {
 #[derive(Clone, Copy)]
 struct Entries<'a> {
     text: &'a str,
-    inside: KeyContext,
+    context: KeyContext,
 }
 
 /// Returns the key that a text sets for the second time, which begins where `remaining` bytes of the text remain, or `None` if no key is
@@ -47,16 +47,16 @@ fn find_repeated_key<'a>(
 ) -> Result<Option<RepeatedKey<'a>>, ParseError> {
     let mut here = skip_blank_lines(text);
     let mut table = here;
-    let mut what = ScanState::Top;
+    let mut state = ScanState::Top;
     'steps: while !here.is_empty() {
-        let Step { next, rest, .. } = scan_step(alloc, here, what)?;
+        let Step { next, rest, .. } = scan_step(alloc, here, state)?;
         if rest.len() < remaining {
             return repeated_key_in_step(alloc, table, here, remaining);
         }
         if first(here) == b'[' {
             table = rest;
         }
-        what = next;
+        state = next;
         here = rest;
     }
     Ok(None)
@@ -79,7 +79,7 @@ fn repeated_key_in_step<'a>(
     }
     let entries = Entries {
         text: table,
-        inside: KeyContext::Table,
+        context: KeyContext::Table,
     };
     Ok(Some(repeated_key_of_entry(alloc, entries, step)?))
 }
@@ -107,7 +107,7 @@ fn repeated_key_in_inline_table<'a>(
         Some(text) => {
             let entries = Entries {
                 text: *text,
-                inside: KeyContext::InlineTable,
+                context: KeyContext::InlineTable,
             };
             Ok(Some(repeated_key_of_entry(alloc, entries, here)?))
         }
@@ -122,7 +122,7 @@ fn repeated_key_of_entry<'a>(
     entry: &'a str,
 ) -> Result<RepeatedKey<'a>, ParseError> {
     let (key, _) = dotted_key(alloc, entry)?;
-    let Entries { text, mut inside } = entries;
+    let Entries { text, mut context } = entries;
     let mut here = text;
     'entries: while entry.len() < here.len() {
         let (other, _) = dotted_key(alloc, here)?;
@@ -131,11 +131,11 @@ fn repeated_key_of_entry<'a>(
             return Ok(RepeatedKey { key, first });
         }
         let KeyStep {
-            inside: next,
+            context: next,
             rest,
             ..
-        } = scan_key_step(alloc, here, inside)?;
-        inside = next;
+        } = scan_key_step(alloc, here, context)?;
+        context = next;
         here = rest;
     }
     Ok(RepeatedKey { key, first: None })

@@ -80,13 +80,13 @@ fn push_job_texts<'a>(
         ≡ texts_of_references jobs.old.items ++ spec.jobs_of_text text.now) }
 {
     let mut here = skip_blank_lines(text);
-    let mut what = ScanState::Top;
+    let mut state = ScanState::Top;
     'steps: while !here.is_empty() {
-        let Step { is_job, next, rest } = scan_step(alloc, here, what)?;
+        let Step { is_job, next, rest } = scan_step(alloc, here, state)?;
         if is_job {
             jobs.push(here)?;
         }
-        what = next;
+        state = next;
         here = rest;
     }
     Ok(())
@@ -100,28 +100,29 @@ fn push_job_lines(alloc: Global, text: &str, lines: &mut LineRecorder<'_>) -> Re
         ++ map (spec.line_of_suffix lines.old.text.now) (spec.jobs_of_text text.now)) }
 {
     let mut here = skip_blank_lines(text);
-    let mut what = ScanState::Top;
+    let mut state = ScanState::Top;
     'steps: while !here.is_empty() {
-        let Step { is_job, next, rest } = scan_step(alloc, here, what)?;
+        let Step { is_job, next, rest } = scan_step(alloc, here, state)?;
         if is_job {
             lines.push_line(here.len())?;
         }
-        what = next;
+        state = next;
         here = rest;
     }
     Ok(())
 }
 
-/// Scans a header, an entry or an element. Returns whether a job begins there, what comes next, and the text after it.
+/// Scans a header, an entry or an element. `state` is what the scan expects here. Returns whether a job begins there, what comes next, and
+/// the text after it.
 #[tactic(auto, unfolding(crate::specs::JobLocations::step))]
-pub(crate) fn scan_step(alloc: Global, text: &str, next: ScanState) -> Result<Step<'_>, ParseError>
-    ensures step { GivesStep result (spec.step next text.now) }
+pub(crate) fn scan_step(alloc: Global, text: &str, state: ScanState) -> Result<Step<'_>, ParseError>
+    ensures step { GivesStep result (spec.step state text.now) }
     ensures shorter { IfOk result (λ step. length step.rest.now < length text.now) }
 {
-    match next {
+    match state {
         ScanState::Element => scan_element(alloc, text),
         _ if first(text) == b'[' => scan_header(alloc, text),
-        _ => scan_entry(alloc, text, next),
+        _ => scan_entry(alloc, text, state),
     }
 }
 
@@ -199,13 +200,13 @@ fn scan_table_header(alloc: Global, text: &str) -> Result<Step<'_>, ParseError>
 // Scans an entry. Before the first header, an array at the key `job` has the jobs, and its elements come next. Returns what comes next, and
 // the text after the entry or after the array's opening bracket.
 #[tactic(auto, unfolding(crate::specs::JobLocations::keyed_entry))]
-fn scan_entry(alloc: Global, text: &str, next: ScanState) -> Result<Step<'_>, ParseError>
-    ensures step { GivesStep result (spec.keyed_entry next text.now) }
+fn scan_entry(alloc: Global, text: &str, state: ScanState) -> Result<Step<'_>, ParseError>
+    ensures step { GivesStep result (spec.keyed_entry state text.now) }
     ensures shorter { IfOk result (λ step. length step.rest.now < length text.now) }
 {
     let (is_job, rest) = scan_key(alloc, text)?;
     let value = skip_equals_sign(rest);
-    if is_job && matches!(next, ScanState::Top) && first(value) == b'[' {
+    if is_job && matches!(state, ScanState::Top) && first(value) == b'[' {
         return Ok(Step {
             is_job: false,
             next: ScanState::Element,
@@ -215,7 +216,7 @@ fn scan_entry(alloc: Global, text: &str, next: ScanState) -> Result<Step<'_>, Pa
     let rest = skip_value(alloc, value)?;
     Ok(Step {
         is_job: false,
-        next,
+        next: state,
         rest: skip_line_end(rest),
     })
 }
@@ -267,7 +268,7 @@ fn skip_line_end(text: &str) -> &str
 fn scan_key(alloc: Global, text: &str) -> Result<(bool, &str), ParseError>
     ensures key { Reads (λ is_job. is_job) result
         (option_map (λ name. (spec.is_job name.0, name.1)) (key text.now)) }
-    ensures shorter { IfOk result (λ found. length found.1.now < length text.now) }
+    ensures shorter { IfOk result (λ parsed. length parsed.1.now < length text.now) }
 {
     let (key, rest) = dotted_key(alloc, text)?;
     Ok((key.path.is_empty() && key.last.as_str() == "job", rest))

@@ -41,28 +41,28 @@ fn push_value_spans(alloc: Global, text: &str, spans: &mut Vec<ValueSpan>) -> Re
     ensures { All (IsSpanIn text.now) spans.new.items }
 {
     let mut here = skip_blank_lines(skip_byte_order_mark(text));
-    let mut what = ScanState::Top;
+    let mut state = ScanState::Top;
     let mut jobs = 0usize;
     let mut is_in_job = false;
     'steps: while !here.is_empty() {
-        let Step { is_job, next, rest } = scan_step(alloc, here, what)?;
+        let Step { is_job, next, rest } = scan_step(alloc, here, state)?;
         if is_job {
             jobs = jobs.saturating_add(1);
         }
-        if is_header(here, what) {
+        if is_header(here, state) {
             is_in_job = is_job;
         } else if is_in_job {
             push_value_span(alloc, text, here, jobs.saturating_sub(1), spans)?;
         }
-        what = next;
+        state = next;
         here = rest;
     }
     Ok(())
 }
 
-// Whether the text begins with a header. `next` is what the scan expects here.
-fn is_header(text: &str, next: ScanState) -> bool {
-    match next {
+// Whether the text begins with a header. `state` is what the scan expects here.
+fn is_header(text: &str, state: ScanState) -> bool {
+    match state {
         ScanState::Element => false,
         ScanState::Top | ScanState::Table => first(text) == b'[',
     }

@@ -43,8 +43,8 @@ use Rattle.rv_lists.specs.Keys.{boolean_at_key, array_at_key, has_wrong_type, ha
 -- ---- name, image, budget
 
 -- whether a text may be a path of a list: it is 1 to 4,096 bytes long
-abbrev pub is_same_path : List ℕ → Bool
-is_same_path t = is_within 1 max_path_len (length t)
+abbrev pub is_valid_path : List ℕ → Bool
+is_valid_path t = is_within 1 max_path_len (length t)
 
 -- the name of a job, or an error if it is missing or invalid
 unfoldable pub name_from_table : Members → Result (List ℕ) What
@@ -52,7 +52,7 @@ name_from_table ms = valid_value is_name what.Name (text_at_key (codes "name") m
 
 -- the path of a job's image, or an error if it is missing or invalid
 unfoldable pub image_from_table : Members → Result (List ℕ) What
-image_from_table ms = valid_value is_same_path what.Image (text_at_key (codes "image") ms)
+image_from_table ms = valid_value is_valid_path what.Image (text_at_key (codes "image") ms)
 
 -- an integer if it is from `low` to `high`, or else the error `fault`
 abbrev pub number_or_fault : ℕ → ℕ → What → ℤ → Result ℕ What
@@ -155,7 +155,7 @@ signature_symbol n ds = valid_value is_signature_symbol what.Signature (option_a
 -- the two symbols of a signature from the value of `signature`, or an error if they are invalid
 unfoldable pub symbols_from_names : Items → Result (Option Symbols) What
 symbols_from_names ds = do
-  two ← fault_if (not (item_count ds == 2)) what.Signature
+  are_two ← fault_if (not (item_count ds == 2)) what.Signature
   begin ← signature_symbol 0 ds
   end ← signature_symbol 1 ds
   Ok (Some (record { begin = begin; end = end }))
@@ -176,7 +176,7 @@ exit_from_table ms = parsed_or_default exit_from_number None (number_at_key (cod
 
 -- the path of the expected signature, or an error if it is invalid or the job has no signature; `has_signature` is whether the job has one
 abbrev pub reference_from_path : Bool → List ℕ → Result (Option (List ℕ)) What
-reference_from_path has_signature path = if has_signature && is_same_path path then Ok (Some path) else Err what.Expect
+reference_from_path has_signature path = if has_signature && is_valid_path path then Ok (Some path) else Err what.Expect
 
 -- the path of the expected signature of a job, or `None` if it expects none; `has_signature` is whether the job has a signature
 unfoldable pub reference_from_table : Bool → Members → Result (Option (List ℕ)) What
@@ -189,7 +189,7 @@ console_from_text text =
 
 -- the expected console in the file at this path, or an error if the path is invalid
 abbrev pub console_from_path : List ℕ → Result (Option ExpectedConsole) What
-console_from_path path = if is_same_path path then Ok (Some (File path)) else Err what.Expect
+console_from_path path = if is_valid_path path then Ok (Some (File path)) else Err what.Expect
 
 -- the expected console of a job from the values of `expect_console` and `expect_console_file`; it is an error if both are set
 abbrev pub console_from_either : Option (List ℕ) → Option (List ℕ) → Result (Option ExpectedConsole) What
@@ -263,10 +263,10 @@ misaligned_from_table ms = parsed_or_default misaligned_from_text Fault (text_at
 -- the job of a table, or its first error; `earlier` are the names of the earlier jobs
 unfoldable pub job_from_table : List (List ℕ) → Members → Result Job What
 job_from_table earlier ms = do
-  known ← fault_if (has_unknown_job_or_region_key ms) what.UnknownKey
-  typed ← fault_if (has_wrong_type ms) what.WrongType
+  known_keys ← fault_if (has_unknown_job_or_region_key ms) what.UnknownKey
+  right_types ← fault_if (has_wrong_type ms) what.WrongType
   name ← name_from_table ms
-  fresh ← fault_if (is_some (index_in earlier name)) what.Duplicate
+  is_new ← fault_if (is_some (index_in earlier name)) what.Duplicate
   image ← image_from_table ms
   budget ← budget_from_table ms
   script ← script_from_table ms
@@ -332,9 +332,9 @@ array_elements _ = Err what.WrongType
 -- the elements of `job` in a list, or the first error of the whole list
 unfoldable pub job_elements : Members → Result Items What
 job_elements ms = do
-  some ← fault_if (has_no_jobs (get_member (codes "job") ms)) what.NoJobs
-  few ← fault_if (has_too_many_jobs (get_member (codes "job") ms)) what.TooMany
-  known ← fault_if (any_unknown_key is_list_key ms) what.UnknownKey
+  not_empty ← fault_if (has_no_jobs (get_member (codes "job") ms)) what.NoJobs
+  at_most_max ← fault_if (has_too_many_jobs (get_member (codes "job") ms)) what.TooMany
+  known_keys ← fault_if (any_unknown_key is_list_key ms) what.UnknownKey
   array_elements (get_member (codes "job") ms)
 
 -- the jobs of a TOML document, or the first error; `None` means that a text is not a TOML document

@@ -18,8 +18,8 @@ run_options_from_table earlier ms = do
   expect_end ← end_from_table ms
   same_as ← same_as_from_table earlier ms
   set ← isa_from_table ms
-  choice ← misaligned_from_table ms
-  Ok (record { expect_end = expect_end; same_as = same_as; isa = set; misaligned = choice })
+  misaligned_policy ← misaligned_from_table ms
+  Ok (record { expect_end = expect_end; same_as = same_as; isa = set; misaligned = misaligned_policy })
 
 -- the script, the regions and the load addresses of a job, or the first error
 unfoldable pub setup_from_table : Members → Result Setup What
@@ -44,7 +44,7 @@ unfoldable pub job_from_remaining_keys : List (List ℕ) → List ℕ → List �
 job_from_remaining_keys earlier name image budget ms = do
   setup ← setup_from_table ms
   results ← expected_results_from_table ms
-  manner ← run_options_from_table earlier ms
+  options ← run_options_from_table earlier ms
   Ok (record {
     name = name;
     image = image;
@@ -56,8 +56,8 @@ job_from_remaining_keys earlier name image budget ms = do
     expect_exit = results.exit;
     expect_signature = results.reference;
     expect_console = results.console;
-    expect_end = manner.expect_end;
-    same_as = manner.same_as;
-    isa = manner.isa;
-    misaligned = manner.misaligned;
+    expect_end = options.expect_end;
+    same_as = options.same_as;
+    isa = options.isa;
+    misaligned = options.misaligned;
   })

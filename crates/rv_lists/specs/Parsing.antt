@@ -36,10 +36,10 @@ abbrev pub with_prefix : {F A : Type 0} → List A → Result (List A) F → Res
 with_prefix front (Ok xs) = Ok (front ++ xs)
 with_prefix front (Err e) = Err e
 
--- the result `r` is the specified result `read`, or memory ran out
+-- `result` is the specified result `expected`, or memory ran out
 abbrev pub MatchesUnlessOutOfMemory : {X : Type 0} → Result X What → Result X What → Type 0
-MatchesUnlessOutOfMemory r read = MatchResult r (λ x. read ≡ Ok x) (λ e. (e ≡ OutOfMemory → ⊥) → read ≡ Err e)
+MatchesUnlessOutOfMemory result expected = MatchResult result (λ x. expected ≡ Ok x) (λ e. (e ≡ OutOfMemory → ⊥) → expected ≡ Err e)
 
--- the result `r` is the specified result `read`, whose errors have the number of their job, or memory ran out
+-- `result` is the specified result `expected`, whose errors have the number of their job, or memory ran out
 abbrev pub MatchesJobsUnlessOutOfMemory : {X : Type 0} → Result X JobError → Result X JobError → Type 0
-MatchesJobsUnlessOutOfMemory r read = MatchResult r (λ x. read ≡ Ok x) (λ e. (e.what ≡ OutOfMemory → ⊥) → read ≡ Err e)
+MatchesJobsUnlessOutOfMemory result expected = MatchResult result (λ x. expected ≡ Ok x) (λ e. (e.what ≡ OutOfMemory → ⊥) → expected ≡ Err e)

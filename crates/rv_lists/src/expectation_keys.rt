@@ -10,7 +10,7 @@ ghost use Rattle.rv_lists.specs.JobList.{end_from_text, end_from_table};
 use crate::error::What;
 use crate::job::{ExpectedConsole, ExpectedEnd};
 use crate::keys::{number_at_key, text_at_key};
-use crate::texts::is_same_path;
+use crate::texts::is_valid_path;
 use rv_base::limits::MAX_CONSOLE_LEN;
 use rv_base::{Bytes, Text};
 use rv_machine::FaultKind;
@@ -46,7 +46,7 @@ pub(crate) fn reference_from_table(
 {
     match text_at_key(table, "expect_signature") {
         Some(path) => {
-            if has_signature && is_same_path(path) {
+            if has_signature && is_valid_path(path) {
                 Ok(Some(Text::copy(alloc, path)?))
             } else {
                 Err(What::Expect)
@@ -91,7 +91,7 @@ fn console_from_text(alloc: Global, text: &[u8]) -> Result<Option<ExpectedConsol
 fn console_from_path(alloc: Global, path: &str) -> Result<Option<ExpectedConsole>, What>
     ensures { MatchesUnlessOutOfMemory result (console_from_path path.now) }
 {
-    if is_same_path(path) {
+    if is_valid_path(path) {
         Ok(Some(ExpectedConsole::File(Text::copy(alloc, path)?)))
     } else {
         Err(What::Expect)

@@ -16,7 +16,7 @@ use crate::job::Job;
 use crate::keys::{number_at_key, text_at_key};
 use crate::run_keys::{RunOptions, run_options_from_table};
 use crate::setup::{Setup, setup_from_table};
-use crate::texts::is_same_path;
+use crate::texts::is_valid_path;
 use crate::value_types::{has_unknown_job_or_region_key, has_wrong_type};
 use rv_base::limits::MAX_BUDGET;
 use rv_base::{Text, is_name};
@@ -82,10 +82,10 @@ impl EarlierJobs {
     {
         let setup = setup_from_table(alloc, table)?;
         let results = expected_results_from_table(alloc, table)?;
-        let manner = run_options_from_table(self, table)?;
+        let options = run_options_from_table(self, table)?;
         let name = Text::copy(alloc, name)?;
         let image = Text::copy(alloc, image)?;
-        Ok(setup.into_job(name, image, budget, results, manner))
+        Ok(setup.into_job(name, image, budget, results, options))
     }
 }
 
@@ -97,7 +97,7 @@ impl Setup {
         image: Text,
         budget: u32,
         results: ExpectedResults,
-        manner: RunOptions,
+        options: RunOptions,
     ) -> Job
         ensures { result ≡ record {
           name = name;
@@ -110,10 +110,10 @@ impl Setup {
           expect_exit = results.exit;
           expect_signature = results.reference;
           expect_console = results.console;
-          expect_end = manner.expect_end;
-          same_as = manner.same_as;
-          isa = manner.isa;
-          misaligned = manner.misaligned;
+          expect_end = options.expect_end;
+          same_as = options.same_as;
+          isa = options.isa;
+          misaligned = options.misaligned;
         } }
     {
         Job {
@@ -127,10 +127,10 @@ impl Setup {
             expect_exit: results.exit,
             expect_signature: results.reference,
             expect_console: results.console,
-            expect_end: manner.expect_end,
-            same_as: manner.same_as,
-            isa: manner.isa,
-            misaligned: manner.misaligned,
+            expect_end: options.expect_end,
+            same_as: options.same_as,
+            isa: options.isa,
+            misaligned: options.misaligned,
         }
     }
 }
@@ -161,7 +161,7 @@ fn image_from_table(table: &Table) -> Result<&str, What>
 {
     match text_at_key(table, "image") {
         Some(text) => {
-            if is_same_path(text) {
+            if is_valid_path(text) {
                 Ok(text)
             } else {
                 Err(What::Image)

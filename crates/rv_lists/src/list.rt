@@ -38,10 +38,10 @@ pub fn read_jobs(alloc: Global, bytes: &[u8]) -> Result<JobList, JobError>
 }
 
 /// Returns this error as an error of the whole list, with job 0.
-pub(crate) fn list_error(what: What) -> JobError
-    ensures { result ≡ record { job = 0; what = what } }
+pub(crate) fn list_error(kind: What) -> JobError
+    ensures { result ≡ record { job = 0; kind = kind } }
 {
-    JobError { job: 0, what }
+    JobError { job: 0, what: kind }
 }
 
 // Returns the jobs of a list that is a TOML document, or the first error.

@@ -31,7 +31,7 @@ pub(crate) fn run_options_from_table(
 ) -> Result<RunOptions, What>
     ensures value { result ≡ run_options_from_table (names_of_jobs earlier.now) (table_view table.now) }
     ensures earlier { IfOk result
-        (λ manner. IfSome manner.same_as (λ place. place < length earlier.now)) }
+        (λ options. IfSome options.same_as (λ index. index < length earlier.now)) }
 {
     let expect_end = end_from_table(table)?;
     let same_as = same_as_from_table(earlier, table)?;
@@ -54,7 +54,7 @@ fn same_as_from_table(earlier: &EarlierJobs, table: &Table) -> Result<Option<usi
 {
     match text_at_key(table, "same_as") {
         Some(name) => match earlier.index_of_name(name) {
-            Some(place) => Ok(Some(place)),
+            Some(index) => Ok(Some(index)),
             None => Err(What::SameAs),
         },
         None => Ok(None),

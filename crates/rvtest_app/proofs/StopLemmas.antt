@@ -49,11 +49,11 @@ pub diff_stop_at : (contents : Option FileContents) (args : DiffArgs) (old : Lis
 diff_stop_at contents args old (Ok bytes) stop read found unread =
     ⊎_elim (λ memory. inl (inl (inl (inl memory))))
     (⊎_elim (λ fault. inl (inr (old, read, fault)))
-    (λ is. inr (is.0, (record { bytes = old; found = read; of = is.1 }, inr (bytes.items, found, is.2)))))
+    (λ is. inr (is.0, (record { bytes = old; read = read; parsed = is.1 }, inr (bytes.items, found, is.2)))))
 diff_stop_at contents args old (Err failed) stop read found unread =
     ⊎_elim (λ memory. inl (inl (inl (inl memory))))
     (⊎_elim (λ fault. inl (inr (old, read, fault)))
-    (λ is. inr (is.0, (record { bytes = old; found = read; of = is.1 }, inl (rw is.2 unread)))))
+    (λ is. inr (is.0, (record { bytes = old; read = read; parsed = is.1 }, inl (rw is.2 unread)))))
 
 -- what was said, and which puts failed, is left away
 pub gdb_stop : (contents : Option FileContents) (is_terminal : Bool) (args : GdbArgs) (before after : CommandOutputs) (x y : ℕ) (stop : Stop)

@@ -11,7 +11,7 @@ loop-index-init c = record { selection = c.new-selection.ensures.items; matcher 
 pub loop-index-preserved : goal.loop-index-preserved
 unfolding selection_by_criteria
 loop-index-preserved c =
-    let wanted = c.args.wanted in
+    let wanted = c.args.criteria in
     let is = λ (job : Job). is_chosen_name (optional_names wanted.only) (pattern_of wanted.pattern)
     (optional_names wanted.failed) job.name in
     let jobs = c.args.jobs.now in
@@ -24,11 +24,11 @@ loop-index-preserved c =
           (c.is_chosen_name.ensures.chosen ∙ ap (λ (name : List ℕ). is_chosen_name (optional_names wanted.only)
           (pattern_of wanted.pattern) (optional_names wanted.failed) name) c.as_str.ensures)
           ∙ sym (map_more is jobs index job (omega arith));
-      matcher = c.is_chosen_name.ensures.same ∙ c.loop-index.invariant.matcher;
+      matcher = c.is_chosen_name.ensures.pattern_unchanged ∙ c.loop-index.invariant.matcher;
     }
 
 pub returns : goal.returns
 returns c =
-    let wanted = c.args.wanted in
+    let wanted = c.args.criteria in
     c.loop-index.invariant.selection ∙ ap (selection_by_criteria (optional_names wanted.only) (pattern_of wanted.pattern)
     (optional_names wanted.failed)) (take_all c.loop-index.index c.args.jobs.now (omega arith))

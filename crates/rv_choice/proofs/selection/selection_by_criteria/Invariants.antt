@@ -6,7 +6,7 @@ use Rattle.rv_choice.proofs.selection.selection_by_criteria.Given as goal
 
 abbrev pub invariant-loop-index : goal.invariant-loop-index
 invariant-loop-index l = record {
-  selection : l.selection.items ≡ selection_by_criteria (optional_names l.wanted.only) (pattern_of l.wanted.pattern)
-      (optional_names l.wanted.failed) (take l.index l.jobs);
-  matcher : option_map matcher_pattern l.matcher ≡ pattern_of l.wanted.pattern;
+  selection : l.selection.items ≡ selection_by_criteria (optional_names l.criteria.only) (pattern_of l.criteria.pattern)
+      (optional_names l.criteria.failed) (take l.index l.jobs);
+  matcher : option_map matcher_pattern l.matcher ≡ pattern_of l.criteria.pattern;
 }

@@ -7,30 +7,30 @@ pub returns-in-Ok-clause-report : goal.returns-in-Ok-clause-report
 returns-in-Ok-clause-report c =
     record { saved = c.in-Ok.ensures.report.0; text = c.in-Ok.ensures.report.1 }
 
-pub returns-in-Ok-clause-few : goal.returns-in-Ok-clause-few
-returns-in-Ok-clause-few c = few_rows c.in-Ok.report c.in-Ok.ensures.report.0
+pub returns-in-Ok-clause-at_most_max : goal.returns-in-Ok-clause-at_most_max
+returns-in-Ok-clause-at_most_max c = few_rows c.in-Ok.report c.in-Ok.ensures.report.0
 
-pub returns-in-Err-OutOfMemory-clause-fault : goal.returns-in-Err-OutOfMemory-clause-fault
-returns-in-Err-OutOfMemory-clause-fault c = record { told = inl refl; cut = λ line_starts_with. inl refl; whole = λ report is. refl }
+pub returns-in-Err-OutOfMemory-clause-stopped : goal.returns-in-Err-OutOfMemory-clause-stopped
+returns-in-Err-OutOfMemory-clause-stopped c = record { reported = inl refl; report_prefix = λ line_starts_with. inl refl; valid_report = λ report is. refl }
 
-pub returns-in-Err-Truncated-clause-fault : goal.returns-in-Err-Truncated-clause-fault
-returns-in-Err-Truncated-clause-fault c =
+pub returns-in-Err-Truncated-clause-stopped : goal.returns-in-Err-Truncated-clause-stopped
+returns-in-Err-Truncated-clause-stopped c =
     let least = rw c.in-Err-Truncated.field-0-is at c.in-Err-Truncated.ensures.first_error in
     let only = rw c.in-Err-Truncated.field-0-is at c.in-Err-Truncated.ensures.accepts in
-    let told = told_stop _ _ _ _ c.rejection.ensures c.path_message-told.ensures in
+    let told = told_stop _ _ _ _ c.rejection.ensures c.path_message-message.ensures in
     record {
-      told = inr (inr (least, told));
-      cut = λ line_starts_with. told;
-      whole = λ report is. let memory = only report is.saved is.text in cc;
+      reported = inr (inr (least, told));
+      report_prefix = λ line_starts_with. told;
+      valid_report = λ report is. let memory = only report is.saved is.text in cc;
     }
 
-pub returns-in-Err-Line-clause-fault : goal.returns-in-Err-Line-clause-fault
-returns-in-Err-Line-clause-fault c =
+pub returns-in-Err-Line-clause-stopped : goal.returns-in-Err-Line-clause-stopped
+returns-in-Err-Line-clause-stopped c =
     let least = rw c.in-Err-Line.field-0-is at c.in-Err-Line.ensures.least in
     let cut = rw c.in-Err-Line.field-0-is at c.in-Err-Line.ensures.cut in
     let only = rw c.in-Err-Line.field-0-is at c.in-Err-Line.ensures.only in
     record {
-      told = inr (inl (c.in-Err-Line.line, least, c.report_line_stop.ensures));
-      cut = λ line_starts_with. let other = cut line_starts_with in cc;
-      whole = λ report is. let memory = only report is.saved is.text in cc;
+      reported = inr (inl (c.in-Err-Line.line, least, c.report_line_stop.ensures));
+      report_prefix = λ line_starts_with. let other = cut line_starts_with in cc;
+      valid_report = λ report is. let memory = only report is.saved is.text in cc;
     }

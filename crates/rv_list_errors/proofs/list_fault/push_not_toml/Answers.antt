@@ -8,8 +8,8 @@ use Rattle.rv_list_errors.proofs.list_fault.push_not_toml.Goals as goal
 pub returns : goal.returns
 returns c alive =
     let before = c.args.message.now in
-    let line = c.line_and_column-place.result.line in
-    let column = c.line_and_column-place.result.column in
+    let line = c.line_and_column-location.result.line in
+    let column = c.line_and_column-location.result.column in
     let reason = c.message-2.result.now in
     adds_some before c.push_reason-2.new.message _ (ExplainsNotToml c.args.text.now (span_start c.args.error.now))
     (adds_then before c.push_number.new.self c.push_reason-2.new.message _ (codes ": error: invalid TOML: " ++ reason)
@@ -17,5 +17,5 @@ returns c alive =
     (decimal column) c.push_number_between.ensures c.push_number.ensures) c.push_reason-2.ensures) (
       reason,
       not_toml_text c.args.text.now reason (span_start c.args.error.now) c.in-Some.span.start line column
-          c.in-Some.ensures.range.0 c.line_and_column-place.ensures.line c.line_and_column-place.ensures.column,
+          c.in-Some.ensures.range.0 c.line_and_column-location.ensures.line c.line_and_column-location.ensures.column,
     )

@@ -11,9 +11,9 @@ pub loop-name-preserved : goal.loop-name-preserved
 loop-name-preserved c =
     let next = present_next c.args.names.now c.loop-name.name-index c.loop-name-test.true in
     record {
-      told = count_next c.args.names.now c.loop-name.name-index c.loop-name-test.true c.loop-name.told
-          c.push_next_name-told.result c.loop-name.invariant.told c.push_next_name-told.ensures.listed_count;
-      text = rw next (more_told c.args.message.now c.loop-name.message c.push_next_name-told.new.message c.args.count
-          c.loop-name.told _ _ _ c.loop-name.invariant.told c.loop-name.invariant.text
-          c.push_next_name-told.ensures.text);
+      told = count_next c.args.names.now c.loop-name.name-index c.loop-name-test.true c.loop-name.listed_count
+          c.push_next_name-listed_count.result c.loop-name.invariant.told c.push_next_name-listed_count.ensures.listed_count;
+      text = rw next (more_told c.args.message.now c.loop-name.message c.push_next_name-listed_count.new.message c.args.count
+          c.loop-name.listed_count _ _ _ c.loop-name.invariant.told c.loop-name.invariant.text
+          c.push_next_name-listed_count.ensures.text);
     }

@@ -18,4 +18,4 @@ returns-in-None-clause-listed_count c = rw c.in-None.is (omega arith)
 pub returns-in-None-clause-text : goal.returns-in-None-clause-text
 unfolding present names_from
 returns-in-None-clause-text c =
-    rw (c.in-None.is, take_none {X = List ℕ} (max_listed_names - c.args.listed)) (adds_nothing c.args.message.now)
+    rw (c.in-None.is, take_none {X = List ℕ} (max_listed_names - c.args.listed_count)) (adds_nothing c.args.message.now)

@@ -28,7 +28,7 @@ returns-in_err-is_job-clause-recorded c =
     let line = line_of_suffix c.args.lines.now.text.now in
     unless_err c.from_residual.result _ c.in_err-is_job.field-0.0 _ c.from_residual.ensures.1 (λ y k. k) λ refused.
     sym (l.invariant.5
-    ∙ ap (λ jobs. noted ++ map line jobs) (jobs_refused l.invariant.3 l.what l.here.now (c.in_err-is_job.ensures.step refused))
+    ∙ ap (λ jobs. noted ++ map line jobs) (jobs_refused l.invariant.3 l.state l.here.now (c.in_err-is_job.ensures.step refused))
     ∙ append-nil noted)
 
 pub steps-preserved-in_ok-push_line : goal.steps-preserved-in_ok-push_line
@@ -39,7 +39,7 @@ steps-preserved-in_ok-push_line c =
     let here = l.here.now in
     let found = c.in_ok-is_job.field-0 in
     let shorter : length found.rest.now < length here = c.in_ok-is_job.ensures.shorter in
-    let is : step l.what here ≡ Some (true, found.next, found.rest.now) =
+    let is : step l.state here ≡ Some (true, found.next, found.rest.now) =
     c.in_ok-is_job.ensures.step ∙ ap (λ job. Some (job, found.next, found.rest.now)) c.if-is_job.true in
     let counted : c.push_line.new.self.offset ≡ length text - length here =
     omega (arith, c.push_line.ensures.offset, ap length l.invariant.1, l.invariant.2) in
@@ -52,7 +52,7 @@ steps-preserved-in_ok-push_line c =
       omega (arith, l.invariant.4),
       l.invariant.5
           ∙ ap (λ jobs. noted ++ map (line_of_suffix text) jobs)
-          (jobs_job l.invariant.3 l.what found.next here found.rest.now (omega (arith, l.invariant.4)) (omega arith) is)
+          (jobs_job l.invariant.3 l.state found.next here found.rest.now (omega (arith, l.invariant.4)) (omega arith) is)
           ∙ noted_more (line_of_suffix text) here (job_texts_from (l.invariant.3 - 1) found.next found.rest.now) _ noted
           c.push_line.new.self.recorded.items c.in_ok-push_line.ensures.recorded place,
     )
@@ -65,7 +65,7 @@ steps-preserved c =
     let here = l.here.now in
     let found = c.in_ok-is_job.field-0 in
     let shorter : length found.rest.now < length here = c.in_ok-is_job.ensures.shorter in
-    let is : step l.what here ≡ Some (false, found.next, found.rest.now) =
+    let is : step l.state here ≡ Some (false, found.next, found.rest.now) =
     c.in_ok-is_job.ensures.step ∙ ap (λ job. Some (job, found.next, found.rest.now)) c.if-is_job.false in (
       search rules,
       l.invariant.1,
@@ -74,7 +74,7 @@ steps-preserved c =
       omega (arith, l.invariant.4),
       l.invariant.5
           ∙ ap (λ jobs. noted ++ map (line_of_suffix text) jobs)
-          (jobs_other l.invariant.3 l.what found.next here found.rest.now (omega (arith, l.invariant.4)) (omega arith) is),
+          (jobs_other l.invariant.3 l.state found.next here found.rest.now (omega (arith, l.invariant.4)) (omega arith) is),
     )
 
 pub returns-clause-recorded : goal.returns-clause-recorded
@@ -83,4 +83,4 @@ returns-clause-recorded c =
     let noted = l.lines.recorded.items in
     let line = line_of_suffix c.args.lines.now.text.now in
     let empty : length l.here.now ≡ 0 = eqb-true _ _ (sym c.is_empty.ensures ∙ c.steps-test.false) in
-    sym (l.invariant.5 ∙ ap (λ jobs. noted ++ map line jobs) (jobs_end l.invariant.3 l.what l.here.now empty) ∙ append-nil noted)
+    sym (l.invariant.5 ∙ ap (λ jobs. noted ++ map line jobs) (jobs_end l.invariant.3 l.state l.here.now empty) ∙ append-nil noted)

@@ -10,7 +10,7 @@ invariant-steps l =
     × (l.lines.offset + length l.here ≤ length l.initial.lines.text.now)
     × (m : ℕ) × (length l.here < m)
     × (l.initial.lines.recorded.items ++ map (line_of_suffix l.initial.lines.text.now) (jobs_of_text l.text)
-    ≡ l.lines.recorded.items ++ map (line_of_suffix l.initial.lines.text.now) (job_texts_from m l.what l.here))
+    ≡ l.lines.recorded.items ++ map (line_of_suffix l.initial.lines.text.now) (job_texts_from m l.state l.here))
 
 abbrev pub decreases-steps : goal.decreases-steps
 decreases-steps l = length l.here

@@ -7,7 +7,7 @@ pub returns-in_err-selection-clause-stopped : goal.returns-in_err-selection-clau
 returns-in_err-selection-clause-stopped g c =
     let is = err_from_is_err_and c.from_residual-in_err-selection.result c.from_residual-in_err-selection.ensures.1 in
     let listed = rw c.as_slice.ensures.value at c.in_ok-jobs.ensures.jobs in
-    let stop = rw (c.failure_rule.ensures, c.as_slice-2.ensures.value) at c.in_err-selection.ensures.stop in
+    let stop = rw (c.failure_rule.ensures, c.as_slice-2.ensures.value) at c.in_err-selection.ensures.stopped in
     rw (is.1, is.2)
     (inr (c.in_ok-text.text.items, (c.in_ok-text.ensures.read, inr (c.in_ok-jobs.jobs, (listed, stop)))))
 

@@ -18,6 +18,6 @@ returns-clause-written g c = record {
     failures = g.E.Sink.failure_count c.args.destinations.now.errors;
     committed = g.F.Outputs.committed c.args.destinations.now.files;
   };
-  written = (c.in_ok-write_results.ensures.put, refl, refl, refl);
+  written = (c.in_ok-write_results.ensures.written, refl, refl, refl);
   reported = (refl, c.write_message.ensures, refl);
 }

@@ -19,5 +19,5 @@ returns-clause-written g c = record {
     committed = g.F.Outputs.committed c.args.destinations.now.files;
   };
   reported = (refl, c.write_message.ensures, refl);
-  written = (c.in_ok-write_results.ensures.put, refl, refl, refl);
+  written = (c.in_ok-write_results.ensures.written, refl, refl, refl);
 }

@@ -6,7 +6,7 @@ use Rattle.rvtest_app.proofs.list.chosen_jobs_of_text.Goals as goal
 pub returns-in_err-selection-clause-stopped : goal.returns-in_err-selection-clause-stopped
 returns-in_err-selection-clause-stopped g c =
     let is = err_from_is_err_and c.from_residual-in_err-selection.result c.from_residual-in_err-selection.ensures.1 in
-    let stop = rw (c.failure_rule.ensures, c.as_slice.ensures.value) at c.in_err-selection.ensures.stop in
+    let stop = rw (c.failure_rule.ensures, c.as_slice.ensures.value) at c.in_err-selection.ensures.stopped in
     rw (is.1, is.2) (inr (c.in_ok-jobs.jobs, (c.in_ok-jobs.ensures.jobs, stop)))
 
 pub selected_name_lines-requires : goal.selected_name_lines-requires

@@ -17,4 +17,4 @@ returns-in_err-text-clause-stopped g c =
     (unread_part (g.D.Inputs.contents c.args.inputs.now) c.args.args.now.parts.items c.loop-path.path-index _
     (map (λ text. text.items) c.loop-path.texts.items) _
     (rw c.deref-path-items.ensures.value at c.loop-path-test.true) c.loop-path.invariant
-    (rw c.deref-path-items.ensures.value at c.in_err-text.ensures.unread))
+    (rw c.deref-path-items.ensures.value at c.in_err-text.ensures.stopped))

@@ -64,5 +64,5 @@ returns-clause-ended g c =
       c.in-Err-outcome.stop,
       rw c.in-Err-outcome.is at stopped,
       rw c.is_closed-is_out_closed.ensures at c.put_end_message-status.ensures.status,
-      (before, (refl, rw c.is_closed-is_out_closed.ensures at c.put_end_message-status.ensures.told, refl)),
+      (before, (refl, rw c.is_closed-is_out_closed.ensures at c.put_end_message-status.ensures.reported, refl)),
     )

@@ -6,7 +6,7 @@ use Rattle.rvtest_app.proofs.show.show_report.Goals as goal
 pub returns-in_err-partial_report-clause-stopped : goal.returns-in_err-partial_report-clause-stopped
 returns-in_err-partial_report-clause-stopped g c =
     let error = err_from_is_err_and c.from_residual-in_err-partial_report.result c.from_residual-in_err-partial_report.ensures.1 in
-    rw (error.1, error.2) (inr (inl c.in_err-partial_report.ensures.unread))
+    rw (error.1, error.2) (inr (inl c.in_err-partial_report.ensures.stopped))
 
 pub returns-in_err-write_summarized_report-clause-committed_after_error : goal.returns-in_err-write_summarized_report-clause-committed_after_error
 returns-in_err-write_summarized_report-clause-committed_after_error g c =

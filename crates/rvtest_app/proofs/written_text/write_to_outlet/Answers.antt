@@ -11,7 +11,7 @@ pub returns-in-Stdout-clause-written : goal.returns-in-Stdout-clause-written
 returns-in-Stdout-clause-written g c = λ path earlier has.
     OnOk-map c.write_results.result _ _
     (λ out. written_where_told earlier path _ _ _ (written_out path _ _ _ (rw c.in-Stdout.is at has) out refl refl refl))
-    c.write_results.ensures.put
+    c.write_results.ensures.written
 
 pub returns-in-File-clause-written : goal.returns-in-File-clause-written
 returns-in-File-clause-written g c = λ path earlier has.

@@ -3,8 +3,8 @@ use Rattle.rv_choice.proofs.Stops.{said_of_text}
 use Rattle.rv_choice.specs.ChoiceStops.{IsPatternStop, IsUnmatchedPattern}
 use Rattle.rv_choice.proofs.chooser.Chooser.requested_pattern.Goals as goal
 
-pub returns-else-branch-clause-refused : goal.returns-else-branch-clause-refused
-returns-else-branch-clause-refused g c =
+pub returns-else-branch-clause-stopped : goal.returns-else-branch-clause-stopped
+returns-else-branch-clause-stopped g c =
     let Says : List ℕ → Type 0 =
     λ text. IsPatternStop c.args.self.now.args.now.list.now text c.args.jobs.now c.unmatched_pattern_stop.result in
     let of = c.in_ok-pattern.ensures in

@@ -17,6 +17,6 @@ loop-fault-preserved c =
           (IsLocatedMessage self.file.now self.cursor.text.now (borrowed_names self.list.names.items) c.args.number)
           l.fault-index c.args.bytes.now.items l.bytes.items c.push_message_line.new.bytes.items c.in_ok-message.message.items
           l.invariant.puts
-          (c.fault-item.result.place, rw (l.invariant.file, l.invariant.list, l.invariant.text) at c.in_ok-message.ensures.message)
+          (c.fault-item.result.offset, rw (l.invariant.file, l.invariant.list, l.invariant.text) at c.in_ok-message.ensures.message)
           (c.in_ok-push_message_line.ensures ∙ ap (λ message. l.bytes.items ++ printable_line message) c.as_slice.ensures.value);
     }

@@ -8,12 +8,12 @@ invariant_of-self c =
     let self = c.args.self.now in
     let line = self.line + c.line_feed_count.result in
     let later : self.line ≤ line = omega arith in
-    let behind : self.offset ≤ c.max-place.result = omega (arith, c.max-place.ensures) in
+    let behind : self.offset ≤ c.max-index.result = omega (arith, c.max-index.ensures) in
     record {
-      within = omega (arith, self.within, c.max-place.ensures, c.saturating_sub.ensures);
+      within = omega (arith, self.within, c.max-index.ensures, c.saturating_sub.ensures);
       line_is = ap (λ n. n + c.line_feed_count.result) self.line_is
           ∙ ap (λ n. line_at self.offset self.text.now + n) c.line_feed_count.ensures
-          ∙ line_later self.text.now self.offset c.max-place.result behind;
+          ∙ line_later self.text.now self.offset c.max-index.result behind;
       within_line = within_noted (is_ok c.push.result) self.recorded.items c.push.new.self.items self.line line
           c.push.ensures.items (omega (arith, self.line_is)) later self.within_line;
       rising = rising_noted (is_ok c.push.result) self.recorded.items c.push.new.self.items self.line line

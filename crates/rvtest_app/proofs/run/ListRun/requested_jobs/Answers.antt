@@ -12,7 +12,7 @@ returns-in_err-shard-clause-stopped g c =
       c.in_ok-text.text.items,
       (
         c.in_ok-text.ensures.read,
-        inr (c.in_ok-jobs.jobs, (listed, inr (inl c.in_err-shard.ensures.refused))),
+        inr (c.in_ok-jobs.jobs, (listed, inr (inl c.in_err-shard.ensures.stopped))),
       ),
     ))
 

@@ -47,6 +47,6 @@ returns-clause-written g c =
         );
         text = c.in_ok-text.text.items;
         text_is = rw (c.as_slice-indices.ensures.value, c.in_ok-selected.ensures.value) at c.in_ok-text.ensures.shown;
-        written = (rw c.as_slice-2.ensures.value at c.in_ok-write_results.ensures.put, refl, refl, refl);
+        written = (rw c.as_slice-2.ensures.value at c.in_ok-write_results.ensures.written, refl, refl, refl);
       },
     )
