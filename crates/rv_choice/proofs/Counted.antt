@@ -55,5 +55,5 @@ pub choice_count : (contents : Option FileContents) (args : RunArgs) (rule : Rul
     (notes : List ℕ) → IsChoice contents args rule jobs (Some selection) notes → length selection ≡ length jobs
 choice_count contents args rule jobs selection notes is =
     let Counts : Option (List Bool) → Type 0 = λ wanted. AreRequested contents args rule jobs wanted notes in
-    left_some _ jobs is.requested selection
-    (λ m same. wanted_count contents args rule jobs m notes (subst Counts same is.are)) is.remaining
+    left_some _ jobs is.requested_selection selection
+    (λ m same. wanted_count contents args rule jobs m notes (subst Counts same is.are_requested)) is.remaining
