@@ -6,7 +6,7 @@ use Rattle.rv_rows.specs.declared_row.Row.{Row}
 use Rattle.rv_rows.specs.Verdict.{lines_of_signature}
 use Rattle.rv_accept.specs.declared.golden_texts.GoldenText.{GoldenText}
 use Rattle.rv_accept.specs.declared.golden_texts.GoldenKind.{GoldenKind}
-use Rattle.rv_accept.specs.declared.golden_texts.GoldenKind.TheVariants as kinds
+use Rattle.rv_accept.specs.declared.golden_texts.GoldenKind.TheVariants as golden_kind
 use Rattle.rv_accept.specs.declared.runs.JobRun.{JobRun}
 
 -- the text if the Bool is true, or else `None`
@@ -22,8 +22,8 @@ golden_text_if_named job kind text (Some path) = record { job = job; kind = kind
 -- job is not accepted
 abbrev pub golden_texts_of_job : ℕ → Bool → Job → Row → List GoldenText
 golden_texts_of_job index accepted job row =
-    golden_text_if_named index kinds.Console (text_if accepted row.console) (console_path job.expect_console)
-    ++ golden_text_if_named index kinds.Signature (text_if accepted (lines_of_signature row.signature)) job.expect_signature
+    golden_text_if_named index golden_kind.Console (text_if accepted row.console) (console_path job.expect_console)
+    ++ golden_text_if_named index golden_kind.Signature (text_if accepted (lines_of_signature row.signature)) job.expect_signature
 
 -- the golden texts of a job; empty if it was not run, and without texts if it was skipped
 abbrev pub golden_texts_of_run : ℕ → Job → Option JobRun → List GoldenText

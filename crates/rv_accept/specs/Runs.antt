@@ -18,7 +18,7 @@ use Rattle.rv_accept.specs.declared.values.ValueKey.TheVariants as key
 
 -- the reason to skip a job because of its end, or `None` if the end is accepted
 abbrev pub end_skip_reason : Acceptance → Job → RowEnd → Option SkipReason
-end_skip_reason asked job end = if is_accepted_end asked job end then None else Some reasons.End
+end_skip_reason acceptance job end = if is_accepted_end acceptance job end then None else Some reasons.End
 
 -- the reason to skip a job because of its console, or `None`: the list contains the expected text, and the actual console is not UTF-8
 abbrev pub text_skip_reason : Job → Row → Option SkipReason
@@ -27,7 +27,7 @@ text_skip_reason job row =
 
 -- the reason to skip a job because of its end or its console, or `None` if both can be accepted
 abbrev pub skip_reason : Acceptance → Job → Row → Option SkipReason
-skip_reason asked job row = if is_accepted_end asked job row.ending then text_skip_reason job row else Some reasons.End
+skip_reason acceptance job row = if is_accepted_end acceptance job row.ending then text_skip_reason job row else Some reasons.End
 
 -- whether a job has an expectation whose new value its run provides: an exit, an end, a console or a signature
 abbrev pub has_replaceable_expectation : Job → Bool
@@ -36,13 +36,13 @@ has_replaceable_expectation job = is_some job.expect_exit || (is_some job.expect
 
 -- the reason to skip a job that differs from its `same_as` job: its end, if that is not accepted, or else the difference
 abbrev pub differing_skip_reason : Acceptance → Job → RowEnd → SkipReason
-differing_skip_reason asked job end = if has_replaceable_expectation job && not (is_accepted_end asked job end) then reasons.End else reasons.Differs
+differing_skip_reason acceptance job end = if has_replaceable_expectation job && not (is_accepted_end acceptance job end) then reasons.End else reasons.Differs
 
 -- the reason to skip a chosen job, or `None` if it currently passes, or fails and its run can be accepted
 abbrev pub chosen_skip_reason : Acceptance → CurrentVerdict → Job → Row → Option SkipReason
-chosen_skip_reason asked current.Passes job row = None
-chosen_skip_reason asked current.Fails job row = if has_replaceable_expectation job then skip_reason asked job row else Some reasons.End
-chosen_skip_reason asked current.Differs job row = Some (differing_skip_reason asked job row.ending)
+chosen_skip_reason acceptance current.Passes job row = None
+chosen_skip_reason acceptance current.Fails job row = if has_replaceable_expectation job then skip_reason acceptance job row else Some reasons.End
+chosen_skip_reason acceptance current.Differs job row = Some (differing_skip_reason acceptance job row.ending)
 
 -- the reason to skip a job that is not chosen, or `None` if it currently passes or ended exactly as expected
 abbrev pub unchosen_skip_reason : CurrentVerdict → Job → RowEnd → Option SkipReason
@@ -51,10 +51,10 @@ unchosen_skip_reason _ job end = end_skip_reason acceptance.Expected job end
 
 -- the run of a job with this row: whether the job is chosen, and the reason if it is skipped
 abbrev pub judged_run : Acceptance → Job → Candidate → Row → JobRun
-judged_run asked job candidate row = record {
+judged_run acceptance job candidate row = record {
   row = row;
   is_chosen = candidate.is_chosen;
-  skip_reason = if candidate.is_chosen then chosen_skip_reason asked candidate.verdict job row
+  skip_reason = if candidate.is_chosen then chosen_skip_reason acceptance candidate.verdict job row
       else unchosen_skip_reason candidate.verdict job row.ending;
 }
 
@@ -82,10 +82,10 @@ first_row rows = row_or_none (slice_get rows 0)
 
 -- for each job its run, accepted or skipped, or `None` if it has no row
 unfoldable pub judged_runs : Acceptance → List Job → List Candidate → List (Option Row) → List (Option JobRun)
-judged_runs asked [] candidates rows = []
-judged_runs asked (job ∷ jobs) [] rows = []
-judged_runs asked (job ∷ jobs) (candidate ∷ candidates) rows =
-    option_map (judged_run asked job candidate) (first_row rows) ∷ judged_runs asked jobs candidates (drop 1 rows)
+judged_runs acceptance [] candidates rows = []
+judged_runs acceptance (job ∷ jobs) [] rows = []
+judged_runs acceptance (job ∷ jobs) (candidate ∷ candidates) rows =
+    option_map (judged_run acceptance job candidate) (first_row rows) ∷ judged_runs acceptance jobs candidates (drop 1 rows)
 
 -- whether a run is accepted: its job is chosen and was not skipped
 abbrev pub is_accepted_run : JobRun → Bool

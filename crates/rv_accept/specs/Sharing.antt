@@ -31,12 +31,12 @@ abbrev pub shares_with_selected : List Job → List Bool → Job → Bool
 shares_with_selected jobs selection job = is_file_of_selected jobs selection (console_path job.expect_console)
     || is_file_of_selected jobs selection job.expect_signature
 
--- for each job, whether it is chosen or shares a golden file with a chosen job; `all` and `chosen` are for the whole list
+-- for each job, whether it is chosen or shares a golden file with a chosen job; `all_jobs` and `chosen` are for the whole list
 unfoldable pub with_sharing_jobs : List Job → List Bool → List Job → List Bool → List Bool
-with_sharing_jobs all chosen [] selection = []
-with_sharing_jobs all chosen (job ∷ jobs) [] = []
-with_sharing_jobs all chosen (job ∷ jobs) (selected ∷ selection) =
-    (selected || shares_with_selected all chosen job) ∷ with_sharing_jobs all chosen jobs selection
+with_sharing_jobs all_jobs chosen [] selection = []
+with_sharing_jobs all_jobs chosen (job ∷ jobs) [] = []
+with_sharing_jobs all_jobs chosen (job ∷ jobs) (selected ∷ selection) =
+    (selected || shares_with_selected all_jobs chosen job) ∷ with_sharing_jobs all_jobs chosen jobs selection
 
 -- whether the second index exists and equals `index`
 abbrev pub is_index : ℕ → Option ℕ → Bool

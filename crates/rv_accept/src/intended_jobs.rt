@@ -48,8 +48,8 @@ fn row_if_accepted(run: &JobRun) -> Option<&Row>
 fn is_intended_job(job: &Job, accepted: Option<&Row>, other: &Job) -> bool
     ensures { IsTrue result → other.now ≡ intended_job job.now (option_map (λ row. row.now) accepted.entry) }
 {
-    is_same_run(job, other)
-        && is_same_text_option(&job.expect_signature, &other.expect_signature)
+    differ_only_in_expectations(job, other)
+        && optional_texts_match(&job.expect_signature, &other.expect_signature)
         && job.same_as == other.same_as
         && are_intended_values(job, accepted, other)
 }
@@ -67,7 +67,7 @@ fn are_intended_values(job: &Job, accepted: Option<&Row>, other: &Job) -> bool
         None => {
             job.expect_exit == other.expect_exit
                 && job.expect_end == other.expect_end
-                && is_same_console(&job.expect_console, &other.expect_console)
+                && consoles_match(&job.expect_console, &other.expect_console)
         }
         Some(row) => {
             actual_exit(job.expect_exit, row.ending) == other.expect_exit
@@ -115,28 +115,28 @@ fn is_actual_console(
         (Some(ExpectedConsole::Text(_)), Some(ExpectedConsole::Text(text))) => {
             text.as_slice() == console
         }
-        _ => is_same_console(expected, other),
+        _ => consoles_match(expected, other),
     }
 }
 
 // Whether two expected consoles are equal.
-fn is_same_console(console: &Option<ExpectedConsole>, other: &Option<ExpectedConsole>) -> bool
+fn consoles_match(console: &Option<ExpectedConsole>, other: &Option<ExpectedConsole>) -> bool
     ensures { IsTrue result → other.now ≡ console.now }
 {
     match (console, other) {
         (None, None) => true,
         (Some(ExpectedConsole::Text(text)), Some(ExpectedConsole::Text(other))) => {
-            is_same_bytes(text, other)
+            bytes_match(text, other)
         }
         (Some(ExpectedConsole::File(path)), Some(ExpectedConsole::File(other))) => {
-            is_same_text(path, other)
+            texts_match(path, other)
         }
         _ => false,
     }
 }
 
 // Whether two jobs agree in everything except their expectations.
-fn is_same_run(job: &Job, other: &Job) -> bool
+fn differ_only_in_expectations(job: &Job, other: &Job) -> bool
     ensures name { IsTrue result → other.now.name ≡ job.now.name }
     ensures image { IsTrue result → other.now.image ≡ job.now.image }
     ensures budget { IsTrue result → other.now.budget ≡ job.now.budget }
@@ -147,70 +147,70 @@ fn is_same_run(job: &Job, other: &Job) -> bool
     ensures isa { IsTrue result → other.now.isa ≡ job.now.isa }
     ensures misaligned { IsTrue result → other.now.misaligned ≡ job.now.misaligned }
 {
-    is_same_text(&job.name, &other.name)
-        && is_same_text(&job.image, &other.image)
+    texts_match(&job.name, &other.name)
+        && texts_match(&job.image, &other.image)
         && job.budget == other.budget
-        && is_same_bytes(&job.script, &other.script)
+        && bytes_match(&job.script, &other.script)
         && job.load == other.load
-        && are_same_regions(job.regions.as_slice(), other.regions.as_slice())
-        && is_same_signature(&job.signature, &other.signature)
+        && regions_match(job.regions.as_slice(), other.regions.as_slice())
+        && signatures_match(&job.signature, &other.signature)
         && job.isa == other.isa
         && job.misaligned == other.misaligned
 }
 
 // Whether two lists of regions are equal.
-fn are_same_regions(regions: &[Region], others: &[Region]) -> bool
+fn regions_match(regions: &[Region], others: &[Region]) -> bool
     ensures { IsTrue result → others.now ≡ regions.now }
 {
     match (regions, others) {
         ([], []) => true,
         ([region, regions @ ..], [other, others @ ..]) => {
-            is_same_region(region, other) && are_same_regions(regions, others)
+            region_matches(region, other) && regions_match(regions, others)
         }
         _ => false,
     }
 }
 
 // Whether two regions are equal.
-fn is_same_region(region: &Region, other: &Region) -> bool
+fn region_matches(region: &Region, other: &Region) -> bool
     ensures { IsTrue result → other.now ≡ region.now }
 {
     region.base == other.base && region.size == other.size && region.writable == other.writable
 }
 
 // Whether two signatures name equal symbols, or both are missing.
-fn is_same_signature(symbols: &Option<Symbols>, other: &Option<Symbols>) -> bool
+fn signatures_match(symbols: &Option<Symbols>, other: &Option<Symbols>) -> bool
     ensures { IsTrue result → other.now ≡ symbols.now }
 {
     match (symbols, other) {
         (None, None) => true,
         (Some(symbols), Some(other)) => {
-            is_same_text(&symbols.begin, &other.begin) && is_same_text(&symbols.end, &other.end)
+            texts_match(&symbols.begin, &other.begin) && texts_match(&symbols.end, &other.end)
         }
         _ => false,
     }
 }
 
 // Whether two texts are equal, or both are missing.
-fn is_same_text_option(text: &Option<Text>, other: &Option<Text>) -> bool
+fn optional_texts_match(text: &Option<Text>, other: &Option<Text>) -> bool
     ensures { IsTrue result → other.now ≡ text.now }
 {
     match (text, other) {
         (None, None) => true,
-        (Some(text), Some(other)) => is_same_text(text, other),
+        (Some(text), Some(other)) => texts_match(text, other),
         _ => false,
     }
 }
 
 // Whether two texts are equal.
-fn is_same_text(text: &Text, other: &Text) -> bool
+fn texts_match(text: &Text, other: &Text) -> bool
     ensures { IsTrue result → other.now ≡ text.now }
 {
     other.as_str() == text.as_str()
 }
 
 // Whether two lists of bytes are equal.
-fn is_same_bytes(bytes: &Bytes, other: &Bytes) -> bool
+fn bytes_match(bytes: &Bytes, other: &Bytes) -> bool
     ensures { IsTrue result → other.now ≡ bytes.now }
 {
     other.as_slice() == bytes.as_slice()

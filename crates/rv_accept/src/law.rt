@@ -10,9 +10,9 @@ ghost use Rattle.rv_rows.specs.declared_row.Row.{Row};
 ghost use Rattle.rv_rows.specs.Rows.{row_of};
 ghost use Rattle.rv_rows.specs.Verdict.{lines_of_signature, meets_all_expectations};
 ghost use Rattle.rv_accept.specs.declared.ends.Acceptance.{Acceptance as AnAcceptance};
-ghost use Rattle.rv_accept.specs.declared.current_verdict.CurrentVerdict.{CurrentVerdict as AStanding};
+ghost use Rattle.rv_accept.specs.declared.current_verdict.CurrentVerdict.{CurrentVerdict as ACurrentVerdict};
 ghost use Rattle.rv_accept.specs.declared.current_verdict.CurrentVerdict.TheVariants as current;
-ghost use Rattle.rv_accept.specs.declared.golden_texts.GoldenText.{GoldenText as AClaim};
+ghost use Rattle.rv_accept.specs.declared.golden_texts.GoldenText.{GoldenText as AGoldenText};
 ghost use Rattle.rv_accept.specs.declared.golden_outcomes.GoldenFileOutcome.TheVariants as outcome;
 ghost use Rattle.rv_accept.specs.Accepted.{accepted_job};
 ghost use Rattle.rv_accept.specs.Ends.{is_accepted_end};
@@ -32,7 +32,7 @@ pub fn accepted_jobs_meet_their_expectations()
 
 /// Proves that a golden file gets a text only if every job that names the file gives it this text; so none of these jobs was skipped.
 pub fn an_agreed_text_is_given_by_each_job()
-    ensures { (path text : List ℕ) (golden_texts : List AClaim) → outcome_of_golden_file path golden_texts ≡ outcome.Agreed text
+    ensures { (path text : List ℕ) (golden_texts : List AGoldenText) → outcome_of_golden_file path golden_texts ≡ outcome.Agreed text
         → All (λ golden_text. IsTrue (is_for_file path golden_text) → golden_text.text ≡ Some text) golden_texts }
 {}
 
@@ -40,10 +40,10 @@ pub fn an_agreed_text_is_given_by_each_job()
 /// holds if it ran without its expectations, has no `same_as`, and the list now has its actual values, and if the later run reads the same
 /// image and finds the earlier results in its golden files. A job that currently passes must have ended as it expects.
 pub fn accepted_jobs_pass_with_their_files()
-    ensures { (acceptance : AnAcceptance) (stands : AStanding) (job : Job) (earlier later : PlanView) (row : Row)
+    ensures { (acceptance : AnAcceptance) (verdict : ACurrentVerdict) (job : Job) (earlier later : PlanView) (row : Row)
         → row ≡ row_of earlier (without_expectations job)
-        → chosen_skip_reason acceptance stands job row ≡ None
-        → (stands ≡ current.Passes → HasExpectedEnd job row)
+        → chosen_skip_reason acceptance verdict job row ≡ None
+        → (verdict ≡ current.Passes → HasExpectedEnd job row)
         → job.same_as ≡ None
         → AreGoldenFilesUpToDate earlier.results later.results job row
         → IsTrue (is_pass_or_none (row_of later (accepted_job job row.ending row.console)).verdict) }

@@ -80,7 +80,7 @@ fn push_indexed_rows(
     }
 }
 
-// Returns the next row if the job is selected, or else `None`, and then leaves the rows unchanged.
+// Returns the next row if the job is selected; otherwise `None`, leaving the rows unchanged.
 fn next_row_if_selected(is_selected: bool, rows: &mut IntoIter<Row>) -> Option<Row>
     ensures row { result ≡ row_if_selected is_selected (into_iter_items rows.old) }
     ensures rest { into_iter_items rows.new ≡ rows_after is_selected (into_iter_items rows.old) }

@@ -27,11 +27,11 @@ abbrev pub value_line_in : AcceptSummary → ChangedValue → List ℕ
 value_line_in summary value = value_line_of summary.list.path.now value (slice_get summary.list.jobs.now value.job)
     (slice_get summary.runs.now value.job)
 
--- a line for each chosen job that was skipped; `list` has all jobs of the list
+-- a line for each chosen job that was skipped; `all_jobs` are all jobs of the list
 unfoldable pub skipped_job_lines : List Job → List Job → List (Option JobRun) → List ℕ
-skipped_job_lines list [] runs = []
-skipped_job_lines list (job ∷ jobs) [] = []
-skipped_job_lines list (job ∷ jobs) (run ∷ runs) = skipped_job_line list job run ++ skipped_job_lines list jobs runs
+skipped_job_lines all_jobs [] runs = []
+skipped_job_lines all_jobs (job ∷ jobs) [] = []
+skipped_job_lines all_jobs (job ∷ jobs) (run ∷ runs) = skipped_job_line all_jobs job run ++ skipped_job_lines all_jobs jobs runs
 
 -- the lines that `accept` prints: about changed golden files, changed values of the list, skipped jobs, and skipped golden files
 abbrev pub accept_lines : AcceptSummary → List ℕ
@@ -47,13 +47,13 @@ abbrev pub is_changed : ListFile → GoldenFile → Bool
 is_changed list file = is_some (new_text list file)
 
 -- 1 if the Bool is true, and otherwise 0
-abbrev pub address_if : Bool → ℕ
-address_if true = 1
-address_if false = 0
+abbrev pub one_if : Bool → ℕ
+one_if true = 1
+one_if false = 0
 
 -- the number of files that change: the golden files that are written, and the list if it has a new text
 abbrev pub changed_count : AcceptSummary → ℕ
-changed_count summary = count_by (is_changed summary.list) summary.files.now + address_if (is_some summary.new.now.text)
+changed_count summary = count_by (is_changed summary.list) summary.files.now + one_if (is_some summary.new.now.text)
 
 -- whether there is a run, and its job is chosen and was skipped
 abbrev pub is_skipped_job : Option JobRun → Bool

@@ -17,12 +17,12 @@ byte_change old new = values_from (common_prefix_len nat_eq old new) old new
 
 -- the rest of a line that shows the offset `offset`, and the text from there in both
 abbrev pub values_of_both : ℕ → List ℕ → List ℕ → List ℕ
-values_of_both offset one other = codes " at byte " ++ decimal offset ++ codes ": \"" ++ printable_value (drop offset one)
-    ++ codes "\" and \"" ++ printable_value (drop offset other) ++ codes "\"\n"
+values_of_both offset first second = codes " at byte " ++ decimal offset ++ codes ": \"" ++ printable_value (drop offset first)
+    ++ codes "\" and \"" ++ printable_value (drop offset second) ++ codes "\"\n"
 
 -- the rest of a line that shows the offset of the first difference between two texts, and the text from there in both
 unfoldable pub byte_difference : List ℕ → List ℕ → List ℕ
-byte_difference one other = values_of_both (common_prefix_len nat_eq one other) one other
+byte_difference first second = values_of_both (common_prefix_len nat_eq first second) first second
 
 -- the differences between the old and the new text: by lines if both are UTF-8, and otherwise by bytes; `source` names the old text
 unfoldable pub text_change : List ℕ → List ℕ → List ℕ → List ℕ

@@ -7,7 +7,7 @@ use Rattle.rv_rows.specs.Numbers.{count_text}
 use Rattle.rv_accept.specs.GoldenOutcomes.{has_other_text, is_for_file}
 use Rattle.rv_accept.specs.declared.golden_texts.GoldenText.{GoldenText}
 use Rattle.rv_accept.specs.declared.golden_texts.GoldenKind.{GoldenKind}
-use Rattle.rv_accept.specs.declared.golden_texts.GoldenKind.TheVariants as kinds
+use Rattle.rv_accept.specs.declared.golden_texts.GoldenKind.TheVariants as golden_kind
 use Rattle.rv_accept.specs.declared.golden_outcomes.GoldenFileOutcome.{GoldenFileOutcome}
 use Rattle.rv_accept.specs.declared.golden_outcomes.GoldenFileOutcome.TheVariants as outcome
 use Rattle.rv_accept.specs.declared.targets.Target.{Target}
@@ -22,8 +22,8 @@ job_name jobs index = unwrap_or (option_map (λ job. job.name) (slice_get jobs i
 
 -- `console of ` or `signature of `, by the kind of result that a golden file contains
 abbrev pub golden_kind_text : GoldenKind → List ℕ
-golden_kind_text kinds.Console = codes "console of "
-golden_kind_text kinds.Signature = codes "signature of "
+golden_kind_text golden_kind.Console = codes "console of "
+golden_kind_text golden_kind.Signature = codes "signature of "
 
 -- ---- written files
 
@@ -34,8 +34,8 @@ file_prefix sign jobs target = sign ++ printable_text target.path ++ codes ": " 
 
 -- the differences between the old and the new contents of a golden file: of a console by lines or bytes, of a signature by words
 abbrev pub golden_change : GoldenKind → List ℕ → List ℕ → List ℕ → List ℕ
-golden_change kinds.Console path old new = text_change (printable_text path) old new
-golden_change kinds.Signature path old new = word_change old new
+golden_change golden_kind.Console path old new = text_change (printable_text path) old new
+golden_change golden_kind.Signature path old new = word_change old new
 
 -- the lines about a golden file that changes
 abbrev pub changed_file_line : List Job → Target → List ℕ → List ℕ → List ℕ

@@ -18,18 +18,19 @@ is_image_path path jobs = list_any (λ job. bytes_eq path job.image) jobs
 
 -- whether the old contents exist, and equal the list or begin like an ELF file
 abbrev pub has_protected_contents : List ℕ → Option (List ℕ) → Bool
-has_protected_contents list None = false
-has_protected_contents list (Some old) = bytes_eq old list || starts_with nat_eq old elf_magic
+has_protected_contents list_text None = false
+has_protected_contents list_text (Some old) = bytes_eq old list_text || starts_with nat_eq old elf_magic
 
 -- whether the golden file is the list or an image, by its path or by its contents: then it is never overwritten
 abbrev pub is_protected : ListFile → GoldenFile → Bool
 is_protected list file = bytes_eq file.resolved_path list.path.now
     || (is_image_path file.target.path list.jobs.now || has_protected_contents list.text.now file.old)
 
--- the text on which all jobs that name a golden file agree, or `None` if there is none or the Bool says that the file is never overwritten
+-- the text on which all jobs that name a golden file agree, or `None` if there is none or `protected` says that the file is never
+-- overwritten
 abbrev pub agreed_text_of : Bool → GoldenFileOutcome → Option (List ℕ)
-agreed_text_of kept (outcome.Agreed text) = if kept then None else Some text
-agreed_text_of kept _ = None
+agreed_text_of protected (outcome.Agreed text) = if protected then None else Some text
+agreed_text_of protected _ = None
 
 -- the text on which all jobs that name the golden file agree, or `None` if there is none, or the file is the list or an image
 abbrev pub agreed_text : ListFile → GoldenFile → Option (List ℕ)
@@ -40,22 +41,22 @@ abbrev pub text_if_changed : List ℕ → Option (List ℕ) → Option (List ℕ
 text_if_changed text None = Some text
 text_if_changed text (Some old) = if bytes_eq text old then None else Some text
 
--- the text to write to a golden file, on which all jobs agree, or `None` if the file already has it or the Bool says that it is never
--- overwritten
+-- the text to write to a golden file, on which all jobs agree, or `None` if the file already has it or `protected` says that the file is
+-- never overwritten
 abbrev pub new_text_of : Bool → GoldenFileOutcome → Option (List ℕ) → Option (List ℕ)
-new_text_of kept (outcome.Agreed text) old = if kept then None else text_if_changed text old
-new_text_of kept _ old = None
+new_text_of protected (outcome.Agreed text) old = if protected then None else text_if_changed text old
+new_text_of protected _ old = None
 
 -- the text to write to the golden file, or `None` if the file is skipped or already has the text
 abbrev pub new_text : ListFile → GoldenFile → Option (List ℕ)
 new_text list file = new_text_of (is_protected list file) file.target.outcome file.old
 
--- whether a golden file with this outcome is skipped; the Bool says that it is never overwritten
+-- whether a golden file with this outcome is skipped; `protected` says that it is never overwritten
 abbrev pub is_skipped_with : Bool → GoldenFileOutcome → Bool
-is_skipped_with kept (outcome.Agreed text) = kept
-is_skipped_with kept (outcome.SkippedBy job) = true
-is_skipped_with kept (outcome.Disagree job other) = true
-is_skipped_with kept outcome.Unclaimed = false
+is_skipped_with protected (outcome.Agreed text) = protected
+is_skipped_with protected (outcome.SkippedBy job) = true
+is_skipped_with protected (outcome.Disagree job other) = true
+is_skipped_with protected outcome.Unclaimed = false
 
 -- whether the golden file is skipped: it is the list or an image, or the jobs that name it disagree or were skipped
 abbrev pub is_skipped : ListFile → GoldenFile → Bool

@@ -5,7 +5,7 @@ ghost use Rattle.std.specs.List.{count_by, flat_map};
 ghost use Rattle.rv_accept_text.specs.FileLines.{file_line, skipped_file_line};
 ghost use Rattle.rv_accept_text.specs.GoldenFiles.{is_skipped};
 ghost use Rattle.rv_accept_text.specs.AcceptLines.{changed_count, count_line, is_changed, is_skipped_job, skipped_count, skipped_job_lines};
-ghost use Rattle.rv_accept_text.specs.AcceptLines.{address_if, accept_lines, value_line_in, value_line_of, writing_word};
+ghost use Rattle.rv_accept_text.specs.AcceptLines.{one_if, accept_lines, value_line_in, value_line_of, writing_word};
 
 use crate::file_lines::{push_file_line, push_skipped_file_line};
 use crate::golden_file::{GoldenFile, ListFile};
@@ -172,21 +172,21 @@ fn push_value_line_of(
     }
 }
 
-// Appends a line for each chosen job that was skipped. `list` has all jobs of the list.
+// Appends a line for each chosen job that was skipped. `all_jobs` are all jobs of the list.
 #[tactic(auto, unfolding(crate::specs::AcceptLines::skipped_job_lines))]
 fn push_skipped_job_lines(
     alloc: Global,
     out: &mut Vec<u8>,
-    list: &[Job],
+    all_jobs: &[Job],
     jobs: &[Job],
     runs: &[Option<JobRun>],
 ) -> Result<(), AllocError>
-    ensures { OnOk result (out.new.items ≡ out.old.items ++ skipped_job_lines list.now jobs.now runs.now) }
+    ensures { OnOk result (out.new.items ≡ out.old.items ++ skipped_job_lines all_jobs.now jobs.now runs.now) }
 {
     match (jobs, runs) {
         ([job, jobs @ ..], [run, runs @ ..]) => {
-            push_skipped_job_line(alloc, out, list, job, run)?;
-            push_skipped_job_lines(alloc, out, list, jobs, runs)
+            push_skipped_job_line(alloc, out, all_jobs, job, run)?;
+            push_skipped_job_lines(alloc, out, all_jobs, jobs, runs)
         }
         ([], _) => Ok(()),
         ([_job, _jobs @ ..], []) => Ok(()),

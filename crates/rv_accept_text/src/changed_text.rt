@@ -64,22 +64,22 @@ fn push_values_from<'x>(
 #[tactic(auto, unfolding(crate::specs::ChangedTexts::byte_difference))]
 pub(crate) fn push_byte_difference(
     out: &mut Vec<u8>,
-    one: &[u8],
-    other: &[u8],
+    first: &[u8],
+    second: &[u8],
 ) -> Result<(), AllocError>
-    ensures { OnOk result (out.new.items ≡ out.old.items ++ byte_difference one.now other.now) }
+    ensures { OnOk result (out.new.items ≡ out.old.items ++ byte_difference first.now second.now) }
 {
-    push_values_of_both(out, common_prefix_len(one, other), one, other)
+    push_values_of_both(out, common_prefix_len(first, second), first, second)
 }
 
 // Appends the rest of a line that shows the offset `offset`, and the text from there in both.
 fn push_values_of_both<'x>(
     out: &mut Vec<u8>,
     offset: usize,
-    one: &'x [u8],
-    other: &'x [u8],
+    first: &'x [u8],
+    second: &'x [u8],
 ) -> Result<(), AllocError>
-    ensures { OnOk result (out.new.items ≡ out.old.items ++ values_of_both offset one.now other.now) }
+    ensures { OnOk result (out.new.items ≡ out.old.items ++ values_of_both offset first.now second.now) }
 {
     push_spans(
         out,
@@ -87,9 +87,9 @@ fn push_values_of_both<'x>(
             Span::Text(" at byte "),
             Span::Number(offset as u64),
             Span::Text(": \""),
-            Span::Value(tail_from(one, offset)),
+            Span::Value(tail_from(first, offset)),
             Span::Text("\" and \""),
-            Span::Value(tail_from(other, offset)),
+            Span::Value(tail_from(second, offset)),
             Span::Text("\"\n"),
         ],
     )

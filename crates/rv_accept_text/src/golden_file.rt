@@ -87,11 +87,11 @@ fn is_image_path(path: &str, jobs: &[Job]) -> bool
 }
 
 // Whether the old contents exist, and equal the list or begin like an ELF file.
-fn has_protected_contents(list: &[u8], old: &Option<Bytes>) -> bool
-    ensures { result ≡ has_protected_contents list.now old.now }
+fn has_protected_contents(list_text: &[u8], old: &Option<Bytes>) -> bool
+    ensures { result ≡ has_protected_contents list_text.now old.now }
 {
     match old {
-        Some(old) => old.as_slice() == list || old.as_slice().starts_with(b"\x7fELF"),
+        Some(old) => old.as_slice() == list_text || old.as_slice().starts_with(b"\x7fELF"),
         None => false,
     }
 }

@@ -169,14 +169,14 @@ fn inline_text(expected: &Option<ExpectedConsole>) -> &[u8]
 pub(crate) fn push_skipped_job_line(
     alloc: Global,
     out: &mut Vec<u8>,
-    list: &[Job],
+    all_jobs: &[Job],
     job: &Job,
     run: &Option<JobRun>,
 ) -> Result<(), AllocError>
-    ensures { OnOk result (out.new.items ≡ out.old.items ++ skipped_job_line list.now job.now run.now) }
+    ensures { OnOk result (out.new.items ≡ out.old.items ++ skipped_job_line all_jobs.now job.now run.now) }
 {
     match run {
-        Some(run) if run.is_chosen => push_skipped_line(alloc, out, list, job, run),
+        Some(run) if run.is_chosen => push_skipped_line(alloc, out, all_jobs, job, run),
         _ => Ok(()),
     }
 }
@@ -185,35 +185,35 @@ pub(crate) fn push_skipped_job_line(
 fn push_skipped_line(
     alloc: Global,
     out: &mut Vec<u8>,
-    list: &[Job],
+    all_jobs: &[Job],
     job: &Job,
     run: &JobRun,
 ) -> Result<(), AllocError>
-    ensures { OnOk result (out.new.items ≡ out.old.items ++ skipped_line_of list.now job.now run.now.row run.now.skipped) }
+    ensures { OnOk result (out.new.items ≡ out.old.items ++ skipped_line_of all_jobs.now job.now run.now.row run.now.skip_reason) }
 {
     let Some(reason) = run.skip_reason else {
         return Ok(());
     };
     push_skipped_prefix(out, job.name.as_str())?;
-    push_skip_reason(alloc, out, reason, (list, job), &run.row)?;
+    push_skip_reason(alloc, out, reason, (all_jobs, job), &run.row)?;
     push_text(out, "\n")
 }
 
-// Appends the reason to skip a job. `of` has all jobs of the list, and this job.
+// Appends the reason to skip a job. `jobs_and_job` has all jobs of the list, and this job.
 fn push_skip_reason(
     alloc: Global,
     out: &mut Vec<u8>,
     reason: SkipReason,
-    of: (&[Job], &Job),
+    jobs_and_job: (&[Job], &Job),
     row: &Row,
 ) -> Result<(), AllocError>
     ensures { OnOk result (out.new.items
-        ≡ out.old.items ++ skip_reason_text reason of.entry.0.now of.entry.1.now row.now) }
+        ≡ out.old.items ++ skip_reason_text reason jobs_and_job.entry.0.now jobs_and_job.entry.1.now row.now) }
 {
-    let (list, job) = of;
+    let (all_jobs, job) = jobs_and_job;
     match reason {
         SkipReason::End => push_unexpected_end(out, job, row.ending),
-        SkipReason::Differs => push_difference(out, list, job),
+        SkipReason::Differs => push_difference(out, all_jobs, job),
         SkipReason::NotUtf8 => push_text(
             out,
             "the console is not valid UTF-8: use expect_console_file instead",
@@ -233,25 +233,25 @@ fn push_skip_reason(
 }
 
 // Appends the reason that the result of a job differs from the result of its `same_as` job.
-fn push_difference(out: &mut Vec<u8>, list: &[Job], job: &Job) -> Result<(), AllocError>
-    ensures { OnOk result (out.new.items ≡ out.old.items ++ difference_text list.now job.now) }
+fn push_difference(out: &mut Vec<u8>, all_jobs: &[Job], job: &Job) -> Result<(), AllocError>
+    ensures { OnOk result (out.new.items ≡ out.old.items ++ difference_text all_jobs.now job.now) }
 {
     push_spans(
         out,
         &[
             Span::Text("the result differs from that of job \""),
-            Span::Printable(compared_job_name(list, job).as_bytes()),
+            Span::Printable(compared_job_name(all_jobs, job).as_bytes()),
             Span::Text("\" (same_as)"),
         ],
     )
 }
 
 // Returns the name of the job that `same_as` of this job names, or an empty text if there is none.
-fn compared_job_name<'x>(list: &'x [Job], job: &Job) -> &'x str
-    ensures { result.now ≡ compared_job_name list.now job.now }
+fn compared_job_name<'x>(all_jobs: &'x [Job], job: &Job) -> &'x str
+    ensures { result.now ≡ compared_job_name all_jobs.now job.now }
 {
     match job.same_as {
-        Some(index) => job_name(list, index),
+        Some(index) => job_name(all_jobs, index),
         None => "",
     }
 }

@@ -6,7 +6,7 @@ ghost use Rattle.rv_rows.specs.JobList.{job_list_of};
 ghost use Rattle.rv_accept.specs.Edits.{edited_rest};
 ghost use Rattle.rv_accept.specs.IntendedJobs.{intended_jobs};
 ghost use Rattle.rv_accept.specs.declared.edits.Edit.{Edit as AnEdit};
-ghost use Rattle.rv_accept.specs.declared.runs.SkipReason.{SkipReason as AWhyLeft};
+ghost use Rattle.rv_accept.specs.declared.runs.SkipReason.{SkipReason as ASkipReason};
 ghost use Rattle.rv_accept_text.specs.NewLists.{AreSkippedFrom, skipped_run, skipped_runs, run_or_none, change_skip_reason, change_skip_reason_if_run, change_skip_reasons};
 
 use rv_accept::{
@@ -65,9 +65,9 @@ pub fn accept_values(
     ensures intended { IfOk result (λ new. IfSome new.text
         (λ text. job_list_of text.items ≡ Ok (intended_jobs jobs.now new.runs.items))) }
     ensures edited { IfOk result (λ new. IfSome new.text
-        (λ new. (edits : List AnEdit) × (new.items ≡ edited_rest 0 text.now edits))) }
+        (λ new_text. (edits : List AnEdit) × (new_text.items ≡ edited_rest 0 text.now edits))) }
     ensures unchanged { IfOk result (λ new. new.text ≡ None → intended_jobs jobs.now new.runs.items ≡ jobs.now) }
-    ensures left { IfOk result (λ new. AreSkippedFrom runs.items new.runs.items) }
+    ensures skipped_from { IfOk result (λ new. AreSkippedFrom runs.items new.runs.items) }
 {
     let editable = editable_values(alloc, text)?;
     let reason_list = uneditable_reasons(alloc, jobs, runs.as_slice(), &editable)?;
@@ -96,9 +96,9 @@ fn skip_changed_jobs(
     jobs: &[Job],
     runs: Vec<Option<JobRun>>,
 ) -> Result<NewList, AllocError>
-    ensures none { IfOk result (λ new. new.text ≡ None) }
+    ensures no_text { IfOk result (λ new. new.text ≡ None) }
     ensures unchanged { IfOk result (λ new. intended_jobs jobs.now new.runs.items ≡ jobs.now) }
-    ensures left { IfOk result (λ new. (reason_list : List (Option AWhyLeft)) × (new.runs.items ≡ skipped_runs reason_list runs.items)) }
+    ensures skipped { IfOk result (λ new. (reason_list : List (Option ASkipReason)) × (new.runs.items ≡ skipped_runs reason_list runs.items)) }
 {
     let mut reason_list = Vec::new(alloc);
     push_change_skip_reasons(&mut reason_list, jobs, runs.as_slice())?;
@@ -162,9 +162,9 @@ fn intended_text(
     runs: &[Option<JobRun>],
     edits: &[Edit],
 ) -> Result<Option<Vec<u8>>, AllocError>
-    ensures intended { IfOk result (λ found. IfSome found
+    ensures intended { IfOk result (λ new_text. IfSome new_text
         (λ text. job_list_of text.items ≡ Ok (intended_jobs jobs.now runs.now))) }
-    ensures edited { IfOk result (λ found. IfSome found (λ new. new.items ≡ edited_rest 0 text.now edits.now)) }
+    ensures edited { IfOk result (λ new_text. IfSome new_text (λ new. new.items ≡ edited_rest 0 text.now edits.now)) }
 {
     let new = edited_text(alloc, text, edits)?;
     if parses_as_intended(alloc, new.as_slice(), jobs, runs)? {
@@ -180,28 +180,28 @@ fn skipped_runs(
     reason_list: &[Option<SkipReason>],
     runs: Vec<Option<JobRun>>,
 ) -> Result<Vec<Option<JobRun>>, AllocError>
-    ensures { IfOk result (λ left. left.items ≡ skipped_runs reason_list.now runs.items) }
+    ensures { IfOk result (λ skipped. skipped.items ≡ skipped_runs reason_list.now runs.items) }
 {
-    let mut left = Vec::new(alloc);
+    let mut skipped = Vec::new(alloc);
     let mut runs = runs.into_iter();
-    push_skipped_runs(&mut left, reason_list, &mut runs)?;
-    Ok(left)
+    push_skipped_runs(&mut skipped, reason_list, &mut runs)?;
+    Ok(skipped)
 }
 
 // Appends the runs, each accepted one skipped if it has a reason in `reason_list`.
 #[tactic(auto, unfolding(crate::specs::NewLists::skipped_runs))]
 fn push_skipped_runs(
-    left: &mut Vec<Option<JobRun>>,
+    skipped: &mut Vec<Option<JobRun>>,
     reason_list: &[Option<SkipReason>],
     runs: &mut IntoIter<Option<JobRun>>,
 ) -> Result<(), AllocError>
-    ensures { OnOk result (left.new.items ≡ left.old.items ++ skipped_runs reason_list.now (into_iter_items runs.old)) }
+    ensures { OnOk result (skipped.new.items ≡ skipped.old.items ++ skipped_runs reason_list.now (into_iter_items runs.old)) }
 {
     match reason_list {
         [reason, reason_list @ ..] => {
             let run = next_run(runs);
-            left.push(skipped_if_run(*reason, run))?;
-            push_skipped_runs(left, reason_list, runs)
+            skipped.push(skipped_if_run(*reason, run))?;
+            push_skipped_runs(skipped, reason_list, runs)
         }
         [] => Ok(()),
     }
@@ -246,7 +246,7 @@ fn skipped_run(reason: Option<SkipReason>, run: JobRun) -> JobRun
 // The beginning of a list that mklist generated.
 const GENERATED_PREFIX: &[u8] = b"# Made by mklist";
 
-// Returns the places of the values in a list that can be edited; a list that mklist generated has none.
+// Returns the locations of the values in a list that can be edited; a list that mklist generated has none.
 fn editable_values(alloc: Global, text: &[u8]) -> Result<EditableValues, AllocError> {
     let is_generated = text.starts_with(GENERATED_PREFIX);
     let spans = match str::from_utf8(text) {
@@ -267,9 +267,9 @@ fn uneditable_reasons(
     editable: &EditableValues,
 ) -> Result<Vec<Option<SkipReason>>, AllocError> {
     let mut reason_list = Vec::new(alloc);
-    for at in 0..runs.len().min(jobs.len()) {
-        let reason = match &runs[at] {
-            Some(run) => uneditable_reason(at, &jobs[at], run, editable),
+    for index in 0..runs.len().min(jobs.len()) {
+        let reason = match &runs[index] {
+            Some(run) => uneditable_reason(index, &jobs[index], run, editable),
             None => None,
         };
         reason_list.push(reason)?;
@@ -279,14 +279,14 @@ fn uneditable_reasons(
 
 // Returns the reason to skip a job, which names the first changed value that cannot be edited, or `None` if there is none.
 fn uneditable_reason(
-    at: usize,
+    index: usize,
     job: &Job,
     run: &JobRun,
     editable: &EditableValues,
 ) -> Option<SkipReason> {
     for key in ValueKey::ALL {
         if is_value_changed(key, job, &run.row)
-            && !is_editable(at, key, editable.spans.as_slice())
+            && !is_editable(index, key, editable.spans.as_slice())
         {
             return Some(if editable.is_generated {
                 SkipReason::Generated(key)
@@ -298,11 +298,9 @@ fn uneditable_reason(
     None
 }
 
-// Whether the value of this key can be edited for the job at the index `at`.
-fn is_editable(at: usize, key: ValueKey, spans: &[ValueSpan]) -> bool {
-    spans
-        .iter()
-        .any(|span| span.job == at && span.key.as_str() == key.name())
+// Whether the value of this key can be edited for the job at index `index`.
+fn is_editable(index: usize, key: ValueKey, spans: &[ValueSpan]) -> bool {
+    spans.iter().any(|span| span.job == index && span.key.as_str() == key.name())
 }
 
 // Returns the values that change, in text order, and the edits that change them.
@@ -319,22 +317,22 @@ fn changes_of_runs(
     };
     for span in &editable.spans {
         if span.job < jobs.len() && span.job < runs.len() {
-            let ran = (&jobs[span.job], &runs[span.job]);
-            push_change(alloc, text, ran, span, &mut changes)?;
+            let job_and_run = (&jobs[span.job], &runs[span.job]);
+            push_change(alloc, text, job_and_run, span, &mut changes)?;
         }
     }
     Ok(changes)
 }
 
-// Adds the edit of a value to `changes`, if its job is accepted and the value changes.
+// Adds the edit of a value to `changes`, if its job is accepted and the value changes. `job_and_run` has the job and its run.
 fn push_change(
     alloc: Global,
     text: &[u8],
-    ran: (&Job, &Option<JobRun>),
+    job_and_run: (&Job, &Option<JobRun>),
     span: &ValueSpan,
     changes: &mut Changes,
 ) -> Result<(), AllocError> {
-    let (job, run) = ran;
+    let (job, run) = job_and_run;
     let (Some(run), Some(key)) = (run, value_key(span.key.as_str())) else {
         return Ok(());
     };

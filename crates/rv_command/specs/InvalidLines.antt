@@ -11,7 +11,7 @@ use Rattle.rv_rows.specs.declared_lists_error.What.{What}
 use Rattle.rv_rows.specs.declared_lists_error.What.TheVariants as what
 use Rattle.rv_list_errors.specs.Printable.{printable_text, printable_value}
 use Rattle.rv_command.specs.declared.invalid_line.ResultKind.{ResultKind}
-use Rattle.rv_command.specs.declared.invalid_line.ResultKind.TheVariants as expected
+use Rattle.rv_command.specs.declared.invalid_line.ResultKind.TheVariants as result_kind
 
 -- ---- the lines of a text
 
@@ -83,13 +83,13 @@ expected_after line =
 
 -- the noun for the expected kind, as in `invalid report line`
 abbrev pub kind_noun : ResultKind → List ℕ
-kind_noun expected.Report = codes "report"
-kind_noun expected.Part = codes "part"
+kind_noun result_kind.Report = codes "report"
+kind_noun result_kind.Part = codes "part"
 
 -- the expected kind with an article
 abbrev pub kind_text : ResultKind → List ℕ
-kind_text expected.Report = codes "a report"
-kind_text expected.Part = codes "the report of a shard"
+kind_text result_kind.Report = codes "a report"
+kind_text result_kind.Part = codes "the report of a shard"
 
 -- the message that the line with this number is invalid in the file at the path: it shows the line, and what was expected instead
 abbrev pub line_message : ResultKind → List ℕ → List ℕ → ℕ → List ℕ

@@ -10,7 +10,7 @@ use Rattle.rvtest_cli.specs.declared.args_error.ArgsError.{ArgsError}
 use Rattle.rvtest_cli.specs.declared.args_error.ArgsError.TheVariants as error
 use Rattle.rv_files.specs.IoErrors.{io_error_text}
 use Rattle.rv_files.specs.declared.file_error.FileError.{FileError}
-use Rattle.rv_files.specs.declared.file_error.FileError.TheVariants as file
+use Rattle.rv_files.specs.declared.file_error.FileError.TheVariants as file_error
 use Rattle.rv_list_errors.specs.FaultHeads.{fault_head}
 use Rattle.rv_list_errors.specs.Lines.{AppendsFaultLines}
 use Rattle.rv_rows.specs.JobList.{job_list_of}
@@ -19,18 +19,18 @@ use Rattle.rv_rows.specs.Differences.{line_feed_count}
 use Rattle.rv_rows.specs.FirstInvalidLine.{IsReportPrefix, IsFirstInvalidLine, first_lines}
 use Rattle.rv_rows.specs.declared_saved.SavedReport.{SavedReport}
 use Rattle.rv_command.specs.declared.stop.MessageKind.{MessageKind}
-use Rattle.rv_command.specs.declared.stop.MessageKind.TheVariants as kinds
+use Rattle.rv_command.specs.declared.stop.MessageKind.TheVariants as message_kind
 use Rattle.rv_command.specs.declared.stop.Stop.{Stop}
 use Rattle.rv_command.specs.declared.stop.Stop.TheVariants as stops
 use Rattle.rv_command.specs.Messages.{path_message, stop_message}
 use Rattle.rv_command.specs.InvalidLines.{invalid_line_message}
-use Rattle.rv_command.specs.declared.invalid_line.ResultKind.TheVariants as expected
+use Rattle.rv_command.specs.declared.invalid_line.ResultKind.TheVariants as result_kind
 use Rattle.rv_command.specs.Texts.{IsReportText, IsTextAt}
 
 -- the exit status for a message of this kind: 2 if the request is rejected, 3 if the system failed
 abbrev pub message_status : MessageKind → ℕ
-message_status kinds.Rejection = 2
-message_status kinds.Failure = 3
+message_status message_kind.Rejection = 2
+message_status message_kind.Failure = 3
 
 -- the exit status for a stop: 2 if the request is rejected, 3 if the system failed
 abbrev pub stop_status : Stop → ℕ
@@ -106,10 +106,10 @@ IsResultUnreadStop contents path stop = IsUnreadStop contents path stop
 
 -- the stop for an error in opening or writing the file at the path
 abbrev pub IsFileErrorStop : List ℕ → FileError → Stop → Type 0
-IsFileErrorStop path file.OutOfMemory stop = stop ≡ stops.OutOfMemory
-IsFileErrorStop path file.SameFile stop =
+IsFileErrorStop path file_error.OutOfMemory stop = stop ≡ stops.OutOfMemory
+IsFileErrorStop path file_error.SameFile stop =
     IsStop 2 (path_message path (codes "another output of this command is the same file")) stop
-IsFileErrorStop path (file.Failed reason) stop = IsSystemStop path reason stop
+IsFileErrorStop path (file_error.Failed reason) stop = IsSystemStop path reason stop
 
 -- ---- lists
 
@@ -133,7 +133,7 @@ IsTruncatedStop path stop = IsStop 2 (path_message path (codes "the report is tr
 
 -- memory ran out, or the stop reports that the line with this number is invalid in a report, or that the file is a job list
 abbrev pub IsLineStop : List ℕ → List ℕ → ℕ → Stop → Type 0
-IsLineStop path bytes line stop = IsStop 2 (invalid_line_message expected.Report path bytes line) stop
+IsLineStop path bytes line stop = IsStop 2 (invalid_line_message result_kind.Report path bytes line) stop
 
 -- the stop reports the first error of a text that is not a report: its first invalid line; or that it is truncated, if its complete lines
 -- begin some report

@@ -21,7 +21,7 @@ use Rattle.rv_lists.specs.Counts.{one_more}
 use Rattle.rv_lists.specs.Jobs.{console_path}
 use Rattle.rv_jobs.specs.Plans.{paths_of, results_with, with_path, with_path_if_any, with_job_paths, result_of_path}
 use Rattle.rv_jobs.specs.Plans.{AgreeWithContents, result_or_unreadable, unreadable_count, after_increments}
-use Rattle.rv_jobs.specs.ResultIndices.{AreResultIndices, IsFound}
+use Rattle.rv_jobs.specs.ResultIndices.{AreResultIndices, ArePartialResultIndices}
 use Rattle.rv_lists.proofs.Public.{place_below, place_last}
 use Rattle.std.proofs.lemmas.Slice.Eq.{bytes_eq-Decides}
 
@@ -332,7 +332,7 @@ found_if xs (Some q) None e = cc
 found_if xs (Some q) (Some k) e = cc
 
 pub placed_found : (xs : List (List ℕ)) (job : Job) (at : ResultIndices) → AreResultIndices xs job at
-    → IsFound xs job (record { image = Some at.image; reference = at.reference; console = at.console })
+    → ArePartialResultIndices xs job (record { image = Some at.image; reference = at.reference; console = at.console })
 placed_found xs job at h = record {
   image = h.image;
   reference = found_if xs job.expect_signature at.reference h.reference;

@@ -8,8 +8,8 @@ use Rattle.std.proofs.Math.ListN.{get_or-append}
 use Rattle.std.proofs.Common.{◌+◌, ◌++◌}
 use Rattle.rv_lists.specs.declared.job.Job.{Job}
 use Rattle.rv_jobs.specs.declared.path_reading.ResultIndices.{ResultIndices}
-use Rattle.rv_jobs.specs.declared.path_reading.Found.{Found}
-use Rattle.rv_jobs.specs.ResultIndices.{AreResultIndices, AreRecorded, IsFound}
+use Rattle.rv_jobs.specs.declared.path_reading.PartialResultIndices.{PartialResultIndices}
+use Rattle.rv_jobs.specs.ResultIndices.{AreResultIndices, AreRecorded, ArePartialResultIndices}
 use Rattle.rv_jobs.specs.Plans.{with_job_paths}
 use Rattle.rv_jobs.proofs.Answering.{placed_later}
 use Rattle.rv_jobs.proofs.Needing.{placed_old}
@@ -78,10 +78,10 @@ module _ (xs ys : List (List ℕ)) (jobs : List Job) (noted : List (Option Resul
   }
 
 -- where the paths of one job more stand
-pub found_more : (xs : List (List ℕ)) (jobs : List Job) (old new : List Found) (n : ℕ) (job : Job) (x : Found)
-    → n < length jobs → job ≡ get_or jobs n job → length old ≡ n → new ≡ old ++ x ∷ [] → IsFound xs job x
-    → ((i : ℕ) (d : Job) (e : Found) → i < n → IsFound xs (get_or jobs i d) (get_or old i e))
-    → (i : ℕ) (d : Job) (e : Found) → i < n + 1 → IsFound xs (get_or jobs i d) (get_or new i e)
+pub found_more : (xs : List (List ℕ)) (jobs : List Job) (old new : List PartialResultIndices) (n : ℕ) (job : Job) (x : PartialResultIndices)
+    → n < length jobs → job ≡ get_or jobs n job → length old ≡ n → new ≡ old ++ x ∷ [] → ArePartialResultIndices xs job x
+    → ((i : ℕ) (d : Job) (e : PartialResultIndices) → i < n → ArePartialResultIndices xs (get_or jobs i d) (get_or old i e))
+    → (i : ℕ) (d : Job) (e : PartialResultIndices) → i < n + 1 → ArePartialResultIndices xs (get_or jobs i d) (get_or new i e)
 found_more xs jobs old new n job x low is many pushed mine before i d e h = elim (cases_lt i n) [
   | inl below ↦
       let inside : i < length old = omega arith in
@@ -91,5 +91,5 @@ found_more xs jobs old new n job x low is many pushed mine before i d e h = elim
       let last : x ≡ get_or new i e = sym (ap (λ l. get_or l i e) pushed ∙ get_or_push old x e i (many ∙ at)) in
       let inside : i < length jobs = omega arith in
       let there : job ≡ get_or jobs i d = is ∙ ap (λ k. get_or jobs k job) at ∙ get_or_default jobs i job d inside in
-      subst (λ z. IsFound xs (get_or jobs i d) z) last (subst (λ z. IsFound xs z x) there mine)
+      subst (λ z. ArePartialResultIndices xs (get_or jobs i d) z) last (subst (λ z. ArePartialResultIndices xs z x) there mine)
 ]

@@ -4,26 +4,26 @@ use Rattle.std.proofs.Common.{IfSome, option_map, option_and_then}
 use Rattle.std.proofs.lemmas.List.{get_or_default}
 use Rattle.rv_lists.specs.declared.job.Job.{Job}
 use Rattle.rv_jobs.specs.declared.kept.Kept.{Kept}
-use Rattle.rv_jobs.specs.declared.path_reading.Found.{Found}
+use Rattle.rv_jobs.specs.declared.path_reading.PartialResultIndices.{PartialResultIndices}
 use Rattle.rv_jobs.specs.declared.plan.Plan.TheInside.{Inside}
 use Rattle.rv_lists.specs.Jobs.{single_job}
 use Rattle.rv_lists.specs.Names.{index_in}
-use Rattle.rv_jobs.specs.ResultIndices.{IsFound}
+use Rattle.rv_jobs.specs.ResultIndices.{ArePartialResultIndices}
 use Rattle.rv_jobs.specs.PlanInside.{IsValidPlan, paths_read, plan_view}
 use Rattle.rv_jobs.specs.Plans.{PlanView, paths_of, result_or_unreadable}
 use Rattle.rv_jobs.proofs.Answering.{paths-with, path_below}
 
 module _ (a : Inside) (is : IsValidPlan a) (p : PlanView) (view : plan_view a ≡ p) (i : ℕ) (within : i < length p.jobs)
-    (at : Found) (there : at ≡ get_or a.found.items i at) where
+    (at : PartialResultIndices) (there : at ≡ get_or a.result_indices.items i at) where
   inside : i < length a.jobs
   inside = subst (λ (q : PlanView). i < length q.jobs) (sym view) within
 
-  pub found : (d : Job) → IsFound (paths_read a) (get_or a.jobs i d) at
-  found d = subst (λ f. IsFound (paths_read a) (get_or a.jobs i d) f) (sym there) (is.found.each i d at inside)
+  pub result_indices : (d : Job) → ArePartialResultIndices (paths_read a) (get_or a.jobs i d) at
+  found d = subst (λ f. ArePartialResultIndices (paths_read a) (get_or a.jobs i d) f) (sym there) (is.result_indices.each i d at inside)
 
   path_within : (path : List ℕ) (place : Option ℕ) → index_in (paths_read a) path ≡ place
       → IfSome place (λ k. k < length p.results)
-  path_within = path_below p.results (paths_read a) a.results.items is.even (ap (λ (q : PlanView). q.results) view)
+  path_within = path_below p.results (paths_read a) a.results.items is.same_length (ap (λ (q : PlanView). q.results) view)
 
   pub image_within : IfSome at.image (λ k. k < length p.results)
   image_within =
@@ -32,7 +32,7 @@ module _ (a : Inside) (is : IsValidPlan a) (p : PlanView) (view : plan_view a �
 
   pub image_at : (d : Job) → index_in (paths_of p.results) (get_or p.jobs i d).image ≡ at.image
   image_at d = subst (λ (q : PlanView). index_in (paths_of q.results) (get_or q.jobs i d).image ≡ at.image) view
-      (ap (λ l. index_in l (get_or a.jobs i d).image) (paths-with (paths_read a) a.results.items is.even)
+      (ap (λ l. index_in l (get_or a.jobs i d).image) (paths-with (paths_read a) a.results.items is.same_length)
       ∙ (found d).image)
 
   -- of the path that a job may name, as its reference
@@ -56,6 +56,6 @@ module _ (a : Inside) (is : IsValidPlan a) (p : PlanView) (view : plan_view a �
         subst (λ (q : PlanView). option_and_then (index_in (paths_of q.results)) (named (get_or q.jobs i d)) ≡ place)
         view
         (ap (λ l. option_and_then (index_in l) (named (get_or a.jobs i d)))
-        (paths-with (paths_read a) a.results.items is.even) ∙ placed d) in
+        (paths-with (paths_read a) a.results.items is.same_length) ∙ placed d) in
         ap (λ k. Some k) (told path (sym (ap (option_and_then (index_in (paths_of p.results))) same) ∙ stands))
         ∙ sym (ap (option_map (result_or_unreadable p.results)) same)

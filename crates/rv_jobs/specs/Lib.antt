@@ -1,7 +1,7 @@
 pub mod Kept
 pub mod Plans
 pub mod ResultIndices
-pub mod AnswersInside
+pub mod PathResultsInside
 pub mod PlanInside
 pub mod Selection
 pub use Rattle.rv_lists.specs.Counts

@@ -18,6 +18,6 @@ plan_view a = record { jobs = a.jobs; results = results_with (paths_read a) a.re
 -- indices of its results
 pub record IsValidPlan (a : Inside) : Type 0 where
   pub jobs : AreValidJobs a.jobs
-  pub even : length (paths_read a) ≡ length a.results.items
-  pub found : ArePartialResultIndicesOfJobs (paths_read a) a.jobs a.found.items
-  pub unread : a.unread ≡ Unreadable
+  pub same_length : length (paths_read a) ≡ length a.results.items
+  pub result_indices : ArePartialResultIndicesOfJobs (paths_read a) a.jobs a.result_indices.items
+  pub not_read : a.not_read ≡ Unreadable

@@ -4,4 +4,4 @@ use Rattle.std.specs.List.{filter, range_with_len}
 
 -- the indices below `count` of the selected jobs, in order; `selection` says for each job whether it is selected
 abbrev pub selected_indices : List Bool → ℕ → List ℕ
-selected_indices selection count = filter (λ place. slice_index_or selection place false) (range_with_len 0 count)
+selected_indices selection count = filter (λ index. slice_index_or selection index false) (range_with_len 0 count)

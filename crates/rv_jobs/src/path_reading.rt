@@ -7,7 +7,7 @@ ghost use Rattle.rv_lists.specs.Jobs.{AreValidJobs, console_path, single_job};
 ghost use Rattle.rv_lists.specs.Names.{index_in};
 ghost use Rattle.rv_jobs.specs.Plans.{paths_of, with_job_paths, with_path_if_any, jobs_needed_at};
 ghost use Rattle.rv_jobs.specs.Plans.{AgreeWithContents, unreadable_count, after_increments};
-ghost use Rattle.rv_jobs.specs.ResultIndices.{AreResultIndices, AreRecorded, IsFound, ArePartialResultIndicesOfJobs};
+ghost use Rattle.rv_jobs.specs.ResultIndices.{AreResultIndices, AreRecorded, ArePartialResultIndices, ArePartialResultIndicesOfJobs};
 
 use crate::path_results::PathResults;
 use rv_lists::{Job, Store};
@@ -23,7 +23,7 @@ pub(crate) struct ResultIndices {
 
 /// The indices of the results for a job's paths, or `None` for a path that was not read.
 #[derive(Clone, Copy)]
-pub(crate) struct Found {
+pub(crate) struct PartialResultIndices {
     pub(crate) image: Option<usize>,
     pub(crate) reference: Option<usize>,
     pub(crate) console: Option<usize>,
@@ -34,13 +34,13 @@ pub(crate) fn empty_result_indices(
     alloc: Global,
     jobs: &[Job],
 ) -> Result<Vec<Option<ResultIndices>>, AllocError>
-    ensures { IfOk result (λ noted. AreRecorded [] jobs.now noted.items) }
+    ensures { IfOk result (λ recorded. AreRecorded [] jobs.now recorded.items) }
 {
-    let mut noted = Vec::with_capacity(alloc, jobs.len())?;
+    let mut recorded = Vec::with_capacity(alloc, jobs.len())?;
     for _ in jobs {
-        noted.push(None)?;
+        recorded.push(None)?;
     }
-    Ok(noted)
+    Ok(recorded)
 }
 
 impl<'a> PathResults<'a> {
@@ -95,9 +95,9 @@ impl<'a> PathResults<'a> {
         if recorded[index].is_some() {
             return Ok(self);
         }
-        let (asked, places) = read_paths_of_job(alloc, store, self, &jobs[index])?;
-        recorded[index] = Some(places);
-        Ok(asked)
+        let (results, indices) = read_paths_of_job(alloc, store, self, &jobs[index])?;
+        recorded[index] = Some(indices);
+        Ok(results)
     }
 }
 
@@ -166,8 +166,8 @@ fn read_path_if_any<'a, S: Store>(
 {
     match path {
         Some(path) => {
-            let (results, place) = results.read_path_once(alloc, store, path)?;
-            Ok((results, Some(place)))
+            let (results, index) = results.read_path_once(alloc, store, path)?;
+            Ok((results, Some(index)))
         }
         None => Ok((results, None)),
     }
@@ -180,30 +180,30 @@ pub(crate) fn result_indices(
     results: &PathResults,
     jobs: &[Job],
     recorded: &[Option<ResultIndices>],
-) -> Result<Vec<Found>, AllocError>
+) -> Result<Vec<PartialResultIndices>, AllocError>
     requires { AreRecorded (paths_of results.now) jobs.now recorded.now }
-    ensures { IfOk result (λ found. ArePartialResultIndicesOfJobs (paths_of results.now) jobs.now found.items) }
+    ensures { IfOk result (λ indices. ArePartialResultIndicesOfJobs (paths_of results.now) jobs.now indices.items) }
 {
-    let mut found = Vec::with_capacity(alloc, jobs.len())?;
+    let mut indices = Vec::with_capacity(alloc, jobs.len())?;
     for at in 0..jobs.len() {
-        found.push(result_indices_of_job(results, &jobs[at], recorded[at]))?;
+        indices.push(result_indices_of_job(results, &jobs[at], recorded[at]))?;
     }
-    Ok(found)
+    Ok(indices)
 }
 
 /// Returns the indices of the results for a job's paths. If `recorded` does not have them, only paths that were read for other jobs have an
 /// index.
-fn result_indices_of_job(results: &PathResults, job: &Job, recorded: Option<ResultIndices>) -> Found
-    requires { IfSome recorded (λ places. AreResultIndices (paths_of results.now) job.now places) }
-    ensures { IsFound (paths_of results.now) job.now result }
+fn result_indices_of_job(results: &PathResults, job: &Job, recorded: Option<ResultIndices>) -> PartialResultIndices
+    requires { IfSome recorded (λ indices. AreResultIndices (paths_of results.now) job.now indices) }
+    ensures { ArePartialResultIndices (paths_of results.now) job.now result }
 {
     match recorded {
-        Some(places) => Found {
+        Some(places) => PartialResultIndices {
             image: Some(places.image),
             reference: places.reference,
             console: places.console,
         },
-        None => Found {
+        None => PartialResultIndices {
             image: results.index_of_path(job.image.as_str()),
             reference: index_of_path_if_any(results, reference_path(job)),
             console: index_of_path_if_any(results, console_path(job)),

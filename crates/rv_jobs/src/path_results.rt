@@ -24,7 +24,7 @@ pub struct PathResult {
 pub(crate) struct PathResults<'a> {
     results: Vec<Kept>,
     paths: Vec<&'a str>,
-    places: HashMap<&'a str, usize, BuildHasherDefault<FoldHasher>>,
+    indices: HashMap<&'a str, usize, BuildHasherDefault<FoldHasher>>,
 }
 
 impl<'a> Model for PathResults<'a> {
@@ -33,7 +33,7 @@ impl<'a> Model for PathResults<'a> {
 
     ghost Value = { List PathResult };
 
-    ghost use Rattle.rv_jobs.specs.AnswersInside.{results_of, IsValidPathResults};
+    ghost use Rattle.rv_jobs.specs.PathResultsInside.{results_of, IsValidPathResults};
 
     ghost view = { results_of };
 
@@ -45,11 +45,11 @@ impl<'a> PathResults<'a> {
     pub(crate) fn new(alloc: Global, capacity: usize) -> Result<PathResults<'a>, AllocError>
         ensures { IfOk result (λ results. results ≡ []) }
     {
-        let places = HashMap::with_capacity_and_hasher(alloc, capacity, BuildHasherDefault::new())?;
+        let indices = HashMap::with_capacity_and_hasher(alloc, capacity, BuildHasherDefault::new())?;
         Ok(PathResults {
             results: Vec::new(alloc),
             paths: Vec::new(alloc),
-            places,
+            places: indices,
         })
     }
 
@@ -101,7 +101,7 @@ impl<'a> PathResults<'a> {
         ensures { result ≡ index_in (paths_of self.now) path.now }
     {
         let _ = &self.paths;
-        self.places.get(path).copied()
+        self.indices.get(path).copied()
     }
 
     /// Returns the results in the order in which the paths were read.

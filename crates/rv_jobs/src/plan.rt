@@ -12,7 +12,7 @@ ghost use Rattle.rv_jobs.specs.Plans.{AgreeWithContents, unreadable_count, after
 
 use crate::kept::Kept;
 use crate::path_reading::{
-    Found, console_path, empty_result_indices, reference_path, result_indices,
+    PartialResultIndices, console_path, empty_result_indices, reference_path, result_indices,
 };
 use crate::path_results::PathResults;
 use rv_lists::{Job, JobList, Store};
@@ -28,9 +28,9 @@ pub struct Plan {
     // The result for each path that their rows need, in order of first use.
     results: Vec<Kept>,
     // The indices of the results for each job's paths.
-    found: Vec<Found>,
+    result_indices: Vec<PartialResultIndices>,
     // The result for a path that was not read.
-    unread: Kept,
+    not_read: Kept,
 }
 
 impl Model for Plan {
@@ -54,8 +54,8 @@ pub fn gather<S: Store>(alloc: Global, jobs: JobList, store: &mut S) -> Result<P
     ensures faults { IfOk result (λ p. S.fault_count store.new
         ≡ after_increments (S.fault_count store.old) (unreadable_count p.results)) }
 {
-    let places = all_indices(alloc, &jobs)?;
-    gather_jobs(alloc, jobs, places, store)
+    let indices = all_indices(alloc, &jobs)?;
+    gather_jobs(alloc, jobs, indices, store)
 }
 
 /// Reads only the paths that the rows of the jobs at `indices` need, and returns the plan with the results. Each distinct path of these
@@ -66,7 +66,7 @@ pub fn gather_jobs<S: Store>(
     indices: Vec<usize>,
     store: &mut S,
 ) -> Result<Plan, AllocError>
-    requires { All (λ place. place < length jobs) indices.items }
+    requires { All (λ index. index < length jobs) indices.items }
     ensures contents_unchanged { S.contents store.new ≡ S.contents store.old }
     ensures jobs { IfOk result (λ p. p.jobs ≡ jobs) }
     ensures paths { IfOk result (λ p. paths_of p.results
@@ -76,34 +76,34 @@ pub fn gather_jobs<S: Store>(
         ≡ after_increments (S.fault_count store.old) (unreadable_count p.results)) }
 {
     let none = PathResults::new(alloc, indices.len())?;
-    let mut asked = none;
-    let mut noted = empty_result_indices(alloc, jobs.as_slice())?;
-    for place in indices.as_slice() {
-        asked = asked.read_paths_for_row(alloc, store, jobs.as_slice(), *place, &mut noted)?;
+    let mut path_results = none;
+    let mut recorded = empty_result_indices(alloc, jobs.as_slice())?;
+    for index in indices.as_slice() {
+        path_results = path_results.read_paths_for_row(alloc, store, jobs.as_slice(), *index, &mut recorded)?;
     }
-    let found = result_indices(alloc, &asked, jobs.as_slice(), noted.as_slice())?;
-    let results = asked.into_results();
+    let result_indices_of_jobs = result_indices(alloc, &path_results, jobs.as_slice(), recorded.as_slice())?;
+    let results = path_results.into_results();
     Ok(Plan {
         jobs,
         chosen: indices,
         results,
-        found,
-        unread: Kept::Unreadable,
+        result_indices: result_indices_of_jobs,
+        not_read: Kept::Unreadable,
     })
 }
 
 /// Returns the indices of all jobs, in order.
 fn all_indices(alloc: Global, jobs: &JobList) -> Result<Vec<usize>, AllocError>
-    ensures within { IfOk result (λ places. All (λ place. place < length jobs.now) places.items) }
-    ensures paths { IfOk result (λ places. paths_used (jobs_needed_for jobs.now places.items)
+    ensures within { IfOk result (λ indices. All (λ index. index < length jobs.now) indices.items) }
+    ensures paths { IfOk result (λ indices. paths_used (jobs_needed_for jobs.now indices.items)
         ≡ paths_used jobs.now) }
 {
     let count = jobs.as_slice().len();
-    let mut places = Vec::with_capacity(alloc, count)?;
-    for place in 0..count {
-        places.push(place)?;
+    let mut indices = Vec::with_capacity(alloc, count)?;
+    for index in 0..count {
+        indices.push(index)?;
     }
-    Ok(places)
+    Ok(indices)
 }
 
 impl Plan {
@@ -130,7 +130,7 @@ impl Plan {
         ensures { (d : AJob) → result.now
             ≡ result_or_unreadable self.now.results (slice_index_or self.now.jobs i d).image }
     {
-        self.result_or_unread(self.found[i].image)
+        self.result_at_or_unreadable(self.result_indices[i].image)
     }
 
     /// Returns the result for the expected signature of the job at an index, or `None` if it expects none. A path that was not read counts
@@ -142,7 +142,7 @@ impl Plan {
             (slice_index_or self.now.jobs i d).expect_signature }
     {
         match reference_path(self.job(i)) {
-            Some(_) => Some(self.result_or_unread(self.found[i].reference)),
+            Some(_) => Some(self.result_at_or_unreadable(self.result_indices[i].reference)),
             None => None,
         }
     }
@@ -156,20 +156,20 @@ impl Plan {
             (console_path (slice_index_or self.now.jobs i d).expect_console) }
     {
         match console_path(self.job(i)) {
-            Some(_) => Some(self.result_or_unread(self.found[i].console)),
+            Some(_) => Some(self.result_at_or_unreadable(self.result_indices[i].console)),
             None => None,
         }
     }
 
     // Returns the result at an index, or an unreadable result if there is no index.
-    fn result_or_unread(&self, index: Option<usize>) -> &Kept
+    fn result_at_or_unreadable(&self, index: Option<usize>) -> &Kept
         requires { IfSome index (λ k. k < length self.now.results) }
         ensures { (path : List ℕ) → index_in (paths_of self.now.results) path ≡ index
             → result.now ≡ result_or_unreadable self.now.results path }
     {
         match index {
             Some(place) => &self.results[place],
-            None => &self.unread,
+            None => &self.not_read,
         }
     }
 }

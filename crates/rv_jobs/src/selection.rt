@@ -9,15 +9,15 @@ use std::alloc::{AllocError, Global};
 
 /// Returns the indices of the selected jobs, in order, counted from 0. `selection` says for each job whether it is selected.
 pub fn selected_indices(alloc: Global, selection: &[bool]) -> Result<Vec<usize>, AllocError>
-    ensures value { IfOk result (λ places. places.items ≡ selected_indices selection.now (length selection.now)) }
-    ensures within { IfOk result (λ places. All (λ place. place < length selection.now) places.items) }
-    ensures increasing { IfOk result (λ places. IsStrictlyIncreasing places.items) }
+    ensures value { IfOk result (λ indices. indices.items ≡ selected_indices selection.now (length selection.now)) }
+    ensures within { IfOk result (λ indices. All (λ index. index < length selection.now) indices.items) }
+    ensures increasing { IfOk result (λ indices. IsStrictlyIncreasing indices.items) }
 {
-    let mut places = Vec::new(alloc);
-    for place in 0..selection.len() {
-        if selection[place] {
-            places.push(place)?;
+    let mut indices = Vec::new(alloc);
+    for index in 0..selection.len() {
+        if selection[index] {
+            indices.push(index)?;
         }
     }
-    Ok(places)
+    Ok(indices)
 }

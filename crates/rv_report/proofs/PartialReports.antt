@@ -86,11 +86,11 @@ AreWholeRows bytes count said = (count ≤ length said.rows) × BeginsWith bytes
 pub whole_rows : (bytes : List ℕ) (count : ℕ) → IsReportPrefix (complete_lines bytes)
     → AreWholeRows bytes count (lenient_report bytes) → HasCompleteRows bytes (lenient_report bytes) count
 whole_rows bytes count begins are = record {
-  saved = said_can_be bytes;
-  begun = lines_stay bytes (line_feed_count bytes) (omega arith) begins;
+  valid = said_can_be bytes;
+  begins = lines_stay bytes (line_feed_count bytes) (omega arith) begins;
   within = are.0;
-  there = are.1;
-  most = are.2;
+  prefix = are.1;
+  longest = are.2;
 }
 
 pub saved_read : (bytes : List ℕ) (count : ℕ) (read : SavedReport) → read ≡ first_rows count (lenient_report bytes)

@@ -23,7 +23,7 @@ word_after_letter word.Ended = word.Ended
 -- how much of the first word of a line has been read, given how much had been read before the byte `b`: a line feed begins a new line, and
 -- a space ends the first word
 abbrev pub word_after_byte : FirstWordState → ℕ → FirstWordState
-word_after_byte met b = if b == 10 then word.NotStarted else if b == 32 then word.Ended else word_after_letter met
+word_after_byte state b = if b == 10 then word.NotStarted else if b == 32 then word.Ended else word_after_letter state
 
 -- whether the last line of a report, which is `done ..` or `part ..`, can begin with this byte
 abbrev pub begins_last_line : ℕ → Bool

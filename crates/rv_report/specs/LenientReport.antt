@@ -50,19 +50,19 @@ text_after_byte byte text = drop (index_of_byte byte text + 1) text
 -- ---- numbers and words; numbers saturate at 2^32 - 1
 
 -- the greatest number that the lenient reader returns; greater numbers are read as this one
-abbrev pub most : ℕ
-most = 2 ^ 32 - 1
+abbrev pub max_number : ℕ
+max_number = 2 ^ 32 - 1
 
--- the number `value` with one more digit in this base, or `most` if the number is greater than `most`
+-- the number `value` with one more digit in this base, or `max_number` if the number is greater than `max_number`
 abbrev pub with_digit : ℕ → ℕ → ℕ → ℕ
-with_digit base value digit = min (min (value * base) most + digit) most
+with_digit base value digit = min (min (value * base) max_number + digit) max_number
 
--- the number whose first decimal digits are the digits of `value`, and whose further digits are this text; at most `most`
+-- the number whose first decimal digits are the digits of `value`, and whose further digits are this text; at most `max_number`
 unfoldable pub decimal_number_from : ℕ → List ℕ → ℕ
 decimal_number_from value [] = value
 decimal_number_from value (b ∷ bs) = decimal_number_from (with_digit 10 value (b - 48)) bs
 
--- the number that the lenient reader returns for a text of decimal digits: its value, or `most` if that is greater
+-- the number that the lenient reader returns for a text of decimal digits: its value, or `max_number` if that is greater
 abbrev pub decimal_number : List ℕ → ℕ
 decimal_number text = decimal_number_from 0 text
 
@@ -70,12 +70,12 @@ decimal_number text = decimal_number_from 0 text
 abbrev pub hex_digit_value : ℕ → ℕ
 hex_digit_value b = if nat_lt b 97 then b - 48 else b - 87
 
--- the number whose first hexadecimal digits are the digits of `value`, and whose further digits are this text; at most `most`
+-- the number whose first hexadecimal digits are the digits of `value`, and whose further digits are this text; at most `max_number`
 unfoldable pub hex_number : ℕ → List ℕ → ℕ
 hex_number value [] = value
 hex_number value (b ∷ bs) = hex_number (with_digit 16 value (hex_digit_value b)) bs
 
--- the number `value` with this many hexadecimal zeros appended; at most `most`
+-- the number `value` with this many hexadecimal zeros appended; at most `max_number`
 unfoldable pub with_zero_digits : ℕ → ℕ → ℕ
 with_zero_digits zero value = value
 with_zero_digits (suc count) value = with_zero_digits count (with_digit 16 value 0)
@@ -340,11 +340,11 @@ extent_or_selection e numbers = if matches_job_numbers e numbers then e else ext
 -- repeated
 unfoldable pub lenient_report : List ℕ → SavedReport
 lenient_report text =
-    let g = state_after_text text in
-    let rising = take (increasing_count 0 g.numbers) g.rows in
-    let count = count_before_repeated_name [] (row_names rising) in
+    let state = state_after_text text in
+    let increasing_rows = take (increasing_count 0 state.numbers) state.rows in
+    let count = count_before_repeated_name [] (row_names increasing_rows) in
     record {
-      extent = extent_or_selection g.extent (take count g.numbers);
-      numbers = take count g.numbers;
-      rows = take count rising;
+      extent = extent_or_selection state.extent (take count state.numbers);
+      numbers = take count state.numbers;
+      rows = take count increasing_rows;
     }

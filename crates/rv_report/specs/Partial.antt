@@ -30,11 +30,11 @@ first_rows_text count report = numbered_rows_text (take count report.numbers) (t
 
 -- the report's text begins with the complete lines of the bytes, and exactly its first `count` rows are complete in the bytes
 pub record HasCompleteRows (bytes : List ℕ) (report : SavedReport) (count : ℕ) : Type 0 where
-  pub saved : IsValidReport report
-  pub begun : BeginsWith (saved_text report) (complete_lines bytes)
+  pub valid : IsValidReport report
+  pub begins : BeginsWith (saved_text report) (complete_lines bytes)
   pub within : count ≤ length report.rows
-  pub there : BeginsWith bytes (first_rows_text count report)
-  pub most : count < length report.rows → BeginsWith bytes (first_rows_text (count + 1) report) → ⊥
+  pub prefix : BeginsWith bytes (first_rows_text count report)
+  pub longest : count < length report.rows → BeginsWith bytes (first_rows_text (count + 1) report) → ⊥
 
 -- the bytes are not the text of a report
 abbrev pub IsNotAReport : List ℕ → Type 0

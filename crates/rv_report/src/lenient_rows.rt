@@ -66,7 +66,7 @@ pub fn read_rows(alloc: Global, text: &[u8]) -> Result<ReaderState, AllocError>
     let mut rest = text;
     while !rest.is_empty() {
         let end = index_of_byte(b'\n', rest);
-        add_line(alloc, &mut gathering, leading_bytes(rest, end))?;
+        read_line(alloc, &mut gathering, leading_bytes(rest, end))?;
         rest = tail_from(rest, end + 1);
     }
     finish_unfinished_row(alloc, &mut gathering)?;
@@ -98,23 +98,23 @@ fn initial_state(alloc: Global) -> Result<ReaderState, AllocError>
 
 // Reads the next line.
 #[tactic(auto, unfolding(crate::specs::LenientReport::with_line))]
-fn add_line(alloc: Global, state: &mut ReaderState, line: &[u8]) -> Result<(), AllocError>
+fn read_line(alloc: Global, state: &mut ReaderState, line: &[u8]) -> Result<(), AllocError>
     ensures { OnOk result (reader_state_view state.new ≡ with_line line.now (reader_state_view state.old)) }
 {
     match state.stage {
-        Stage::BetweenRows => add_job_or_last_line(alloc, state, line),
+        Stage::BetweenRows => read_job_or_last_line(alloc, state, line),
         Stage::Ending => Ok(read_end_line(state, line)),
-        Stage::Steps => Ok(add_steps_line(state, line)),
-        Stage::Console => add_console_line(alloc, state, line),
-        Stage::Signature => Ok(add_signature_line(state, line)),
-        Stage::Words => add_word_or_verdict_line(alloc, state, line),
+        Stage::Steps => Ok(read_steps_line(state, line)),
+        Stage::Console => read_console_line(alloc, state, line),
+        Stage::Signature => Ok(read_signature_line(state, line)),
+        Stage::Words => read_word_or_verdict_line(alloc, state, line),
         Stage::Done => Ok(()),
     }
 }
 
 // Reads a line between rows: the first line of a row, or the last line of the report.
 #[tactic(auto, unfolding(crate::specs::LenientReport::after_job_or_last_line))]
-fn add_job_or_last_line(
+fn read_job_or_last_line(
     alloc: Global,
     state: &mut ReaderState,
     line: &[u8],
@@ -137,7 +137,7 @@ fn add_job_or_last_line(
     Ok(())
 }
 
-// Reads the line that should have the ending of a row.
+// Reads the line that should have the ending of a row. Any other line ends the reading.
 #[tactic(auto, unfolding(crate::specs::LenientReport::after_end_line))]
 fn read_end_line(state: &mut ReaderState, line: &[u8])
     ensures { reader_state_view state.new ≡ after_end_line line.now (reader_state_view state.old) }
@@ -150,9 +150,9 @@ fn read_end_line(state: &mut ReaderState, line: &[u8])
     }
 }
 
-// Reads the line that should have the steps of a row.
+// Reads the line that should have the steps of a row. Any other line ends the reading.
 #[tactic(auto, unfolding(crate::specs::LenientReport::after_steps_line))]
-fn add_steps_line(state: &mut ReaderState, line: &[u8])
+fn read_steps_line(state: &mut ReaderState, line: &[u8])
     ensures { reader_state_view state.new ≡ after_steps_line line.now (reader_state_view state.old) }
 {
     if byte_at(line, 0) == b's' && byte_at(line, 1) == b't' {
@@ -163,9 +163,9 @@ fn add_steps_line(state: &mut ReaderState, line: &[u8])
     }
 }
 
-// Reads the line that should have the console of a row.
+// Reads the line that should have the console of a row. Any other line ends the reading.
 #[tactic(auto, unfolding(crate::specs::LenientReport::after_console_line))]
-fn add_console_line(alloc: Global, state: &mut ReaderState, line: &[u8]) -> Result<(), AllocError>
+fn read_console_line(alloc: Global, state: &mut ReaderState, line: &[u8]) -> Result<(), AllocError>
     ensures { OnOk result (reader_state_view state.new ≡ after_console_line line.now (reader_state_view state.old)) }
 {
     if byte_at(line, 0) == b'c' {
@@ -177,9 +177,9 @@ fn add_console_line(alloc: Global, state: &mut ReaderState, line: &[u8]) -> Resu
     Ok(())
 }
 
-// Reads the line that should have the number of words of a row's signature.
+// Reads the line that should have the number of words of a row's signature. Any other line ends the reading.
 #[tactic(auto, unfolding(crate::specs::LenientReport::after_signature_line))]
-fn add_signature_line(state: &mut ReaderState, line: &[u8])
+fn read_signature_line(state: &mut ReaderState, line: &[u8])
     ensures { reader_state_view state.new ≡ after_signature_line line.now (reader_state_view state.old) }
 {
     let count = decimal_number(tail_from(line, 10));
@@ -193,9 +193,9 @@ fn add_signature_line(state: &mut ReaderState, line: &[u8])
     }
 }
 
-// Reads a line that should have a word of the signature, or the verdict if all words have been read.
+// Reads a line that should have a word of the signature, or the verdict if all words have been read. Any other line ends the reading.
 #[tactic(auto, unfolding(crate::specs::LenientReport::after_word_or_verdict_line))]
-fn add_word_or_verdict_line(
+fn read_word_or_verdict_line(
     alloc: Global,
     state: &mut ReaderState,
     line: &[u8],

@@ -57,9 +57,9 @@ fn read_complete_rows(alloc: Global, bytes: &[u8]) -> Result<SavedReport, AllocE
         × (count < length (lenient_report bytes.now).rows
         → BeginsWith bytes.now (first_rows_text (count + 1) (lenient_report bytes.now)) → ⊥)) }
 {
-    let said = lenient_report(alloc, bytes)?;
-    let count = complete_row_count(alloc, &said, bytes)?;
-    Ok(first_rows(said, count))
+    let lenient = lenient_report(alloc, bytes)?;
+    let count = complete_row_count(alloc, &lenient, bytes)?;
+    Ok(first_rows(lenient, count))
 }
 
 // Returns the number of rows of a report that are complete in the bytes.

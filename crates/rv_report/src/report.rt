@@ -92,8 +92,8 @@ fn write_rows<W: Sink>(
     ensures failed { IfErr result
         (λ error. error ≡ WriteError.Failed → W.failure_count out.new ≡ one_more (W.failure_count out.old)) }
 {
-    for (place, row) in rows.iter().enumerate() {
-        push_row(alloc, text, place, row)?;
+    for (index, row) in rows.iter().enumerate() {
+        push_row(alloc, text, index, row)?;
         write_text_if_large(text, out)?;
     }
     Ok(())

@@ -9,4 +9,4 @@ use Rattle.rv_rows.specs.Outcome.{outcome_of, refusal_in}
 -- the reason why a job is refused because of its image, given the results for paths; `None` if its image is usable, whatever its other
 -- files are
 abbrev pub image_refusal_in : List PathResult → Job → Option Refusal
-image_refusal_in answers job = refusal_in (outcome_of job (result_or_unreadable answers job.image) None None).ending
+image_refusal_in results job = refusal_in (outcome_of job (result_or_unreadable results job.image) None None).ending

@@ -113,11 +113,11 @@ signature_words_between bus range = words_of bus.memory range.begin range.end
 
 -- the outcome of a run, with the signature read from its final state if one is requested
 abbrev pub outcome_of_run : RunResult → Option SignatureRange → Outcome
-outcome_of_run ran range = record {
-  ending = row_end ran.ending;
-  steps = ran.steps;
-  console = ran.state.bus.output;
-  signature = option_map (signature_words_between ran.state.bus) range;
+outcome_of_run run range = record {
+  ending = row_end run.ending;
+  steps = run.steps;
+  console = run.state.bus.output;
+  signature = option_map (signature_words_between run.state.bus) range;
 }
 
 -- the outcome of a refused job: no steps, no console bytes and no signature

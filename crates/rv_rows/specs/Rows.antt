@@ -21,15 +21,15 @@ use Rattle.rv_rows.specs.Verdict.{verdict_of}
 
 -- the outcome of a job, given the results for the paths of a plan
 abbrev pub outcome_in : List PathResult → Job → Outcome
-outcome_in answers job =
-    outcome_of job (result_or_unreadable answers job.image) (option_map (result_or_unreadable answers) job.expect_signature)
-    (option_map (result_or_unreadable answers) (console_path job.expect_console))
+outcome_in results job =
+    outcome_of job (result_or_unreadable results job.image) (option_map (result_or_unreadable results) job.expect_signature)
+    (option_map (result_or_unreadable results) (console_path job.expect_console))
 
 -- the state in which the run of a job begins, given the results for the paths of a plan, or the refusal
 abbrev pub start_state_in : List PathResult → Job → Result State Refusal
-start_state_in answers job =
-    start_of job (result_or_unreadable answers job.image) (option_map (result_or_unreadable answers) job.expect_signature)
-    (option_map (result_or_unreadable answers) (console_path job.expect_console))
+start_state_in results job =
+    start_of job (result_or_unreadable results job.image) (option_map (result_or_unreadable results) job.expect_signature)
+    (option_map (result_or_unreadable results) (console_path job.expect_console))
 
 -- the bytes of a file; `None` if the job names no file, or it was not read
 abbrev pub content_if_read : Option Kept → Option (List ℕ)
@@ -43,16 +43,16 @@ image_if_read isa (Some file) = result_ok (image_of isa file)
 
 -- the image of a job; `None` if its file was not read, or is not an image
 abbrev pub image_in : List PathResult → Job → Option Image
-image_in answers job = image_if_read job.isa (content_if_read (Some (result_or_unreadable answers job.image)))
+image_in results job = image_if_read job.isa (content_if_read (Some (result_or_unreadable results job.image)))
 
 -- the bytes of the file with a job's expected signature; `None` if the job names no file, or it was not read
 abbrev pub signature_reference_bytes : List PathResult → Job → Option (List ℕ)
-signature_reference_bytes answers job = content_if_read (option_map (result_or_unreadable answers) job.expect_signature)
+signature_reference_bytes results job = content_if_read (option_map (result_or_unreadable results) job.expect_signature)
 
 -- the bytes of the file with a job's expected console text; `None` if the job names no file, or it was not read
 abbrev pub expected_console_bytes : List PathResult → Job → Option (List ℕ)
-expected_console_bytes answers job =
-    content_if_read (option_map (result_or_unreadable answers) (console_path job.expect_console))
+expected_console_bytes results job =
+    content_if_read (option_map (result_or_unreadable results) (console_path job.expect_console))
 
 -- the outcome of the job that the `same_as` of this job names; `None` without `same_as`
 abbrev pub same_as_outcome : PlanView → Job → Option Outcome

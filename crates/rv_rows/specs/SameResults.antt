@@ -7,7 +7,7 @@ use Rattle.rv_jobs.specs.Plans.{PlanView, result_or_unreadable}
 
 -- the plan of these jobs with these results for paths
 abbrev pub plan_of_jobs : List Job → List PathResult → PlanView
-plan_of_jobs jobs answers = record { jobs = jobs; results = answers }
+plan_of_jobs jobs results = record { jobs = jobs; results = results }
 
 -- both lists of results have equal results for each path that the job names
 pub record HaveSameResults (results other_results : List PathResult) (job : Job) : Type 0 where

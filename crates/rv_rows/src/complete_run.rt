@@ -42,8 +42,8 @@ pub fn row_from(
     let outcome = attempt.outcome(alloc)?;
     let (mut spare, mut recent) = (SpareBus::new(), RecentOutcomes::new(alloc));
     spare.keep(attempt);
-    let same = matches_same_as(plan, plan.job(i), &outcome, &mut spare, &mut recent)?;
-    row_with_verdict(alloc, plan, i, outcome, same)
+    let is_same = matches_same_as(plan, plan.job(i), &outcome, &mut spare, &mut recent)?;
+    row_with_verdict(alloc, plan, i, outcome, is_same)
 }
 
 // Completes the run of a job, unless it is refused, and returns the result.
@@ -110,8 +110,8 @@ fn complete_run(
     ensures readable { HasValidRange result }
 {
     let mut machine = machine;
-    let ran = machine.run(budget - steps);
-    let mut run = ended_run(machine, ran, range);
+    let run_outcome = machine.run(budget - steps);
+    let mut run = ended_run(machine, run_outcome, range);
     run.steps += steps;
     run
 }

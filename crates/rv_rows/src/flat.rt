@@ -36,8 +36,8 @@ fn flat_outcome(alloc: Global, bytes: &[u8], budget: u32) -> Result<Outcome, All
         return Ok(refused_outcome(alloc, Refusal::ImageTooLong));
     }
     let mut machine = flat_machine(alloc, bytes)?;
-    let ran = machine.run(budget);
-    ended_run(machine, ran, None).outcome(alloc)
+    let run_outcome = machine.run(budget);
+    ended_run(machine, run_outcome, None).outcome(alloc)
 }
 
 // Returns the machine in which a flat image runs, before its first step.

@@ -29,9 +29,9 @@ pub(crate) fn image_file_or_refusal<'a>(
     reference: Option<&Kept>,
     console: Option<&Kept>,
 ) -> Result<&'a [u8], Refusal>
-    ensures { let found = image_file_or_refusal image.now (option_map (λ kept. kept.now) reference.entry)
+    ensures { let expected = image_file_or_refusal image.now (option_map (λ kept. kept.now) reference.entry)
         (option_map (λ kept. kept.now) console.entry) in
-        MatchResult result (λ file. found ≡ Ok file.now) (λ why. found ≡ Err why) }
+        MatchResult result (λ file. expected ≡ Ok file.now) (λ why. expected ≡ Err why) }
 {
     let file = match image {
         Kept::Content(bytes) => bytes.as_slice(),
@@ -93,7 +93,7 @@ pub(crate) fn machine_of_image(
         × (0 < length names.end)) }
     requires image { image_of job.now.isa file.now ≡ Ok image.now }
     ensures { let start = start_if_loadable job.now file.now (loadable_image job.now file.now) in
-        IfOk result (λ found. MatchResult found (λ machine. start ≡ Ok (state_of machine))
+        IfOk result (λ started. MatchResult started (λ machine. start ≡ Ok (state_of machine))
         (λ why. start ≡ Err why)) }
 {
     match range_if_loadable(job, file, image) {
@@ -133,8 +133,8 @@ pub(crate) fn run_image(
     match loadable_image(alloc, job, file) {
         Ok(loadable) => {
             let mut machine = loaded_machine(alloc, job, file, &loadable.image, spare)?;
-            let ran = machine.run(job.budget);
-            Ok(Attempt::RunResult(ended_run(machine, ran, loadable.range)))
+            let run_outcome = machine.run(job.budget);
+            Ok(Attempt::RunResult(ended_run(machine, run_outcome, loadable.range)))
         }
         Err(ImageError::OutOfMemory) => Err(AllocError),
         Err(error) => Ok(Attempt::Refused(Refusal::Image(error))),
@@ -237,16 +237,16 @@ fn copy_bytes(alloc: Global, bytes: &[u8]) -> Result<Vec<u8>, AllocError>
 }
 
 /// Returns the ended run of this machine, with its ending, its steps and the range of its signature.
-pub(crate) fn ended_run(machine: Machine, ran: Outcome, range: Option<SignatureRange>) -> EndedRun
+pub(crate) fn ended_run(machine: Machine, run_outcome: Outcome, range: Option<SignatureRange>) -> EndedRun
     requires { IfSome range
         (λ range. signature_check range.begin range.end (state_of machine).bus.regions ≡ accepted) }
     ensures outcome { outcome_in_bus result
-        ≡ outcome_of_run (record { ending = ran.ending; steps = ran.steps; state = state_of machine }) range }
+        ≡ outcome_of_run (record { ending = run_outcome.ending; steps = run_outcome.steps; state = state_of machine }) range }
     ensures readable { HasValidRange result }
 {
     EndedRun {
-        ending: row_end(ran.ending),
-        steps: ran.steps,
+        ending: row_end(run_outcome.ending),
+        steps: run_outcome.steps,
         bus: machine.into_bus(),
         range,
     }

@@ -15,16 +15,16 @@ ghost use Rattle.rv_rows.specs.SameResults.{HaveSameResults, plan_of_jobs};
 /// its own instruction set. If the job's row in the first plan is not a refusal and not a fault `illegal` or `fetch-misaligned`, then the
 /// second plan has the same row.
 pub fn narrower_sets_only_refuse()
-    ensures { (plan : PlanView) (place : ℕ) (row : Row) → AreValidJobs plan.jobs
-        → slice_get (rows_of plan) place ≡ Some row
-        → IsTrue (is_end_independent_of_isa row.ending) → slice_get (rows_of (widened_plan place plan)) place
+    ensures { (plan : PlanView) (index : ℕ) (row : Row) → AreValidJobs plan.jobs
+        → slice_get (rows_of plan) index ≡ Some row
+        → IsTrue (is_end_independent_of_isa row.ending) → slice_get (rows_of (widened_plan index plan)) index
         ≡ Some row }
 {}
 
 /// Proves that two plans with the same jobs have the same rows at some indices, if they have the same result for each path that these rows
 /// need. So a plan gathered only for these indices has the same rows there as one gathered for all jobs.
 pub fn parts_have_the_rows_of_the_whole()
-    ensures { (jobs : List Job) (some others : List PathResult) (places : List ℕ)
-        → All (HaveSameResults some others) (jobs_needed_for jobs places)
-        → rows_at (plan_of_jobs jobs some) places ≡ rows_at (plan_of_jobs jobs others) places }
+    ensures { (jobs : List Job) (results other_results : List PathResult) (indices : List ℕ)
+        → All (HaveSameResults results other_results) (jobs_needed_for jobs indices)
+        → rows_at (plan_of_jobs jobs results) indices ≡ rows_at (plan_of_jobs jobs other_results) indices }
 {}

@@ -58,9 +58,9 @@ pub fn row_at_with_recent(
     let attempt = run_job_at(alloc, plan, i, spare)?;
     let outcome = attempt.outcome(alloc)?;
     spare.keep(attempt);
-    let same = matches_same_as(plan, plan.job(i), &outcome, spare, recent)?;
+    let is_same = matches_same_as(plan, plan.job(i), &outcome, spare, recent)?;
     cache_outcome_if_named(alloc, plan, i, &outcome, recent)?;
-    row_with_verdict(alloc, plan, i, outcome, same)
+    row_with_verdict(alloc, plan, i, outcome, is_same)
 }
 
 /// Returns the row of the job at an index with this outcome. `is_same` says whether the outcome equals the outcome of the job that
@@ -147,7 +147,7 @@ pub fn machine_at(
     requires index { i < length plan.now.jobs }
     requires image { (d : AJob) → image_in plan.now.results (slice_index_or plan.now.jobs i d)
         ≡ Some image.now }
-    ensures { IfOk result (λ found. (d : AJob) → MatchResult found
+    ensures { IfOk result (λ machine_or_refusal. (d : AJob) → MatchResult machine_or_refusal
         (λ machine. start_state_in plan.now.results (slice_index_or plan.now.jobs i d)
         ≡ Ok (state_of machine))
         (λ why. start_state_in plan.now.results (slice_index_or plan.now.jobs i d) ≡ Err why)) }
@@ -167,7 +167,7 @@ pub fn machine_at_reusing(
     requires index { i < length plan.now.jobs }
     requires image { (d : AJob) → image_in plan.now.results (slice_index_or plan.now.jobs i d)
         ≡ Some image.now }
-    ensures { IfOk result (λ found. (d : AJob) → MatchResult found
+    ensures { IfOk result (λ machine_or_refusal. (d : AJob) → MatchResult machine_or_refusal
         (λ machine. start_state_in plan.now.results (slice_index_or plan.now.jobs i d)
         ≡ Ok (state_of machine))
         (λ why. start_state_in plan.now.results (slice_index_or plan.now.jobs i d) ≡ Err why)) }
@@ -186,14 +186,14 @@ pub(crate) fn matches_same_as(
     spare: &mut SpareBus,
     recent: &mut RecentOutcomes,
 ) -> Result<bool, AllocError>
-    requires index { IfSome job.now.same_as (λ place. place < length plan.now.jobs) }
+    requires index { IfSome job.now.same_as (λ index. index < length plan.now.jobs) }
     requires recent { AreOutcomesOfPlan plan.now recent.old }
     ensures value { IfOk result
-        (λ same. same ≡ matches_same_as job.now.same_as (same_as_outcome plan.now job.now) outcome.now) }
+        (λ is_same. is_same ≡ matches_same_as job.now.same_as (same_as_outcome plan.now job.now) outcome.now) }
     ensures recent { OnOk result (AreOutcomesOfPlan plan.now recent.new) }
 {
     match job.same_as {
-        Some(place) => equals_outcome_at(plan, place, outcome, spare, recent),
+        Some(index) => equals_outcome_at(plan, index, outcome, spare, recent),
         None => Ok(true),
     }
 }
@@ -208,7 +208,7 @@ fn equals_outcome_at(
 ) -> Result<bool, AllocError>
     requires index { index < length plan.now.jobs }
     requires recent { AreOutcomesOfPlan plan.now recent.old }
-    ensures value { IfOk result (λ same. (d : AJob) → same
+    ensures value { IfOk result (λ is_same. (d : AJob) → is_same
         ≡ outcomes_match outcome.now
         (outcome_in plan.now.results (slice_index_or plan.now.jobs index d))) }
     ensures recent { OnOk result (AreOutcomesOfPlan plan.now recent.new) }
@@ -245,7 +245,7 @@ fn cache_outcome_if_named(
     Ok(())
 }
 
-// Whether one of the next jobs names the job at an index in its `same_as`.
+// Whether one of the `MAX_OUTCOMES` jobs after job `i` has it as its `same_as`.
 fn is_named_by_next_jobs(plan: &Plan, i: usize) -> bool
     requires { i < length plan.now.jobs }
 {
@@ -280,7 +280,7 @@ pub fn expected_console_bytes(plan: &Plan, i: usize) -> Option<&[u8]>
 // Returns the bytes of a file; `None` if the job names no file, or it was not read.
 fn content_if_read(kept: Option<&Kept>) -> Option<&[u8]>
     ensures { option_map (λ bytes. bytes.now) result
-        ≡ content_if_read (option_map (λ one. one.now) kept.entry) }
+        ≡ content_if_read (option_map (λ file. file.now) kept.entry) }
 {
     match kept {
         Some(Kept::Content(bytes)) => Some(bytes.as_slice()),

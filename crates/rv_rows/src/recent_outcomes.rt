@@ -54,7 +54,7 @@ impl RecentOutcomes {
     /// Returns the outcome of the job at an index if it is cached; otherwise `None`.
     pub fn find(&self, index: usize) -> Option<&Outcome>
         ensures { (plan : PlanView) → AreOutcomesOfPlan plan self.now
-            → IfSome result (λ found. outcome_at plan index ≡ Some found.now) }
+            → IfSome result (λ outcome. outcome_at plan index ≡ Some outcome.now) }
     {
         for kept in &self.items {
             if kept.index == index {

@@ -96,7 +96,7 @@ fn meets_expected_end(expected: ExpectedEnd, ending: RowEnd) -> bool
 {
     match (expected, ending) {
         (ExpectedEnd::Budget, RowEnd::Budget) => true,
-        (ExpectedEnd::Fault(kind), RowEnd::Fault(met, ..)) => kind == met,
+        (ExpectedEnd::Fault(kind), RowEnd::Fault(actual, ..)) => kind == actual,
         _ => false,
     }
 }

@@ -13,9 +13,9 @@ use Rattle.rv_count_tables.specs.Sum.{HaveNoSum, no_counts}
 use Rattle.rv_count_tables.specs.Table.{IsValidTable}
 use Rattle.rv_count_tables.specs.Text.{table_text}
 use Rattle.rv_count_tables.specs.declared.read.ReadError.{ReadError}
-use Rattle.rv_count_tables.specs.declared.read.ReadError.TheVariants as read
+use Rattle.rv_count_tables.specs.declared.read.ReadError.TheVariants as read_error
 use Rattle.rv_count_tables.specs.declared.sum.SumError.{SumError}
-use Rattle.rv_count_tables.specs.declared.sum.SumError.TheVariants as sum
+use Rattle.rv_count_tables.specs.declared.sum.SumError.TheVariants as sum_error
 use Rattle.rv_count_tables.specs.declared.table.CountTable.{CountTable}
 use Rattle.rv_job_text.specs.Printable.{printable_text}
 use Rattle.rv_job_text.specs.TextWords.{word_digits}
@@ -25,10 +25,10 @@ use Rattle.rvtest_app.specs.WrittenTexts.{IsTextNotWrittenAtStop, written_path}
 
 -- the stop reports this error in reading the table of counts at the path: an invalid line, or that memory ran out
 abbrev pub IsReadErrorStop : List ℕ → ReadError → Stop → Type 0
-IsReadErrorStop path read.OutOfMemory stop = stop ≡ stops.OutOfMemory
-IsReadErrorStop path (read.Line line) stop =
+IsReadErrorStop path read_error.OutOfMemory stop = stop ≡ stops.OutOfMemory
+IsReadErrorStop path (read_error.Line line) stop =
     IsStop 2 (path_number_message path (codes ":") line (codes ": invalid line in a table of counts\n")) stop
-IsReadErrorStop path read.Truncated stop = IsStop 2 (path_message path (codes "the table is truncated")) stop
+IsReadErrorStop path read_error.Truncated stop = IsStop 2 (path_message path (codes "the table is truncated")) stop
 
 -- the message that a count at `address` no longer fits in 64 bits if the table at the path is added; `count_name` names the count
 abbrev pub count_overflow_message : List ℕ → List ℕ → ℕ → List ℕ
@@ -42,12 +42,12 @@ two_names_message path function = codes "rvtest: " ++ printable_text path ++ cod
 
 -- the stop reports this error, why the table at the path cannot be added to the sum of the earlier tables, or that memory ran out
 abbrev pub IsSumErrorStop : List ℕ → SumError → Stop → Type 0
-IsSumErrorStop path sum.OutOfMemory stop = stop ≡ stops.OutOfMemory
-IsSumErrorStop path (sum.Count address) stop = IsStop 2 (count_overflow_message path (codes ": the count at ") address) stop
-IsSumErrorStop path (sum.Node function) stop =
+IsSumErrorStop path sum_error.OutOfMemory stop = stop ≡ stops.OutOfMemory
+IsSumErrorStop path (sum_error.Count address) stop = IsStop 2 (count_overflow_message path (codes ": the count at ") address) stop
+IsSumErrorStop path (sum_error.Node function) stop =
     IsStop 2 (count_overflow_message path (codes ": a stack count of the function at ") function) stop
-IsSumErrorStop path (sum.Names function) stop = IsStop 2 (two_names_message path function) stop
-IsSumErrorStop path sum.Runs stop = IsStop 2 (path_message path (codes "the number of runs does not fit in 64 bits")) stop
+IsSumErrorStop path (sum_error.Names function) stop = IsStop 2 (two_names_message path function) stop
+IsSumErrorStop path sum_error.Runs stop = IsStop 2 (path_message path (codes "the number of runs does not fit in 64 bits")) stop
 
 -- why a command stopped: `text` is not a valid table of counts and the stop reports its first error, or memory ran out
 pub record IsTableFaultStop (path text : List ℕ) (stop : Stop) : Type 0 where

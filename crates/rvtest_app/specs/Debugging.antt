@@ -16,7 +16,7 @@ use Rattle.rv_files.specs.UnreadablePaths.{contents_below, resolved_path}
 use Rattle.rv_files.specs.declared.recording_store.UnreadablePath.{UnreadablePath}
 use Rattle.rv_gdb.specs.Serving.{IsEnded, IsReadWhileOpen}
 use Rattle.rv_gdb.specs.declared.conversation.SessionError.{SessionError}
-use Rattle.rv_gdb.specs.declared.conversation.SessionError.TheVariants as broken
+use Rattle.rv_gdb.specs.declared.conversation.SessionError.TheVariants as session_error
 use Rattle.rv_gdb.specs.JobSessions.{IsSessionOf}
 use Rattle.rv_job_text.specs.RowReporter.{outcome_text, row_line}
 use Rattle.rv_rows.specs.Plans.{AgreeWithContents, PlanView, jobs_needed_for, paths_of, paths_used}
@@ -131,11 +131,11 @@ pub record IsUnopenedJobOfTextStop (contents : Option FileContents) (args : GdbA
 
 -- the stop for an error of the session: memory ran out, standard input could not be read, or a write failed
 abbrev pub IsSessionErrorStop : SessionError → Stop → Type 0
-IsSessionErrorStop broken.OutOfMemory stop = stop ≡ stops.OutOfMemory
-IsSessionErrorStop (broken.ReadFailed reason) stop = IsSystemStop (codes "standard input") reason stop
-IsSessionErrorStop broken.ReplyWriteFailed stop = stop ≡ stops.WriteFailed
+IsSessionErrorStop session_error.OutOfMemory stop = stop ≡ stops.OutOfMemory
+IsSessionErrorStop (session_error.ReadFailed reason) stop = IsSystemStop (codes "standard input") reason stop
+IsSessionErrorStop session_error.ReplyWriteFailed stop = stop ≡ stops.WriteFailed
 
 -- `before` and `after` count the failed writes: `after` is one more if a failed write ended the session, and equal to `before` if another
 -- error did
 abbrev pub IsFailureCounted : SessionError → ℕ → ℕ → Type 0
-IsFailureCounted error before after = (error ≡ broken.ReplyWriteFailed → after ≡ one_more before) × (error ≢ broken.ReplyWriteFailed → after ≡ before)
+IsFailureCounted error before after = (error ≡ session_error.ReplyWriteFailed → after ≡ one_more before) × (error ≢ session_error.ReplyWriteFailed → after ≡ before)

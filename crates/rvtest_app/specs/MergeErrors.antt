@@ -5,7 +5,7 @@ use Rattle.std.specs.Fmt.{decimal}
 use Rattle.std.specs.Option.{option_map_or}
 use Rattle.rv_command.specs.Messages.{path_message, path_number_message}
 use Rattle.rv_command.specs.InvalidLines.{invalid_line_message}
-use Rattle.rv_command.specs.declared.invalid_line.ResultKind.TheVariants as expected
+use Rattle.rv_command.specs.declared.invalid_line.ResultKind.TheVariants as result_kind
 use Rattle.rv_command.specs.Stops.{IsStop}
 use Rattle.rv_command.specs.declared.stop.Stop.{Stop}
 use Rattle.rv_command.specs.declared.stop.Stop.TheVariants as stops
@@ -33,7 +33,7 @@ other_run_message parts path difference = two_parts_message path difference (par
 
 -- the message that the part at the path, which has this text, has this flaw
 abbrev pub flaw_message : List (Bor (List ℕ)) → List ℕ → List ℕ → Flaw → List ℕ
-flaw_message parts path text (flaw.Line number) = invalid_line_message expected.Part path text number
+flaw_message parts path text (flaw.Line number) = invalid_line_message result_kind.Part path text number
 flaw_message parts path text flaw.Truncated = path_message path (codes "the part is truncated")
 flaw_message parts path text flaw.Whole = path_message path (codes "expected a part of a run, found a whole report")
 flaw_message parts path text flaw.Selection =

@@ -3,9 +3,9 @@ use Rattle.std.specs.Prelude.{◌≡◌, ◌⊎◌, ℕ, Bool, List, Option, Res
 use Rattle.std.specs.Io.KnownBytes.{Appends}
 use Rattle.std.specs.declared.alloc.Global.{Global}
 use Rattle.std.specs.declared.io.ErrorKind.{ErrorKind}
-use Rattle.std.specs.declared.io.ErrorKind.TheVariants as io
+use Rattle.std.specs.declared.io.ErrorKind.TheVariants as error_kind
 use Rattle.clap.specs.declared.error.kind.ErrorKind.{ErrorKind as WordsFault}
-use Rattle.clap.specs.declared.error.kind.ErrorKind.TheVariants as args_fault
+use Rattle.clap.specs.declared.error.kind.ErrorKind.TheVariants as args_error
 use Rattle.rv_files.specs.Counts.{one_more}
 use Rattle.rvtest_cli.specs.declared.diff.DiffArgs.{DiffArgs}
 use Rattle.rv_command.specs.Messages.{end_message}
@@ -28,19 +28,19 @@ IsStopReported is_closed condition status after = (stop : Stop) × condition sto
 
 -- the exit status if the program cannot get its arguments for this reason: 3 if memory ran out, and otherwise 2
 abbrev pub unreadable_args_status : ErrorKind → ℕ
-unreadable_args_status io.OutOfMemory = 3
+unreadable_args_status error_kind.OutOfMemory = 3
 unreadable_args_status _ = 2
 
 -- the message if the program cannot get its arguments for this reason: that memory ran out, or otherwise that an argument is not UTF-8
 abbrev pub unreadable_args_message : ErrorKind → List ℕ
-unreadable_args_message io.OutOfMemory = codes "rvtest: out of memory\n"
+unreadable_args_message error_kind.OutOfMemory = codes "rvtest: out of memory\n"
 unreadable_args_message _ = codes "rvtest: an argument is not valid UTF-8\n"
 
 -- ---- help
 
 -- the error of `clap` is of the kind that requests the help or the version
 abbrev pub IsHelpRequested : WordsFault → Type 0
-IsHelpRequested fault = (fault ≡ args_fault.DisplayHelp) ⊎ (fault ≡ args_fault.DisplayVersion)
+IsHelpRequested fault = (fault ≡ args_error.DisplayHelp) ⊎ (fault ≡ args_error.DisplayVersion)
 
 -- why a command stopped: memory ran out, or writing the help failed, which raised the number of failed writes by one
 abbrev pub IsHelpStop : ℕ → ℕ → Stop → Type 0

@@ -22,7 +22,7 @@ use Rattle.rvtest_app.specs.WriteStops.{IsFileStop, IsOutputStop, IsWriteFailedS
 use Rattle.rvtest_app.specs.Runs.{AreJobsToRun, AreRequestedJobs}
 use Rattle.rvtest_app.specs.StackStops.{IsStackSumStop}
 use Rattle.rvtest_app.specs.declared.run_output.ShowError.{ShowError}
-use Rattle.rvtest_app.specs.declared.run_output.ShowError.TheVariants as show
+use Rattle.rvtest_app.specs.declared.run_output.ShowError.TheVariants as show_error
 
 -- why the jobs to run could not be selected: the shard in the arguments is invalid, or no shard is given and the jobs could not be chosen
 abbrev pub IsSelectionStop : Option FileContents → RunArgs → List Job → Stop → Type 0
@@ -52,10 +52,10 @@ pub record IsKnownFailuresStop (contents : Option FileContents) (args : RunArgs)
 
 -- why a command stopped: this error occurred while a run was shown; `path` is the path of the report
 abbrev pub IsShowErrorStop : Option (List ℕ) → ShowError → Stop → Type 0
-IsShowErrorStop path show.OutOfMemory stop = stop ≡ stops.OutOfMemory
-IsShowErrorStop path show.NoWorker stop = stop ≡ stops.NoWorker
-IsShowErrorStop path show.StreamFailed stop = stop ≡ stops.WriteFailed
-IsShowErrorStop path show.ReportFailed stop = IsSomeAnd path (λ path. IsWriteFailedStop path stop)
+IsShowErrorStop path show_error.OutOfMemory stop = stop ≡ stops.OutOfMemory
+IsShowErrorStop path show_error.NoWorker stop = stop ≡ stops.NoWorker
+IsShowErrorStop path show_error.StreamFailed stop = stop ≡ stops.WriteFailed
+IsShowErrorStop path show_error.ReportFailed stop = IsSomeAnd path (λ path. IsWriteFailedStop path stop)
 
 -- why a command stopped: no thread could be started, or the results, the report or the JUnit XML could not be written
 abbrev pub IsRowsWriteStop : RunArgs → Stop → Type 0

@@ -8,15 +8,15 @@ use Rattle.rv_command.specs.declared.stop.Stop.TheVariants as stops
 use Rattle.rv_files.specs.IoErrors.{write_error_text}
 use Rattle.rv_files.specs.declared.file_error.FileError.{FileError}
 use Rattle.rv_rows.specs.declared_report.WriteError.{WriteError}
-use Rattle.rv_rows.specs.declared_report.WriteError.TheVariants as write
+use Rattle.rv_rows.specs.declared_report.WriteError.TheVariants as write_error
 use Rattle.rvtest_app.specs.Outlets.{file_path_at}
 
 -- ---- texts
 
 -- the stop for an error in writing to standard output: that memory ran out, or that the write failed
 abbrev pub stop_of_write_error : WriteError → Stop
-stop_of_write_error write.OutOfMemory = stops.OutOfMemory
-stop_of_write_error write.Failed = stops.WriteFailed
+stop_of_write_error write_error.OutOfMemory = stops.OutOfMemory
+stop_of_write_error write_error.Failed = stops.WriteFailed
 
 -- the stop reports that a write to the file for the path failed for this reason, or that memory ran out
 abbrev pub IsWriteFailedForReasonStop : List ℕ → ErrorKind → Stop → Type 0
@@ -28,8 +28,8 @@ IsWriteFailedStop path stop = (reason : ErrorKind) × IsWriteFailedForReasonStop
 
 -- the stop reports this error in writing the file for the path: memory ran out, or a write failed
 abbrev pub IsWriteErrorStop : List ℕ → WriteError → Stop → Type 0
-IsWriteErrorStop path write.OutOfMemory stop = stop ≡ stops.OutOfMemory
-IsWriteErrorStop path write.Failed stop = IsWriteFailedStop path stop
+IsWriteErrorStop path write_error.OutOfMemory stop = stop ≡ stops.OutOfMemory
+IsWriteErrorStop path write_error.Failed stop = IsWriteFailedStop path stop
 
 -- why a command stopped: the text could not be written to the file for the path, or to standard output if there is no path
 abbrev pub IsTextNotWrittenStop : Option (List ℕ) → Stop → Type 0

@@ -26,9 +26,9 @@ returns-in-Err-Truncated-clause-stopped c =
 
 pub returns-in-Err-Line-clause-stopped : goal.returns-in-Err-Line-clause-stopped
 returns-in-Err-Line-clause-stopped c =
-    let least = rw c.in-Err-Line.field-0-is at c.in-Err-Line.ensures.least in
-    let cut = rw c.in-Err-Line.field-0-is at c.in-Err-Line.ensures.cut in
-    let only = rw c.in-Err-Line.field-0-is at c.in-Err-Line.ensures.only in
+    let least = rw c.in-Err-Line.field-0-is at c.in-Err-Line.ensures.first_error in
+    let cut = rw c.in-Err-Line.field-0-is at c.in-Err-Line.ensures.truncated in
+    let only = rw c.in-Err-Line.field-0-is at c.in-Err-Line.ensures.accepts in
     record {
       reported = inr (inl (c.in-Err-Line.line, least, c.report_line_stop.ensures));
       report_prefix = λ line_starts_with. let other = cut line_starts_with in cc;

@@ -9,7 +9,7 @@ pub returns : goal.returns
 returns c =
     let keys = always_returns_same _ (λ a r. r ≡ starts a.0.now) _ (λ a r f' k. search rules) in
     let kept = dedup_same _ (is_same starts) _ (λ x y b f' x' y' k. search rules) _ _ c.dedup_by_key.ensures.filtered in record {
-      once = each_once c.args.functions.items _ _ (c.in_ok-sort_by_key.ensures.sorted starts keys)
+      each_once = each_once c.args.functions.items _ _ (c.in_ok-sort_by_key.ensures.sorted starts keys)
           (c.in_ok-sort_by_key.ensures.stable starts keys) kept;
       fewer = fewer_bytes c.args.functions.items _ _ c.in_ok-sort_by_key.ensures.permutation kept;
     }

@@ -8,9 +8,9 @@ pub returns : goal.returns
 returns c =
     let few = functions_few c.args.file.now c.requires.small c.args.image.now in
     let same = ap code_bytes c.in_ok-functions.ensures in record {
-      once = subst (λ old. IfOk c.each_address_once.result (λ found. IsEachOnce old (map view_of_function found.items))) c.in_ok-functions.ensures
+      each_once = subst (λ old. IfOk c.each_address_once.result (λ found. IsEachOnce old (map view_of_function found.items))) c.in_ok-functions.ensures
           c.each_address_once.ensures.each_once;
-      few = elim c.each_address_once.result
+      fits = elim c.each_address_once.result
           as (λ r. IfOk r (λ found. code_bytes (map view_of_function found.items) ≤ code_bytes (map view_of_function c.in_ok-functions.field-0.items))
           → IfOk r (λ found. code_bytes (map view_of_function found.items) < 2 ^ 64)) [
             | Ok found ↦ λ fewer. omega (arith, few, same, fewer)

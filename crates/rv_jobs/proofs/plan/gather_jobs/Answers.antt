@@ -9,76 +9,76 @@ use Rattle.rv_jobs.proofs.Answering.{start_kept, start_faults, parts_whole}
 use Rattle.rv_jobs.proofs.Needing.{needed_more, needed_whole}
 use Rattle.rv_jobs.proofs.plan.gather_jobs.Goals as goal
 
-pub loop-place-init : goal.loop-place-init
-loop-place-init g c = record {
+pub loop-index-init : goal.loop-index-init
+loop-index-init g c = record {
   same = λ i. g.S.Store.contents c.args.store.now;
   paths = ap paths_of c.in_ok-none.ensures;
   kept = start_kept c.in_ok-none.none c.in_ok-none.ensures (g.S.Store.contents c.args.store.now);
   faults = start_faults c.in_ok-none.none c.in_ok-none.ensures (g.S.Store.fault_count c.args.store.now);
-  noted = subst (λ js. AreRecorded (paths_of c.in_ok-none.none) js c.in_ok-noted.noted.items) c.as_slice.ensures.value
-      (subst (λ xs. AreRecorded xs c.as_slice.result.now c.in_ok-noted.noted.items)
+  noted = subst (λ js. AreRecorded (paths_of c.in_ok-none.none) js c.in_ok-recorded.recorded.items) c.as_slice.ensures.value
+      (subst (λ xs. AreRecorded xs c.as_slice.result.now c.in_ok-recorded.recorded.items)
       (sym (ap paths_of c.in_ok-none.ensures))
-      c.in_ok-noted.ensures);
+      c.in_ok-recorded.ensures);
 }
 
-pub loop-place-preserved : goal.loop-place-preserved
-loop-place-preserved g c =
-    let inv = c.loop-place.invariant in
-    let kept : AgreeWithContents (g.S.Store.contents c.loop-place.store) c.loop-place.asked = rw inv.same inv.kept in
-    let jobs = c.as_slice-in-loop-place.ensures.value in
-    let place = get_or c.as_slice-place-items.result.now c.loop-place.place-index 0 in
+pub loop-index-preserved : goal.loop-index-preserved
+loop-index-preserved g c =
+    let inv = c.loop-index.invariant in
+    let kept : AgreeWithContents (g.S.Store.contents c.loop-index.store) c.loop-index.path_results = rw inv.same inv.kept in
+    let jobs = c.as_slice-in-loop-index.ensures.value in
+    let place = get_or c.as_slice-index-items.result.now c.loop-index.index-index 0 in
     record {
-      same = c.in_ok-asked.ensures.contents_unchanged ∙ inv.same;
-      paths = c.in_ok-asked.ensures.paths
-          ∙ (ap (λ js. fold with_job_paths (paths_of c.loop-place.asked) (jobs_needed_at js place)) jobs
-          ∙ ap (λ ps. fold with_job_paths (paths_of c.loop-place.asked)
-          (jobs_needed_at c.args.jobs (get_or ps c.loop-place.place-index 0))) c.as_slice-place-items.ensures.value
-          ∙ ap (λ ps. fold with_job_paths ps (jobs_needed_at c.args.jobs (get_or c.args.indices.items c.loop-place.place-index 0)))
+      same = c.in_ok-path_results.ensures.contents_unchanged ∙ inv.same;
+      paths = c.in_ok-path_results.ensures.paths
+          ∙ (ap (λ js. fold with_job_paths (paths_of c.loop-index.path_results) (jobs_needed_at js place)) jobs
+          ∙ ap (λ ps. fold with_job_paths (paths_of c.loop-index.path_results)
+          (jobs_needed_at c.args.jobs (get_or ps c.loop-index.index-index 0))) c.as_slice-index-items.ensures.value
+          ∙ ap (λ ps. fold with_job_paths ps (jobs_needed_at c.args.jobs (get_or c.args.indices.items c.loop-index.index-index 0)))
           inv.paths
-          ∙ sym (needed_more c.args.jobs c.args.indices.items c.loop-place.place-index 0 (omega arith)));
-      kept = rw inv.same at (c.in_ok-asked.ensures.agree kept);
-      faults = c.in_ok-asked.ensures.faults (g.S.Store.fault_count c.args.store.now) inv.faults;
-      noted = subst (λ js. AreRecorded (paths_of c.in_ok-asked.asked) js c.read_paths_for_row.new.recorded.items) jobs
-          c.in_ok-asked.ensures.recorded;
+          ∙ sym (needed_more c.args.jobs c.args.indices.items c.loop-index.index-index 0 (omega arith)));
+      kept = rw inv.same at (c.in_ok-path_results.ensures.agree kept);
+      faults = c.in_ok-path_results.ensures.faults (g.S.Store.fault_count c.args.store.now) inv.faults;
+      noted = subst (λ js. AreRecorded (paths_of c.in_ok-path_results.path_results) js c.read_paths_for_row.new.recorded.items) jobs
+          c.in_ok-path_results.ensures.recorded;
     }
 
 pub invariant_of-result : goal.invariant_of-result
 invariant_of-result g c =
-    let used = c.loop-place.invariant.paths
-    ∙ needed_whole c.args.jobs c.args.indices.items c.loop-place.place-index (omega arith) in
+    let used = c.loop-index.invariant.paths
+    ∙ needed_whole c.args.jobs c.args.indices.items c.loop-index.index-index (omega arith) in
     record {
       jobs = c.as_slice.ensures.jobs;
-      even = sym (ap length used) ∙ length-map c.loop-place.asked (λ (a : PathResult). a.path)
+      same_length = sym (ap length used) ∙ length-map c.loop-index.path_results (λ (a : PathResult). a.path)
           ∙ sym (ap (length {A = Kept}) c.into_results-results.ensures
-          ∙ length-map c.loop-place.asked (λ (a : PathResult). a.kept));
-      found = subst (λ js. ArePartialResultIndicesOfJobs (paths_used (jobs_needed_for c.args.jobs c.args.indices.items)) js
-          c.in_ok-found.found.items)
+          ∙ length-map c.loop-index.path_results (λ (a : PathResult). a.kept));
+      result_indices = subst (λ js. ArePartialResultIndicesOfJobs (paths_used (jobs_needed_for c.args.jobs c.args.indices.items)) js
+          c.in_ok-result_indices_of_jobs.result_indices_of_jobs.items)
           c.as_slice-2.ensures.value
-          (subst (λ xs. ArePartialResultIndicesOfJobs xs c.as_slice-2.result.now c.in_ok-found.found.items) used c.in_ok-found.ensures);
-      unread = refl;
+          (subst (λ xs. ArePartialResultIndicesOfJobs xs c.as_slice-2.result.now c.in_ok-result_indices_of_jobs.result_indices_of_jobs.items) used c.in_ok-result_indices_of_jobs.ensures);
+      not_read = refl;
     }
 
 -- the answers of the plan are those that were asked for
 pub returns-clause-paths : goal.returns-clause-paths
 returns-clause-paths g c =
-    let used = c.loop-place.invariant.paths
-    ∙ needed_whole c.args.jobs c.args.indices.items c.loop-place.place-index (omega arith) in
-    ap paths_of (parts_whole c.loop-place.asked (paths_used (jobs_needed_for c.args.jobs c.args.indices.items))
+    let used = c.loop-index.invariant.paths
+    ∙ needed_whole c.args.jobs c.args.indices.items c.loop-index.index-index (omega arith) in
+    ap paths_of (parts_whole c.loop-index.path_results (paths_used (jobs_needed_for c.args.jobs c.args.indices.items))
     c.into_results-results.result.items used c.into_results-results.ensures) ∙ used
 
 pub returns-clause-agree : goal.returns-clause-agree
 returns-clause-agree g c =
-    let used = c.loop-place.invariant.paths
-    ∙ needed_whole c.args.jobs c.args.indices.items c.loop-place.place-index (omega arith) in
-    let same = parts_whole c.loop-place.asked (paths_used (jobs_needed_for c.args.jobs c.args.indices.items))
+    let used = c.loop-index.invariant.paths
+    ∙ needed_whole c.args.jobs c.args.indices.items c.loop-index.index-index (omega arith) in
+    let same = parts_whole c.loop-index.path_results (paths_used (jobs_needed_for c.args.jobs c.args.indices.items))
     c.into_results-results.result.items used c.into_results-results.ensures in
-    subst (AgreeWithContents (g.S.Store.contents c.args.store.now)) (sym same) c.loop-place.invariant.kept
+    subst (AgreeWithContents (g.S.Store.contents c.args.store.now)) (sym same) c.loop-index.invariant.kept
 
 pub returns-clause-faults : goal.returns-clause-faults
 returns-clause-faults g c =
-    let used = c.loop-place.invariant.paths
-    ∙ needed_whole c.args.jobs c.args.indices.items c.loop-place.place-index (omega arith) in
-    let same = parts_whole c.loop-place.asked (paths_used (jobs_needed_for c.args.jobs c.args.indices.items))
+    let used = c.loop-index.invariant.paths
+    ∙ needed_whole c.args.jobs c.args.indices.items c.loop-index.index-index (omega arith) in
+    let same = parts_whole c.loop-index.path_results (paths_used (jobs_needed_for c.args.jobs c.args.indices.items))
     c.into_results-results.result.items used c.into_results-results.ensures in
-    c.loop-place.invariant.faults
+    c.loop-index.invariant.faults
     ∙ ap (λ (a : List PathResult). after_increments (g.S.Store.fault_count c.args.store.now) (unreadable_count a)) (sym same)

@@ -4,11 +4,11 @@ use Rattle.rv_jobs.specs.ResultIndices.{AreRecorded}
 use Rattle.rv_jobs.specs.Plans.{paths_of, with_job_paths, jobs_needed_for, AgreeWithContents, unreadable_count, after_increments}
 use Rattle.rv_jobs.proofs.plan.gather_jobs.Given as goal
 
-abbrev pub invariant-loop-place : goal.invariant-loop-place
-invariant-loop-place g l = record {
+abbrev pub invariant-loop-index : goal.invariant-loop-index
+invariant-loop-index g l = record {
   same : g.S.Store.contents l.store ≡ g.S.Store.contents l.initial.store;
-  paths : paths_of l.asked ≡ fold with_job_paths [] (jobs_needed_for l.fn.jobs (take l.place-index l.fn.indices.items));
-  kept : AgreeWithContents (g.S.Store.contents l.initial.store) l.asked;
-  faults : g.S.Store.fault_count l.store ≡ after_increments (g.S.Store.fault_count l.initial.store) (unreadable_count l.asked);
-  noted : AreRecorded (paths_of l.asked) l.fn.jobs l.noted.items;
+  paths : paths_of l.path_results ≡ fold with_job_paths [] (jobs_needed_for l.fn.jobs (take l.index-index l.fn.indices.items));
+  kept : AgreeWithContents (g.S.Store.contents l.initial.store) l.path_results;
+  faults : g.S.Store.fault_count l.store ≡ after_increments (g.S.Store.fault_count l.initial.store) (unreadable_count l.path_results);
+  noted : AreRecorded (paths_of l.path_results) l.fn.jobs l.recorded.items;
 }

@@ -18,7 +18,7 @@ returns-in_ok-list-in-Ok c =
           (λ fault message is. begins_of_ends _ _ (fault_head file text fault) message
           (head_in_list file text _ _ _ fault c.in-Ok.ensures.ok.0 c.in-Ok.ensures.ok.1 c.in_ok-list-in-Ok.ensures.lines
           c.in_ok-list-in-Ok.ensures.names) is) c.push_fault_lines.ensures;
-      told = lines_so c.push_fault_lines.result _ (IsFaultLineOfText file text) c.args.faults.now before after
+      explanations = lines_so c.push_fault_lines.result _ (IsFaultLineOfText file text) c.args.faults.now before after
           (λ fault message is. told_in_list file text _ _ _ _ fault message c.in-Ok.ensures.ok.0 c.in-Ok.ensures.ok.1
           c.in_ok-list-in-Ok.ensures.lines c.in_ok-list-in-Ok.ensures.names c.in_ok-list-in-Ok.ensures.jobs is)
           c.push_fault_lines.ensures;
@@ -38,7 +38,7 @@ returns-else-is_memory c =
           (λ fault message is. begins_of_ends _ _ (fault_head file text fault) message
           (head_without_document file text fault (c.in-Err.ensures.refused (λ m. cc (c.if-is_memory.ensures.1 m)))) is)
           c.push_fault_lines-in-Err.ensures;
-      told = lines_so c.push_fault_lines-in-Err.result _ (IsFaultLineOfText file text) c.args.faults.now before after
+      explanations = lines_so c.push_fault_lines-in-Err.result _ (IsFaultLineOfText file text) c.args.faults.now before after
           (λ fault message is. told_without_document file text fault message
           (c.in-Err.ensures.refused (λ m. cc (c.if-is_memory.ensures.1 m))) is) c.push_fault_lines-in-Err.ensures;
     }

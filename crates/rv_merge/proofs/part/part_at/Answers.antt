@@ -22,4 +22,4 @@ pub returns-in-Err-Line-clause-error : goal.returns-in-Err-Line-clause-error
 unfolding none
 returns-in-Err-Line-clause-error c =
     unread_at c.args.texts.now c.args.index none c.in-Err-Line.field-0 (read.Line c.in-Err-Line.line) c.requires
-    c.in-Err-Line.field-0-is (λ e. cc) c.in-Err-Line.ensures.only c.in-Err-Line.ensures.err c.in-Err-Line.ensures.place
+    c.in-Err-Line.field-0-is (λ e. cc) c.in-Err-Line.ensures.accepts c.in-Err-Line.ensures.agrees c.in-Err-Line.ensures.exact_error

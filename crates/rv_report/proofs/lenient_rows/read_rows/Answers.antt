@@ -10,8 +10,8 @@ loop-rest-preserved c =
     let rest = c.loop-rest.rest.now in
     let some : 0 < length rest = grind (arith, nat_tests) in
     said_step rest c.leading_bytes.result.now c.tail_from-rest.result.now c.index_of_byte-end.result (reader_state_view c.loop-rest.gathering)
-    (reader_state_view c.add_line.new.state) some c.index_of_byte-end.ensures.index c.leading_bytes.ensures c.tail_from-rest.ensures
-    c.in_ok-add_line.ensures
+    (reader_state_view c.read_line.new.state) some c.index_of_byte-end.ensures.index c.leading_bytes.ensures c.tail_from-rest.ensures
+    c.in_ok-read_line.ensures
     ∙ c.loop-rest.invariant
 
 pub returns : goal.returns

@@ -21,10 +21,10 @@ returns-in_ok-report-in-Err-Truncated-clause-valid c =
 pub returns-in-Err-Line : goal.returns-in-Err-Line
 returns-in-Err-Line c =
     let bytes = c.args.bytes.now in
-    let least = rw c.in-Err-Line.field-0-is at c.in-Err-Line.ensures.least in
-    let cut = rw c.in-Err-Line.field-0-is at c.in-Err-Line.ensures.cut in record {
-      found = tt;
-      saved = tt;
-      beginning = λ begins. let other = cut begins in cc;
-      refused = inr (c.in-Err-Line.line, refl, least);
+    let least = rw c.in-Err-Line.field-0-is at c.in-Err-Line.ensures.first_error in
+    let cut = rw c.in-Err-Line.field-0-is at c.in-Err-Line.ensures.truncated in record {
+      truncation = tt;
+      valid = tt;
+      prefix = λ begins. let other = cut begins in cc;
+      error = inr (c.in-Err-Line.line, refl, least);
     }

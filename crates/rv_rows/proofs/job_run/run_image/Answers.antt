@@ -9,5 +9,5 @@ loaded_machine-requires-clause-fits c = (loadable_parts _ _ _ c.in-Ok.ensures).f
 
 pub ended_run-requires : goal.ended_run-requires
 ended_run-requires c =
-    range_after_run c.in-Ok.loadable.range _ _ _ c.run-ran.ensures
+    range_after_run c.in-Ok.loadable.range _ _ _ c.run-run_outcome.ensures
     (range_there _ _ c.in-Ok.loadable _ c.in-Ok.ensures c.in_ok-machine-in-Ok.ensures)

@@ -6,8 +6,8 @@ pub returns-then-plain-eq0 : goal.returns-then-plain-eq0
 returns-then-plain-eq0 c =
     let none : plain_first_len c.args.text.now ≡ 0 = sym c.plain_first_len-plain.ensures.value ∙ c.if-plain-eq0.true in
     record {
-      shown = rw none c.in_ok-push_escape.ensures;
-      behind = rw none c.tail_from.ensures;
+      text = rw none c.in_ok-push_escape.ensures;
+      rest = rw none c.tail_from.ensures;
       shorter = rw c.tail_from.ensures (simp length-drop (omega arith));
     }
 
@@ -15,7 +15,7 @@ pub returns : goal.returns
 returns c =
     let some : (c.plain_first_len-plain.result == 0) ≡ false = ne_eqb c.plain_first_len-plain.result 0 c.if-plain-eq0.false in
     record {
-      shown = rw (← c.plain_first_len-plain.ensures.value, some) c.in_ok-extend_from_slice.ensures.items;
-      behind = rw (← c.plain_first_len-plain.ensures.value, some) c.tail_from-2.ensures;
+      text = rw (← c.plain_first_len-plain.ensures.value, some) c.in_ok-extend_from_slice.ensures.items;
+      rest = rw (← c.plain_first_len-plain.ensures.value, some) c.tail_from-2.ensures;
       shorter = rw c.tail_from-2.ensures (simp length-drop (omega arith));
     }

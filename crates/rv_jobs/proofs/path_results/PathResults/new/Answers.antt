@@ -8,8 +8,8 @@ pub invariant_of-result : goal.invariant_of-result
 invariant_of-result c =
     let none = ap (map (λ (q : Bor (List ℕ)). q.now)) c.new-3.ensures.items in
     record {
-      even = ap length none ∙ sym (ap (length {A = Kept}) c.new-2.ensures.items);
-      places =
-          no_places c.in_ok-places.places (map (λ (q : Bor (List ℕ)). q.now) c.new-3.result.items)
-          c.in_ok-places.ensures.empty none;
+      same_length = ap length none ∙ sym (ap (length {A = Kept}) c.new-2.ensures.items);
+      indices =
+          no_places c.in_ok-indices.indices (map (λ (q : Bor (List ℕ)). q.now) c.new-3.result.items)
+          c.in_ok-indices.ensures.empty none;
     }

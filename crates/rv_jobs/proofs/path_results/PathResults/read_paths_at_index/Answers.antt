@@ -14,5 +14,5 @@ pub returns-clause-noted : goal.returns-clause-noted
 returns-clause-noted g c =
     noted_more (paths_of c.args.self) (paths_of c.in_ok-asked.asked) c.args.jobs.now c.args.recorded.now.items
     c.args.index
-    c.index-jobs-index.result c.in_ok-asked.places c.requires.noted c.requires.place c.index-jobs-index.is
-    c.in_ok-asked.ensures.paths c.in_ok-asked.ensures.places
+    c.index-jobs-index.result c.in_ok-asked.indices c.requires.noted c.requires.place c.index-jobs-index.is
+    c.in_ok-asked.ensures.paths c.in_ok-asked.ensures.indices

@@ -6,8 +6,8 @@ use Rattle.rv_lists.specs.Jobs.{console_path}
 use Rattle.rv_jobs.proofs.Planning.{found, named_within, named_kept}
 use Rattle.rv_jobs.proofs.plan.Plan.console_reference.Goals as goal
 
-pub result_or_unread-requires : goal.result_or_unread-requires
-result_or_unread-requires c =
+pub result_at_or_unreadable-requires : goal.result_at_or_unreadable-requires
+result_at_or_unreadable-requires c =
     let placed = found c.self.inside c.self.invariant c.args.self.now c.self.view_is c.args.i c.requires
     c.index.result.now c.index.ensures in
     named_within c.self.inside c.self.invariant c.args.self.now c.self.view_is c.args.i c.requires c.index.result.now
@@ -20,5 +20,5 @@ returns-in-Some c =
     named_kept c.self.inside c.self.invariant c.args.self.now c.self.view_is c.args.i c.requires c.index.result.now
     c.index.ensures (λ (j : Job). console_path j.expect_console) c.index.result.now.console
     (λ d. (placed d).console) c.job.result.now c.in-Some.field-0.now
-    c.result_or_unread.result.now c.job.ensures.value
-    (sym c.console_path.ensures ∙ ap (option_map (λ (q : Bor (List ℕ)). q.now)) c.in-Some.is) c.result_or_unread.ensures
+    c.result_at_or_unreadable.result.now c.job.ensures.value
+    (sym c.console_path.ensures ∙ ap (option_map (λ (q : Bor (List ℕ)). q.now)) c.in-Some.is) c.result_at_or_unreadable.ensures

@@ -17,6 +17,6 @@ results_of a = results_with (paths_in a) a.results.items
 
 -- the invariant of the fields of `PathResults`: there is one result for each path that was read, and the map has the index of each path
 pub record IsValidPathResults (a : Inside) : Type 0 where
-  pub even : length (paths_in a) ≡ length a.results.items
-  pub places : (t : List ℕ)
-      → get_by (λ k. bytes_eq t k.now) a.places ≡ index_in (paths_in a) t
+  pub same_length : length (paths_in a) ≡ length a.results.items
+  pub indices : (t : List ℕ)
+      → get_by (λ k. bytes_eq t k.now) a.indices ≡ index_in (paths_in a) t
