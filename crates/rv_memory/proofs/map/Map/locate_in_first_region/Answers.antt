@@ -16,8 +16,8 @@ offset_of_aligned-requires-clause-aligned c =
     (subst (λ rs. list_all is_aligned rs ≡ true) (first_and_rest m c.self.invariant)
     ((accepted (regions_of m) c.self.invariant.accepted).aligned))).0
 
-pub offset_of_aligned-requires-clause-sized : goal.offset_of_aligned-requires-clause-sized
-offset_of_aligned-requires-clause-sized c =
+pub offset_of_aligned-requires-clause-valid_size : goal.offset_of_aligned-requires-clause-valid_size
+offset_of_aligned-requires-clause-valid_size c =
     let m = c.self.inside in
     (and_parts (has_valid_size (get_or m.regions 0 empty_slot)) _
     (subst (λ rs. list_all has_valid_size rs ≡ true) (first_and_rest m c.self.invariant)
