@@ -3,17 +3,17 @@ use Rattle.std.proofs.Common.{◌≡◌, ◌∙◌, ◌+◌, ◌<◌, ◌≤◌,
 use Rattle.std.proofs.lemmas.List.{take-take, take-append-le, length-take-le, get_or_append_left, get_or-take}
 use Rattle.std.proofs.Math.Seq.{get_or-append_seam}
 use Rattle.rv_call_tree.specs.declared.call_node.CallNode.{CallNode}
-use Rattle.rv_call_tree.specs.Trees.{FollowsInPreorder}
+use Rattle.rv_call_tree.specs.Trees.{MayFollow}
 
 -- the first of the rest stands behind the one path as behind the other
 abbrev pub StandsAlike : List ℕ → List ℕ → List CallNode → Type 0
 StandsAlike front other [] = Unit {0}
-StandsAlike front other (s ∷ ss) = (take s.depth front ≡ take s.depth other) × FollowsInPreorder other s
+StandsAlike front other (s ∷ ss) = (take s.depth front ≡ take s.depth other) × MayFollow other s
 
 -- behind a spot that is deeper, or as deep and of a lower function, another stands as behind what is in front of that spot
-pub behind_other : (depth function : ℕ) (front : List ℕ) (s : CallNode) → depth ≤ length front → FollowsInPreorder front s
+pub behind_other : (depth function : ℕ) (front : List ℕ) (s : CallNode) → depth ≤ length front → MayFollow front s
     → (s.depth < depth) ⊎ ((s.depth ≡ depth) × (function < s.function))
-    → (take s.depth front ≡ take s.depth (take depth front ++ function ∷ [])) × FollowsInPreorder (take depth front ++ function ∷ []) s
+    → (take s.depth front ≡ take s.depth (take depth front ++ function ∷ [])) × MayFollow (take depth front ++ function ∷ []) s
 behind_other depth function front s long stands order =
     let own = function ∷ [] in
     let kept = length-take-le depth front long in

@@ -5,7 +5,7 @@ use Rattle.std.proofs.lemmas.List.{take_more}
 use Rattle.std.specs.List.{AllByRecursion}
 use Rattle.rv_call_tree.specs.declared.call_node.CallNode.{CallNode}
 use Rattle.rv_call_tree.specs.Profiles.{has_function, ends_some_path, own_steps_of_all, times, with_function, AreFunctionsOf}
-use Rattle.rv_call_tree.specs.Trees.{all_steps, address_if, steps_if}
+use Rattle.rv_call_tree.specs.Trees.{all_steps, one_if, steps_if}
 use Rattle.rv_call_tree.proofs.Tests.{equal_by, equal_test, turned}
 
 -- ---- the sum
@@ -56,12 +56,12 @@ same_test : (x : ℕ) → (x == x) ≡ true
 same_test x = equal_test x x refl
 
 each_once : (fs : List ℕ) (all some : List CallNode)
-    → ((f : ℕ) → times f fs ≡ address_if (ends_some_path f all))
+    → ((f : ℕ) → times f fs ≡ one_if (ends_some_path f all))
     → ((f : ℕ) → ends_some_path f some ≡ true → ends_some_path f all ≡ true)
     → AllByRecursion (λ (s : CallNode). times s.function fs ≡ 1) some
 each_once fs all [] h within = tt
 each_once fs all (s ∷ ss) h within = (
-  h s.function ∙ ap address_if (within s.function (or_first (s.function == s.function) (ends_some_path s.function ss) (same_test s.function))),
+  h s.function ∙ ap one_if (within s.function (or_first (s.function == s.function) (ends_some_path s.function ss) (same_test s.function))),
   each_once fs all ss h (λ f there. within f (or_second (s.function == f) (ends_some_path f ss) there)),
 )
 
@@ -97,45 +97,45 @@ has_times f [] h = refl
 has_times f (x ∷ xs) h =
     let p = or_parts (x == f) (has_function f xs) h in
     let rest = has_times f xs p.1 in
-    let here = ap address_if p.0 in
+    let here = ap one_if p.0 in
     omega (arith, rest, here)
 
 times_has : (f : ℕ) (fs : List ℕ) → has_function f fs ≡ true → 0 < times f fs
 times_has f [] h = absurd (false≢true h)
 times_has f (x ∷ xs) h = elim (or_cases (x == f) (has_function f xs) h) [
-  | inl here ↦ let one = ap address_if here in omega (arith, one)
+  | inl here ↦ let one = ap one_if here in omega (arith, one)
   | inr there ↦ let rest = times_has f xs there in omega (arith, rest)
 ]
 
-once_true : (b : Bool) → 0 < address_if b → b ≡ true
+once_true : (b : Bool) → 0 < one_if b → b ≡ true
 once_true true h = refl
 once_true false h = absurd (omega arith)
 
-once_false : (b : Bool) → address_if b ≡ 0 → b ≡ false
+once_false : (b : Bool) → one_if b ≡ 0 → b ≡ false
 once_false true h = absurd (omega (arith, h))
 once_false false h = refl
 
 -- a function that is there is of some spot, so another spot of it changes nothing
 there_already : (f g : ℕ) (before : Bool) (test : Bool) → (g == f) ≡ test → (g ≡ f → before ≡ true)
-    → address_if (before || (g == f)) ≡ address_if before
+    → one_if (before || (g == f)) ≡ one_if before
 there_already f g before true is seen =
     let same = equal_by g f is in
     let was = seen same in
-    ap address_if (or_first before (g == f) was ∙ sym was)
-there_already f g before false is seen = ap address_if (ap (λ (b : Bool). before || b) is ∙ or_none_behind before)
+    ap one_if (or_first before (g == f) was ∙ sym was)
+there_already f g before false is seen = ap one_if (ap (λ (b : Bool). before || b) is ∙ or_none_behind before)
 
 new_there : (f g : ℕ) (before : Bool) (test : Bool) → (g == f) ≡ test → (g ≡ f → before ≡ false)
-    → address_if (before || (g == f)) ≡ address_if before + address_if (g == f)
+    → one_if (before || (g == f)) ≡ one_if before + one_if (g == f)
 new_there f g before true is unseen =
     let same = equal_by g f is in
     let was = unseen same in
-    let left = ap address_if (ap (λ (b : Bool). b || (g == f)) was ∙ is) in
-    let right = ap address_if was in
-    let one = ap address_if is in
+    let left = ap one_if (ap (λ (b : Bool). b || (g == f)) was ∙ is) in
+    let right = ap one_if was in
+    let one = ap one_if is in
     omega (arith, left, right, one)
 new_there f g before false is unseen =
-    let left = ap address_if (ap (λ (b : Bool). before || b) is ∙ or_none_behind before) in
-    let none = ap address_if is in
+    let left = ap one_if (ap (λ (b : Bool). before || b) is ∙ or_none_behind before) in
+    let none = ap one_if is in
     omega (arith, left, none)
 
 -- one spot more
@@ -147,7 +147,7 @@ with_node fs xs s true is h = record {
       let some = times_has s.function fs is in
       let so = h.once s.function in
       subst (λ (g : ℕ). ends_some_path g xs ≡ true) same (once_true (ends_some_path s.function xs) (omega (arith, some, so))) in
-      h.once f ∙ sym (ap address_if (any_more f xs s) ∙ there_already f s.function (ends_some_path f xs) (s.function == f) refl seen);
+      h.once f ∙ sym (ap one_if (any_more f xs s) ∙ there_already f s.function (ends_some_path f xs) (s.function == f) refl seen);
 }
 with_node fs xs s false is h = record {
   once = λ f.
@@ -156,7 +156,7 @@ with_node fs xs s false is h = record {
       subst (λ (g : ℕ). ends_some_path g xs ≡ false) same (once_false (ends_some_path s.function xs) (sym (h.once s.function) ∙ none)) in
       let more = times_more f fs (s.function ∷ []) in
       let so = h.once f in
-      let new = ap address_if (any_more f xs s) ∙ new_there f s.function (ends_some_path f xs) (s.function == f) refl unseen in
+      let new = ap one_if (any_more f xs s) ∙ new_there f s.function (ends_some_path f xs) (s.function == f) refl unseen in
       omega (arith, more, so, new);
 }
 

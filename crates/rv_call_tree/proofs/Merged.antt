@@ -11,15 +11,15 @@ use Rattle.rv_call_tree.specs.declared.sum.NextNode.{NextNode}
 use Rattle.rv_call_tree.specs.declared.sum.CallTreeSumError.{CallTreeSumError}
 use Rattle.rv_call_tree.specs.declared.sum.CallTreeSumError.TheVariants.{OutOfMemory, Count}
 use Rattle.rv_call_tree.specs.Sums.{sum_of_nodes, comes_first, next_of, next_of_nodes, node_of_first, node_of_second, IsSumOfCallTrees, IsOverflowOfTrees, IsOverflowOfFirstNodes, CountsOverflow}
-use Rattle.rv_call_tree.specs.Trees.{path_after, last_path, calls_of_node, steps_of, sum_over_path, ends_with, HasCalls, IsTree, FollowsInPreorder, FollowInPreorder}
+use Rattle.rv_call_tree.specs.Trees.{path_after, last_path, calls_of_node, steps_of, sum_over_path, ends_with, HasCalls, IsTree, MayFollow, AreInPreorder}
 use Rattle.rv_call_tree.proofs.Fronts.{StandsAlike, behind_other}
 use Rattle.rv_call_tree.proofs.Tests.{equal_by, equal_test, less_by, not_less_by}
 use Rattle.rv_call_tree.proofs.Parts.{last_parts, counted_parts, some_of_parts, some_parts, stand_of_parts}
 
 -- so much of both is added: the spots in front of a rest are xs and ys
 pub record SoFar (xs ms ys bs sums : List CallNode) : Type 0 where
-  pub rest_of_a : FollowInPreorder (last_path [] xs) ms
-  pub rest_of_b : FollowInPreorder (last_path [] ys) bs
+  pub rest_of_a : AreInPreorder (last_path [] xs) ms
+  pub rest_of_b : AreInPreorder (last_path [] ys) bs
   pub tree : IsTree sums
   pub some : HasCalls xs → HasCalls ys → HasCalls sums
   pub counted : (count : CallNode → ℕ) (path : List ℕ)
@@ -39,7 +39,7 @@ more_counted : (count : CallNode → ℕ) (path : List ℕ) (xs : List CallNode)
     ≡ sum_over_path count path [] xs + cond (bytes_eq (path_after (last_path [] xs) s) path) (count s) 0
 more_counted count path xs s = let h = counted_parts count path [] xs (s ∷ []) in omega (arith, h)
 
-more_tree : (xs : List CallNode) (s : CallNode) → IsTree xs → FollowsInPreorder (last_path [] xs) s → IsTree (xs ++ s ∷ [])
+more_tree : (xs : List CallNode) (s : CallNode) → IsTree xs → MayFollow (last_path [] xs) s → IsTree (xs ++ s ∷ [])
 more_tree xs s h k = stand_of_parts [] xs (s ∷ []) h (k, tt)
 
 order_of : (s t : CallNode) → comes_first t s ≡ true → (s.depth < t.depth) ⊎ ((s.depth ≡ t.depth) × (t.function < s.function))
@@ -51,11 +51,11 @@ order_of s t h = elim (or_cases (nat_lt s.depth t.depth) ((t.depth == s.depth) &
 
 -- the rest of the tree whose spot it was
 own_rest : (own front : List ℕ) (s : CallNode) (ss : List CallNode) → take s.depth own ≡ take s.depth front
-    → FollowInPreorder (path_after own s) ss → StandsAlike (path_after own s) (path_after front s) ss
+    → AreInPreorder (path_after own s) ss → StandsAlike (path_after own s) (path_after front s) ss
 own_rest own front s [] same h = tt
 own_rest own front s (x ∷ xs) same h = (
   ap (λ (path : List ℕ). take x.depth (path ++ s.function ∷ [])) same,
-  subst (λ (path : List ℕ). FollowsInPreorder (path ++ s.function ∷ []) x) same h.0,
+  subst (λ (path : List ℕ). MayFollow (path ++ s.function ∷ []) x) same h.0,
 )
 
 -- a spot goes before the first of a list
@@ -64,7 +64,7 @@ AheadOf t [] = Unit {0}
 AheadOf t (s ∷ ss) = comes_first t s ≡ true
 
 -- the rest of the other tree
-other_rest : (own front : List ℕ) (t : CallNode) (ss : List CallNode) → FollowsInPreorder front t → StandsAlike own front ss
+other_rest : (own front : List ℕ) (t : CallNode) (ss : List CallNode) → MayFollow front t → StandsAlike own front ss
     → AheadOf t ss → StandsAlike own (path_after front t) ss
 other_rest own front t [] stands h ahead = tt
 other_rest own front t (s ∷ ss) stands h ahead =
@@ -83,7 +83,7 @@ take_first xs ss ys bs sums s h ahead =
     let front = last_path [] sums in
     let of_own = last_parts [] xs (s ∷ []) in
     let of_sum = last_parts [] sums (s ∷ []) in record {
-      rest_of_a = subst (λ (path : List ℕ). FollowInPreorder path ss) (sym of_own) h.rest_of_a.1;
+      rest_of_a = subst (λ (path : List ℕ). AreInPreorder path ss) (sym of_own) h.rest_of_a.1;
       rest_of_b = h.rest_of_b;
       tree = more_tree sums s h.tree h.first.1;
       some = λ some_a some_b.
@@ -110,7 +110,7 @@ take_second xs ms ys ts sums t h ahead =
     let of_own = last_parts [] ys (t ∷ []) in
     let of_sum = last_parts [] sums (t ∷ []) in record {
       rest_of_a = h.rest_of_a;
-      rest_of_b = subst (λ (path : List ℕ). FollowInPreorder path ts) (sym of_own) h.rest_of_b.1;
+      rest_of_b = subst (λ (path : List ℕ). AreInPreorder path ts) (sym of_own) h.rest_of_b.1;
       tree = more_tree sums t h.tree h.second.1;
       some = λ some_a some_b.
           let parts = some_parts ys (t ∷ []) some_b in some_of_parts sums (t ∷ []) (h.some some_a parts.0) parts.1;
@@ -166,8 +166,8 @@ take_both xs ss ys ts sums s t h deep function =
     let ends_b = last_parts [] ys (t ∷ []) in
     let ends = last_parts [] sums (new ∷ []) in
     let alike : path_after front t ≡ path_after front new = same_spot front s t deep function in record {
-      rest_of_a = subst (λ (path : List ℕ). FollowInPreorder path ss) (sym ends_a) h.rest_of_a.1;
-      rest_of_b = subst (λ (path : List ℕ). FollowInPreorder path ts) (sym ends_b) h.rest_of_b.1;
+      rest_of_a = subst (λ (path : List ℕ). AreInPreorder path ss) (sym ends_a) h.rest_of_a.1;
+      rest_of_b = subst (λ (path : List ℕ). AreInPreorder path ts) (sym ends_b) h.rest_of_b.1;
       tree = more_tree sums new h.tree (record { within = h.first.1.within; rising = h.first.1.rising });
       some = λ some_a some_b.
           let node_of_first = some_parts xs (s ∷ []) some_a in

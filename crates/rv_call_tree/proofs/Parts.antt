@@ -2,7 +2,7 @@
 use Rattle.std.proofs.Common.{◌≡◌, ◌∙◌, ◌+◌, ◌≤◌, ℕ, List, [], ◌∷◌, ◌++◌, length, take, refl, sym, ap, arith, length-append}
 use Rattle.std.proofs.lemmas.List.{take-take, length-take-le}
 use Rattle.rv_call_tree.specs.declared.call_node.CallNode.{CallNode}
-use Rattle.rv_call_tree.specs.Trees.{path_after, last_path, path_after_first, sum_over_path, sum_over_nodes, HasCalls, FollowInPreorder}
+use Rattle.rv_call_tree.specs.Trees.{path_after, last_path, path_after_first, sum_over_path, sum_over_nodes, HasCalls, AreInPreorder}
 
 pub last_parts : (front : List ℕ) (xs ys : List CallNode) → last_path front (xs ++ ys) ≡ last_path (last_path front xs) ys
 last_parts front [] ys = refl
@@ -27,8 +27,8 @@ pub some_of_parts : (xs ys : List CallNode) → HasCalls xs → HasCalls ys → 
 some_of_parts [] ys h k = k
 some_of_parts (s ∷ ss) ys h k = (h.0, some_of_parts ss ys h.1 k)
 
-pub stand_of_parts : (front : List ℕ) (xs ys : List CallNode) → FollowInPreorder front xs → FollowInPreorder (last_path front xs) ys
-    → FollowInPreorder front (xs ++ ys)
+pub stand_of_parts : (front : List ℕ) (xs ys : List CallNode) → AreInPreorder front xs → AreInPreorder (last_path front xs) ys
+    → AreInPreorder front (xs ++ ys)
 stand_of_parts front [] ys h k = k
 stand_of_parts front (s ∷ ss) ys h k = (h.0, stand_of_parts (path_after front s) ss ys h.1 k)
 

@@ -9,7 +9,7 @@ use Rattle.rv_call_tree.specs.declared.call_node.CallNode.{CallNode}
 use Rattle.rv_call_tree.specs.declared.subtree.Subtree.{Subtree}
 use Rattle.rv_call_tree.specs.Profiles.{has_function, inclusive_steps_after}
 use Rattle.rv_call_tree.specs.Subtrees.{below, with_root_function, subtree, subtrees_from, subtrees_of_function}
-use Rattle.rv_call_tree.specs.Trees.{all_steps, sum_over_nodes, path_after, steps_if, IsTree, FollowInPreorder, FollowsInPreorder}
+use Rattle.rv_call_tree.specs.Trees.{all_steps, sum_over_nodes, path_after, steps_if, IsTree, AreInPreorder, MayFollow}
 use Rattle.rv_call_tree.proofs.Tests.{equal_by, equal_test, less_test, not_less_test}
 
 -- ---- which lists have a function
@@ -56,7 +56,7 @@ tells f path None h = h
 tells f path (Some depth) h = has_there f depth path h.within h.there
 
 -- none among the functions in front, so the last one decides
-last_decides : (f : ℕ) (front : List ℕ) (s : CallNode) → FollowsInPreorder front s → has_function f (take s.depth front) ≡ false
+last_decides : (f : ℕ) (front : List ℕ) (s : CallNode) → MayFollow front s → has_function f (take s.depth front) ≡ false
     → (b : Bool) → (s.function == f) ≡ b → IsOutermost f (path_after front s) (cond b (Some s.depth) None)
 last_decides f front s stands none false is =
     any_parts f (take s.depth front) (s.function ∷ [])
@@ -70,7 +70,7 @@ last_decides f front s stands none true is =
       first = ap (has_function f) (take_at (take s.depth front) (s.function ∷ []) s.depth kept) ∙ none;
     }
 
-kept_there : (f : ℕ) (front : List ℕ) (s : CallNode) (depth : ℕ) → FollowsInPreorder front s → FirstAt f front depth
+kept_there : (f : ℕ) (front : List ℕ) (s : CallNode) (depth : ℕ) → MayFollow front s → FirstAt f front depth
     → depth < s.depth → FirstAt f (path_after front s) depth
 kept_there f front s depth stands h deep =
     let own = s.function ∷ [] in
@@ -116,7 +116,7 @@ node_of_first f place s ss b is =
     ap (λ (t : Bool). cond t (subtree place s ss ∷ with_root_function f (subtrees_from (place + 1) ss)) (with_root_function f (subtrees_from (place + 1) ss))) is
 
 -- none of the functions in front counts the spot
-first_outside : (f place end : ℕ) (front : List ℕ) (s : CallNode) (ss : List CallNode) → FollowsInPreorder front s
+first_outside : (f place end : ℕ) (front : List ℕ) (s : CallNode) (ss : List CallNode) → MayFollow front s
     → has_function f (take s.depth front) ≡ false → end ≤ place → Tells f (place + 1) (path_after front s) ss
     → (b : Bool) → (s.function == f) ≡ b
     → inclusive_steps_after f front (s ∷ ss) ≡ inclusive_from end (with_root_function f (subtrees_from place (s ∷ ss)))
@@ -137,7 +137,7 @@ first_outside f place end front s ss stands none past rest true is =
     omega (arith, here, more, of, counts)
 
 -- the spot is below one that was counted with it
-first_inside : (f place end depth : ℕ) (front : List ℕ) (s : CallNode) (ss : List CallNode) → FollowsInPreorder front s → FirstAt f front depth
+first_inside : (f place end depth : ℕ) (front : List ℕ) (s : CallNode) (ss : List CallNode) → MayFollow front s → FirstAt f front depth
     → depth < s.depth → end ≡ place + length (s ∷ below depth ss) → Tells f (place + 1) (path_after front s) ss
     → (b : Bool) → (s.function == f) ≡ b → inclusive_steps_after f front (s ∷ ss)
     ≡ all_steps (s ∷ below depth ss) + inclusive_from end (with_root_function f (subtrees_from place (s ∷ ss)))
@@ -161,7 +161,7 @@ first_inside f place end depth front s ss stands h deep ends rest b is =
     skipped true = ap (λ (c : Bool). cond c (t.inclusive + inclusive_from t.end ts) (inclusive_from end ts)) begun
     skipped false = refl
 
-told_from : (f place : ℕ) (front : List ℕ) (ss : List CallNode) → FollowInPreorder front ss → Tells f place front ss
+told_from : (f place : ℕ) (front : List ℕ) (ss : List CallNode) → AreInPreorder front ss → Tells f place front ss
 told_from f place front [] stand None end h ends = refl
 told_from f place front [] stand (Some depth) end h ends = refl
 told_from f place front (s ∷ ss) stand None end h ends =

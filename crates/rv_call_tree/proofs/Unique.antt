@@ -6,7 +6,7 @@ use Rattle.std.proofs.lemmas.Slice.Eq.{bytes_eq-Decides}
 use Rattle.std.proofs.Math.Seq.{get_or-append_seam}
 use Rattle.std.specs.Str.{bytes_eq}
 use Rattle.rv_call_tree.specs.declared.call_node.CallNode.{CallNode}
-use Rattle.rv_call_tree.specs.Trees.{path_after, calls_of_node, steps_of, sum_over_path, HasCalls, IsTree, FollowsInPreorder, FollowInPreorder}
+use Rattle.rv_call_tree.specs.Trees.{path_after, calls_of_node, steps_of, sum_over_path, HasCalls, IsTree, MayFollow, AreInPreorder}
 use Rattle.rv_call_tree.proofs.Parts.{length_behind}
 
 -- ---- the order of lists, as words in a dictionary
@@ -66,7 +66,7 @@ grows (x ∷ xs) zero function h k = inl (k (omega arith))
 grows (x ∷ xs) (suc depth) function h k =
     inr (refl, grows xs depth function (omega arith) (λ less. k (omega arith)))
 
-rises : (front : List ℕ) (s : CallNode) → FollowsInPreorder front s → Less front (path_after front s)
+rises : (front : List ℕ) (s : CallNode) → MayFollow front s → Less front (path_after front s)
 rises front s h = grows front s.depth s.function h.within h.rising
 
 same_bytes : (p : List ℕ) → bytes_eq p p ≡ true
@@ -82,7 +82,7 @@ apart_bytes p q h = elim (cases_Bool (bytes_eq p q)) [
 not_above : (p q : List ℕ) → Less p q → bytes_eq q p ≡ false
 not_above p q h = apart_bytes q p (λ e. not_less p (subst (λ (r : List ℕ). Less p r) e h))
 
-none_later : (count : CallNode → ℕ) (p front : List ℕ) (ss : List CallNode) → FollowInPreorder front ss → (p ≡ front) ⊎ Less p front
+none_later : (count : CallNode → ℕ) (p front : List ℕ) (ss : List CallNode) → AreInPreorder front ss → (p ≡ front) ⊎ Less p front
     → sum_over_path count p front ss ≡ 0
 none_later count p front [] h low = refl
 none_later count p front (s ∷ ss) h low =
@@ -96,7 +96,7 @@ none_later count p front (s ∷ ss) h low =
     omega (arith, here, rest)
 
 -- the first list has what its spot has
-first_has : (count : CallNode → ℕ) (front : List ℕ) (s : CallNode) (ss : List CallNode) → FollowInPreorder front (s ∷ ss)
+first_has : (count : CallNode → ℕ) (front : List ℕ) (s : CallNode) (ss : List CallNode) → AreInPreorder front (s ∷ ss)
     → sum_over_path count (path_after front s) front (s ∷ ss) ≡ count s
 first_has count front s ss h =
     let here = ap (λ (b : Bool). cond b (count s) 0) (same_bytes (path_after front s)) in
@@ -104,7 +104,7 @@ first_has count front s ss h =
     omega (arith, here, rest)
 
 -- a list below the first one has nothing
-below_first : (count : CallNode → ℕ) (p front : List ℕ) (s : CallNode) (ss : List CallNode) → FollowInPreorder front (s ∷ ss)
+below_first : (count : CallNode → ℕ) (p front : List ℕ) (s : CallNode) (ss : List CallNode) → AreInPreorder front (s ∷ ss)
     → Less p (path_after front s) → sum_over_path count p front (s ∷ ss) ≡ 0
 below_first count p front s ss h low =
     let here = ap (λ (b : Bool). cond b (count s) 0) (not_above p (path_after front s) low) in
@@ -113,7 +113,7 @@ below_first count p front s ss h low =
 
 -- ---- the first spots of both
 
-same_depth : (front : List ℕ) (s t : CallNode) → FollowsInPreorder front s → FollowsInPreorder front t
+same_depth : (front : List ℕ) (s t : CallNode) → MayFollow front s → MayFollow front t
     → path_after front s ≡ path_after front t → s.depth ≡ t.depth
 same_depth front s t h k e =
     let a = length_behind front s h.within in
@@ -121,12 +121,12 @@ same_depth front s t h k e =
     let c = ap length e in
     omega (arith, a, b, c)
 
-last_is : (front : List ℕ) (s : CallNode) → FollowsInPreorder front s → get_or (path_after front s) s.depth 0 ≡ s.function
+last_is : (front : List ℕ) (s : CallNode) → MayFollow front s → get_or (path_after front s) s.depth 0 ≡ s.function
 last_is front s h =
     ap (λ (n : ℕ). get_or (path_after front s) n 0) (sym (length-take-le s.depth front h.within))
     ∙ get_or-append_seam (take s.depth front) s.function [] 0
 
-same_function : (front : List ℕ) (s t : CallNode) → FollowsInPreorder front s → FollowsInPreorder front t
+same_function : (front : List ℕ) (s t : CallNode) → MayFollow front s → MayFollow front t
     → path_after front s ≡ path_after front t → s.function ≡ t.function
 same_function front s t h k e =
     sym (last_is front s h)
@@ -136,7 +136,7 @@ same_function front s t h k e =
 abbrev SameCounts : (CallNode → ℕ) → List ℕ → List CallNode → List CallNode → Type 0
 SameCounts count front a b = (p : List ℕ) → sum_over_path count p front a ≡ sum_over_path count p front b
 
-module _ (front : List ℕ) (s t : CallNode) (ss ts : List CallNode) (a : FollowInPreorder front (s ∷ ss)) (b : FollowInPreorder front (t ∷ ts))
+module _ (front : List ℕ) (s t : CallNode) (ss ts : List CallNode) (a : AreInPreorder front (s ∷ ss)) (b : AreInPreorder front (t ∷ ts))
     (e : path_after front s ≡ path_after front t) where
   same_first_count : (count : CallNode → ℕ) → SameCounts count front (s ∷ ss) (t ∷ ts) → count s ≡ count t
   same_first_count count same =
@@ -159,7 +159,7 @@ same_spot : (s t : CallNode) → s.depth ≡ t.depth → s.function ≡ t.functi
 same_spot s t depth function calls steps =
     λ i. record { depth = depth i; function = function i; calls = calls i; steps = steps i }
 
-one_tree : (front : List ℕ) (a b : List CallNode) → FollowInPreorder front a → FollowInPreorder front b → HasCalls a → HasCalls b
+one_tree : (front : List ℕ) (a b : List CallNode) → AreInPreorder front a → AreInPreorder front b → HasCalls a → HasCalls b
     → SameCounts calls_of_node front a b → SameCounts steps_of front a b → a ≡ b
 one_tree front [] [] h k some more calls steps = refl
 one_tree front (s ∷ ss) [] h k some more calls steps =
@@ -177,7 +177,7 @@ one_tree front (s ∷ ss) (t ∷ ts) h k some more calls steps = elim (order (pa
       let first = same_spot s t (same_depth front s t h.0 k.0 same) (same_function front s t h.0 k.0 same)
       (same_first_count front s t ss ts h k same calls_of_node calls)
       (same_first_count front s t ss ts h k same steps_of steps) in
-      let rest = one_tree (path_after front s) ss ts h.1 (subst (λ (p : List ℕ). FollowInPreorder p ts) (sym same) k.1)
+      let rest = one_tree (path_after front s) ss ts h.1 (subst (λ (p : List ℕ). AreInPreorder p ts) (sym same) k.1)
       some.1 more.1 (same_rest front s t ss ts h k same calls_of_node calls) (same_rest front s t ss ts h k same steps_of steps) in
       λ i. first i ∷ rest i
   | inr apart ↦ elim apart [

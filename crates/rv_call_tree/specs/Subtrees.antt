@@ -8,23 +8,23 @@ use Rattle.rv_call_tree.specs.Trees.{all_steps}
 -- the descendants of a node at this depth, given the nodes after it: all nodes before the first that is not deeper
 abbrev pub below : ℕ → List CallNode → List CallNode
 below depth [] = []
-below depth (s ∷ ss) = if nat_lt depth s.depth then s ∷ below depth ss else []
+below depth (node ∷ nodes) = if nat_lt depth node.depth then node ∷ below depth nodes else []
 
--- the subtree of the node `s` at the index `index`, given the nodes `later` after it
+-- the subtree of `node` at the index `index`, given the nodes `later` after it
 abbrev pub subtree : ℕ → CallNode → List CallNode → Subtree
-subtree index s later = record {
-  function = s.function;
+subtree index node later = record {
+  function = node.function;
   index = index;
-  end = index + 1 + length (below s.depth later);
-  own = s.steps;
-  inclusive = s.steps + all_steps (below s.depth later);
-  calls = s.calls;
+  end = index + 1 + length (below node.depth later);
+  own = node.steps;
+  inclusive = node.steps + all_steps (below node.depth later);
+  calls = node.calls;
 }
 
 -- the subtrees of these nodes, in order; `index` is the index of the first node
 abbrev pub subtrees_from : ℕ → List CallNode → List Subtree
 subtrees_from index [] = []
-subtrees_from index (s ∷ ss) = subtree index s ss ∷ subtrees_from (index + 1) ss
+subtrees_from index (node ∷ nodes) = subtree index node nodes ∷ subtrees_from (index + 1) nodes
 
 -- ---- by function
 

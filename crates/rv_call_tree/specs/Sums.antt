@@ -14,11 +14,11 @@ pub record IsSumOfCallTrees (a b sum : List CallNode) : Type 0 where
   pub steps : (path : List ℕ) → steps_at path sum ≡ steps_at path a + steps_at path b
 
 -- each number of the node fits in its field
-pub record FitsFields (s : CallNode) : Type 0 where
-  pub depth : s.depth < 2 ^ 64
-  pub function : s.function < 2 ^ 32
-  pub calls : s.calls < 2 ^ 64
-  pub steps : s.steps < 2 ^ 64
+pub record FitsFields (node : CallNode) : Type 0 where
+  pub depth : node.depth < 2 ^ 64
+  pub function : node.function < 2 ^ 32
+  pub calls : node.calls < 2 ^ 64
+  pub steps : node.steps < 2 ^ 64
 
 -- the error of adding `a` and `b` is true: the calls or the steps of some path that ends in the reported function add up to 2^64 or more;
 -- `OutOfMemory` is always true
@@ -29,34 +29,34 @@ IsOverflowOfTrees (Count function) a b = (path : List ℕ) × (ends_with functio
 
 -- ---- the sum from the front
 
--- whether the node `s` comes before `t` in a sum: it is deeper, or equally deep and its function address is lower
+-- whether the node `node` comes before `other` in a sum: it is deeper, or equally deep and its function address is lower
 abbrev pub comes_first : CallNode → CallNode → Bool
-comes_first s t = nat_lt t.depth s.depth || ((s.depth == t.depth) && nat_lt s.function t.function)
+comes_first node other = nat_lt other.depth node.depth || ((node.depth == other.depth) && nat_lt node.function other.function)
 
--- the node `s` as the first node of a sum, which only the first list has
+-- the node `node` as the first node of a sum, which only the first list has
 abbrev pub node_of_first : CallNode → NextNode
-node_of_first s = record { node = s; count_in_a = 1; count_in_b = 0 }
+node_of_first node = record { node = node; count_in_a = 1; count_in_b = 0 }
 
--- the node `t` as the first node of a sum, which only the second list has
+-- the node `other` as the first node of a sum, which only the second list has
 abbrev pub node_of_second : CallNode → NextNode
-node_of_second t = record { node = t; count_in_a = 0; count_in_b = 1 }
+node_of_second other = record { node = other; count_in_a = 0; count_in_b = 1 }
 
 -- the sum of the counts of two nodes, as the first node of a sum, which both lists have
 abbrev pub sum_of_nodes : CallNode → CallNode → NextNode
-sum_of_nodes s t = record {
+sum_of_nodes node other = record {
   node = record {
-    depth = s.depth;
-    function = s.function;
-    calls = s.calls + t.calls;
-    steps = s.steps + t.steps;
+    depth = node.depth;
+    function = node.function;
+    calls = node.calls + other.calls;
+    steps = node.steps + other.steps;
   };
   count_in_a = 1;
   count_in_b = 1;
 }
 
--- the first node of the sum of two lists that begin with the nodes `s` and `t`
+-- the first node of the sum of two lists that begin with the nodes `node` and `other`
 abbrev pub next_of_nodes : CallNode → CallNode → NextNode
-next_of_nodes s t = if comes_first s t then node_of_first s else if comes_first t s then node_of_second t else sum_of_nodes s t
+next_of_nodes node other = if comes_first node other then node_of_first node else if comes_first other node then node_of_second other else sum_of_nodes node other
 
 -- the first node of the sum of two lists, and how many nodes of each list it adds up; a dummy node if both lists are empty
 abbrev pub next_of : List CallNode → List CallNode → NextNode
@@ -67,12 +67,12 @@ next_of [] [] = record { node = record { depth = 0; function = 0; calls = 0; ste
 
 -- the calls or the steps of two nodes add up to 2^64 or more
 abbrev pub CountsOverflow : CallNode → CallNode → Type 0
-CountsOverflow s t = (2 ^ 64 ≤ s.calls + t.calls) ⊎ (2 ^ 64 ≤ s.steps + t.steps)
+CountsOverflow node other = (2 ^ 64 ≤ node.calls + other.calls) ⊎ (2 ^ 64 ≤ node.steps + other.steps)
 
--- the error of adding two nodes is true: it reports the function of `s`, and the calls or the steps add up to 2^64 or more
+-- the error of adding two nodes is true: it reports the function of `node`, and the calls or the steps add up to 2^64 or more
 abbrev pub IsOverflowOfNodes : CallTreeSumError → CallNode → CallNode → Type 0
-IsOverflowOfNodes OutOfMemory s t = ⊥
-IsOverflowOfNodes (Count function) s t = (function ≡ s.function) × CountsOverflow s t
+IsOverflowOfNodes OutOfMemory node other = ⊥
+IsOverflowOfNodes (Count function) node other = (function ≡ node.function) × CountsOverflow node other
 
 -- the error is true of the first nodes of both lists, which have equal depths and functions: it reports their function, and the calls or
 -- the steps add up to 2^64 or more

@@ -6,15 +6,15 @@ use Rattle.rv_call_tree.specs.declared.call_node.CallNode.{CallNode}
 
 -- ---- the path of a node
 
--- the path of the node `s`, which follows a node with the path `previous_path`: as many of the first functions of `previous_path` as the
--- depth of `s` says, and then its own function
+-- the path of `node`, which follows a node with the path `previous_path`: as many of the first functions of `previous_path` as the depth of
+-- `node` says, and then its own function
 abbrev pub path_after : List ℕ → CallNode → List ℕ
-path_after previous_path s = take s.depth previous_path ++ s.function ∷ []
+path_after previous_path node = take node.depth previous_path ++ node.function ∷ []
 
 -- the path of the last of these nodes, or `previous_path`, the path of the node before them, if there are none
 abbrev pub last_path : List ℕ → List CallNode → List ℕ
 last_path previous_path [] = previous_path
-last_path previous_path (s ∷ ss) = last_path (path_after previous_path s) ss
+last_path previous_path (node ∷ nodes) = last_path (path_after previous_path node) nodes
 
 -- the path of the last of the first `count` nodes, or an empty path if `count` is 0
 abbrev pub path_after_first : ℕ → List CallNode → List ℕ
@@ -23,22 +23,22 @@ path_after_first count nodes = last_path [] (take count nodes)
 -- ---- the counts
 
 -- 1 if the condition is true, else 0
-abbrev pub address_if : Bool → ℕ
-address_if test = if test then 1 else 0
+abbrev pub one_if : Bool → ℕ
+one_if condition = if condition then 1 else 0
 
 -- the sum of `count` over the nodes with the path `path`; `previous_path` is the path of the node before these nodes
 abbrev pub sum_over_path : (CallNode → ℕ) → List ℕ → List ℕ → List CallNode → ℕ
 sum_over_path count path previous_path [] = 0
-sum_over_path count path previous_path (s ∷ ss) =
-    (if bytes_eq (path_after previous_path s) path then count s else 0) + sum_over_path count path (path_after previous_path s) ss
+sum_over_path count path previous_path (node ∷ nodes) =
+    (if bytes_eq (path_after previous_path node) path then count node else 0) + sum_over_path count path (path_after previous_path node) nodes
 
 -- the number of calls that led to the node
 abbrev pub calls_of_node : CallNode → ℕ
-calls_of_node s = s.calls
+calls_of_node node = node.calls
 
 -- the number of instructions executed in the node
 abbrev pub steps_of : CallNode → ℕ
-steps_of s = s.steps
+steps_of node = node.steps
 
 -- how often a run entered this path
 abbrev pub calls_at : List ℕ → List CallNode → ℕ
@@ -51,7 +51,7 @@ steps_at path nodes = sum_over_path steps_of path [] nodes
 -- the sum of `count` over all nodes
 abbrev pub sum_over_nodes : (CallNode → ℕ) → List CallNode → ℕ
 sum_over_nodes count [] = 0
-sum_over_nodes count (s ∷ ss) = count s + sum_over_nodes count ss
+sum_over_nodes count (node ∷ nodes) = count node + sum_over_nodes count nodes
 
 -- the sum of the calls of all nodes
 abbrev pub all_calls : List CallNode → ℕ
@@ -63,7 +63,7 @@ all_steps nodes = sum_over_nodes steps_of nodes
 
 -- the steps if the condition is true, else 0
 abbrev pub steps_if : Bool → ℕ → ℕ
-steps_if test steps = if test then steps else 0
+steps_if condition steps = if condition then steps else 0
 
 -- the own steps of a function: the sum of the steps of the nodes whose paths end in it
 abbrev pub own_steps_of : ℕ → List CallNode → ℕ
@@ -79,33 +79,33 @@ ends_with function (f ∷ g ∷ gs) = ends_with function (g ∷ gs)
 
 -- the node may follow a node with the path `previous_path`: it is at most one deeper; if it is not deeper, its function address is greater
 -- than the address of its preceding sibling, which is the function in `previous_path` at its depth
-pub record FollowsInPreorder (previous_path : List ℕ) (s : CallNode) : Type 0 where
-  pub within : s.depth ≤ length previous_path
-  pub rising : s.depth < length previous_path → slice_index_or previous_path s.depth 0 < s.function
+pub record MayFollow (previous_path : List ℕ) (node : CallNode) : Type 0 where
+  pub within : node.depth ≤ length previous_path
+  pub rising : node.depth < length previous_path → slice_index_or previous_path node.depth 0 < node.function
 
 -- each node may follow the node before it; `previous_path` is the path of the node before the first
-abbrev pub FollowInPreorder : List ℕ → List CallNode → Type 0
-FollowInPreorder previous_path [] = Unit {0}
-FollowInPreorder previous_path (s ∷ ss) = FollowsInPreorder previous_path s × FollowInPreorder (path_after previous_path s) ss
+abbrev pub AreInPreorder : List ℕ → List CallNode → Type 0
+AreInPreorder previous_path [] = Unit {0}
+AreInPreorder previous_path (node ∷ nodes) = MayFollow previous_path node × AreInPreorder (path_after previous_path node) nodes
 
 -- the nodes are a call tree in preorder: each path occurs once, siblings are sorted by function address, and each node comes after its
 -- parent
 abbrev pub IsTree : List CallNode → Type 0
-IsTree nodes = FollowInPreorder [] nodes
+IsTree nodes = AreInPreorder [] nodes
 
--- any two proofs of `FollowsInPreorder` are equal
-FollowsInPreorder-prop : (previous_path : List ℕ) (s : CallNode) → IsProp (FollowsInPreorder previous_path s)
-FollowsInPreorder-prop previous_path s h k = λ i. record {
+-- any two proofs of `MayFollow` are equal
+MayFollow-prop : (previous_path : List ℕ) (s : CallNode) → IsProp (MayFollow previous_path s)
+MayFollow-prop previous_path s h k = λ i. record {
   within = le_prop h.within k.within i;
   rising = λ low. le_prop (h.rising low) (k.rising low) i;
 }
 
--- any two proofs of `FollowInPreorder` are equal
-pub FollowInPreorder-prop : (previous_path : List ℕ) (nodes : List CallNode) → IsProp (FollowInPreorder previous_path nodes)
-FollowInPreorder-prop previous_path [] = Unit-prop
-FollowInPreorder-prop previous_path (s ∷ ss) = ×_prop (FollowsInPreorder-prop previous_path s) (FollowInPreorder-prop (path_after previous_path s) ss)
+-- any two proofs of `AreInPreorder` are equal
+pub AreInPreorder-prop : (previous_path : List ℕ) (nodes : List CallNode) → IsProp (AreInPreorder previous_path nodes)
+AreInPreorder-prop previous_path [] = Unit-prop
+AreInPreorder-prop previous_path (s ∷ ss) = ×_prop (MayFollow-prop previous_path s) (AreInPreorder-prop (path_after previous_path s) ss)
 
 -- a run entered each of the nodes
 abbrev pub HasCalls : List CallNode → Type 0
 HasCalls [] = Unit {0}
-HasCalls (s ∷ ss) = (0 < s.calls) × HasCalls ss
+HasCalls (node ∷ nodes) = (0 < node.calls) × HasCalls nodes

@@ -4,7 +4,7 @@ ghost use Rattle.std.specs.Prelude.{◌≡◌, ◌^◌, ◌<◌, [], IfOk};
 ghost use Rattle.std.specs.List.Sorted.{IsNonDecreasingBy};
 ghost use Rattle.rv_call_tree.specs.Profiles.{AreStepsOf};
 ghost use Rattle.rv_call_tree.specs.Subtrees.{subtrees_of_function, AreSubtreesByFunction};
-ghost use Rattle.rv_call_tree.specs.Trees.{all_calls, all_steps, IsTree, FollowInPreorder-prop};
+ghost use Rattle.rv_call_tree.specs.Trees.{all_calls, all_steps, IsTree, AreInPreorder-prop};
 
 use crate::call_node::CallNode;
 use crate::function_steps::FunctionSteps;
@@ -17,7 +17,7 @@ pub struct CallTreeIndex<'s> {
     pub nodes: &'s [CallNode],
     // The subtrees of each function, in node order.
     subtrees: Vec<Subtree>,
-    ghost tree: { IsTree nodes.now } by { FollowInPreorder-prop [] nodes.now },
+    ghost tree: { IsTree nodes.now } by { AreInPreorder-prop [] nodes.now },
     ghost steps_fit: { all_steps nodes.now < 2 ^ 64 },
     ghost calls_fit: { all_calls nodes.now < 2 ^ 64 },
     ghost rising: { IsNonDecreasingBy (λ s. s.function) subtrees.items },
@@ -66,7 +66,7 @@ impl<'s> CallTreeIndex<'s> {
     {
         let subtrees = self.subtrees.as_slice();
         let start = subtrees.partition_point(|subtree| subtree.function < function);
-        let behind = &subtrees[start..];
-        &behind[..behind.partition_point(|subtree| subtree.function <= function)]
+        let rest = &subtrees[start..];
+        &rest[..rest.partition_point(|subtree| subtree.function <= function)]
     }
 }

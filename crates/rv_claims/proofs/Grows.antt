@@ -71,14 +71,14 @@ pub took_none : (p q : PassView) (r : Option ℕ) (pieces : ℕ) → Takes p q r
 took_none p q r pieces t is same = ⊎_elim
     (λ (over : has_ended p ≡ true). let d = t.0 over in (ap has_ended d.1 ∙ over, inl d.1))
     (λ (goes : has_ended p ≡ false). let d = t.1 goes in let high = piece_none pieces d.0 (sym is ∙ d.3) in (
-      ap has_ended d.1 ∙ sym (ends_now p.draw.pieces p.draws (entry (first_pass_index p.places) d.0) (omega arith)),
+      ap has_ended d.1 ∙ sym (ends_now p.draw.pieces p.draws (entry (first_pass_index p.pass_indices) d.0) (omega arith)),
       inr (d.0, d.1, high),
     ))
     (bool_cases (has_ended p))
 
 -- one draw more
 pub grew_more : (s p : PassView) (n : ℕ) → HasDrawnMore s p → HasDrawnMore s (with_draw p n)
-grew_more s p n g = let e = entry (first_pass_index p.places) n in
+grew_more s p n g = let e = entry (first_pass_index p.pass_indices) n in
     (g.0, g.1, (g.2.0 ++ e ∷ [], ap (λ (l : List Entry). l ++ e ∷ []) g.2.1 ∙ append_assoc s.draws g.2.0 (e ∷ [])))
 
 since : (s p : PassView) (g : HasDrawnMore s p) → drop (length s.draws) p.draws ≡ g.2.0
@@ -88,7 +88,7 @@ new_more : (s p : PassView) (n : ℕ) → HasDrawnMore s p → new_pieces s (wit
     ++ filter (λ k. nat_lt k s.draw.pieces) (n ∷ [])
 unfolding grew_more
 new_more s p n g =
-    let e = entry (first_pass_index p.places) n in
+    let e = entry (first_pass_index p.pass_indices) n in
     let test : ℕ → Bool = λ k. nat_lt k s.draw.pieces in
     let list : List Entry → List ℕ = λ l. filter (λ k. nat_lt k s.draw.pieces) (numbers l) in
     ap list (since s (with_draw p n) (grew_more s p n g))
@@ -140,5 +140,5 @@ made_all f s p q r pieces had g t nothing same was =
 pub falls : (p q : PassView) (k pieces : ℕ) → q ≡ with_draw p k → AllBelow k p.draws → k < pieces
     → pieces - above q.draws < pieces - above p.draws
 falls p q k pieces is low h =
-    let e = entry (first_pass_index p.places) k in
+    let e = entry (first_pass_index p.pass_indices) k in
     omega (arith, ap (λ (z : PassView). above z.draws) is, above-snoc p.draws e, above_le p.draws k low)

@@ -46,7 +46,7 @@ below_length pieces s r i v at e here =
     let n = r.is_history t.0 e t.1 in let l = at_lt r.history t.0 e t.1 in omega arith
 
 pub once_each : (pieces : ℕ) (s : St) (r : Runs pieces s) (p : ℕ) → p < 64
-    → total (λ v. times p v.places) s.views ≤ 1
+    → total (λ v. times p v.pass_indices) s.views ≤ 1
 once_each pieces s r p h = omega (arith, r.indices_held p h, r.index_words p h)
 
 -- word 0 is at most pieces + 64
@@ -55,15 +55,15 @@ bounded pieces s r = omega (
   arith,
   history_past pieces r.history r.is_history,
   views_weigh (one_past pieces) s.views r.history r.held,
-  total_le (λ (v : View). past_last_count pieces v.draws) (λ (v : View). length v.places) s.views
+  total_le (λ (v : View). past_last_count pieces v.draws) (λ (v : View). length v.pass_indices) s.views
       (λ k v at. (r.views k v at).few),
-  places_few s.views (λ j v at. (r.views j v at).places) (once_each pieces s r),
+  places_few s.views (λ j v at. (r.views j v at).pass_indices) (once_each pieces s r),
 )
 
 fits_longer : (pieces : ℕ) (h : List Entry) (e : Entry) (v : View) → Fits pieces h v
     → Fits pieces (h ++ e ∷ []) v
 fits_longer pieces h e v f =
-    record { places = f.places; own = f.own; few = f.few; noted = λ x i. in_left h (e ∷ []) x (f.noted x i) }
+    record { pass_indices = f.pass_indices; own = f.own; few = f.few; noted = λ x i. in_left h (e ∷ []) x (f.noted x i) }
 
 -- what all views but one had to meet, and that one now
 each_set : (pieces : ℕ) (h : List Entry) (vs : List View) (j : ℕ) (w : View)
@@ -99,7 +99,7 @@ opens pieces ws wide zeroth first others = record {
   views = λ i v at. ⊎_elim (λ (t : get_elem? [] i ≡ some v). absurd (some-ne-none v (sym t)))
       (λ (t : (i ≡ 0) × (first_view pieces ≡ v)). subst (Fits pieces []) t.1
       (record {
-        places = λ p in-it. let e = in_one 0 p in-it in
+        pass_indices = λ p in-it. let e = in_one 0 p in-it in
             omega arith;
         own = λ e in-it. absurd (in_none e in-it);
         few = omega arith;
@@ -110,13 +110,13 @@ opens pieces ws wide zeroth first others = record {
 
 -- a draw
 pub draws : (pieces slots id : ℕ) (m : SeatState) → pieces ≤ 4096 → past_last_count pieces m.0.draws ≡ 0
-    → 0 < length m.0.places
+    → 0 < length m.0.pass_indices
     → Allows (Runs pieces) slots id m 0 (λ n. (n + 1) % 2 ^ 64) (IsDraw (step slots 0 1 0 none) m)
 draws pieces slots id m most going sits s r _ at small =
     let v = m.0 in
     let n : ℕ = get_or s.words 0 0 in
-    let e = entry (first_pass_index v.places) n in
-    let w = view v.pieces v.places (v.draws ++ e ∷ []) v.noted in
+    let e = entry (first_pass_index v.pass_indices) n in
+    let w = view v.pieces v.pass_indices (v.draws ++ e ∷ []) v.noted in
     let fits = r.views id v at in
     let long : length r.history ≡ n = sym r.drawn in
     let next : (n + 1) % 2 ^ 64 ≡ n + 1 = omega (arith, bounded pieces s r, r.drawn) in
@@ -144,7 +144,7 @@ draws pieces slots id m most going sits s r _ at small =
         );
         indices_held = λ p h. omega (
           arith,
-          total-set (λ (u : View). times p u.places) s.views id v w at,
+          total-set (λ (u : View). times p u.pass_indices) s.views id v w at,
           r.indices_held p h,
           get_or-set_other s.words 0 (p + 1) ((n + 1) % 2 ^ 64) 0 (λ z. omega arith),
         );
@@ -154,10 +154,10 @@ draws pieces slots id m most going sits s r _ at small =
           get_or-set_other s.words 0 (p + 1) ((n + 1) % 2 ^ 64) 0 (λ z. omega arith),
         );
         views = each_set pieces h' s.views id w (λ i u a. fits_longer pieces r.history e u (r.views i u a)) (record {
-          places = fits.places;
+          pass_indices = fits.pass_indices;
           own = λ x i. ⊎_elim (λ (t : IsIn x v.draws). fits.own x t)
-              (λ (t : IsIn x (e ∷ [])). subst (λ (y : Entry). IsIn y.place v.places) (in_one e x t)
-              (first_in v.places sits)) (in_append v.draws (e ∷ []) x i);
+              (λ (t : IsIn x (e ∷ [])). subst (λ (y : Entry). IsIn y.pass_index v.pass_indices) (in_one e x t)
+              (first_in v.pass_indices sits)) (in_append v.draws (e ∷ []) x i);
           few = omega (arith, total-append (one_past pieces) v.draws (e ∷ []), past_le pieces e);
           noted = λ x i. in_left r.history (e ∷ []) x (fits.noted x i);
         });
@@ -196,10 +196,10 @@ looks pieces slots id m s r _ at small = (
     draws = in_history pieces s r id m.0 at;
     noted = (r.views id m.0 at).noted;
     once = λ p. dite (dec_lt p 64)
-        (λ h. let a = term_le (λ (u : View). times p u.places) s.views id m.0 at in
+        (λ h. let a = term_le (λ (u : View). times p u.pass_indices) s.views id m.0 at in
         omega (arith, once_each pieces s r p h))
-        (λ n. none_beyond m.0.places p
-        (λ q i. let h = (r.views id m.0 at).places q i in λ e. n (subst (λ (z : ℕ). z < 64) e h)));
+        (λ n. none_beyond m.0.pass_indices p
+        (λ q i. let h = (r.views id m.0 at).pass_indices q i in λ e. n (subst (λ (z : ℕ). z < 64) e h)));
   },
 )
   where
@@ -223,7 +223,7 @@ sits pieces slots id m p k low is s r _ at small =
     let fits = r.views id v at in
     dite (ℕ_discrete n 0)
     (λ free.
-    let w = view v.pieces ((k - 1) ∷ v.places) v.draws v.noted in
+    let w = view v.pieces ((k - 1) ∷ v.pass_indices) v.draws v.noted in
     let place : k - 1 ≡ p = omega arith in (
       w,
       keeps,
@@ -241,11 +241,11 @@ sits pieces slots id m p k low is s r _ at small =
             let before : get_or s.words (q + 1) 0 ≡ 0 = ap (λ (i : ℕ). get_or s.words i 0) (omega arith)
             ∙ free in
             let one : one_at q (k - 1) ≡ 1 = ap (λ (z : ℕ). one_at q z) e ∙ one_at-same q in
-            omega (arith, total-set (λ (u : View). times q u.places) s.views id v w at, r.indices_held q h))
+            omega (arith, total-set (λ (u : View). times q u.pass_indices) s.views id v w at, r.indices_held q h))
             (λ ne. let zero-more = one_at-other q (k - 1) ne in
             omega (
               arith,
-              total-set (λ (u : View). times q u.places) s.views id v w at,
+              total-set (λ (u : View). times q u.pass_indices) s.views id v w at,
               r.indices_held q h,
               get_or-set_other s.words k (q + 1) 1 0 (λ z. ne (omega arith)),
             ));
@@ -255,7 +255,7 @@ sits pieces slots id m p k low is s r _ at small =
             ∙ get_or-set_same s.words k 1 0 (omega (arith, r.word_count)) in omega arith)
             (λ ne. omega (arith, r.index_words q h, get_or-set_other s.words k (q + 1) 1 0 ne));
         views = each_set pieces r.history s.views id w r.views (record {
-          places = λ q i. place_low q i;
+          pass_indices = λ q i. place_low q i;
           own = λ e i. let t = fits.own e i in (suc t.0, t.1);
           few = omega (arith, fits.few);
           noted = fits.noted;
@@ -271,21 +271,21 @@ sits pieces slots id m p k low is s r _ at small =
       record { slots = refl; free = λ z. absurd (taken z); taken = λ _. refl },
     ))
   where
-    place_low : (q : ℕ) → IsIn q ((k - 1) ∷ m.0.places) → q < 64
+    place_low : (q : ℕ) → IsIn q ((k - 1) ∷ m.0.pass_indices) → q < 64
     place_low q (zero, e) = let e' : k - 1 ≡ q = some-injective (k - 1) q e in omega arith
-    place_low q (suc j, e) = (r.views id m.0 at).places q (j, e)
+    place_low q (suc j, e) = (r.views id m.0 at).pass_indices q (j, e)
 
 unseated_fits : (pieces : ℕ) (h : List Entry) (v : View) → Fits pieces h (new_seat_view v)
 unseated_fits pieces h v =
     record {
-      places = λ p i. absurd (in_none p i);
+      pass_indices = λ p i. absurd (in_none p i);
       own = λ e i. absurd (in_none e i);
       few = omega arith;
       noted = λ e i. absurd (in_none e i);
     }
 
 -- a new seat with no place and no number, with some noted entries that stand in the history
-splits : (pieces id : ℕ) (v : View) (w : View) → w.places ≡ [] → w.draws ≡ []
+splits : (pieces id : ℕ) (v : View) (w : View) → w.pass_indices ≡ [] → w.draws ≡ []
     → ((s : St) (r : Runs pieces s) → get_elem? s.views id ≡ some v → Within w.noted r.history)
     → Splits (Runs pieces) id v v w
 splits pieces id v w no_place no_draw notes s r at =
@@ -303,13 +303,13 @@ splits pieces id v w no_place no_draw notes s r at =
       );
       indices_held = λ p h. omega (
         arith,
-        total-append (λ (u : View). times p u.places) s.views (w ∷ []),
+        total-append (λ (u : View). times p u.pass_indices) s.views (w ∷ []),
         ap (times p) no_place,
         r.indices_held p h,
       );
       index_words = r.index_words;
       views = each_snoc pieces r.history s.views w r.views (record {
-        places = λ p i. absurd (in_none p (subst (λ (l : List ℕ). IsIn p l) no_place i));
+        pass_indices = λ p i. absurd (in_none p (subst (λ (l : List ℕ). IsIn p l) no_place i));
         own = λ e i. absurd (in_none e (subst (λ (l : List Entry). IsIn e l) no_draw i));
         few = omega (arith, ap (past_last_count pieces) no_draw);
         noted = notes s r at;
@@ -345,21 +345,21 @@ joins pieces id v other w s r at apart there =
       drawn = r.drawn;
       held = λ x. moved (λ (u : View). entry_count x u.draws) (total-append (one_for x) v.draws w.draws) refl
           ∙ r.held x;
-      indices_held = λ p h. moved (λ (u : View). times p u.places) (total-append (one_at p) v.places w.places) refl
+      indices_held = λ p h. moved (λ (u : View). times p u.pass_indices) (total-append (one_at p) v.pass_indices w.pass_indices) refl
           ∙ r.indices_held p h;
       index_words = r.index_words;
       views = each_set pieces r.history vs other empty_view
           (each_set pieces r.history s.views id b r.views (record {
-            places =
-                λ p i. ⊎_elim (λ (t : IsIn p v.places). fv.places p t) (λ (t : IsIn p w.places). fw.places p t)
-                (in_append v.places w.places p i);
-            own = λ e i. ⊎_elim (λ (t : IsIn e v.draws). in_left v.places w.places e.place (fv.own e t))
-                (λ (t : IsIn e w.draws). in_right v.places w.places e.place (fw.own e t))
+            pass_indices =
+                λ p i. ⊎_elim (λ (t : IsIn p v.pass_indices). fv.pass_indices p t) (λ (t : IsIn p w.pass_indices). fw.pass_indices p t)
+                (in_append v.pass_indices w.pass_indices p i);
+            own = λ e i. ⊎_elim (λ (t : IsIn e v.draws). in_left v.pass_indices w.pass_indices e.pass_index (fv.own e t))
+                (λ (t : IsIn e w.draws). in_right v.pass_indices w.pass_indices e.pass_index (fw.own e t))
                 (in_append v.draws w.draws e i);
             few = omega (
               arith,
               total-append (one_past pieces) v.draws w.draws,
-              length-append v.places w.places,
+              length-append v.pass_indices w.pass_indices,
               fv.few,
               fw.few,
             );
@@ -381,30 +381,30 @@ times_in p ps i = omega (arith, term_le (one_at p) ps i.0 p i.1, one_at-same p)
 
 -- a view with every place that was given holds the whole history
 pub whole : (pieces : ℕ) (s : St) (r : Runs pieces s) (id : ℕ) (v : View) → get_elem? s.views id ≡ some v
-    → ((p : ℕ) → p < 64 → get_or s.words (p + 1) 0 ≡ 1 → IsIn p v.places) → HaveSameDraws v.draws r.history
+    → ((p : ℕ) → p < 64 → get_or s.words (p + 1) 0 ≡ 1 → IsIn p v.pass_indices) → HaveSameDraws v.draws r.history
 whole pieces s r id v at all x =
     let empty : (k : ℕ) (u : View) → k ≢ id → get_elem? s.views k ≡ some u → entry_count x u.draws ≡ 0 =
     λ k u ne there.
     let fu = r.views k u there in
-    let none_here : (p : ℕ) → IsIn p u.places → ⊥ = λ p i.
-    let low = fu.places p i in
+    let none_here : (p : ℕ) → IsIn p u.pass_indices → ⊥ = λ p i.
+    let low = fu.pass_indices p i in
     let word : get_or s.words (p + 1) 0 ≡ 1 =
     omega (
       arith,
-      times_in p u.places i,
-      term_le (λ (y : View). times p y.places) s.views k u there,
+      times_in p u.pass_indices i,
+      term_le (λ (y : View). times p y.pass_indices) s.views k u there,
       r.indices_held p low,
       r.index_words p low,
     ) in
     omega (
       arith,
-      times_in p u.places i,
-      times_in p v.places (all p low word),
-      terms_le (λ (y : View). times p y.places) s.views id k v u ne at there,
+      times_in p u.pass_indices i,
+      times_in p v.pass_indices (all p low word),
+      terms_le (λ (y : View). times p y.pass_indices) s.views id k v u ne at there,
       r.indices_held p low,
       r.index_words p low,
     ) in
-    ap (entry_count x) (no_draws u.draws (λ e i. none_here e.place (fu.own e i))) in
+    ap (entry_count x) (no_draws u.draws (λ e i. none_here e.pass_index (fu.own e i))) in
     sym (only_term (λ (u : View). entry_count x u.draws) s.views id v at empty) ∙ r.held x
 
 at_history : (h : List Entry) → IsHistory h → (x : ℕ) → x < length h

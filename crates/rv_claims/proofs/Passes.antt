@@ -33,11 +33,11 @@ first_in (p ∷ ps) h = (0, refl)
 
 -- the places of a pass that drew are as they were
 pub drew_pass : {st : Step (Unit {0})} (m m' : SeatState) (n bits : ℕ) (ended now : Bool) → IsValidPass m bits ended
-    → IsDraw st m n m' → now ≡ nat_lt 0 (past_last_count m.0.pieces (m.0.draws ++ entry (first_pass_index m.0.places) n ∷ []))
+    → IsDraw st m n m' → now ≡ nat_lt 0 (past_last_count m.0.pieces (m.0.draws ++ entry (first_pass_index m.0.pass_indices) n ∷ []))
     → IsValidPass m' bits now
 drew_pass m m' n bits ended now p d stop =
-    let e = entry (first_pass_index m.0.places) n in
-    let w = view m.0.pieces m.0.places (m.0.draws ++ e ∷ []) m.0.noted in
+    let e = entry (first_pass_index m.0.pass_indices) n in
+    let w = view m.0.pieces m.0.pass_indices (m.0.draws ++ e ∷ []) m.0.noted in
     let is : m' ≡ (w, m.1) = λ i. (d.drawn i, d.slots i) in
     subst (λ (x : SeatState). IsValidPass x bits now) (sym is) (record {
       no_slot = p.no_slot;
@@ -46,8 +46,8 @@ drew_pass m m' n bits ended now p d stop =
       set = p.set;
       clear = p.clear;
       own = λ x i. ⊎_elim (λ (t : IsIn x m.0.draws). p.own x t)
-          (λ (t : IsIn x (e ∷ [])). subst (λ (y : Entry). IsIn y.place m.0.places) (in_one e x t)
-          (first_in m.0.places p.has_index)) (in_append m.0.draws (e ∷ []) x i);
+          (λ (t : IsIn x (e ∷ [])). subst (λ (y : Entry). IsIn y.pass_index m.0.pass_indices) (in_one e x t)
+          (first_in m.0.pass_indices p.has_index)) (in_append m.0.draws (e ∷ []) x i);
       stopped = stop;
     })
 
@@ -71,7 +71,7 @@ ends_now pieces ds e high =
 pub seen_drew : {st : Step (Unit {0})} (t t' : TableId) (m m' : SeatState) (n : ℕ) → t' ≡ t → IsDraw st m n m'
     → pass_view t' m' ≡ with_draw (pass_view t m) n
 seen_drew t t' m m' n same d =
-    let v = d.drawn in λ i. pass_of (record { table = same i; pieces = (v i).pieces }) (v i).places (v i).draws
+    let v = d.drawn in λ i. pass_of (record { table = same i; pieces = (v i).pieces }) (v i).pass_indices (v i).draws
 
 pub is_piece : (pieces n : ℕ) → n < pieces → Some n ≡ piece_of pieces n
 is_piece pieces n h = ap (λ (b : Bool). piece b n) (sym (lt-ltb n pieces h))
@@ -119,8 +119,8 @@ some_past (suc n) m = lt-ltb 0 (suc n + m) (omega arith)
 pub joined_pass : (m n m' : SeatState) (bits more : ℕ) (e f now : Bool) → IsValidPass m bits e → IsValidPass n more f
     → m.0.pieces ≡ n.0.pieces → m' ≡ (joined_view m.0 n.0, m.1) → now ≡ (e || f) → IsValidPass m' (bit_or bits more) now
 joined_pass m n m' bits more e f now p q same is stop =
-    let ps = m.0.places in
-    let qs = n.0.places in
+    let ps = m.0.pass_indices in
+    let qs = n.0.pass_indices in
     subst (λ (x : SeatState). IsValidPass x (bit_or bits more) now) (sym is) (record {
       no_slot = p.no_slot;
       has_index = omega (arith, length-append ps qs, p.has_index);
@@ -129,8 +129,8 @@ joined_pass m n m' bits more e f now p q same is stop =
           (λ (t : IsIn x qs). omega (arith, bit_at_or bits more x, q.set x t, bit_low bits x)) (in_append ps qs x i);
       clear = λ x b. dite (ℕ_discrete (bit_at bits x) 1) (λ y. in_left ps qs x (p.clear x y))
           (λ ne. in_right ps qs x (q.clear x (omega (arith, bit_at_or bits more x, bit_low bits x, bit_low more x))));
-      own = λ x i. ⊎_elim (λ (t : IsIn x m.0.draws). in_left ps qs x.place (p.own x t))
-          (λ (t : IsIn x n.0.draws). in_right ps qs x.place (q.own x t)) (in_append m.0.draws n.0.draws x i);
+      own = λ x i. ⊎_elim (λ (t : IsIn x m.0.draws). in_left ps qs x.pass_index (p.own x t))
+          (λ (t : IsIn x n.0.draws). in_right ps qs x.pass_index (q.own x t)) (in_append m.0.draws n.0.draws x i);
       stopped = stop ∙ (ap (λ (b : Bool × Bool). b.0 || b.1) (λ i. (p.stopped i, ends i))
           ∙ (sym (some_past (past_last_count m.0.pieces m.0.draws) (past_last_count m.0.pieces n.0.draws))
           ∙ ap (nat_lt 0) (sym (total-append (one_past m.0.pieces) m.0.draws n.0.draws))));
@@ -144,14 +144,14 @@ joined_pass m n m' bits more e f now p q same is stop =
 
 -- what was noted is no part of the pass
 pub noted_pass : (m m' : SeatState) (bits : ℕ) (ended : Bool) → IsValidPass m bits ended → m'.1 ≡ m.1
-    → m'.0.pieces ≡ m.0.pieces → m'.0.places ≡ m.0.places → m'.0.draws ≡ m.0.draws → IsValidPass m' bits ended
+    → m'.0.pieces ≡ m.0.pieces → m'.0.pass_indices ≡ m.0.pass_indices → m'.0.draws ≡ m.0.draws → IsValidPass m' bits ended
 noted_pass m m' bits ended p slots pieces places draws = record {
   no_slot = slots ∙ p.no_slot;
   has_index = subst (λ (l : List ℕ). 0 < length l) (sym places) p.has_index;
   below_64 = subst (λ (l : List ℕ). (x : ℕ) → IsIn x l → x < 64) (sym places) p.below_64;
   set = subst (λ (l : List ℕ). (x : ℕ) → IsIn x l → bit_at bits x ≡ 1) (sym places) p.set;
   clear = subst (λ (l : List ℕ). (x : ℕ) → bit_at bits x ≡ 1 → IsIn x l) (sym places) p.clear;
-  own = subst (λ (t : List ℕ × List Entry). (e : Entry) → IsIn e t.1 → IsIn e.place t.0)
+  own = subst (λ (t : List ℕ × List Entry). (e : Entry) → IsIn e t.1 → IsIn e.pass_index t.0)
       (λ i. (sym places i, sym draws i)) p.own;
   stopped = p.stopped ∙ (λ i. nat_lt 0 (past_last_count (sym pieces i) (sym draws i)));
 }
@@ -165,7 +165,7 @@ pub sat_there : {st : Step (Unit {0})} (m m' : SeatState) (pieces place n : ℕ)
     → m ≡ (view pieces [] [] [], []) → n ≡ 0 → IsSeatRequest st m n m' → m' ≡ (view pieces (place ∷ []) [] [], [])
 sat_there {st} m m' pieces place n word blank free sat = let k : st.word - 1 ≡ place = omega arith in
     (λ i. (sat.free free i, sat.slots i))
-    ∙ (λ i. (view (blank i).0.pieces (k i ∷ (blank i).0.places) (blank i).0.draws (blank i).0.noted, (blank i).1))
+    ∙ (λ i. (view (blank i).0.pieces (k i ∷ (blank i).0.pass_indices) (blank i).0.draws (blank i).0.noted, (blank i).1))
 
 pub seated_pass : (m : SeatState) (pieces place bits : ℕ) → place < 64 → bits ≡ 1 * 2 ^ place % 18446744073709551616
     → m ≡ (view pieces (place ∷ []) [] [], []) → IsValidPass m bits false
@@ -201,10 +201,10 @@ in_twice xs ys p i j = omega (
 )
 
 pub overlap : (m n : SeatState) (a b : ℕ) (e f : Bool) → a < 2 ^ 64 → b < 2 ^ 64 → IsValidPass m a e → IsValidPass n b f
-    → bit_and a b ≢ 0 → ((p : ℕ) → times p (m.0.places ++ n.0.places) ≤ 1) → ⊥
+    → bit_and a b ≢ 0 → ((p : ℕ) → times p (m.0.pass_indices ++ n.0.pass_indices) ≤ 1) → ⊥
 overlap m n a b e f la lb p q ne once =
     let t = meets a b la lb ne in
-    omega (arith, in_twice m.0.places n.0.places t.0 (p.clear t.0 t.1) (q.clear t.0 t.2), once t.0)
+    omega (arith, in_twice m.0.pass_indices n.0.pass_indices t.0 (p.clear t.0 t.1) (q.clear t.0 t.2), once t.0)
 
 number_in : (n : ℕ) (ds : List Entry) → IsIn n (numbers ds) → (e : Entry) × IsIn e ds × (e.number ≡ n)
 number_in n [] i = absurd (in_none n i)
@@ -226,14 +226,14 @@ apart m n a b e f p q no_common history is hm hn k i j =
     let k_v : at_v.0 ≡ k = sym (is at_v.0 v at_v.1) ∙ y.2 in
     let same : u ≡ v = some-injective u v
     (sym at_u.1 ∙ (ap (λ (z : ℕ). get_elem? history z) (k_u ∙ sym k_v) ∙ at_v.1)) in
-    let here : IsIn u.place n.0.places = subst (λ (z : Entry). IsIn z.place n.0.places) (sym same) (q.own v y.1) in
+    let here : IsIn u.pass_index n.0.pass_indices = subst (λ (z : Entry). IsIn z.pass_index n.0.pass_indices) (sym same) (q.own v y.1) in
     omega (
       arith,
-      bit_at_and a b u.place,
-      p.set u.place (p.own u x.1),
-      q.set u.place here,
-      ap (λ (z : ℕ). bit_at z u.place) no_common,
-      bit_at-zero u.place,
+      bit_at_and a b u.pass_index,
+      p.set u.pass_index (p.own u x.1),
+      q.set u.pass_index here,
+      ap (λ (z : ℕ). bit_at z u.pass_index) no_common,
+      bit_at-zero u.pass_index,
     )
 
 read_one : (l : List ℕ) (i : ℕ) → get_or l i 0 ≡ 1 → get_elem? l i ≡ some 1

@@ -166,14 +166,14 @@ total-below g n [] = sym (below-zero n)
 total-below g n (v ∷ vs) = omega (arith, total-below g n vs, below-add (λ p. g p v) (λ p. total (g p) vs) n)
 
 -- where each place is with one view at most, the views have no more places than there are
-pub places_few : (vs : List View) → ((j : ℕ) (v : View) → get_elem? vs j ≡ some v → (p : ℕ) → IsIn p v.places → p < 64)
-    → ((p : ℕ) → p < 64 → total (λ (v : View). times p v.places) vs ≤ 1) → total (λ (v : View). length v.places) vs ≤ 64
+pub places_few : (vs : List View) → ((j : ℕ) (v : View) → get_elem? vs j ≡ some v → (p : ℕ) → IsIn p v.pass_indices → p < 64)
+    → ((p : ℕ) → p < 64 → total (λ (v : View). times p v.pass_indices) vs ≤ 1) → total (λ (v : View). length v.pass_indices) vs ≤ 64
 places_few vs low once = omega (
   arith,
-  total_le (λ (v : View). length v.places) (λ v. below (λ p. times p v.places) 64) vs
-      (λ k v e. length_below 64 v.places (low k v e)),
-  total-below (λ p v. times p v.places) 64 vs,
-  below_le (λ p. total (λ (v : View). times p v.places) vs) 64 64 (omega arith) once,
+  total_le (λ (v : View). length v.pass_indices) (λ v. below (λ p. times p v.pass_indices) 64) vs
+      (λ k v e. length_below 64 v.pass_indices (low k v e)),
+  total-below (λ p v. times p v.pass_indices) 64 vs,
+  below_le (λ p. total (λ (v : View). times p v.pass_indices) vs) 64 64 (omega arith) once,
 )
 
 pub past_yes : (pieces : ℕ) (e : Entry) → pieces ≤ e.number → one_past pieces e ≡ 1
@@ -209,20 +209,20 @@ history-snoc h e is last j x at =
 pub one_for-same : (e : Entry) → one_for e e ≡ 1
 one_for-same e =
     ap (λ (b : Bool × Bool). cond (b.0 && b.1) 1 0)
-    (λ i. (eq-eqb e.place e.place refl i, eq-eqb e.number e.number refl i))
+    (λ i. (eq-eqb e.pass_index e.pass_index refl i, eq-eqb e.number e.number refl i))
 
-one_for-other_place : (e x : Entry) → x.place ≢ e.place → one_for e x ≡ 0
-one_for-other_place e x ne = ap (λ (b : Bool). cond (b && eqb x.number e.number) 1 0) (ne_eqb x.place e.place ne)
+one_for-other_place : (e x : Entry) → x.pass_index ≢ e.pass_index → one_for e x ≡ 0
+one_for-other_place e x ne = ap (λ (b : Bool). cond (b && eqb x.number e.number) 1 0) (ne_eqb x.pass_index e.pass_index ne)
 
-one_for-other_number : (e x : Entry) → x.place ≡ e.place → x.number ≢ e.number → one_for e x ≡ 0
+one_for-other_number : (e x : Entry) → x.pass_index ≡ e.pass_index → x.number ≢ e.number → one_for e x ≡ 0
 one_for-other_number e x p ne =
-    ap (λ (b : Bool × Bool). cond (b.0 && b.1) 1 0) (λ i. (eq-eqb x.place e.place p i, ne_eqb x.number e.number ne i))
+    ap (λ (b : Bool × Bool). cond (b.0 && b.1) 1 0) (λ i. (eq-eqb x.pass_index e.pass_index p i, ne_eqb x.number e.number ne i))
 
 -- an entry that counts for this one is this one
 is_same : (e x : Entry) → 0 < one_for e x → x ≡ e
-is_same e x h = dite (ℕ_discrete x.place e.place)
+is_same e x h = dite (ℕ_discrete x.pass_index e.pass_index)
     (λ p. dite (ℕ_discrete x.number e.number)
-    (λ n i. record { place = p i; number = n i })
+    (λ n i. record { pass_index = p i; number = n i })
     (λ ne. let z = one_for-other_number e x p ne in absurd (omega arith)))
     (λ ne. let z = one_for-other_place e x ne in absurd (omega arith))
 

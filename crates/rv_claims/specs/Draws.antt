@@ -35,11 +35,11 @@ Within {A} xs ys = (x : A) → IsIn x xs → IsIn x ys
 
 -- the draw of `number` by the pass with the index `pass_index`
 abbrev pub entry : ℕ → ℕ → Entry
-entry pass_index number = record { place = pass_index; number = number }
+entry pass_index number = record { pass_index = pass_index; number = number }
 
 -- whether two draws have equal pass indices and equal numbers
 abbrev pub is_same_draw : Entry → Entry → Bool
-is_same_draw e x = (x.place == e.place) && (x.number == e.number)
+is_same_draw e x = (x.pass_index == e.pass_index) && (x.number == e.number)
 
 -- how often the draw `e` occurs in the list
 abbrev pub entry_count : Entry → List Entry → ℕ
@@ -70,7 +70,7 @@ past_last_count pieces draws = count (is_past_last_piece pieces) draws
 -- the view of a seat: the number of chunks, its pass indices, its draws, and the draws of other seats that it has noted
 abbrev pub view : ℕ → List ℕ → List Entry → List Entry → View
 view pieces pass_indices draws noted =
-    record { pieces = pieces; places = pass_indices; draws = draws; noted = noted }
+    record { pieces = pieces; pass_indices = pass_indices; draws = draws; noted = noted }
 
 -- the view of a counter's first seat: pass index 0 and no draws
 abbrev pub first_view : ℕ → View
@@ -86,7 +86,7 @@ note_of v = view v.pieces [] [] v.draws
 
 -- the view of a seat that two seats were joined into: the pass indices, draws and noted draws of both
 abbrev pub joined_view : View → View → View
-joined_view v w = view v.pieces (v.places ++ w.places) (v.draws ++ w.draws) (v.noted ++ w.noted)
+joined_view v w = view v.pieces (v.pass_indices ++ w.pass_indices) (v.draws ++ w.draws) (v.noted ++ w.noted)
 
 -- the view of a seat that was joined into another: no pass index and no draws
 abbrev pub empty_view : View
@@ -97,9 +97,9 @@ empty_view = view 0 [] [] []
 -- the view of a seat is valid: its pass indices are below 64, each of its draws was made under one of them, at most one draw for each index
 -- is past the last chunk, and the draws that it has noted are in the history
 pub record Fits (pieces : ℕ) (history : List Entry) (v : View) : Type 0 where
-  pub places : (p : ℕ) → IsIn p v.places → p < 64
-  pub own : (e : Entry) → IsIn e v.draws → IsIn e.place v.places
-  pub few : past_last_count pieces v.draws ≤ length v.places
+  pub pass_indices : (p : ℕ) → IsIn p v.pass_indices → p < 64
+  pub own : (e : Entry) → IsIn e v.draws → IsIn e.pass_index v.pass_indices
+  pub few : past_last_count pieces v.draws ≤ length v.pass_indices
   pub noted : Within v.noted history
 
 -- the invariant of a counter's words and of the views of all seats: the seats together hold the draws of one history, which word 0 counts,
@@ -114,7 +114,7 @@ pub record Runs (pieces : ℕ) (s : State (Unit {0}) View) : Type 0 where
   pub held : (e : Entry) → total (λ v. entry_count e v.draws) s.views ≡ entry_count e history
   -- the word of an index is 1 if one view holds the index, once, and 0 if none does
   pub indices_held : (p : ℕ) → p < 64
-      → total (λ v. times p v.places) s.views ≡ slice_index s.words (p + 1)
+      → total (λ v. times p v.pass_indices) s.views ≡ slice_index s.words (p + 1)
   pub index_words : (p : ℕ) → p < 64 → slice_index s.words (p + 1) ≤ 1
   pub views : (i : ℕ) (v : View) → get_elem? s.views i ≡ some v → Fits pieces history v
 
@@ -139,11 +139,11 @@ first_pass_index (p ∷ ps) = p
 
 -- the view `v` after the number `n` was drawn under its first pass index
 abbrev pub view_with_draw : View → ℕ → View
-view_with_draw v n = view v.pieces v.places (v.draws ++ entry (first_pass_index v.places) n ∷ []) v.noted
+view_with_draw v n = view v.pieces v.pass_indices (v.draws ++ entry (first_pass_index v.pass_indices) n ∷ []) v.noted
 
 -- the view `v` after its seat got the pass index `pass_index`, which is added in front
 abbrev pub view_with_index : View → ℕ → View
-view_with_index v pass_index = view v.pieces (pass_index ∷ v.places) v.draws v.noted
+view_with_index v pass_index = view v.pieces (pass_index ∷ v.pass_indices) v.draws v.noted
 
 -- the step draws a number: afterwards the seat also has the draw of the number `n`, which is greater than all numbers that it had drawn
 pub record IsDraw (st : Step (Unit {0})) (me : SeatState) (n : ℕ) (after : SeatState) : Type 0 where
@@ -165,4 +165,4 @@ pub record IsLook (st : Step (Unit {0})) (me : SeatState) (n : ℕ) (after : Sea
   pub is_history : IsHistory history
   pub draws : Within (view_of me).draws history
   pub noted : Within (view_of me).noted history
-  pub once : (p : ℕ) → times p (view_of me).places ≤ 1
+  pub once : (p : ℕ) → times p (view_of me).pass_indices ≤ 1

@@ -7,7 +7,7 @@ use Rattle.rv_claims.specs.Passes.{PassView}
 
 -- the pass `q` is the pass `p` after it made no, one or more further draws
 abbrev pub HasDrawnMore : PassView → PassView → Type 0
-HasDrawnMore p q = (q.draw ≡ p.draw) × (q.places ≡ p.places)
+HasDrawnMore p q = (q.draw ≡ p.draw) × (q.pass_indices ≡ p.pass_indices)
     × ((more : List Entry) × (q.draws ≡ p.draws ++ more))
 
 -- the drawn numbers that are below the number of chunks, in order

@@ -15,12 +15,12 @@ pub record CounterView : Type 0 where
 -- a pass: the counter that it belongs to, its pass indices, and its draws in order
 pub record PassView : Type 0 where
   pub draw : CounterView
-  pub places : List ℕ
+  pub pass_indices : List ℕ
   pub draws : List Entry
 
 -- the pass of this counter with these pass indices and draws
 abbrev pub pass_of : CounterView → List ℕ → List Entry → PassView
-pass_of d pass_indices draws = record { draw = d; places = pass_indices; draws = draws }
+pass_of counter pass_indices draws = record { draw = counter; pass_indices = pass_indices; draws = draws }
 
 -- whether a pass has ended: it has drawn a number past the last chunk
 abbrev pub has_ended : PassView → Bool
@@ -28,7 +28,7 @@ has_ended p = nat_lt 0 (past_last_count p.draw.pieces p.draws)
 
 -- the pass after the draw of the number `n`, under its first pass index
 abbrev pub with_draw : PassView → ℕ → PassView
-with_draw p n = pass_of p.draw p.places (p.draws ++ entry (first_pass_index p.places) n ∷ [])
+with_draw p n = pass_of p.draw p.pass_indices (p.draws ++ entry (first_pass_index p.pass_indices) n ∷ [])
 
 -- each drawn number is below `n`
 abbrev pub AllBelow : ℕ → List Entry → Type 0
@@ -55,23 +55,23 @@ IsWholeHistory draws = (history : List Entry) × IsHistory history × HaveSameDr
 -- whether it drew a number past the last chunk
 pub record IsValidPass (me : SeatState) (bits : ℕ) (ended : Bool) : Type 0 where
   pub no_slot : slots_of me ≡ []
-  pub has_index : 0 < length (view_of me).places
-  pub below_64 : (p : ℕ) → IsIn p (view_of me).places → p < 64
-  pub set : (p : ℕ) → IsIn p (view_of me).places → bit_at bits p ≡ 1
-  pub clear : (p : ℕ) → bit_at bits p ≡ 1 → IsIn p (view_of me).places
-  pub own : (e : Entry) → IsIn e (view_of me).draws → IsIn e.place (view_of me).places
+  pub has_index : 0 < length (view_of me).pass_indices
+  pub below_64 : (p : ℕ) → IsIn p (view_of me).pass_indices → p < 64
+  pub set : (p : ℕ) → IsIn p (view_of me).pass_indices → bit_at bits p ≡ 1
+  pub clear : (p : ℕ) → bit_at bits p ≡ 1 → IsIn p (view_of me).pass_indices
+  pub own : (e : Entry) → IsIn e (view_of me).draws → IsIn e.pass_index (view_of me).pass_indices
   pub stopped : ended ≡ nat_lt 0 (past_last_count (view_of me).pieces (view_of me).draws)
 
 -- the pass that a seat of the table `table` represents, as contracts see it
 abbrev pub pass_view : TableId → SeatState → PassView
 pass_view table me = let v = view_of me in
-    pass_of (record { table = table; pieces = v.pieces }) v.places v.draws
+    pass_of (record { table = table; pieces = v.pieces }) v.pass_indices v.draws
 
 -- the words of a new counter: no draws, and pass index 0 assigned
 abbrev pub opening_row : List ℕ
 opening_row = 0 ∷ 1 ∷ replicate 63 0
 
--- `p` is a pass of this counter without draws, whose only pass index is not among the bits `taken`
+-- `p` is a pass of this counter without draws, whose only pass index is not among the bits `assigned`
 abbrev pub IsNewPass : CounterView → ℕ → PassView → Type 0
-IsNewPass d taken p = (pass_index : ℕ) × (pass_index < 64) × (bit_at taken pass_index ≡ 0)
-    × (p ≡ pass_of d (pass_index ∷ []) [])
+IsNewPass counter assigned p = (pass_index : ℕ) × (pass_index < 64) × (bit_at assigned pass_index ≡ 0)
+    × (p ≡ pass_of counter (pass_index ∷ []) [])

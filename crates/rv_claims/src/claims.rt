@@ -84,7 +84,7 @@ impl Claims {
     pub fn split(&self, mut pass: Pass) -> Result<(Pass, Pass), SplitError>
         requires { pass.draw ≡ self.now }
         ensures ok { IfOk result (λ t. (t.0 ≡ pass)
-            × ((p : ℕ) × (p < 64) × ¬ (IsIn p pass.places)
+            × ((p : ℕ) × (p < 64) × ¬ (IsIn p pass.pass_indices)
             × (t.1 ≡ pass_of self.now (p ∷ []) []))) }
         ensures full { IfErr result (λ e. pass_of_error e ≡ pass) }
     {
@@ -101,7 +101,7 @@ impl Claims {
         requires first { first.draw ≡ self.now }
         requires second { second.draw ≡ self.now }
         ensures { result
-            ≡ pass_of self.now (first.places ++ second.places) (first.draws ++ second.draws) }
+            ≡ pass_of self.now (first.pass_indices ++ second.pass_indices) (first.draws ++ second.draws) }
     {
         let Pass { seat, bits, ended } = second;
         self.table
@@ -142,7 +142,7 @@ impl Claims {
         ensures all { result ≡ true → IsWholeHistory pass.draws }
         ensures pieces { result ≡ true → has_ended pass ≡ true
             → (x : ℕ) → x < self.pieces → times x (numbers pass.draws) ≡ 1 }
-        ensures full { ((p : ℕ) → p < 64 → IsIn p pass.places) → result ≡ true }
+        ensures full { ((p : ℕ) → p < 64 → IsIn p pass.pass_indices) → result ≡ true }
     {
         let Claims { table, pieces: _ } = self;
         let Pass {
@@ -196,8 +196,8 @@ fn has_all_assigned_indices(closed: &Closed<(), Global>, bits: u64) -> bool
         → get_elem? (slots_items closed.now.words) (p + 1) ≡ some 1 → bit_at bits p ≡ 1)
         → result ≡ true }
 {
-    for place in 0..PASS_INDICES {
-        if closed.word(place + 1) == 1 && bits >> place & 1 == 0 {
+    for index in 0..PASS_INDICES {
+        if closed.word(index + 1) == 1 && bits >> index & 1 == 0 {
             return false;
         }
     }

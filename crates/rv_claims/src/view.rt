@@ -3,7 +3,7 @@ use std::collections::LinkedList;
 
 /// A draw: the pass index that it was made under, and the number.
 pub struct Entry {
-    pub place: u64,
+    pub pass_index: u64,
     pub number: u64,
 }
 
@@ -11,7 +11,7 @@ pub struct Entry {
 /// has noted.
 pub struct View {
     pub pieces: u64,
-    pub places: LinkedList<u64>,
+    pub pass_indices: LinkedList<u64>,
     pub draws: LinkedList<Entry>,
     pub noted: LinkedList<Entry>,
 }

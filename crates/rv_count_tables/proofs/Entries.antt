@@ -13,7 +13,7 @@ use Rattle.rv_count_tables.specs.ReadSteps.{Entry, Address, Node, IsValidEntry, 
 use Rattle.rv_count_tables.proofs.NamesOfSpots.{agree_more, first_is_last, further, named_fits, one_list_of_first_names, AgreeWithAll}
 use Rattle.rv_call_tree.specs.Profiles.{ends_some_path}
 use Rattle.rv_call_tree.specs.declared.call_node.CallNode.{CallNode}
-use Rattle.rv_call_tree.specs.Trees.{last_path, path_after, FollowInPreorder}
+use Rattle.rv_call_tree.specs.Trees.{last_path, path_after, AreInPreorder}
 
 abbrev pub all_entries : List AddressCounts → List FunctionName → List CallNode → List Entry
 all_entries cs ns ss = map Address cs ++ map (entry_of_node ns) ss
@@ -97,7 +97,7 @@ abbrev pub StandIn : NextLines → List Entry → Type 0
 StandIn p [] = Unit {0}
 StandIn p (e ∷ es) = CanComeNext p e × StandIn (after_entry p e) es
 
-stand_spots : (a : Option ℕ) (ms ns : List FunctionName) (front : List ℕ) (ss : List CallNode) → FollowInPreorder front ss
+stand_spots : (a : Option ℕ) (ms ns : List FunctionName) (front : List ℕ) (ss : List CallNode) → AreInPreorder front ss
     → AgreeWithAll ns ms → StandIn (record { address = a; names = ms; front = Some front }) (map (entry_of_node ns) ss)
 stand_spots a ms ns front [] h k = tt
 stand_spots a ms ns front (s ∷ ss) h k = (
@@ -106,7 +106,7 @@ stand_spots a ms ns front (s ∷ ss) h k = (
 )
 
 stand_addresses : (lowest : ℕ) (cs : List AddressCounts) (ns : List FunctionName) (ss : List CallNode) → increase_from lowest cs ≡ true
-    → FollowInPreorder [] ss → StandIn (record { address = Some lowest; names = []; front = Some [] }) (all_entries cs ns ss)
+    → AreInPreorder [] ss → StandIn (record { address = Some lowest; names = []; front = Some [] }) (all_entries cs ns ss)
 unfolding increase_from
 stand_addresses lowest [] ns ss h m = stand_spots (Some lowest) [] ns [] ss m (λ f. tt)
 stand_addresses lowest (c ∷ cs) ns ss h m =

@@ -17,7 +17,7 @@ use Rattle.rv_count_tables.proofs.LineTexts.{spot_is_line, spot_words}
 use Rattle.rv_count_tables.proofs.NamesOfSpots.{it_has_its_name, names_so_far, no_names_so_far, others_are_named, text_of_named, AreNamesSoFar}
 use Rattle.rv_count_tables.proofs.ReadingLines.{each_push, further_within, lacks_path, line_is_long, lines_push, plain_line, same_words, whole_split}
 use Rattle.rv_call_tree.specs.declared.call_node.CallNode.{CallNode}
-use Rattle.rv_call_tree.specs.Trees.{last_path, path_after, IsTree, FollowsInPreorder}
+use Rattle.rv_call_tree.specs.Trees.{last_path, path_after, IsTree, MayFollow}
 use Rattle.rv_call_tree.proofs.Public.{last_parts, stand_of_parts}
 
 -- so many bytes are the lines of so many items
@@ -69,7 +69,7 @@ lines_by_more text ss names more n e h = record {
 }
 
 pub one_spot : (text : List ℕ) (ss : List CallNode) (names : List FunctionName) (front : List ℕ) (n m : ℕ) (x : NamedCallNode)
-    → SpotsSoFar text ss names front n → IsValidNamedNode x → FollowsInPreorder front x.node
+    → SpotsSoFar text ss names front n → IsValidNamedNode x → MayFollow front x.node
     → AgreesWithName x.name (name_of x.node.function names) → whole_line (drop n text) ≡ node_line x
     → m ≡ n + length (whole_line (drop n text))
     → SpotsSoFar text (ss ++ x.node ∷ []) (with_name (function_name x) names) (path_after front x.node) m
@@ -79,7 +79,7 @@ one_spot text ss names front n m x h fits stands agrees is e =
           (lines_by_more text ss names more n (others_are_named ss names x fits agrees h.named.names_of_nodes) h.lines)
           (is ∙ ap node_line (sym (it_has_its_name ss names x fits agrees))) e;
       each = each_push IsValidNode ss x.node h.each fits.node;
-      tree = stand_of_parts [] ss (x.node ∷ []) h.tree (subst (λ (path : List ℕ). FollowsInPreorder path x.node) h.path stands, tt);
+      tree = stand_of_parts [] ss (x.node ∷ []) h.tree (subst (λ (path : List ℕ). MayFollow path x.node) h.path stands, tt);
       path = ap (λ (path : List ℕ). path_after path x.node) h.path ∙ sym (last_parts [] ss (x.node ∷ []));
       named = names_so_far ss names x fits agrees h.named;
     }
@@ -105,10 +105,10 @@ plain_name text n e =
 
 pub no_spot_here : (names : List FunctionName) (front text : List ℕ) (read : NamedCallNode)
     → ((n : NamedCallNode) → IsValidNamedNode n → text ≡ node_line n → read.node ≡ n.node)
-    → ((IsValidNode read.node × FollowsInPreorder front read.node) → ⊥) → IsNotANode names front text
+    → ((IsValidNode read.node × MayFollow front read.node) → ⊥) → IsNotANode names front text
 no_spot_here names front text read same not n h stands agrees e =
     let s = same n h e in
-    not (subst IsValidNode (sym s) h.node, subst (FollowsInPreorder front) (sym s) stands)
+    not (subst IsValidNode (sym s) h.node, subst (MayFollow front) (sym s) stands)
 
 pub no_spot_by_name : (names : List FunctionName) (front text : List ℕ) (read : NamedCallNode)
     → ((n : NamedCallNode) → IsValidNamedNode n → text ≡ node_line n → read.node ≡ n.node)

@@ -13,7 +13,7 @@ use Rattle.rv_count_tables.specs.Lines.{whole_line}
 use Rattle.rv_count_tables.specs.Table.{has_name, is_greater_than_last, name_of, digests_increase_from, IsValidCount, IsValidImage, IsValidNamedNode, AreValidCounts, AreValidNames, AreNamesOf, AreValidNodes}
 use Rattle.rv_count_tables.specs.Text.{address_line, image_line, image_text, line_of_node, named, node_line}
 use Rattle.rv_call_tree.specs.declared.call_node.CallNode.{CallNode}
-use Rattle.rv_call_tree.specs.Trees.{last_path, path_after, FollowsInPreorder}
+use Rattle.rv_call_tree.specs.Trees.{last_path, path_after, MayFollow}
 
 -- ---- names
 
@@ -111,7 +111,7 @@ can_be_next_address (Some lowest) address = nat_le lowest address
 -- a node can come next, and this node may follow the path of the preceding one
 abbrev pub NodeCanComeNext : Option (List ℕ) → CallNode → Type 0
 NodeCanComeNext None s = ⊥
-NodeCanComeNext (Some previous_path) s = FollowsInPreorder previous_path s
+NodeCanComeNext (Some previous_path) s = MayFollow previous_path s
 
 -- the entry can come next: its address is not too low, or its node may follow the preceding one and its name agrees with the earlier ones
 abbrev pub CanComeNext : NextLines → Entry → Type 0
@@ -140,7 +140,7 @@ IsNotAnAddress lowest line = (c : AddressCounts) → IsValidCount c → nat_le l
 
 -- no node that may follow the path `previous_path` and whose name agrees with `names` has this line
 abbrev pub IsNotANode : List FunctionName → List ℕ → List ℕ → Type 0
-IsNotANode names previous_path line = (n : NamedCallNode) → IsValidNamedNode n → FollowsInPreorder previous_path n.node
+IsNotANode names previous_path line = (n : NamedCallNode) → IsValidNamedNode n → MayFollow previous_path n.node
     → AgreesWithName n.name (name_of n.node.function names) → line ≡ node_line n → ⊥
 
 -- the line is not the line of an image whose digest is greater than `last`

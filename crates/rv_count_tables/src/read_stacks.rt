@@ -7,7 +7,7 @@ ghost use Rattle.rv_count_tables.specs.Lines.{whole_line};
 ghost use Rattle.rv_count_tables.specs.ReadSteps.{function_name, AgreesWithName, AreParsedNodes, IsNotANode};
 ghost use Rattle.rv_count_tables.specs.Table.{name_of, IsValidNamedNode, IsValidNode};
 ghost use Rattle.rv_count_tables.specs.Text.{node_line};
-ghost use Rattle.rv_call_tree.specs.Trees.{FollowsInPreorder};
+ghost use Rattle.rv_call_tree.specs.Trees.{MayFollow};
 
 use crate::line_parts::{
     decimal_number, hex_word, leading_bytes, text_after_byte, text_before_byte, whole_line,
@@ -76,7 +76,7 @@ fn next_node(
     names: &NamesByFunction,
 ) -> Result<Option<NamedCallNode>, AllocError>
     ensures node { (text : List ℕ) → line.now ≡ whole_line text → IfOk result (λ read. IfSome read IsValidNamedNode) }
-    ensures preorder { IfOk result (λ read. IfSome read (λ n. FollowsInPreorder previous_path.now n.node)) }
+    ensures preorder { IfOk result (λ read. IfSome read (λ n. MayFollow previous_path.now n.node)) }
     ensures name { IfOk result (λ read. IfSome read (λ n. AgreesWithName n.name (name_of n.node.function names.now))) }
     ensures line { IfOk result (λ read. IfSome read (λ n. line.now ≡ node_line n)) }
     ensures none { IfOk result (λ read. IfNone read (IsNotANode names.now previous_path.now line.now)) }
@@ -94,7 +94,7 @@ fn next_node(
 
 // Whether a table can have this node directly after a node with the path `previous_path`.
 fn can_come_next(node: CallNode, previous_path: &[u32]) -> bool
-    ensures { IsTrue result ↔ (IsValidNode node × FollowsInPreorder previous_path.now node) }
+    ensures { IsTrue result ↔ (IsValidNode node × MayFollow previous_path.now node) }
 {
     0 < node.calls
         && node.depth <= previous_path.len()

@@ -8,5 +8,5 @@ use Rattle.rv_diff.specs.RowsByName.{row_named}
 -- the invariant of the fields of `RowsByName`: the map has the first row with each name
 abbrev pub IsValidRowsByName : Inside → Type 0
 IsValidRowsByName named = (name : List ℕ)
-    → option_map (λ row. row.now) (get_by (λ key. bytes_eq name key.now) named.found)
+    → option_map (λ row. row.now) (get_by (λ key. bytes_eq name key.now) named.first_by_name)
     ≡ row_named named.rows.now name

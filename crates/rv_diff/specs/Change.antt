@@ -25,7 +25,7 @@ abbrev pub agree_in_fault_pc_and_value : RowEnd → RowEnd → Bool
 agree_in_fault_pc_and_value (ending.Fault kind pc value) (ending.Fault other other_pc other_value) = pc == other_pc && value == other_value
 agree_in_fault_pc_and_value old new = true
 
--- whether two endings are equal, as far as `compare` compares them: the addresses and values of faults are compared only if steps are
+-- whether two endings are equal, as far as the mode compares them: the addresses and values of faults are compared only if steps are
 abbrev pub are_same_endings : CompareMode → RowEnd → RowEnd → Bool
 are_same_endings Outcomes old new = are_same_end_kinds old new
 are_same_endings (Slower percent) old new = are_same_end_kinds old new
@@ -35,7 +35,7 @@ are_same_endings Steps old new = are_same_end_kinds old new && agree_in_fault_pc
 abbrev pub is_slower : ℕ → ℕ → ℕ → Bool
 is_slower percent old new = nat_lt (old * percent) ((new - old) * 100)
 
--- whether two rows agree in their steps, as far as `compare` compares steps
+-- whether two rows agree in their steps, as far as the mode compares steps
 abbrev pub agree_in_steps : CompareMode → Row → Row → Bool
 agree_in_steps Outcomes old new = true
 agree_in_steps Steps old new = old.steps == new.steps

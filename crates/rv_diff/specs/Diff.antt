@@ -71,7 +71,7 @@ change_counts_text counts = decimal counts.gone ++ codes " gone, " ++ decimal co
 abbrev pub differ_text : ℕ → List ℕ
 differ_text job_count = if job_count == 1 then codes " differs: " else codes " differ: "
 
--- the words `COUNT of JOBS job_count differ: `
+-- the words `COUNT of COUNT jobs differ: `
 unfoldable pub differing_text : ℕ → ℕ → List ℕ
 differing_text count job_count = decimal count ++ codes " of " ++ count_text job_count (codes "job")
     ++ differ_text job_count
@@ -80,7 +80,7 @@ differing_text count job_count = decimal count ++ codes " of " ++ count_text job
 abbrev pub total_steps : List Row → ℕ
 total_steps rows = sum_by (λ row. row.steps) rows
 
--- the total steps of both reports if `compare` looks for slower jobs, or else `None`
+-- the total steps of both reports if the mode looks for slower jobs, or else `None`
 abbrev pub step_sums : CompareMode → List Row → List Row → Option StepSums
 step_sums Outcomes old new = None
 step_sums Steps old new = None

@@ -72,7 +72,7 @@ signature_difference_text old new = becomes (size_text old) (size_text new)
 unfoldable pub signature_change_text : Option (List ℕ) → Option (List ℕ) → List ℕ
 signature_change_text old new = codes "signature " ++ signature_difference_text old new
 
--- the increase of the steps in percent of the old number, if `compare` looks for slower jobs and the old number is not 0; otherwise nothing
+-- the increase of the steps in percent of the old number, if the mode looks for slower jobs and the old number is not 0; otherwise nothing
 abbrev pub percent_text : CompareMode → ℕ → ℕ → List ℕ
 percent_text Outcomes old new = []
 percent_text Steps old new = []

@@ -31,28 +31,28 @@ pub enum CompareMode {
 }
 
 /// Returns how a job changed, given its rows in the old and in the new report, which are `None` if the report does not have the job.
-pub fn change_of(mode: CompareMode, old: Option<&Row>, new: Option<&Row>) -> Change
-    ensures { result ≡ change_of mode (option_map (λ row. row.now) old.entry)
-        (option_map (λ row. row.now) new.entry) }
+pub fn change_of(mode: CompareMode, old_row: Option<&Row>, new_row: Option<&Row>) -> Change
+    ensures { result ≡ change_of mode (option_map (λ row. row.now) old_row.entry)
+        (option_map (λ row. row.now) new_row.entry) }
 {
-    match (old, new) {
+    match (old_row, new_row) {
         (Some(_), None) => Change::Gone,
         (None, Some(_)) => Change::Added,
-        (Some(old), Some(new)) if !rows_agree(mode, old, new) => Change::Changed,
+        (Some(old_row), Some(new_row)) if !rows_agree(mode, old_row, new_row) => Change::Changed,
         _ => Change::Same,
     }
 }
 
 // Whether two rows agree in everything that is compared.
 #[tactic(auto, unfolding(crate::specs::Change::rows_agree))]
-fn rows_agree(mode: CompareMode, old: &Row, new: &Row) -> bool
-    ensures { result ≡ rows_agree mode old.now new.now }
+fn rows_agree(mode: CompareMode, old_row: &Row, new_row: &Row) -> bool
+    ensures { result ≡ rows_agree mode old_row.now new_row.now }
 {
-    are_same_endings(mode, old.ending, new.ending)
-        && agree_in_steps(mode, old, new)
-        && have_same_console(old, new)
-        && are_same_signatures(&old.signature, &new.signature)
-        && are_same_verdicts(old.verdict, new.verdict)
+    are_same_endings(mode, old_row.ending, new_row.ending)
+        && agree_in_steps(mode, old_row, new_row)
+        && have_same_console(old_row, new_row)
+        && are_same_signatures(&old_row.signature, &new_row.signature)
+        && are_same_verdicts(old_row.verdict, new_row.verdict)
 }
 
 /// Whether two endings are equal, as far as `mode` compares them: two equal exit codes, two faults of one kind, two used budgets, or two
@@ -71,7 +71,7 @@ fn are_same_end_kinds(old: RowEnd, new: RowEnd) -> bool
     ensures { result ≡ are_same_end_kinds old new }
 {
     match (old, new) {
-        (RowEnd::Refused(why), RowEnd::Refused(because)) => why.name() == because.name(),
+        (RowEnd::Refused(why), RowEnd::Refused(other)) => why.name() == other.name(),
         _ => endings_match(old, new),
     }
 }
@@ -81,19 +81,19 @@ fn agree_in_fault_pc_and_value(old: RowEnd, new: RowEnd) -> bool
     ensures { result ≡ agree_in_fault_pc_and_value old new }
 {
     match (old, new) {
-        (RowEnd::Fault(_, pc, value), RowEnd::Fault(_, at, met)) => pc == at && value == met,
+        (RowEnd::Fault(_, pc, value), RowEnd::Fault(_, other_pc, other_value)) => pc == other_pc && value == other_value,
         _ => true,
     }
 }
 
 /// Whether the steps of two rows are equal, if `mode` compares steps, or the new row is not slower, if it compares that; true otherwise.
-pub fn agree_in_steps(mode: CompareMode, old: &Row, new: &Row) -> bool
-    ensures { result ≡ agree_in_steps mode old.now new.now }
+pub fn agree_in_steps(mode: CompareMode, old_row: &Row, new_row: &Row) -> bool
+    ensures { result ≡ agree_in_steps mode old_row.now new_row.now }
 {
     match mode {
         CompareMode::Outcomes => true,
-        CompareMode::Steps => old.steps == new.steps,
-        CompareMode::Slower(percent) => !is_slower(percent, old.steps, new.steps),
+        CompareMode::Steps => old_row.steps == new_row.steps,
+        CompareMode::Slower(percent) => !is_slower(percent, old_row.steps, new_row.steps),
     }
 }
 
@@ -106,10 +106,10 @@ fn is_slower(percent: u32, old: u32, new: u32) -> bool
 }
 
 /// Whether the consoles of two rows are equal.
-pub fn have_same_console(old: &Row, new: &Row) -> bool
-    ensures { result ≡ have_same_console old.now new.now }
+pub fn have_same_console(old_row: &Row, new_row: &Row) -> bool
+    ensures { result ≡ have_same_console old_row.now new_row.now }
 {
-    old.console.as_slice() == new.console.as_slice()
+    old_row.console.as_slice() == new_row.console.as_slice()
 }
 
 /// Whether two verdicts are equal.

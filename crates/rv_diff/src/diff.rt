@@ -87,7 +87,7 @@ pub fn push_diff(
 
 /// Returns the rows whose names also occur in `others`, in order.
 pub fn rows_in_both(alloc: Global, rows: Vec<Row>, others: &[Row]) -> Result<Vec<Row>, AllocError>
-    ensures { IfOk result (λ kept. kept.items ≡ rows_in_both others.now rows.items) }
+    ensures { IfOk result (λ common. common.items ≡ rows_in_both others.now rows.items) }
 {
     let others = RowsByName::new(alloc, others)?;
     let mut rows = rows;
@@ -177,15 +177,15 @@ fn push_added_and_changed_lines(
 fn push_changes_of_row(
     text: &mut Vec<u8>,
     mode: CompareMode,
-    old: Option<&Row>,
-    new: &Row,
+    old_row: Option<&Row>,
+    new_row: &Row,
 ) -> Result<(), AllocError>
     ensures { OnOk result (text.new.items ≡ text.old.items
-        ++ changes_of_row mode (option_map (λ row. row.now) old.entry) new.now) }
+        ++ changes_of_row mode (option_map (λ row. row.now) old_row.entry) new_row.now) }
 {
-    match old {
-        Some(old) => push_change_lines(text, mode, old, new),
-        None => push_sign_line(text, "+ ", new),
+    match old_row {
+        Some(old_row) => push_change_lines(text, mode, old_row, new_row),
+        None => push_sign_line(text, "+ ", new_row),
     }
 }
 

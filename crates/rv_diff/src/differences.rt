@@ -17,43 +17,43 @@ use std::alloc::AllocError;
 pub(crate) fn push_change_lines(
     text: &mut Vec<u8>,
     mode: CompareMode,
-    old: &Row,
-    new: &Row,
+    old_row: &Row,
+    new_row: &Row,
 ) -> Result<(), AllocError>
     ensures { OnOk result (text.new.items
-        ≡ text.old.items ++ change_lines mode old.now new.now) }
+        ≡ text.old.items ++ change_lines mode old_row.now new_row.now) }
 {
-    push_ending_change(text, mode, old, new)?;
-    push_steps_change(text, mode, old, new)?;
-    push_console_change(text, old, new)?;
-    push_signature_change(text, old, new)?;
-    push_verdict_change(text, old, new)
+    push_ending_change(text, mode, old_row, new_row)?;
+    push_steps_change(text, mode, old_row, new_row)?;
+    push_console_change(text, old_row, new_row)?;
+    push_signature_change(text, old_row, new_row)?;
+    push_verdict_change(text, old_row, new_row)
 }
 
 // Appends the line for the endings, if they differ.
 fn push_ending_change(
     text: &mut Vec<u8>,
     mode: CompareMode,
-    old: &Row,
-    new: &Row,
+    old_row: &Row,
+    new_row: &Row,
 ) -> Result<(), AllocError>
     ensures { OnOk result (text.new.items ≡ text.old.items
-        ++ change_line new.now.name (are_same_endings mode old.now.ending new.now.ending)
-        (becomes (ending_text old.now.ending) (ending_text new.now.ending))) }
+        ++ change_line new_row.now.name (are_same_endings mode old_row.now.ending new_row.now.ending)
+        (becomes (ending_text old_row.now.ending) (ending_text new_row.now.ending))) }
 {
-    if are_same_endings(mode, old.ending, new.ending) {
+    if are_same_endings(mode, old_row.ending, new_row.ending) {
         return Ok(());
     }
     push_spans(
         text,
         &[
             Span::Text("! "),
-            Span::Text(new.name.as_str()),
+            Span::Text(new_row.name.as_str()),
             Span::Text(": "),
         ],
     )?;
-    push_ending(text, old.ending, " -> ")?;
-    push_ending(text, new.ending, "\n")
+    push_ending(text, old_row.ending, " -> ")?;
+    push_ending(text, new_row.ending, "\n")
 }
 
 // Appends how a job ended, in the words of a report, followed by `suffix`.
@@ -99,23 +99,23 @@ fn push_ending<'a>(text: &mut Vec<u8>, ending: RowEnd, suffix: &'a str) -> Resul
 fn push_steps_change(
     text: &mut Vec<u8>,
     mode: CompareMode,
-    old: &Row,
-    new: &Row,
+    old_row: &Row,
+    new_row: &Row,
 ) -> Result<(), AllocError>
     ensures { OnOk result (text.new.items ≡ text.old.items
-        ++ change_line new.now.name (agree_in_steps mode old.now new.now)
-        (steps_change_text mode old.now.steps new.now.steps)) }
+        ++ change_line new_row.now.name (agree_in_steps mode old_row.now new_row.now)
+        (steps_change_text mode old_row.now.steps new_row.now.steps)) }
 {
-    if agree_in_steps(mode, old, new) {
+    if agree_in_steps(mode, old_row, new_row) {
         return Ok(());
     }
-    let before = old.steps;
-    let after = new.steps;
+    let before = old_row.steps;
+    let after = new_row.steps;
     push_spans(
         text,
         &[
             Span::Text("! "),
-            Span::Text(new.name.as_str()),
+            Span::Text(new_row.name.as_str()),
             Span::Text(": steps "),
             Span::Number(u64::from(before)),
             Span::Text(" -> "),
@@ -146,22 +146,22 @@ fn push_percent(text: &mut Vec<u8>, mode: CompareMode, old: u32, new: u32) -> Re
 // Appends the line for the consoles, if they differ: the bytes from the first difference, or the lengths if one console is a prefix of the
 // other.
 #[tactic(auto, unfolding(crate::specs::Differences::console_change_text))]
-fn push_console_change<'a>(text: &mut Vec<u8>, old: &'a Row, new: &'a Row) -> Result<(), AllocError>
+fn push_console_change<'a>(text: &mut Vec<u8>, old_row: &'a Row, new_row: &'a Row) -> Result<(), AllocError>
     ensures { OnOk result (text.new.items ≡ text.old.items
-        ++ change_line new.now.name (have_same_console old.now new.now)
-        (console_change_text old.now.console new.now.console)) }
+        ++ change_line new_row.now.name (have_same_console old_row.now new_row.now)
+        (console_change_text old_row.now.console new_row.now.console)) }
 {
-    if have_same_console(old, new) {
+    if have_same_console(old_row, new_row) {
         return Ok(());
     }
-    let before = old.console.as_slice();
-    let after = new.console.as_slice();
+    let before = old_row.console.as_slice();
+    let after = new_row.console.as_slice();
     match first_differing_byte(before, after) {
         Some(place) => push_spans(
             text,
             &[
                 Span::Text("! "),
-                Span::Text(new.name.as_str()),
+                Span::Text(new_row.name.as_str()),
                 Span::Text(": console byte "),
                 Span::Number(place as u64),
                 Span::Text(": \""),
@@ -175,7 +175,7 @@ fn push_console_change<'a>(text: &mut Vec<u8>, old: &'a Row, new: &'a Row) -> Re
             text,
             &[
                 Span::Text("! "),
-                Span::Text(new.name.as_str()),
+                Span::Text(new_row.name.as_str()),
                 Span::Text(": console "),
                 Span::Count(before.len() as u64, "byte"),
                 Span::Text(" -> "),
@@ -194,23 +194,23 @@ fn first_differing_byte(old: &[u8], new: &[u8]) -> Option<usize>
 }
 
 // Appends the line for the verdicts, if they differ.
-fn push_verdict_change(text: &mut Vec<u8>, old: &Row, new: &Row) -> Result<(), AllocError>
+fn push_verdict_change(text: &mut Vec<u8>, old_row: &Row, new_row: &Row) -> Result<(), AllocError>
     ensures { OnOk result (text.new.items ≡ text.old.items
-        ++ change_line new.now.name (are_same_verdicts old.now.verdict new.now.verdict)
-        (verdict_change_text old.now.verdict new.now.verdict)) }
+        ++ change_line new_row.now.name (are_same_verdicts old_row.now.verdict new_row.now.verdict)
+        (verdict_change_text old_row.now.verdict new_row.now.verdict)) }
 {
-    if are_same_verdicts(old.verdict, new.verdict) {
+    if are_same_verdicts(old_row.verdict, new_row.verdict) {
         return Ok(());
     }
     push_spans(
         text,
         &[
             Span::Text("! "),
-            Span::Text(new.name.as_str()),
+            Span::Text(new_row.name.as_str()),
             Span::Text(": verdict "),
-            Span::Text(old.verdict.name()),
+            Span::Text(old_row.verdict.name()),
             Span::Text(" -> "),
-            Span::Text(new.verdict.name()),
+            Span::Text(new_row.verdict.name()),
             Span::Text("\n"),
         ],
     )

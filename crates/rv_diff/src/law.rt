@@ -9,13 +9,13 @@ ghost use Rattle.rv_diff.specs.Differences.{change_lines};
 
 /// Proves that `diff` prints a line for the old and the new row of a job if and only if they differ.
 pub fn rows_agree_iff_no_line()
-    ensures { (compare : CompareMode) (old new : Row)
-        → (length (change_lines compare old new) == 0) ≡ rows_agree compare old new }
+    ensures { (mode : CompareMode) (old new : Row)
+        → (length (change_lines mode old new) == 0) ≡ rows_agree mode old new }
 {}
 
 /// Proves that `diff` prints a line of differences for two reports if and only if at least one job differs.
 pub fn jobs_differ_iff_some_line()
-    ensures { (compare : CompareMode) (old new : List Row)
-        → (length (difference_lines compare old new) == 0)
-        ≡ (differing_count (difference_counts compare old new) == 0) }
+    ensures { (mode : CompareMode) (old new : List Row)
+        → (length (difference_lines mode old new) == 0)
+        ≡ (differing_count (difference_counts mode old new) == 0) }
 {}

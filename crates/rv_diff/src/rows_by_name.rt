@@ -13,7 +13,7 @@ use std::marker::Model;
 #[derive(Drop)]
 pub(crate) struct RowsByName<'a> {
     rows: &'a [Row],
-    found: HashMap<&'a str, &'a Row, BuildHasherDefault<FoldHasher>>,
+    first_by_name: HashMap<&'a str, &'a Row, BuildHasherDefault<FoldHasher>>,
 }
 
 impl<'a> Model for RowsByName<'a> {
@@ -34,7 +34,7 @@ impl<'a> RowsByName<'a> {
     pub(crate) fn new(alloc: Global, rows: &'a [Row]) -> Result<RowsByName<'a>, AllocError>
         ensures { IfOk result (λ named. named ≡ rows.now) }
     {
-        let mut found = HashMap::with_capacity_and_hasher(
+        let mut first_by_name = HashMap::with_capacity_and_hasher(
             alloc,
             rows.len(),
             BuildHasherDefault::new(),
@@ -44,9 +44,9 @@ impl<'a> RowsByName<'a> {
         while left > 0 {
             left -= 1;
             let row = &rows[left];
-            found.insert(row.name.as_str(), row)?;
+            first_by_name.insert(row.name.as_str(), row)?;
         }
-        Ok(RowsByName { rows, found })
+        Ok(RowsByName { rows, first_by_name })
     }
 
     /// Returns the first row with this name, or `None` if there is none.
@@ -54,6 +54,6 @@ impl<'a> RowsByName<'a> {
         ensures { option_map (λ row. row.now) result ≡ row_named self.now name.now }
     {
         let _ = &self.rows;
-        self.found.get(name).copied()
+        self.first_by_name.get(name).copied()
     }
 }

@@ -12,17 +12,17 @@ use std::alloc::AllocError;
 /// of the other.
 pub(crate) fn push_signature_change(
     text: &mut Vec<u8>,
-    old: &Row,
-    new: &Row,
+    old_row: &Row,
+    new_row: &Row,
 ) -> Result<(), AllocError>
     ensures { OnOk result (text.new.items ≡ text.old.items
-        ++ change_line new.now.name (are_same_signatures old.now.signature new.now.signature)
-        (signature_change_text old.now.signature new.now.signature)) }
+        ++ change_line new_row.now.name (are_same_signatures old_row.now.signature new_row.now.signature)
+        (signature_change_text old_row.now.signature new_row.now.signature)) }
 {
-    if are_same_signatures(&old.signature, &new.signature) {
+    if are_same_signatures(&old_row.signature, &new_row.signature) {
         return Ok(());
     }
-    push_signature_line(text, new.name.as_str(), &old.signature, &new.signature)
+    push_signature_line(text, new_row.name.as_str(), &old_row.signature, &new_row.signature)
 }
 
 // Appends the line for two signatures that differ: the first word that differs, or the sizes if one signature is missing or a prefix of the

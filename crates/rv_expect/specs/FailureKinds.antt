@@ -80,11 +80,11 @@ failure_kind_of_unmet end (first ∷ others) = failure_kind_of_first end first
 
 -- the kind of failure of a row, by how its job ended, or `None` if the row does not count as a failure
 abbrev pub failure_by_end : JudgeView → Row → Option FailureKind
-failure_by_end judging row = if fails judging row then Some (failure_kind_of_end row.ending) else None
+failure_by_end judge row = if fails judge row then Some (failure_kind_of_end row.ending) else None
 
 -- the kind of failure of each row of a report that counts as a failure, in order, by how its job ended
 abbrev pub failures_by_end : JudgeView → List Row → List FailureKind
-failures_by_end judging rows = flat_map (λ row. option_to_list (failure_by_end judging row)) rows
+failures_by_end judge rows = flat_map (λ row. option_to_list (failure_by_end judge row)) rows
 
 -- a row of a plan with the data that it is compared with, as if the job that `same_as` names had not run; so if a job meets all other
 -- expectations and fails, `same_as` is the unmet one
@@ -94,17 +94,17 @@ comparison_without_same_as plan job row = record (comparison_in plan job row) { 
 -- the kind of failure of a row, given its job in a plan, if there is one: the first unmet expectation decides, or the ending for a job that
 -- passes although it is known to fail
 abbrev pub failure_kind_in_plan : JudgeView → PlanView → Option Job → Row → FailureKind
-failure_kind_in_plan judging plan None row = failure_kind_of_end row.ending
-failure_kind_in_plan judging plan (Some job) row = if is_unknown_failure (judgement judging row)
+failure_kind_in_plan judge plan None row = failure_kind_of_end row.ending
+failure_kind_in_plan judge plan (Some job) row = if is_unknown_failure (judgement judge row)
     then failure_kind_of_unmet row.ending (unmet_expectations_of (comparison_without_same_as plan job row))
     else failure_kind_of_end row.ending
 
 -- the kind of failure of a row, or `None` if the row does not count as a failure; `index` is the index of its job in the plan
 abbrev pub failure_in_plan : JudgeView → PlanView → ℕ → Row → Option FailureKind
-failure_in_plan judging plan index row =
-    if fails judging row then Some (failure_kind_in_plan judging plan (slice_get plan.jobs index) row) else None
+failure_in_plan judge plan index row =
+    if fails judge row then Some (failure_kind_in_plan judge plan (slice_get plan.jobs index) row) else None
 
 -- the kind of failure of each row that counts as a failure, in order; `indices` are the indices in the plan of the rows' jobs
 abbrev pub failures_in_plan : JudgeView → PlanView → List ℕ → List Row → List FailureKind
-failures_in_plan judging plan indices rows =
-    flat_map (λ placed. option_to_list (failure_in_plan judging plan placed.0 placed.1)) (zip indices rows)
+failures_in_plan judge plan indices rows =
+    flat_map (λ indexed_row. option_to_list (failure_in_plan judge plan indexed_row.0 indexed_row.1)) (zip indices rows)

@@ -6,8 +6,8 @@ use Rattle.rv_expect.specs.Judgement.{JudgeView, fails}
 
 -- whether a row counts as a failure and its job ran
 abbrev pub is_failure : JudgeView → Row → Bool
-is_failure judging row = fails judging row && did_run row.ending
+is_failure judge row = fails judge row && did_run row.ending
 
 -- whether a row counts as a failure and its job was refused
 abbrev pub is_error : JudgeView → Row → Bool
-is_error judging row = fails judging row && not (did_run row.ending)
+is_error judge row = fails judge row && not (did_run row.ending)

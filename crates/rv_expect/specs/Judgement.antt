@@ -6,7 +6,7 @@ use Rattle.rv_rows.specs.declared_row.Row.{Row}
 use Rattle.rv_expect.specs.Rule.{has_passed}
 use Rattle.rv_expect.specs.declared.judgement.Judge.{Judge}
 use Rattle.rv_expect.specs.declared.judgement.Judgement.{Judgement}
-use Rattle.rv_expect.specs.declared.judgement.Judgement.TheVariants as counted
+use Rattle.rv_expect.specs.declared.judgement.Judgement.TheVariants as code_judgement
 use Rattle.rv_expect.specs.declared.rule.Rule.{Rule}
 
 -- how a run counts rows: a rule, and the known failures, if a file lists them
@@ -32,31 +32,31 @@ pub data JudgementView : Type 0 where
 
 -- a `Judgement` of the code as contracts see it
 abbrev pub judgement_view : Judgement → JudgementView
-judgement_view counted.Passed = passed
-judgement_view counted.Failed = failed
-judgement_view (counted.KnownFailure reason) = known reason.now
-judgement_view (counted.NowPasses path) = now_passes path.now
+judgement_view code_judgement.Passed = passed
+judgement_view code_judgement.Failed = failed
+judgement_view (code_judgement.KnownFailure reason) = known reason.now
+judgement_view (code_judgement.NowPasses path) = now_passes path.now
 
 -- the judgement of a row whose job is not listed as a known failure, given whether the row passed
-abbrev pub judged_unknown : Bool → JudgementView
-judged_unknown true = passed
-judged_unknown false = failed
+abbrev pub judgement_if_unlisted : Bool → JudgementView
+judgement_if_unlisted true = passed
+judgement_if_unlisted false = failed
 
 -- the judgement of a row, given the path of the file of known failures, whether the row passed, and the reason in the file, if it lists the
 -- job
-abbrev pub judged_in_file : List ℕ → Bool → Option (List ℕ) → JudgementView
-judged_in_file path has_passed None = judged_unknown has_passed
-judged_in_file path true (Some reason) = now_passes path
-judged_in_file path false (Some reason) = known reason
+abbrev pub judgement_in_file : List ℕ → Bool → Option (List ℕ) → JudgementView
+judgement_in_file path has_passed None = judgement_if_unlisted has_passed
+judgement_in_file path true (Some reason) = now_passes path
+judgement_in_file path false (Some reason) = known reason
 
 -- the judgement of the row of the job with this name, given the known failures, if a file lists them, and whether the row passed
 abbrev pub judgement_by_known : Option KnownJobs → Bool → List ℕ → JudgementView
-judgement_by_known None has_passed name = judged_unknown has_passed
-judgement_by_known (Some file) has_passed name = judged_in_file file.path has_passed (reason_of file.jobs name)
+judgement_by_known None has_passed name = judgement_if_unlisted has_passed
+judgement_by_known (Some file) has_passed name = judgement_in_file file.path has_passed (reason_of file.jobs name)
 
 -- the judgement of a row: whether it passed or failed, and whether its job is a known failure
 abbrev pub judgement : JudgeView → Row → JudgementView
-judgement judging row = judgement_by_known judging.known (has_passed judging.rule row) row.name
+judgement judge row = judgement_by_known judge.known (has_passed judge.rule row) row.name
 
 -- whether a row with this judgement counts as a failure: it failed and is not a known failure, or it passed although it is listed as one
 abbrev pub is_failing : JudgementView → Bool
@@ -82,4 +82,4 @@ is_unknown_failure _ = false
 
 -- whether a row counts as a failure: it failed and is not a known failure, or it passed although it is listed as one
 abbrev pub fails : JudgeView → Row → Bool
-fails judging row = is_failing (judgement judging row)
+fails judge row = is_failing (judgement judge row)

@@ -2,7 +2,7 @@
 
 ghost use Rattle.std.specs.Prelude.{◌≡◌};
 ghost use Rattle.std.specs.List.{list_any};
-ghost use Rattle.rv_expect.specs.Judgement.{fails, is_failing, is_known_failure, is_passed, is_unknown_failure, judged_in_file, judgement_view, judged_unknown};
+ghost use Rattle.rv_expect.specs.Judgement.{fails, is_failing, is_known_failure, is_passed, is_unknown_failure, judgement_in_file, judgement_view, judgement_if_unlisted};
 ghost use Rattle.rv_expect.specs.Judgement.{judgement, judge_by_rule, judge_view};
 ghost use Rattle.rv_expect.specs.KnownJobs.{reason_of};
 
@@ -108,7 +108,7 @@ impl<'k> Judgement<'k> {
 
 // Returns the judgement of a row whose job is not listed as a known failure, given whether the row passed.
 fn judgement_if_unlisted<'k>(passed: bool) -> Judgement<'k>
-    ensures { judgement_view result ≡ judged_unknown passed }
+    ensures { judgement_view result ≡ judgement_if_unlisted passed }
 {
     if passed {
         Judgement::Passed
@@ -119,7 +119,7 @@ fn judgement_if_unlisted<'k>(passed: bool) -> Judgement<'k>
 
 // Returns the judgement of a row, given the file of known failures and whether the row passed.
 fn judgement_in_file<'k>(known_jobs: &'k KnownJobs, passed: bool, row: &Row) -> Judgement<'k>
-    ensures { judgement_view result ≡ judged_in_file known_jobs.now.path passed (reason_of known_jobs.now.jobs row.now.name) }
+    ensures { judgement_view result ≡ judgement_in_file known_jobs.now.path passed (reason_of known_jobs.now.jobs row.now.name) }
 {
     match (passed, known_jobs.reason_of(row.name.as_str().as_bytes())) {
         (_, None) => judgement_if_unlisted(passed),

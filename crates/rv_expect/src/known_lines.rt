@@ -26,9 +26,9 @@ pub(crate) fn name_text(line: &[u8]) -> &[u8]
 pub(crate) fn reason_text(line: &[u8]) -> &[u8]
     ensures { result.now ≡ reason_text line.now }
 {
-    let place = hash_index(line);
-    if place < line.len() {
-        trimmed(&line[place + 1..])
+    let index = hash_index(line);
+    if index < line.len() {
+        trimmed(&line[index + 1..])
     } else {
         &line[line.len()..]
     }
@@ -40,7 +40,7 @@ fn hash_index(line: &[u8]) -> usize
     ensures within { result ≤ length line.now }
 {
     match first_hash(line) {
-        Some(place) => place,
+        Some(index) => index,
         None => line.len(),
     }
 }

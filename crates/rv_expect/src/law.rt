@@ -33,22 +33,22 @@ pub fn references_are_lines_of_words()
 /// Proves that an expectation is reported as unmet if and only if it does not hold by the definitions of the verdict, for each row whose
 /// job ran and whose signature has 32-bit words.
 pub fn unmet_is_what_does_not_hold()
-    ensures { (sides : ComparisonView)
-        → IsTrue (did_run sides.row.ending)
-        → AllByRecursion IsWord (signature_words_or_empty sides.row.signature)
-        → ReportsUnmetExpectations (unmet_expectations_of sides) sides.job (outcome_in_row sides.row)
-        sides.console sides.reference (named_outcome sides.other) }
+    ensures { (comparison : ComparisonView)
+        → IsTrue (did_run comparison.row.ending)
+        → AllByRecursion IsWord (signature_words_or_empty comparison.row.signature)
+        → ReportsUnmetExpectations (unmet_expectations_of comparison) comparison.job (outcome_in_row comparison.row)
+        comparison.console comparison.reference (named_outcome comparison.other) }
 {}
 
 /// Proves that no expectation is reported as unmet if and only if the job passes, for each row whose job ran, whose signature has 32-bit
 /// words, and whose verdict is the one that its outcome requires. A job passes if its verdict is `pass`, or if it has no expectations and
 /// ended with exit code 0.
 pub fn nothing_is_unmet_where_a_job_passes()
-    ensures { (sides : ComparisonView)
-        → IsTrue (did_run sides.row.ending)
-        → AllByRecursion IsWord (signature_words_or_empty sides.row.signature)
-        → HasRequiredVerdict sides
-        → (length (unmet_expectations_of sides) == 0) ≡ passes sides.row.verdict sides.row.ending }
+    ensures { (comparison : ComparisonView)
+        → IsTrue (did_run comparison.row.ending)
+        → AllByRecursion IsWord (signature_words_or_empty comparison.row.signature)
+        → HasRequiredVerdict comparison
+        → (length (unmet_expectations_of comparison) == 0) ≡ passes comparison.row.verdict comparison.row.ending }
 {}
 
 /// Proves that for a job of a plan which ran, and whose signature has 32-bit words, an expectation is reported as unmet if and only if it

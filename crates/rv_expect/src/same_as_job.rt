@@ -8,11 +8,11 @@ use std::alloc::{AllocError, Global};
 
 /// Returns the row of the job that a job's `same_as` names, or `None` if it names none. The named job is run once more.
 pub fn row_of_same_as_job(alloc: Global, plan: &Plan, job: &Job) -> Result<Option<Row>, AllocError>
-    requires { IfSome job.now.same_as (λ place. place < length plan.now.jobs) }
-    ensures { IfOk result (λ named. named ≡ row_of_same_as_job plan.now job.now) }
+    requires { IfSome job.now.same_as (λ index. index < length plan.now.jobs) }
+    ensures { IfOk result (λ other. other ≡ row_of_same_as_job plan.now job.now) }
 {
     match job.same_as {
-        Some(place) => Ok(Some(row_at(alloc, plan, place)?)),
+        Some(index) => Ok(Some(row_at(alloc, plan, index)?)),
         None => Ok(None),
     }
 }

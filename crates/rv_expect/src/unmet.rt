@@ -35,7 +35,7 @@ pub fn unmet_expectations(
     alloc: Global,
     comparison: &Comparison<'_, '_>,
 ) -> Result<Vec<UnmetExpectation>, AllocError>
-    ensures { IfOk result (λ found. found.items ≡ unmet_expectations_of (comparison_view comparison.now)) }
+    ensures { IfOk result (λ expectations. expectations.items ≡ unmet_expectations_of (comparison_view comparison.now)) }
 {
     let (job, row) = (comparison.job, comparison.row);
     let mut found = Vec::new(alloc);

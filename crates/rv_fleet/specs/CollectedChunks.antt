@@ -18,4 +18,4 @@ AreIndexRanges pieces chunks = All (IsIndexRange pieces) chunks
 -- there is one slot for each chunk, in order, and each slot is empty or has the rows of its chunk
 abbrev pub AreChunkSlots : Pieces → List (Option (List Row)) → Type 0
 AreChunkSlots pieces slots = (length slots ≡ piece_count pieces)
-    × ((k : ℕ) → IfSome (slice_index_or slots k None) (λ part. part ≡ piece_rows pieces k))
+    × ((k : ℕ) → IfSome (slice_index_or slots k None) (λ rows. rows ≡ piece_rows pieces k))

@@ -17,9 +17,9 @@ AreFresh draw passes = All (IsFresh draw) passes
 -- the promise of a worker: its pass belongs to this shared counter, and unless memory ran out, its result has exactly the chunks that the
 -- pass drew, each with its number and its rows
 abbrev pub KeepsPromise : List Row → ℕ → CounterView → WorkerResult → Type 0
-KeepsPromise rows group draw results = (results.pass.draw ≡ draw)
-    × IfOk results.pieces (λ made. made.items
-    ≡ map (piece_for rows group) (pieces_among draw.pieces results.pass.draws))
+KeepsPromise rows group draw worker_result = (worker_result.pass.draw ≡ draw)
+    × IfOk worker_result.pieces (λ chunks. chunks.items
+    ≡ map (piece_for rows group) (pieces_among draw.pieces worker_result.pass.draws))
 
 -- each worker kept its promise
 abbrev pub AllKeepPromise : List Row → ℕ → CounterView → List WorkerResult → Type 0

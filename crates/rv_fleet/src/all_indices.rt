@@ -10,15 +10,15 @@ use std::alloc::{AllocError, Global};
 
 /// Returns the indices of all jobs of a plan, in order.
 pub(crate) fn all_indices(alloc: Global, plan: &Plan) -> Result<Vec<usize>, AllocError>
-    ensures within { IfOk result (λ places. AreJobIndices plan.now places.items) }
-    ensures count { IfOk result (λ places. vec_len places ≡ length plan.now.jobs) }
-    ensures increasing { IfOk result (λ places. IsStrictlyIncreasing places.items) }
-    ensures rows { IfOk result (λ places. rows_at plan.now places.items ≡ rows_of plan.now) }
+    ensures within { IfOk result (λ indices. AreJobIndices plan.now indices.items) }
+    ensures count { IfOk result (λ indices. vec_len indices ≡ length plan.now.jobs) }
+    ensures increasing { IfOk result (λ indices. IsStrictlyIncreasing indices.items) }
+    ensures rows { IfOk result (λ indices. rows_at plan.now indices.items ≡ rows_of plan.now) }
 {
     let jobs = plan.jobs();
-    let mut places = Vec::with_capacity(alloc, jobs)?;
-    for place in 0..jobs {
-        places.push(place)?;
+    let mut indices = Vec::with_capacity(alloc, jobs)?;
+    for index in 0..jobs {
+        indices.push(index)?;
     }
-    Ok(places)
+    Ok(indices)
 }

@@ -34,13 +34,13 @@ pub(crate) fn collect_chunks(
     requires pieces { claims.now.pieces ≡ piece_count pieces.now }
     requires promises { AllKeepPromise
         (batch_rows pieces.now.batch) pieces.now.group claims.now worked.items }
-    ensures slots { IfOk result (λ all. AreChunkSlots pieces.now all.slots.items) }
-    ensures pass { IfOk result (λ all. IfSome all.pass (λ pass. pass.draw ≡ claims.now)) }
+    ensures slots { IfOk result (λ collected. AreChunkSlots pieces.now collected.slots.items) }
+    ensures pass { IfOk result (λ collected. IfSome collected.pass (λ pass. pass.draw ≡ claims.now)) }
 {
     let mut slots = empty_slots(alloc, pieces)?;
     let mut all = None;
-    for WorkerResult { pass, pieces: made } in worked {
-        store_chunks(&mut slots, pieces, made?);
+    for WorkerResult { pass, pieces: chunks } in worked {
+        store_chunks(&mut slots, pieces, chunks?);
         all = Some(join_passes(claims, all, pass));
     }
     Ok(CollectedChunks { slots, pass: all })
@@ -74,9 +74,9 @@ fn store_chunk(slots: &mut Vec<Option<Rows>>, pieces: &Pieces<'_>, piece: Piece)
     requires piece { IsIndexRange pieces.now piece }
     ensures { AreChunkSlots pieces.now slots.new.items }
 {
-    let at = piece.number as usize;
-    if slots[at].is_none() {
-        slots[at] = Some(piece.rows);
+    let index = piece.number as usize;
+    if slots[index].is_none() {
+        slots[index] = Some(piece.rows);
     }
 }
 

@@ -55,8 +55,8 @@ pub fn run_fleet<R: Threads + Wait, G: Gate>(
     requires group { (0 < group) × (group ≤ max_group) }
     ensures { IfOk result (λ report. report.rows ≡ rows_of plan.now) }
 {
-    let places = all_indices(alloc, plan)?;
-    let batch = Batch::new(plan, places.as_slice());
+    let indices = all_indices(alloc, plan)?;
+    let batch = Batch::new(plan, indices.as_slice());
     let crew = Crew::new(rt, alloc, workers, group);
     let pieces = Pieces { batch, group };
     let slots = compute_chunks(&crew, &pieces, gate)?;

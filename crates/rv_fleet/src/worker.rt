@@ -33,11 +33,11 @@ pub fn work<G: Gate>(
     requires pass { pass.old.draw ≡ claims.now }
     ensures pass { HasDrawnMore pass.old pass.new }
     ensures ended { IfOk result (λ _. has_ended pass.new ≡ true) }
-    ensures made { IfOk result (λ made. made.items
+    ensures chunks { IfOk result (λ chunks. chunks.items
         ≡ map (piece_at plan.now group) (new_pieces pass.old pass.new)) }
 {
-    let places = all_indices(alloc, plan)?;
-    let batch = Batch::new(plan, places.as_slice());
+    let indices = all_indices(alloc, plan)?;
+    let batch = Batch::new(plan, indices.as_slice());
     let pieces = Pieces { batch, group };
     compute_drawn_chunks(alloc, claims, pass, &pieces, gate)
 }
@@ -55,16 +55,16 @@ pub(crate) fn compute_drawn_chunks<G: Gate>(
     requires pass { pass.old.draw ≡ claims.now }
     ensures pass { HasDrawnMore pass.old pass.new }
     ensures ended { IfOk result (λ _. has_ended pass.new ≡ true) }
-    ensures made { IfOk result (λ made. made.items
+    ensures chunks { IfOk result (λ chunks. chunks.items
         ≡ map (numbered_piece pieces.now) (new_pieces pass.old pass.new)) }
 {
-    let mut drawn = Vec::new(alloc);
+    let mut computed = Vec::new(alloc);
     let mut worker_state = WorkerState::new(alloc);
     while let Some(number) = claims.take(pass) {
-        let made = compute_chunk(alloc, pieces, gate, number, &mut worker_state)?;
-        drawn.push(made)?;
+        let chunk = compute_chunk(alloc, pieces, gate, number, &mut worker_state)?;
+        computed.push(chunk)?;
     }
-    Ok(drawn)
+    Ok(computed)
 }
 
 /// Draws chunks of a batch with this pass until none is left, and computes each. Returns the chunks, and the pass with its draws.

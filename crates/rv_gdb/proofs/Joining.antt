@@ -16,16 +16,16 @@ use Rattle.rv_gdb.specs.Serving.{IsChunkRead, IsServed, IsReadWhileOpen}
 
 -- the bytes of a chunk up to one are heard, and all moves that were asked for are made, whatever comes behind the chunk
 pub record IsHeardIn (end_text : List ℕ) (session : Session) (chunk : List ℕ) (index : ℕ) (old new : Option (List ℕ))
-    (standing : Session) : Type 0 where
+    (session_after : Session) : Type 0 where
   pub replies : List ℕ
-  pub fed : (behind : Bool) → IsReceived end_text (is_interrupted (drop index chunk) behind) session (take index chunk) replies standing
-  pub made : standing.requested ≡ None
-  pub put : Appends old new replies
+  pub responded : (behind : Bool) → IsReceived end_text (is_interrupted (drop index chunk) behind) session (take index chunk) replies session_after
+  pub no_pending_move : session_after.requested ≡ None
+  pub written : Appends old new replies
 
 pub heard_none : (end_text : List ℕ) (session : Session) (chunk : List ℕ) (out : Option (List ℕ)) → session.requested ≡ None
     → IsHeardIn end_text session chunk 0 out out session
 heard_none end_text session chunk out none =
-    record { replies = []; fed = λ behind. no_bytes session; made = none; put = Appends-nil out }
+    record { replies = []; responded = λ behind. no_bytes session; no_pending_move = none; written = Appends-nil out }
 
 -- what comes next is a byte of the chunk
 comes : (chunk : List ℕ) (i d : ℕ) (behind : Bool) → i < length chunk
@@ -34,22 +34,22 @@ comes chunk i d behind within = ap (λ (bytes : List ℕ). is_interrupted bytes 
 
 -- a byte more is heard, and if a move is asked for then, it is not made yet
 pub record IsHeardAt (end_text : List ℕ) (session : Session) (chunk : List ℕ) (index : ℕ) (old new : Option (List ℕ))
-    (standing : Session) : Type 0 where
+    (session_after : Session) : Type 0 where
   pub replies : List ℕ
-  pub fed : (behind : Bool) → IsReceived end_text behind session (take (index + 1) chunk) replies standing
-  pub put : Appends old new replies
+  pub responded : (behind : Bool) → IsReceived end_text behind session (take (index + 1) chunk) replies session_after
+  pub written : Appends old new replies
 
-pub heard_byte : (end_text : List ℕ) (session standing next : Session) (chunk : List ℕ) (i d : ℕ) (a b c : Option (List ℕ))
-    → i < length chunk → IsHeardIn end_text session chunk i a b standing → IsByteReplyWritten standing (get_or chunk i d) b c next
+pub heard_byte : (end_text : List ℕ) (session session_after next : Session) (chunk : List ℕ) (i d : ℕ) (a b c : Option (List ℕ))
+    → i < length chunk → IsHeardIn end_text session chunk i a b session_after → IsByteReplyWritten session_after (get_or chunk i d) b c next
     → IsHeardAt end_text session chunk i a c next
-heard_byte end_text session standing next chunk i d a b c within first one = record {
+heard_byte end_text session session_after next chunk i d a b c within first one = record {
   replies = first.replies ++ one.reply;
-  fed = λ behind. subst (λ (bytes : List ℕ). IsReceived end_text behind session bytes (first.replies ++ one.reply) next)
+  responded = λ behind. subst (λ (bytes : List ℕ). IsReceived end_text behind session bytes (first.replies ++ one.reply) next)
       (sym (take_more chunk i d within))
-      (fed_byte end_text behind session standing next (take i chunk) first.replies one.reply (get_or chunk i d)
-      (subst (λ (may : Bool). IsReceived end_text may session (take i chunk) first.replies standing) (comes chunk i d true within)
-      (first.fed true)) first.made one.received);
-  put = Appends-trans a b c first.replies one.reply first.put one.put;
+      (fed_byte end_text behind session session_after next (take i chunk) first.replies one.reply (get_or chunk i d)
+      (subst (λ (may : Bool). IsReceived end_text may session (take i chunk) first.replies session_after) (comes chunk i d true within)
+      (first.responded true)) first.no_pending_move one.received);
+  written = Appends-trans a b c first.replies one.reply first.written one.written;
 }
 
 -- no move is asked for
@@ -57,34 +57,34 @@ pub heard_on : (end_text : List ℕ) (session next : Session) (chunk : List ℕ)
     → IsHeardAt end_text session chunk i a b next → next.requested ≡ None → IsHeardIn end_text session chunk (i + 1) a b next
 heard_on end_text session next chunk i a b at none = record {
   replies = at.replies;
-  fed = λ behind. at.fed (is_interrupted (drop (i + 1) chunk) behind);
-  made = none;
-  put = at.put;
+  responded = λ behind. at.responded (is_interrupted (drop (i + 1) chunk) behind);
+  no_pending_move = none;
+  written = at.written;
 }
 
 -- a move is made, behind which another byte waits
-pub heard_move : (end_text : List ℕ) (session standing next : Session) (chunk : List ℕ) (i d : ℕ) (a b c : Option (List ℕ))
-    → i + 1 < length chunk → IsHeardAt end_text session chunk i a b standing
-    → IsMoveReplyWritten end_text (get_or chunk (i + 1) d == 3) standing b c next → IsHeardIn end_text session chunk (i + 1) a c next
-heard_move end_text session standing next chunk i d a b c within at move = record {
+pub heard_move : (end_text : List ℕ) (session session_after next : Session) (chunk : List ℕ) (i d : ℕ) (a b c : Option (List ℕ))
+    → i + 1 < length chunk → IsHeardAt end_text session chunk i a b session_after
+    → IsMoveReplyWritten end_text (get_or chunk (i + 1) d == 3) session_after b c next → IsHeardIn end_text session chunk (i + 1) a c next
+heard_move end_text session session_after next chunk i d a b c within at move = record {
   replies = at.replies ++ move.reply;
-  fed = λ behind. subst (λ (may : Bool). IsReceived end_text may session (take (i + 1) chunk) (at.replies ++ move.reply) next)
+  responded = λ behind. subst (λ (may : Bool). IsReceived end_text may session (take (i + 1) chunk) (at.replies ++ move.reply) next)
       (sym (comes chunk (i + 1) d behind within))
-      (fed_move end_text (get_or chunk (i + 1) d == 3) session standing next (take (i + 1) chunk) at.replies move.reply
-      (at.fed (get_or chunk (i + 1) d == 3)) move.made);
-  made = worked_unasked end_text (get_or chunk (i + 1) d == 3) standing next move.reply move.made;
-  put = Appends-trans a b c at.replies move.reply at.put move.put;
+      (fed_move end_text (get_or chunk (i + 1) d == 3) session session_after next (take (i + 1) chunk) at.replies move.reply
+      (at.responded (get_or chunk (i + 1) d == 3)) move.move_made);
+  no_pending_move = worked_unasked end_text (get_or chunk (i + 1) d == 3) session_after next move.reply move.move_made;
+  written = Appends-trans a b c at.replies move.reply at.written move.written;
 }
 
 -- a byte was answered, and no move waits
-pub heard_byte_on : (end_text : List ℕ) (session standing next : Session) (chunk : List ℕ) (i : ℕ) (a b c : Option (List ℕ))
-    → i < length chunk → IsHeardIn end_text session chunk i a b standing → IsByteHandled end_text standing chunk i false b c next
+pub heard_byte_on : (end_text : List ℕ) (session session_after next : Session) (chunk : List ℕ) (i : ℕ) (a b c : Option (List ℕ))
+    → i < length chunk → IsHeardIn end_text session chunk i a b session_after → IsByteHandled end_text session_after chunk i false b c next
     → IsHeardIn end_text session chunk (i + 1) a c next
-heard_byte_on end_text session standing next chunk i a b c within first (inl (one, none)) =
-    heard_on end_text session next chunk i a c (heard_byte end_text session standing next chunk i 0 a b c within first one) none
-heard_byte_on end_text session standing next chunk i a b c within first (inr made) =
-    heard_move end_text session made.between next chunk i 0 a made.middle c made.within
-    (heard_byte end_text session standing made.between chunk i 0 a b made.middle within first made.replied) made.moved
+heard_byte_on end_text session session_after next chunk i a b c within first (inl (one, none)) =
+    heard_on end_text session next chunk i a c (heard_byte end_text session session_after next chunk i 0 a b c within first one) none
+heard_byte_on end_text session session_after next chunk i a b c within first (inr no_pending_move) =
+    heard_move end_text session no_pending_move.session_between next chunk i 0 a no_pending_move.output_between c no_pending_move.within
+    (heard_byte end_text session session_after no_pending_move.session_between chunk i 0 a b no_pending_move.output_between within first no_pending_move.replied) no_pending_move.moved
 
 -- a session that a move is asked for in is not over
 pub asked_going : (session : Session) → IsOpenIfRequested session → is_some session.requested ≡ true → session.is_over ≡ false
@@ -96,8 +96,8 @@ asked_going session (inr going) is = going
 -- the last byte of a chunk is heard
 at_end : (end_text : List ℕ) (may : Bool) (session next : Session) (chunk replies : List ℕ) (i : ℕ) → i ≡ length chunk
     → IsReceived end_text may session (take i chunk) replies next → IsReceived end_text may session chunk replies next
-at_end end_text may session next chunk replies i is fed =
-    subst (λ (bytes : List ℕ). IsReceived end_text may session bytes replies next) (take_all i chunk (omega arith)) fed
+at_end end_text may session next chunk replies i is responded =
+    subst (λ (bytes : List ℕ). IsReceived end_text may session bytes replies next) (take_all i chunk (omega arith)) responded
 
 -- all of it is heard, and nothing waits: behind it comes whatever comes
 heard_whole : (end_text : List ℕ) (session next : Session) (chunk : List ℕ) (i : ℕ) (a b : Option (List ℕ)) (may : Bool)
@@ -105,15 +105,15 @@ heard_whole : (end_text : List ℕ) (session next : Session) (chunk : List ℕ) 
 heard_whole end_text session next chunk i a b may is received =
     at_end end_text may session next chunk received.replies i is
     (subst (λ (rest : List ℕ). IsReceived end_text (is_interrupted rest may) session (take i chunk) received.replies next)
-    (drop_all i chunk (omega arith)) (received.fed may))
+    (drop_all i chunk (omega arith)) (received.responded may))
 
 pub chunk_over : (end_text : List ℕ) (session next : Session) (chunk : List ℕ) (i : ℕ) (x y a b : Option (List ℕ)) → i ≡ length chunk
     → IsHeardIn end_text session chunk i a b next → y ≡ x → next.is_over ≡ true → IsChunkHandled end_text session chunk x y a b None next
 chunk_over end_text session next chunk i x y a b is received same over = record {
   replies = received.replies;
-  fed = heard_whole end_text session next chunk i a b false is received;
-  made = received.made;
-  put = received.put;
+  responded = heard_whole end_text session next chunk i a b false is received;
+  no_pending_move = received.no_pending_move;
+  written = received.written;
   read = (same, over);
 }
 
@@ -121,26 +121,26 @@ pub chunk_read : (end_text : List ℕ) (session next : Session) (chunk bytes : L
     → i ≡ length chunk → IsHeardIn end_text session chunk i a b next → next.is_over ≡ false → IsChunkRead x y bytes
     → IsChunkHandled end_text session chunk x y a b (Some bytes) next
 chunk_read end_text session next chunk bytes i x y a b is received going read =
-    let fed = heard_whole end_text session next chunk i a b (is_interrupted bytes true) is received in record {
+    let responded = heard_whole end_text session next chunk i a b (is_interrupted bytes true) is received in record {
       replies = received.replies;
-      fed = fed;
-      made = received.made;
-      put = received.put;
-      read = (read, record { replies = received.replies; standing = next; fed = fed; is_open = going });
+      responded = responded;
+      no_pending_move = received.no_pending_move;
+      written = received.written;
+      read = (read, record { replies = received.replies; session_after = next; responded = responded; is_open = going });
     }
 
-pub chunk_moved : (end_text : List ℕ) (session standing next : Session) (chunk bytes : List ℕ) (i : ℕ) (x y a b c : Option (List ℕ))
-    → i + 1 ≡ length chunk → IsHeardAt end_text session chunk i a b standing → standing.is_over ≡ false
-    → IsMoveReplyWritten end_text (is_interrupted bytes true) standing b c next → IsChunkRead x y bytes
+pub chunk_moved : (end_text : List ℕ) (session session_after next : Session) (chunk bytes : List ℕ) (i : ℕ) (x y a b c : Option (List ℕ))
+    → i + 1 ≡ length chunk → IsHeardAt end_text session chunk i a b session_after → session_after.is_over ≡ false
+    → IsMoveReplyWritten end_text (is_interrupted bytes true) session_after b c next → IsChunkRead x y bytes
     → IsChunkHandled end_text session chunk x y a c (Some bytes) next
-chunk_moved end_text session standing next chunk bytes i x y a b c is at going move read =
+chunk_moved end_text session session_after next chunk bytes i x y a b c is at going move read =
     let may = is_interrupted bytes true in
-    let first = at_end end_text may session standing chunk at.replies (i + 1) is (at.fed may) in record {
+    let first = at_end end_text may session session_after chunk at.replies (i + 1) is (at.responded may) in record {
       replies = at.replies ++ move.reply;
-      fed = fed_move end_text may session standing next chunk at.replies move.reply first move.made;
-      made = worked_unasked end_text may standing next move.reply move.made;
-      put = Appends-trans a b c at.replies move.reply at.put move.put;
-      read = (read, record { replies = at.replies; standing = standing; fed = first; is_open = going });
+      responded = fed_move end_text may session session_after next chunk at.replies move.reply first move.move_made;
+      no_pending_move = worked_unasked end_text may session_after next move.reply move.move_made;
+      written = Appends-trans a b c at.replies move.reply at.written move.written;
+      read = (read, record { replies = at.replies; session_after = session_after; responded = first; is_open = going });
     }
 
 -- a move that was broken off, as another thread told, was so for what this thread read
@@ -148,23 +148,23 @@ pub put_more : (end_text : List ℕ) (one other : Bool) (session next : Session)
     → IsMoveReplyWritten end_text one session a b next → IsMoveReplyWritten end_text other session a b next
 put_more end_text one other session next a b more move = record {
   reply = move.reply;
-  made = worked_more end_text one other session next move.reply more move.made;
-  put = move.put;
+  move_made = worked_more end_text one other session next move.reply more move.move_made;
+  written = move.written;
 }
 
 -- ---- a chunk behind others
 
 -- all up to a chunk was heard, and it is read, but not answered yet
 pub record IsHeardUpTo (end_text : List ℕ) (session : Session) (before after old new : Option (List ℕ)) (chunk : List ℕ)
-    (standing : Session) : Type 0 where
+    (session_after : Session) : Type 0 where
   pub front : List ℕ
   pub replies : List ℕ
   pub read : Consumes before after (front ++ chunk)
-  pub while_open : IsReadWhileOpen end_text session (front ++ chunk)
+  pub read_while_open : IsReadWhileOpen end_text session (front ++ chunk)
   pub ended : chunk ≡ [] → IsAtEnd after
-  pub fed : IsReceived end_text (is_interrupted chunk true) session front replies standing
-  pub made : standing.requested ≡ None
-  pub put : Appends old new replies
+  pub responded : IsReceived end_text (is_interrupted chunk true) session front replies session_after
+  pub no_pending_move : session_after.requested ≡ None
+  pub written : Appends old new replies
 
 pub silent : (end_text : List ℕ) (session : Session) (input out : Option (List ℕ)) → session.requested ≡ None
     → IsServed end_text session input input out out session
@@ -172,12 +172,12 @@ silent end_text session input out none = record {
   received = [];
   replies = [];
   read = Consumes-nil input;
-  while_open = inl refl;
+  read_while_open = inl refl;
   may_end = false;
   ended = λ never. absurd (false≢true never);
-  fed = no_bytes session;
-  made = none;
-  put = Appends-nil out;
+  responded = no_bytes session;
+  no_pending_move = none;
+  written = Appends-nil out;
 }
 
 -- the first chunk is read
@@ -187,20 +187,20 @@ first_read end_text session chunk a b out none going chunk_is = record {
   front = [];
   replies = [];
   read = chunk_is.read;
-  while_open = inr (record {
-    front = [];
+  read_while_open = inr (record {
+    earlier = [];
     last = chunk;
-    heard_is = refl;
-    short = chunk_is.short;
+    split = refl;
+    at_most_max = chunk_is.at_most_max;
     replies = [];
-    standing = session;
-    fed = no_bytes session;
+    session_after = session;
+    responded = no_bytes session;
     is_open = going;
   });
   ended = chunk_is.ended;
-  fed = no_bytes session;
-  made = none;
-  put = Appends-nil out;
+  responded = no_bytes session;
+  no_pending_move = none;
+  written = Appends-nil out;
 }
 
 -- where a chunk has a byte, it does not matter what comes behind it
@@ -214,7 +214,7 @@ heard_both : (end_text : List ℕ) (may : Bool) (session between next : Session)
     → IsReceived end_text may session (first.front ++ chunk) (first.replies ++ more) next
 heard_both end_text may session between next chunk more a b x y some first second =
     fed_both end_text may chunk session between next first.front first.replies more
-    (subst (λ (m : Bool). IsReceived end_text m session first.front first.replies between) (same_next chunk true may some) first.fed) second
+    (subst (λ (m : Bool). IsReceived end_text m session first.front first.replies between) (same_next chunk true may some) first.responded) second
 
 pub heard_more : (end_text : List ℕ) (session between next : Session) (chunk bytes : List ℕ) (a b c x y z : Option (List ℕ)) → chunk ≢ []
     → IsHeardUpTo end_text session a b x y chunk between → IsChunkHandled end_text between chunk b c y z (Some bytes) next
@@ -223,21 +223,21 @@ heard_more end_text session between next chunk bytes a b c x y z some first seco
   front = first.front ++ chunk;
   replies = first.replies ++ second.replies;
   read = Consumes-trans a b c (first.front ++ chunk) bytes first.read second.read.0.read;
-  while_open = inr (record {
-    front = first.front ++ chunk;
+  read_while_open = inr (record {
+    earlier = first.front ++ chunk;
     last = bytes;
-    heard_is = refl;
-    short = second.read.0.short;
+    split = refl;
+    at_most_max = second.read.0.at_most_max;
     replies = first.replies ++ second.read.1.replies;
-    standing = second.read.1.standing;
-    fed = heard_both end_text (is_interrupted bytes true) session between second.read.1.standing chunk second.read.1.replies a b x y some
-        first second.read.1.fed;
+    session_after = second.read.1.session_after;
+    responded = heard_both end_text (is_interrupted bytes true) session between second.read.1.session_after chunk second.read.1.replies a b x y some
+        first second.read.1.responded;
     is_open = second.read.1.is_open;
   });
   ended = second.read.0.ended;
-  fed = heard_both end_text (is_interrupted bytes true) session between next chunk second.replies a b x y some first second.fed;
-  made = second.made;
-  put = Appends-trans x y z first.replies second.replies first.put second.put;
+  responded = heard_both end_text (is_interrupted bytes true) session between next chunk second.replies a b x y some first second.responded;
+  no_pending_move = second.no_pending_move;
+  written = Appends-trans x y z first.replies second.replies first.written second.written;
 }
 
 -- the session is over behind the chunk
@@ -249,12 +249,12 @@ heard_over end_text session between next chunk a b c x y z some first second = (
     received = first.front ++ chunk;
     replies = first.replies ++ second.replies;
     read = subst (λ (rest : Option (List ℕ)). Consumes a rest (first.front ++ chunk)) (sym second.read.0) first.read;
-    while_open = first.while_open;
+    read_while_open = first.read_while_open;
     may_end = false;
     ended = λ never. absurd (false≢true never);
-    fed = heard_both end_text false session between next chunk second.replies a b x y some first second.fed;
-    made = second.made;
-    put = Appends-trans x y z first.replies second.replies first.put second.put;
+    responded = heard_both end_text false session between next chunk second.replies a b x y some first second.responded;
+    no_pending_move = second.no_pending_move;
+    written = Appends-trans x y z first.replies second.replies first.written second.written;
   },
   second.read.1,
 )
@@ -267,13 +267,13 @@ heard_all end_text session next chunk a b x y none up_to = (
     received = up_to.front ++ chunk;
     replies = up_to.replies;
     read = up_to.read;
-    while_open = up_to.while_open;
+    read_while_open = up_to.read_while_open;
     may_end = is_interrupted chunk true;
     ended = λ may. up_to.ended none;
-    fed = subst (λ (bytes : List ℕ). IsReceived end_text (is_interrupted chunk true) session bytes up_to.replies next)
-        (sym (ap (λ (last : List ℕ). up_to.front ++ last) none ∙ append-nil up_to.front)) up_to.fed;
-    made = up_to.made;
-    put = up_to.put;
+    responded = subst (λ (bytes : List ℕ). IsReceived end_text (is_interrupted chunk true) session bytes up_to.replies next)
+        (sym (ap (λ (last : List ℕ). up_to.front ++ last) none ∙ append-nil up_to.front)) up_to.responded;
+    no_pending_move = up_to.no_pending_move;
+    written = up_to.written;
   },
   up_to.ended none,
 )

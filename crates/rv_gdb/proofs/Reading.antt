@@ -13,6 +13,6 @@ chunk_of before after buffer chunk count bound room is bytes =
     let long : length (take count buffer) ≡ count = length-take-le count buffer bound in
     let same : length chunk ≡ count = ap length is ∙ long in record {
       read = subst (λ (xs : List ℕ). Consumes before after xs) (sym is) bytes.0;
-      short = omega arith;
+      at_most_max = omega arith;
       ended = λ none. let empty : length chunk ≡ 0 = ap length none in bytes.1 (omega arith) (omega arith);
     }

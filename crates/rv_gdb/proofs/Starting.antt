@@ -155,9 +155,9 @@ pub opened : (answers : List PathResult) (job : Job) (image : Image) (s : State)
     → session ≡ at_start start budget (record { path = path; image = bytes }) → IsSessionOf answers job path session
 opened answers job image s start budget path bytes session begins there read bus entry isa same is = record {
   start = start;
-  starts = begins ∙ ap (λ (t : State). Ok t) (begun_at job s answers image begins there
+  start_is = begins ∙ ap (λ (t : State). Ok t) (begun_at job s answers image begins there
       ∙ (λ i. reset_state (sym bus i) (sym entry i) (sym isa i)));
   image = bytes;
-  read = read;
+  image_is = read;
   session_is = is ∙ ap (λ (n : ℕ). at_start start n (record { path = path; image = bytes })) same;
 }

@@ -10,25 +10,25 @@ pub record IsByteReplyWritten (session : Session) (byte : ℕ) (old new : Option
   -- the reply
   pub reply : List ℕ
   pub received : IsByteReceived session byte reply next
-  pub put : Appends old new reply
+  pub written : Appends old new reply
 
 -- the session made the requested move and became `next`, and its reply was written, which extends the output from `old` to `new`
 pub record IsMoveReplyWritten (end_text : List ℕ) (may_break : Bool) (session : Session) (old new : Option (List ℕ)) (next : Session) : Type 0 where
   -- the reply
   pub reply : List ℕ
-  pub made : IsRequestedMoveMade end_text may_break session reply next
-  pub put : Appends old new reply
+  pub move_made : IsRequestedMoveMade end_text may_break session reply next
+  pub written : Appends old new reply
 
 -- the byte at this index of a chunk requested a move, which was made before the next byte of the chunk was received
 pub record IsMoveMade (end_text : List ℕ) (session : Session) (chunk : List ℕ) (index : ℕ) (old new : Option (List ℕ)) (next : Session)
     : Type 0 where
   -- the session after the byte, before the move is made
-  pub between : Session
+  pub session_between : Session
   -- the output before the reply to the move
-  pub middle : Option (List ℕ)
+  pub output_between : Option (List ℕ)
   pub within : index + 1 < length chunk
-  pub replied : IsByteReplyWritten session (slice_index_or chunk index 0) old middle between
-  pub moved : IsMoveReplyWritten end_text (slice_index_or chunk (index + 1) 0 == 3) between middle new next
+  pub replied : IsByteReplyWritten session (slice_index_or chunk index 0) old output_between session_between
+  pub moved : IsMoveReplyWritten end_text (slice_index_or chunk (index + 1) 0 == 3) session_between output_between new next
 
 -- the byte at this index of a chunk was handled; if the Bool is true, it is the last byte and requested a move, which is still pending
 abbrev pub IsByteHandled : List ℕ → Session → List ℕ → ℕ → Bool → Option (List ℕ) → Option (List ℕ) → Session → Type 0
@@ -48,9 +48,9 @@ pub record IsOpenAfter (end_text : List ℕ) (session : Session) (chunk bytes : 
   -- the replies to the chunk
   pub replies : List ℕ
   -- the session after the chunk
-  pub standing : Session
-  pub fed : IsReceived end_text (is_interrupted bytes true) session chunk replies standing
-  pub is_open : standing.is_over ≡ false
+  pub session_after : Session
+  pub responded : IsReceived end_text (is_interrupted bytes true) session chunk replies session_after
+  pub is_open : session_after.is_over ≡ false
 
 -- the next chunk was read while the session was open; or, without a next chunk, the session is over and nothing was read
 abbrev pub IsNextRead : List ℕ → Session → List ℕ → Option (List ℕ) → Option (List ℕ) → Option (List ℕ) → Session → Type 0
@@ -63,7 +63,7 @@ pub record IsChunkHandled (end_text : List ℕ) (session : Session) (chunk : Lis
     (next : Session) : Type 0 where
   -- the replies to the chunk
   pub replies : List ℕ
-  pub fed : IsReceived end_text (is_interrupted_by_next next_chunk) session chunk replies next
-  pub made : next.requested ≡ None
-  pub put : Appends old new replies
+  pub responded : IsReceived end_text (is_interrupted_by_next next_chunk) session chunk replies next
+  pub no_pending_move : next.requested ≡ None
+  pub written : Appends old new replies
   pub read : IsNextRead end_text session chunk before after next_chunk next

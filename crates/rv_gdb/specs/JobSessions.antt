@@ -11,9 +11,9 @@ use Rattle.rv_trace.specs.Trace.{image_bytes}
 
 -- the session is at the start of the run of a job that is not refused, before gdb has sent anything; `path` is the path by which gdb knows
 -- the job's image
-pub record IsSessionOf (answers : List PathResult) (job : Job) (path : List ℕ) (session : Session) : Type 0 where
+pub record IsSessionOf (results : List PathResult) (job : Job) (path : List ℕ) (session : Session) : Type 0 where
   pub start : Start
-  pub starts : start_state_in answers job ≡ Ok (start_of start)
+  pub start_is : start_state_in results job ≡ Ok (start_of start)
   pub image : List ℕ
-  pub read : image_bytes answers job ≡ Some image
+  pub image_is : image_bytes results job ≡ Some image
   pub session_is : session ≡ at_start start job.budget (record { path = path; image = image })

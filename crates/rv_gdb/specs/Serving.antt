@@ -11,20 +11,20 @@ max_read = 16384
 -- one read returned this chunk: it has at most `max_read` bytes, and is empty only at the end of the input
 pub record IsChunkRead (before after : Option (List ℕ)) (chunk : List ℕ) : Type 0 where
   pub read : Consumes before after chunk
-  pub short : length chunk ≤ max_read
+  pub at_most_max : length chunk ≤ max_read
   pub ended : chunk ≡ [] → IsAtEnd after
 
 -- the last of these bytes come from one read, which began while the session was open
 pub record IsLastReadOpen (end_text : List ℕ) (session : Session) (received : List ℕ) : Type 0 where
-  pub front : List ℕ
+  pub earlier : List ℕ
   pub last : List ℕ
-  pub heard_is : received ≡ front ++ last
-  pub short : length last ≤ max_read
+  pub split : received ≡ earlier ++ last
+  pub at_most_max : length last ≤ max_read
   -- the replies to the earlier bytes
   pub replies : List ℕ
-  pub standing : Session
-  pub fed : IsReceived end_text (is_interrupted last true) session front replies standing
-  pub is_open : standing.is_over ≡ false
+  pub session_after : Session
+  pub responded : IsReceived end_text (is_interrupted last true) session earlier replies session_after
+  pub is_open : session_after.is_over ≡ false
 
 -- no read began after the session was over: there are no bytes, or the last read began while it was open
 abbrev pub IsReadWhileOpen : List ℕ → Session → List ℕ → Type 0
@@ -39,13 +39,13 @@ pub record IsServed (end_text : List ℕ) (session : Session) (before after old 
   pub replies : List ℕ
   pub read : Consumes before after received
   -- no read began after the session was over
-  pub while_open : IsReadWhileOpen end_text session received
+  pub read_while_open : IsReadWhileOpen end_text session received
   -- whether the end of the input may have interrupted a move; otherwise only the byte 0x03 did
   pub may_end : Bool
   pub ended : may_end ≡ true → IsAtEnd after
-  pub fed : IsReceived end_text may_end session received replies next
-  pub made : next.requested ≡ None
-  pub put : Appends old new replies
+  pub responded : IsReceived end_text may_end session received replies next
+  pub no_pending_move : next.requested ≡ None
+  pub written : Appends old new replies
 
 -- the session is over, or gdb sends nothing more
 abbrev pub IsEnded : Session → Option (List ℕ) → Type 0

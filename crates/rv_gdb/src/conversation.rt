@@ -62,12 +62,12 @@ pub fn serve<R: Threads, E: EndText, I: Read + Send, O: Sink>(
 ) -> Result<(), SessionError>
     requires requested { session.old.requested ≡ None }
     requires of_run { E.start context.now.end.now ≡ session.old.history.start }
-    ensures heard { OnOk result (IsServed (E.end_text context.now.end.now) session.old (I.remaining input.old)
+    ensures served { OnOk result (IsServed (E.end_text context.now.end.now) session.old (I.remaining input.old)
         (I.remaining input.new) (O.accepted out.old) (O.accepted out.new) session.new) }
     ensures ended { OnOk result (IsEnded session.new (I.remaining input.new)) }
-    ensures failed { IfErr result (λ broken. broken ≡ SessionError.ReplyWriteFailed → O.failure_count out.new ≡ one_more (O.failure_count out.old)) }
-    ensures no_failures { IfErr result (λ broken. broken ≢ SessionError.ReplyWriteFailed → O.failure_count out.new ≡ O.failure_count out.old) }
-    ensures counted { OnOk result (O.failure_count out.new ≡ O.failure_count out.old) }
+    ensures failed { IfErr result (λ error. error ≡ SessionError.ReplyWriteFailed → O.failure_count out.new ≡ one_more (O.failure_count out.old)) }
+    ensures no_failures { IfErr result (λ error. error ≢ SessionError.ReplyWriteFailed → O.failure_count out.new ≡ O.failure_count out.old) }
+    ensures no_failed_writes { OnOk result (O.failure_count out.new ≡ O.failure_count out.old) }
 {
     if session.is_over() {
         return Ok(());
@@ -96,13 +96,13 @@ fn respond_to_chunk<R: Threads, E: EndText, I: Read + Send, O: Sink>(
 ) -> Result<Option<Vec<u8>>, SessionError>
     requires requested { session.old.requested ≡ None }
     requires of_run { E.start context.now.end.now ≡ session.old.history.start }
-    ensures answered { IfOk result (λ next. IsChunkHandled (E.end_text context.now.end.now) session.old chunk.now
+    ensures handled { IfOk result (λ next. IsChunkHandled (E.end_text context.now.end.now) session.old chunk.now
         (I.remaining input.old) (I.remaining input.new) (O.accepted out.old) (O.accepted out.new)
         (option_map (λ bytes. bytes.items) next) session.new) }
-    ensures run { OnOk result (IsSameRun session.old session.new) }
-    ensures failed { IfErr result (λ broken. broken ≡ SessionError.ReplyWriteFailed → O.failure_count out.new ≡ one_more (O.failure_count out.old)) }
-    ensures no_failures { IfErr result (λ broken. broken ≢ SessionError.ReplyWriteFailed → O.failure_count out.new ≡ O.failure_count out.old) }
-    ensures counted { OnOk result (O.failure_count out.new ≡ O.failure_count out.old) }
+    ensures same_run { OnOk result (IsSameRun session.old session.new) }
+    ensures failed { IfErr result (λ error. error ≡ SessionError.ReplyWriteFailed → O.failure_count out.new ≡ one_more (O.failure_count out.old)) }
+    ensures no_failures { IfErr result (λ error. error ≢ SessionError.ReplyWriteFailed → O.failure_count out.new ≡ O.failure_count out.old) }
+    ensures no_failed_writes { OnOk result (O.failure_count out.new ≡ O.failure_count out.old) }
 {
     for index in 0..chunk.len() {
         if respond_to_byte(context, session, chunk, index, out)? {
@@ -127,13 +127,13 @@ fn respond_to_byte<R, E: EndText, O: Sink>(
     requires within { index < length chunk.now }
     requires requested { session.old.requested ≡ None }
     requires of_run { E.start context.now.end.now ≡ session.old.history.start }
-    ensures answered { IfOk result (λ is_move_pending. IsByteHandled (E.end_text context.now.end.now) session.old chunk.now index is_move_pending
+    ensures handled { IfOk result (λ is_move_pending. IsByteHandled (E.end_text context.now.end.now) session.old chunk.now index is_move_pending
         (O.accepted out.old) (O.accepted out.new) session.new) }
     ensures not_over { OnOk result (IsOpenIfRequested session.new) }
-    ensures run { OnOk result (IsSameRun session.old session.new) }
-    ensures failed { IfErr result (λ broken. broken ≡ SessionError.ReplyWriteFailed → O.failure_count out.new ≡ one_more (O.failure_count out.old)) }
-    ensures no_failures { IfErr result (λ broken. broken ≢ SessionError.ReplyWriteFailed → O.failure_count out.new ≡ O.failure_count out.old) }
-    ensures counted { OnOk result (O.failure_count out.new ≡ O.failure_count out.old) }
+    ensures same_run { OnOk result (IsSameRun session.old session.new) }
+    ensures failed { IfErr result (λ error. error ≡ SessionError.ReplyWriteFailed → O.failure_count out.new ≡ one_more (O.failure_count out.old)) }
+    ensures no_failures { IfErr result (λ error. error ≢ SessionError.ReplyWriteFailed → O.failure_count out.new ≡ O.failure_count out.old) }
+    ensures no_failed_writes { OnOk result (O.failure_count out.new ≡ O.failure_count out.old) }
 {
     write_byte_reply(context.alloc, session, chunk[index], out)?;
     if !session.is_move_requested() {
@@ -146,23 +146,23 @@ fn respond_to_byte<R, E: EndText, O: Sink>(
     Ok(false)
 }
 
-// Makes the requested move, and writes the reply to it. `behind` is the next byte, which interrupts the move if it is 0x03.
+// Makes the requested move, and writes the reply to it. `next_byte` is the next byte of the chunk, which interrupts the move if it is 0x03.
 fn write_move_reply_before<R, E: EndText, O: Sink>(
     context: &SessionContext<'_, R, E>,
     session: &mut Session,
-    behind: u8,
+    next_byte: u8,
     out: &mut O,
 ) -> Result<(), SessionError>
     requires requested { is_some session.old.requested ≡ true }
     requires of_run { E.start context.now.end.now ≡ session.old.history.start }
-    ensures moved { OnOk result (IsMoveReplyWritten (E.end_text context.now.end.now) (behind == 3) session.old (O.accepted out.old)
+    ensures moved { OnOk result (IsMoveReplyWritten (E.end_text context.now.end.now) (next_byte == 3) session.old (O.accepted out.old)
         (O.accepted out.new) session.new) }
-    ensures run { OnOk result (IsSameRun session.old session.new) }
-    ensures failed { IfErr result (λ broken. broken ≡ SessionError.ReplyWriteFailed → O.failure_count out.new ≡ one_more (O.failure_count out.old)) }
-    ensures no_failures { IfErr result (λ broken. broken ≢ SessionError.ReplyWriteFailed → O.failure_count out.new ≡ O.failure_count out.old) }
-    ensures counted { OnOk result (O.failure_count out.new ≡ O.failure_count out.old) }
+    ensures same_run { OnOk result (IsSameRun session.old session.new) }
+    ensures failed { IfErr result (λ error. error ≡ SessionError.ReplyWriteFailed → O.failure_count out.new ≡ one_more (O.failure_count out.old)) }
+    ensures no_failures { IfErr result (λ error. error ≢ SessionError.ReplyWriteFailed → O.failure_count out.new ≡ O.failure_count out.old) }
+    ensures no_failed_writes { OnOk result (O.failure_count out.new ≡ O.failure_count out.old) }
 {
-    if behind == CTRL_C {
+    if next_byte == CTRL_C {
         write_move_reply(context, session, &mut AlwaysRaised, out)
     } else {
         write_move_reply(context, session, &mut NeverRaised, out)
@@ -177,15 +177,15 @@ fn write_byte_reply<O: Sink>(
     out: &mut O,
 ) -> Result<(), SessionError>
     requires { session.old.requested ≡ None }
-    ensures answered { OnOk result (IsByteReplyWritten session.old byte (O.accepted out.old) (O.accepted out.new) session.new) }
+    ensures written { OnOk result (IsByteReplyWritten session.old byte (O.accepted out.old) (O.accepted out.new) session.new) }
     ensures not_over { OnOk result (IsOpenIfRequested session.new) }
-    ensures run { OnOk result (IsSameRun session.old session.new) }
-    ensures failed { IfErr result (λ broken. broken ≡ SessionError.ReplyWriteFailed → O.failure_count out.new ≡ one_more (O.failure_count out.old)) }
-    ensures no_failures { IfErr result (λ broken. broken ≢ SessionError.ReplyWriteFailed → O.failure_count out.new ≡ O.failure_count out.old) }
-    ensures counted { OnOk result (O.failure_count out.new ≡ O.failure_count out.old) }
+    ensures same_run { OnOk result (IsSameRun session.old session.new) }
+    ensures failed { IfErr result (λ error. error ≡ SessionError.ReplyWriteFailed → O.failure_count out.new ≡ one_more (O.failure_count out.old)) }
+    ensures no_failures { IfErr result (λ error. error ≢ SessionError.ReplyWriteFailed → O.failure_count out.new ≡ O.failure_count out.old) }
+    ensures no_failed_writes { OnOk result (O.failure_count out.new ≡ O.failure_count out.old) }
 {
-    let told = session.receive(alloc, byte)?;
-    write_reply_bytes(out, told.as_slice())
+    let reply = session.receive(alloc, byte)?;
+    write_reply_bytes(out, reply.as_slice())
 }
 
 // Makes the requested move, and writes the session's reply to it.
@@ -199,13 +199,13 @@ fn write_move_reply<R, E: EndText, J: Interrupt, O: Sink>(
     requires of_run { E.start context.now.end.now ≡ session.old.history.start }
     ensures moved { OnOk result (IsMoveReplyWritten (E.end_text context.now.end.now) (J.was_raised interrupt.new) session.old
         (O.accepted out.old) (O.accepted out.new) session.new) }
-    ensures run { OnOk result (IsSameRun session.old session.new) }
-    ensures failed { IfErr result (λ broken. broken ≡ SessionError.ReplyWriteFailed → O.failure_count out.new ≡ one_more (O.failure_count out.old)) }
-    ensures no_failures { IfErr result (λ broken. broken ≢ SessionError.ReplyWriteFailed → O.failure_count out.new ≡ O.failure_count out.old) }
-    ensures counted { OnOk result (O.failure_count out.new ≡ O.failure_count out.old) }
+    ensures same_run { OnOk result (IsSameRun session.old session.new) }
+    ensures failed { IfErr result (λ error. error ≡ SessionError.ReplyWriteFailed → O.failure_count out.new ≡ one_more (O.failure_count out.old)) }
+    ensures no_failures { IfErr result (λ error. error ≢ SessionError.ReplyWriteFailed → O.failure_count out.new ≡ O.failure_count out.old) }
+    ensures no_failed_writes { OnOk result (O.failure_count out.new ≡ O.failure_count out.old) }
 {
     match session.work(context.alloc, context.end, interrupt) {
-        Ok(told) => write_reply_bytes(out, told.as_slice()),
+        Ok(reply) => write_reply_bytes(out, reply.as_slice()),
         Err(error) => {
             // gdb is waiting for a reply, and a read for gdb.
             write_reply_bytes(out, NO_MEMORY.as_bytes())?;
@@ -215,13 +215,13 @@ fn write_move_reply<R, E: EndText, J: Interrupt, O: Sink>(
 }
 
 // Writes the bytes of a reply, or returns `ReplyWriteFailed` if a write fails.
-fn write_reply_bytes<O: Sink>(out: &mut O, told: &[u8]) -> Result<(), SessionError>
-    ensures put { OnOk result (Appends (O.accepted out.old) (O.accepted out.new) told.now) }
-    ensures failed { IfErr result (λ broken. broken ≡ SessionError.ReplyWriteFailed → O.failure_count out.new ≡ one_more (O.failure_count out.old)) }
-    ensures no_failures { IfErr result (λ broken. broken ≢ SessionError.ReplyWriteFailed → O.failure_count out.new ≡ O.failure_count out.old) }
-    ensures counted { OnOk result (O.failure_count out.new ≡ O.failure_count out.old) }
+fn write_reply_bytes<O: Sink>(out: &mut O, reply: &[u8]) -> Result<(), SessionError>
+    ensures written { OnOk result (Appends (O.accepted out.old) (O.accepted out.new) reply.now) }
+    ensures failed { IfErr result (λ error. error ≡ SessionError.ReplyWriteFailed → O.failure_count out.new ≡ one_more (O.failure_count out.old)) }
+    ensures no_failures { IfErr result (λ error. error ≢ SessionError.ReplyWriteFailed → O.failure_count out.new ≡ O.failure_count out.old) }
+    ensures no_failed_writes { OnOk result (O.failure_count out.new ≡ O.failure_count out.old) }
 {
-    match put_all(out, told) {
+    match put_all(out, reply) {
         Ok(()) => Ok(()),
         Err(_) => Err(SessionError::ReplyWriteFailed),
     }
@@ -239,10 +239,10 @@ fn move_while_reading<R: Threads, E: EndText, I: Read + Send, O: Sink>(
     ensures read { IfOk result (λ chunk. IsChunkRead (I.remaining input.old) (I.remaining input.new) chunk.items) }
     ensures moved { IfOk result (λ chunk. IsMoveReplyWritten (E.end_text context.now.end.now) (is_interrupted chunk.items true)
         session.old (O.accepted out.old) (O.accepted out.new) session.new) }
-    ensures run { OnOk result (IsSameRun session.old session.new) }
-    ensures failed { IfErr result (λ broken. broken ≡ SessionError.ReplyWriteFailed → O.failure_count out.new ≡ one_more (O.failure_count out.old)) }
-    ensures no_failures { IfErr result (λ broken. broken ≢ SessionError.ReplyWriteFailed → O.failure_count out.new ≡ O.failure_count out.old) }
-    ensures counted { OnOk result (O.failure_count out.new ≡ O.failure_count out.old) }
+    ensures same_run { OnOk result (IsSameRun session.old session.new) }
+    ensures failed { IfErr result (λ error. error ≡ SessionError.ReplyWriteFailed → O.failure_count out.new ≡ one_more (O.failure_count out.old)) }
+    ensures no_failures { IfErr result (λ error. error ≢ SessionError.ReplyWriteFailed → O.failure_count out.new ≡ O.failure_count out.old) }
+    ensures no_failed_writes { OnOk result (O.failure_count out.new ≡ O.failure_count out.old) }
 {
     let raised = AtomicBool::new(false);
     move_while_reading_into(context, session, input, out, &raised)
@@ -262,23 +262,23 @@ fn move_while_reading_into<R: Threads, E: EndText, I: Read + Send, O: Sink>(
     ensures read { IfOk result (λ chunk. IsChunkRead (I.remaining input.old) (I.remaining input.new) chunk.items) }
     ensures moved { IfOk result (λ chunk. IsMoveReplyWritten (E.end_text context.now.end.now) (is_interrupted chunk.items true)
         session.old (O.accepted out.old) (O.accepted out.new) session.new) }
-    ensures run { OnOk result (IsSameRun session.old session.new) }
-    ensures failed { IfErr result (λ broken. broken ≡ SessionError.ReplyWriteFailed → O.failure_count out.new ≡ one_more (O.failure_count out.old)) }
-    ensures no_failures { IfErr result (λ broken. broken ≢ SessionError.ReplyWriteFailed → O.failure_count out.new ≡ O.failure_count out.old) }
-    ensures counted { OnOk result (O.failure_count out.new ≡ O.failure_count out.old) }
+    ensures same_run { OnOk result (IsSameRun session.old session.new) }
+    ensures failed { IfErr result (λ error. error ≡ SessionError.ReplyWriteFailed → O.failure_count out.new ≡ one_more (O.failure_count out.old)) }
+    ensures no_failures { IfErr result (λ error. error ≢ SessionError.ReplyWriteFailed → O.failure_count out.new ≡ O.failure_count out.old) }
+    ensures no_failed_writes { OnOk result (O.failure_count out.new ≡ O.failure_count out.old) }
 {
     let alloc = context.alloc;
-    let mut next_chunk = SharedInterrupt {
+    let mut interrupt = SharedInterrupt {
         raised,
         was_seen: false,
     };
     let (read, put) = join_mut(
         context.rt,
         &mut || read_ahead(alloc, input, raised),
-        &mut || write_move_reply(context, session, &mut next_chunk, out),
+        &mut || write_move_reply(context, session, &mut interrupt, out),
     );
     put?;
     let chunk = read?;
-    check_interrupt(next_chunk.was_seen, chunk.as_slice())?;
+    check_interrupt(interrupt.was_seen, chunk.as_slice())?;
     Ok(chunk)
 }

@@ -46,7 +46,7 @@ pub(crate) struct SharedInterrupt<'a> {
 }
 
 impl Interrupt for SharedInterrupt<'_> {
-    ghost was_raised = { λ next_chunk. next_chunk.was_seen };
+    ghost was_raised = { λ interrupt. interrupt.was_seen };
 
     // Whether the reading thread has raised the interrupt. Records the result.
     fn is_raised(&mut self) -> bool {

@@ -19,7 +19,7 @@ pub fn session_at(
     path: Bytes,
 ) -> Result<Option<Session>, AllocError>
     requires { index < length plan.now.jobs }
-    ensures { IfOk result (λ found. (d : AJob) → MatchOption found
+    ensures { IfOk result (λ session. (d : AJob) → MatchOption session
         (is_ok (start_state_in plan.now.results (job_at plan.now index d)) ≡ false)
         (IsSessionOf plan.now.results (job_at plan.now index d) path)) }
 {
@@ -46,7 +46,7 @@ fn session_of_image(
     requires index { index < length plan.now.jobs }
     requires image { (d : AJob) → image_in plan.now.results (job_at plan.now index d) ≡ Some image.now }
     requires bytes { (d : AJob) → image_bytes plan.now.results (job_at plan.now index d) ≡ Some program.image }
-    ensures { IfOk result (λ found. (d : AJob) → MatchOption found
+    ensures { IfOk result (λ session. (d : AJob) → MatchOption session
         (is_ok (start_state_in plan.now.results (job_at plan.now index d)) ≡ false)
         (IsSessionOf plan.now.results (job_at plan.now index d) program.path)) }
 {

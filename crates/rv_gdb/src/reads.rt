@@ -17,7 +17,7 @@ const MAX_READ: usize = 16_384;
 /// Reads once, and returns the bytes that were read; there are none only at the end of the input.
 pub(crate) fn read_chunk<I: Read>(alloc: Global, input: &mut I) -> Result<Vec<u8>, SessionError>
     ensures read { IfOk result (λ chunk. IsChunkRead (I.remaining input.old) (I.remaining input.new) chunk.items) }
-    ensures failed { IfErr result (λ broken. broken ≢ SessionError.ReplyWriteFailed) }
+    ensures failed { IfErr result (λ error. error ≢ SessionError.ReplyWriteFailed) }
 {
     let mut buffer = [0u8; MAX_READ];
     match input.read(&mut buffer) {
@@ -30,7 +30,7 @@ pub(crate) fn read_chunk<I: Read>(alloc: Global, input: &mut I) -> Result<Vec<u8
 /// an interrupt, but no contract says what another thread stores, so this is checked at run time.
 pub(crate) fn check_interrupt(was_seen: bool, chunk: &[u8]) -> Result<(), SessionError>
     ensures raised { OnOk result (was_seen ≡ true → is_interrupted chunk.now true ≡ true) }
-    ensures failed { IfErr result (λ broken. broken ≢ SessionError.ReplyWriteFailed) }
+    ensures failed { IfErr result (λ error. error ≢ SessionError.ReplyWriteFailed) }
 {
     if was_seen && !is_interrupted(chunk) {
         return Err(SessionError::ReadFailed(ErrorKind::Interrupted));
@@ -45,7 +45,7 @@ pub(crate) fn read_ahead<I: Read>(
     raised: &AtomicBool,
 ) -> Result<Vec<u8>, SessionError>
     ensures read { IfOk result (λ chunk. IsChunkRead (I.remaining input.old) (I.remaining input.new) chunk.items) }
-    ensures failed { IfErr result (λ broken. broken ≢ SessionError.ReplyWriteFailed) }
+    ensures failed { IfErr result (λ error. error ≢ SessionError.ReplyWriteFailed) }
 {
     let read = read_chunk(alloc, input);
     let is_raised = match &read {

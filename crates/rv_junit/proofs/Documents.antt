@@ -7,7 +7,7 @@ use Rattle.std.specs.List.{AllByRecursion, flat_map}
 use Rattle.hex.specs.Hex.{IsBytes}
 use Rattle.rv_stream.specs.declared_row.Row.{Row}
 use Rattle.rv_job_text.specs.Verdict.{did_run}
-use Rattle.rv_job_text.specs.Judgement.{JudgementView, JudgeView, failed, judgement_by_known, judged_in_file, judged_unknown, judgement, known, now_passes, passed}
+use Rattle.rv_job_text.specs.Judgement.{JudgementView, JudgeView, failed, judgement_by_known, judgement_in_file, judgement_if_unlisted, judgement, known, now_passes, passed}
 use Rattle.rv_job_text.specs.Rule.{has_passed}
 use Rattle.rv_job_text.specs.KnownJobs.{known_job_of, reason_of}
 use Rattle.rv_job_text.specs.declared_known_jobs.KnownJob.{KnownJob}
@@ -97,12 +97,12 @@ reason_found [] name are = tt
 reason_found (job ∷ jobs) name are =
     reason_here (bytes_eq job.name name) job (known_job_of jobs name) are.0 (reason_found jobs name are.1)
 
-unknown_for_bytes : (has_passed : Bool) → IsForBytes (judged_unknown has_passed)
+unknown_for_bytes : (has_passed : Bool) → IsForBytes (judgement_if_unlisted has_passed)
 unknown_for_bytes true = tt
 unknown_for_bytes false = tt
 
 in_file_for_bytes : (path : List ℕ) (has_passed : Bool) (reason : Option (List ℕ)) → IfSome reason IsBytes
-    → IsForBytes (judged_in_file path has_passed reason)
+    → IsForBytes (judgement_in_file path has_passed reason)
 in_file_for_bytes path has_passed None are = unknown_for_bytes has_passed
 in_file_for_bytes path true (Some reason) are = tt
 in_file_for_bytes path false (Some reason) are = are

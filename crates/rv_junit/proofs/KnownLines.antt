@@ -7,7 +7,7 @@ use Rattle.std.proofs.lemmas.List.{get_or-map, get_or_append_left, length-append
 use Rattle.std.proofs.Math.Seq.{get_or-append_seam}
 use Rattle.rv_job_text.specs.Judgement.{JudgeView, fails}
 use Rattle.rv_stream.specs.declared_row.Row.{Row}
-use Rattle.rv_stream.specs.SeenRows.{HasSeenRows, IsReportAt}
+use Rattle.rv_stream.specs.SeenRows.{HasSeenRows, IsReportWithExtent}
 use Rattle.rv_stream.specs.declared.reported_row.ReportedRow.{ReportedRow}
 use Rattle.rv_junit.specs.KnownLines.{AreFailureTexts, AreLinesOf, IsFailureText}
 
@@ -18,19 +18,19 @@ IsKept judging texts reported k any =
 -- nothing is kept
 pub none_kept : (judging : JudgeView) (is_closed : Bool) (reported : List ReportedRow) → (is_closed ≡ false → 0 ≡ length reported)
     → AreFailureTexts judging is_closed [] reported
-none_kept judging is_closed reported all = record { all = all; none = λ _. refl; few = omega arith; each = λ k any lt. tt }
+none_kept judging is_closed reported all = record { one_per_row = all; empty_if_closed = λ _. refl; at_most_reported = omega arith; each = λ k any lt. tt }
 
 -- the text of one row more is kept, or it is not
 pub one_more : (judging : JudgeView) (texts : List (Option (Vec ℕ Global))) (text : Option (Vec ℕ Global)) (reported : List ReportedRow)
     (made : ReportedRow) → IfSome text (λ text. IsFailureText judging made text.items) → AreFailureTexts judging false texts reported
     → AreFailureTexts judging false (texts ++ text ∷ []) (reported ++ made ∷ [])
 one_more judging texts text reported made is are =
-    let long = are.all refl in
+    let long = are.one_per_row refl in
     let more = length-append texts (text ∷ []) in
     let rows = length-append reported (made ∷ []) in record {
-      all = λ _. omega (arith, long, more, rows);
-      none = λ closed. absurd (false≢true closed);
-      few = omega (arith, long, more, rows);
+      one_per_row = λ _. omega (arith, long, more, rows);
+      empty_if_closed = λ closed. absurd (false≢true closed);
+      at_most_reported = omega (arith, long, more, rows);
       each = λ k any lt. elim (cases_lt k (length reported)) [
         | inl below ↦
             subst (λ (o : Option (Vec ℕ Global)). IfSome o (λ text. IsFailureText judging (get_or (reported ++ made ∷ []) k any) text.items))
@@ -50,7 +50,7 @@ one_more judging texts text reported made is are =
     }
 
 lines_at : (line lines : ℕ → Row → List ℕ) (judging : JudgeView) (index : ℕ) (row : Row) (reported : ReportedRow) (text : Option (Vec ℕ Global))
-    → ((index : ℕ) (row : Row) → fails judging row ≡ true → line index row ≡ lines index row) → IsReportAt line index reported
+    → ((index : ℕ) (row : Row) → fails judging row ≡ true → line index row ≡ lines index row) → IsReportWithExtent line index reported
     → row ≡ reported.row → IfSome text (λ text. IsFailureText judging reported text.items)
     → IfSome text (λ text. text.items ≡ lines index row)
 lines_at line lines judging index row reported None same report is kept = tt
@@ -89,6 +89,6 @@ pub kept_known : (has_seen : List ReportedRow → Type 0) (line lines : ℕ → 
     → (keeps ≡ true → (index : ℕ) (row : Row) → fails judging row ≡ true → line index row ≡ lines index row)
     → AreFailureTexts judging is_closed texts seen.reported → AreLinesOf lines indices rows texts
 kept_known has_seen line lines judging true keeps texts indices rows seen needed same are =
-    subst (AreLinesOf lines indices rows) (sym (are.none refl)) (none_known lines indices rows)
+    subst (AreLinesOf lines indices rows) (sym (are.empty_if_closed refl)) (none_known lines indices rows)
 kept_known has_seen line lines judging false keeps texts indices rows seen needed same are =
     lines_known has_seen line lines judging false texts indices rows seen (same (needed refl)) are

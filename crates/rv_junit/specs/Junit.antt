@@ -58,15 +58,15 @@ output_text row =
     codes "<system-out>" ++ count_text row.steps (codes "step") ++ codes "\n" ++ xml_text Element row.console
     ++ codes "</system-out>\n"
 
--- the test case of a row, with its class name `class` and its lines
+-- the test case of a row, with its lines; `suite_name` is its class name
 unfoldable pub test_case_text : List ℕ → JudgeView → Row → List ℕ → List ℕ
-test_case_text class judging row lines =
-    codes "<testcase" ++ attribute (codes "classname") class ++ attribute (codes "name") row.name
+test_case_text suite_name judging row lines =
+    codes "<testcase" ++ attribute (codes "classname") suite_name ++ attribute (codes "name") row.name
     ++ codes ">\n" ++ judged_text (judgement judging row) row lines ++ output_text row ++ codes "</testcase>\n"
 
 -- the test case of the job at this index, with its row and the lines that `line` makes of both
 abbrev pub case_text : List ℕ → JudgeView → (ℕ → Row → List ℕ) → ℕ → Row → List ℕ
-case_text class judging line index row = test_case_text class judging row (line index row)
+case_text suite_name judging line index row = test_case_text suite_name judging row (line index row)
 
 -- ---- the document
 
@@ -86,28 +86,28 @@ skipped_attribute count = if count == 0 then [] else number_attribute (codes "sk
 
 -- the beginning of a document: the name and the counts of the suite, and the steps of its jobs
 unfoldable pub suite_begin_text : List ℕ → JudgeView → List Row → List ℕ
-suite_begin_text class judging rows =
+suite_begin_text suite_name judging rows =
     codes "<?xml version=\"1.0\" encoding=\"UTF-8\"?>\n<testsuites>\n<testsuite"
-    ++ attribute (codes "name") class ++ number_attribute (codes "tests") (length rows)
+    ++ attribute (codes "name") suite_name ++ number_attribute (codes "tests") (length rows)
     ++ number_attribute (codes "failures") (count_by (is_failure judging) rows)
     ++ number_attribute (codes "errors") (count_by (is_error judging) rows)
     ++ skipped_attribute (known_count judging rows) ++ codes ">\n" ++ steps_properties rows
 
 -- the test cases of the rows, each with its lines
 unfoldable pub test_cases_text : List ℕ → JudgeView → List (List ℕ) → List Row → List ℕ
-test_cases_text class judging [] rows = []
-test_cases_text class judging (lines ∷ texts) [] = []
-test_cases_text class judging (lines ∷ texts) (row ∷ rows) =
-    test_case_text class judging row lines ++ test_cases_text class judging texts rows
+test_cases_text suite_name judging [] rows = []
+test_cases_text suite_name judging (lines ∷ texts) [] = []
+test_cases_text suite_name judging (lines ∷ texts) (row ∷ rows) =
+    test_case_text suite_name judging row lines ++ test_cases_text suite_name judging texts rows
 
 -- the end of a document
 abbrev pub suite_end_text : List ℕ
 suite_end_text = codes "</testsuite>\n</testsuites>\n"
 
--- the JUnit document of these rows, each with its lines; `class` is the name of the suite and the class name of its test cases
+-- the JUnit document of these rows, each with its lines; `suite_name` is the name of the suite and the class name of its test cases
 unfoldable pub junit_text : List ℕ → JudgeView → List (List ℕ) → List Row → List ℕ
-junit_text class judging texts rows =
-    suite_begin_text class judging rows ++ test_cases_text class judging texts rows ++ suite_end_text
+junit_text suite_name judging texts rows =
+    suite_begin_text suite_name judging rows ++ test_cases_text suite_name judging texts rows ++ suite_end_text
 
 -- ---- rows as bytes
 

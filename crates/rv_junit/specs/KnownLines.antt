@@ -7,8 +7,8 @@ use Rattle.rv_stream.specs.declared.reported_row.ReportedRow.{ReportedRow}
 
 -- each entry of `texts` has the lines that `line` makes of a row and the index of its job, or is `None` if the lines are not known
 abbrev pub AreLinesOf : (ℕ → Row → List ℕ) → List ℕ → List Row → List (Option (Vec ℕ Global)) → Type 0
-AreLinesOf line indices rows texts = (k : ℕ) (any : Row) → k < length rows → IfSome (slice_index_or texts k None)
-    (λ text. text.items ≡ line (slice_index_or indices k 0) (slice_index_or rows k any))
+AreLinesOf line indices rows texts = (k : ℕ) (default : Row) → k < length rows → IfSome (slice_index_or texts k None)
+    (λ text. text.items ≡ line (slice_index_or indices k 0) (slice_index_or rows k default))
 
 -- the reported row counts as a failure, and this is its text
 pub record IsFailureText (judging : JudgeView) (reported : ReportedRow) (text : List ℕ) : Type 0 where
@@ -17,8 +17,8 @@ pub record IsFailureText (judging : JudgeView) (reported : ReportedRow) (text : 
 
 -- the texts that an observer keeps of these reported rows: one entry for each row, in order, or no entries once it is closed
 pub record AreFailureTexts (judging : JudgeView) (is_closed : Bool) (texts : List (Option (Vec ℕ Global))) (reported : List ReportedRow) : Type 0 where
-  pub all : is_closed ≡ false → length texts ≡ length reported
-  pub none : is_closed ≡ true → texts ≡ []
-  pub few : length texts ≤ length reported
-  pub each : (k : ℕ) (any : ReportedRow) → k < length reported → IfSome (slice_index_or texts k None)
-      (λ text. IsFailureText judging (slice_index_or reported k any) text.items)
+  pub one_per_row : is_closed ≡ false → length texts ≡ length reported
+  pub empty_if_closed : is_closed ≡ true → texts ≡ []
+  pub at_most_reported : length texts ≤ length reported
+  pub each : (k : ℕ) (default : ReportedRow) → k < length reported → IfSome (slice_index_or texts k None)
+      (λ text. IsFailureText judging (slice_index_or reported k default) text.items)

@@ -27,7 +27,7 @@ pub struct Cases<'a, T: RowReporter> {
     pub rows: &'a [Row],
     /// For each row, the lines about it if they are known, so that the reporter does not make them again. May be shorter than `rows`.
     pub texts: &'a [Option<Vec<u8>>],
-    pub ghost placed: { length rows.now ≤ length indices.now },
+    pub ghost index_per_row: { length rows.now ≤ length indices.now },
 }
 
 impl<T: RowReporter> Cases<'_, T> {
@@ -35,8 +35,8 @@ impl<T: RowReporter> Cases<'_, T> {
     fn known_lines(&self, number: usize) -> Option<&[u8]>
         requires number { number < length self.now.rows.now }
         requires known { AreLinesOf (T.line self.now.reporter.now) self.now.indices.now self.now.rows.now self.now.texts.now }
-        ensures { IfSome result (λ lines. (any : ARow) → lines.now ≡ T.line self.now.reporter.now
-            (slice_index_or self.now.indices.now number 0) (slice_index_or self.now.rows.now number any)) }
+        ensures { IfSome result (λ lines. (default : ARow) → lines.now ≡ T.line self.now.reporter.now
+            (slice_index_or self.now.indices.now number 0) (slice_index_or self.now.rows.now number default)) }
     {
         if number >= self.texts.len() {
             return None;
@@ -57,9 +57,9 @@ impl<T: RowReporter> Cases<'_, T> {
     ) -> Result<(), AllocError>
         requires number { number < length self.now.rows.now }
         requires known { AreLinesOf (T.line self.now.reporter.now) self.now.indices.now self.now.rows.now self.now.texts.now }
-        ensures { OnOk result ((any : ARow) → text.new.items ≡ text.old.items
+        ensures { OnOk result ((default : ARow) → text.new.items ≡ text.old.items
             ++ case_text suite.now.name.now (judge_view suite.now.judge) (T.line self.now.reporter.now)
-            (slice_index_or self.now.indices.now number 0) (slice_index_or self.now.rows.now number any)) }
+            (slice_index_or self.now.indices.now number 0) (slice_index_or self.now.rows.now number default)) }
     {
         let row = &self.rows[number];
         let mut case = String::new(alloc);
@@ -89,14 +89,14 @@ pub(crate) fn write_cases<T: RowReporter, W: Sink>(
     ensures partly_written { OnOk result (IsPartlyWritten (W.accepted out.old) (W.accepted out.new) text.new.items
         (text.old.items ++ joined_row_texts (case_text suite.now.name.now (judge_view suite.now.judge) (T.line cases.now.reporter.now))
         cases.now.indices.now cases.now.rows.now)) }
-    ensures counted { OnOk result (W.failure_count out.new ≡ W.failure_count out.old) }
-    ensures part { OnErr result (AppendsPrefix (W.accepted out.old) (W.accepted out.new)
+    ensures no_failed_writes { OnOk result (W.failure_count out.new ≡ W.failure_count out.old) }
+    ensures prefix_written { OnErr result (AppendsPrefix (W.accepted out.old) (W.accepted out.new)
         (text.old.items ++ joined_row_texts (case_text suite.now.name.now (judge_view suite.now.judge) (T.line cases.now.reporter.now))
         cases.now.indices.now cases.now.rows.now)) }
     ensures failed { IfErr result (λ error. error ≡ WriteError.Failed
         → W.failure_count out.new ≡ one_more (W.failure_count out.old)) }
     // If an allocation failed, no write did.
-    ensures refused { IfErr result (λ error. error ≡ WriteError.OutOfMemory
+    ensures no_write_failed { IfErr result (λ error. error ≡ WriteError.OutOfMemory
         → W.failure_count out.new ≡ W.failure_count out.old) }
 {
     for i in 0..cases.rows.len() {
@@ -110,8 +110,8 @@ pub(crate) fn write_cases<T: RowReporter, W: Sink>(
 fn write_if_large<W: Sink>(text: &mut Vec<u8>, out: &mut W) -> Result<(), WriteError>
     ensures partly_written { OnOk result (IsPartlyWritten (W.accepted out.old) (W.accepted out.new)
         text.new.items text.old.items) }
-    ensures counted { OnOk result (W.failure_count out.new ≡ W.failure_count out.old) }
-    ensures part { OnErr result
+    ensures no_failed_writes { OnOk result (W.failure_count out.new ≡ W.failure_count out.old) }
+    ensures prefix_written { OnErr result
         (AppendsPrefix (W.accepted out.old) (W.accepted out.new) text.old.items) }
     ensures failed { IfErr result
         (λ error. (error ≡ WriteError.Failed) × (W.failure_count out.new ≡ one_more (W.failure_count out.old))) }

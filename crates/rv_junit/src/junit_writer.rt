@@ -27,11 +27,11 @@ pub fn write_junit<T: RowReporter, W: Sink>(
     out: &mut W,
 ) -> Result<(), WriteError>
     requires known { AreLinesOf (T.line cases.now.reporter.now) cases.now.indices.now cases.now.rows.now cases.now.texts.now }
-    ensures appended { OnOk result (Appends (W.accepted out.old) (W.accepted out.new)
+    ensures written { OnOk result (Appends (W.accepted out.old) (W.accepted out.new)
         (junit_text suite.now.name.now (judge_view suite.now.judge)
         (row_texts (T.line cases.now.reporter.now) cases.now.indices.now cases.now.rows.now) cases.now.rows.now)) }
-    ensures counted { OnOk result (W.failure_count out.new ≡ W.failure_count out.old) }
-    ensures part { OnErr result (AppendsPrefix (W.accepted out.old) (W.accepted out.new)
+    ensures no_failed_writes { OnOk result (W.failure_count out.new ≡ W.failure_count out.old) }
+    ensures prefix_written { OnErr result (AppendsPrefix (W.accepted out.old) (W.accepted out.new)
         (junit_text suite.now.name.now (judge_view suite.now.judge)
         (row_texts (T.line cases.now.reporter.now) cases.now.indices.now cases.now.rows.now) cases.now.rows.now)) }
     ensures failed { IfErr result (λ error. error ≡ WriteError.Failed

@@ -12,9 +12,9 @@ ghost use Rattle.rv_job_text.specs.Xml.{IsXmlCharacters};
 
 /// Proves that a document is the UTF-8 encoding of XML 1.0 characters, whatever bytes its names, lines, reasons and consoles have.
 pub fn documents_are_xml_characters()
-    ensures { (class : List ℕ) (judging : JudgeView) (texts : List (List ℕ)) (rows : List Row)
-        → IsBytes class → AreReasonsBytes judging → AllByRecursion IsBytes texts → AllByRecursion IsWrittenRow rows
-        → length rows < 2 ^ 64 → IsXmlCharacters (junit_text class judging texts rows) }
+    ensures { (suite_name : List ℕ) (judging : JudgeView) (texts : List (List ℕ)) (rows : List Row)
+        → IsBytes suite_name → AreReasonsBytes judging → AllByRecursion IsBytes texts → AllByRecursion IsWrittenRow rows
+        → length rows < 2 ^ 64 → IsXmlCharacters (junit_text suite_name judging texts rows) }
 {}
 
 /// Proves that each row is counted exactly once: as a failure, as an error, as skipped, or as passed.

@@ -15,9 +15,9 @@ use Rattle.rv_merge.specs.declared.error.Flaw.{Flaw}
 use Rattle.rv_merge.specs.declared.error.Flaw.TheVariants as flaw
 use Rattle.rv_merge.specs.declared.error.MergeError.{MergeError}
 use Rattle.rv_merge.specs.declared.error.MergeError.TheVariants as error
-use Rattle.rv_merge.specs.MergeState.{HaveSources, Holds, IsComplete, IsPartAdded, ExplainsIncomplete, LacksSource}
+use Rattle.rv_merge.specs.MergeState.{HaveSources, AreTextsAdded, IsComplete, IsPartAdded, ExplainsIncomplete, LacksSource}
 use Rattle.rv_merge.specs.MergeState.{rows_from_slots}
-use Rattle.rv_merge.specs.Parts.{AreValidRows, AreParts, ArePartsOfRun, IsReportAt, IsSearchedPart, Run, run_of_shard, shard_in, nth_text}
+use Rattle.rv_merge.specs.Parts.{AreValidRows, AreParts, ArePartsOfRun, IsReportWithExtent, IsPartOfRows, Run, run_of_shard, shard_in, nth_text}
 use Rattle.rv_merge.specs.Refusals.{HasRepeatedName, IsMissingShard, IsRepeatedName, HasMergeError}
 use Rattle.rv_merge.proofs.OneList.{job_from_table, numbers_of_shard, one_shard_of, row_in, some_part}
 use Rattle.rv_merge.proofs.Slots.{get_or-some, map_agree, present_all, under}
@@ -28,7 +28,7 @@ some_of None e = absurd (false≢true e)
 some_of (Some x) e = (x, refl)
 
 module _ (texts : List (List ℕ)) (shard : Shard) (sources : List (Option ℕ)) (slots : List (Option Row))
-    (h : Holds texts (length texts) shard sources slots) where
+    (h : AreTextsAdded texts (length texts) shard sources slots) where
   -- ---- a missing shard
 
   pub is_missing : (n : ℕ) → 0 < length texts → LacksSource sources n → IsMissingShard n texts
@@ -42,7 +42,7 @@ module _ (texts : List (List ℕ)) (shard : Shard) (sources : List (Option ℕ))
         false≢true
         (sym (ap is_some w.none) ∙ sym (ap (λ (k : ℕ). is_some (get_or sources (k - 1) None)) e) ∙ t.noted) in (
           t.n,
-          subst (λ (b : List ℕ). IsReportAt (extent.Shard (shard_in (run_of_shard shard) t.n)) b)
+          subst (λ (b : List ℕ). IsReportWithExtent (extent.Shard (shard_in (run_of_shard shard) t.n)) b)
               (get_or_default texts at [] d within) t.of,
           differ,
         );
@@ -114,7 +114,7 @@ module _ (texts : List (List ℕ)) (shard : Shard) (sources : List (Option ℕ))
       slots_are = present_all slots (λ k within. row_there k shards_some within)
 
       is_part : (bytes : List ℕ) (t : IsPartAdded (run_of_shard shard) sources slots bytes)
-          → IsSearchedPart (rows_from_slots slots) (run_of_shard shard) t.n bytes
+          → IsPartOfRows (rows_from_slots slots) (run_of_shard shard) t.n bytes
       is_part bytes t = record {
         of = t.of;
         has = map_agree (λ (m : ℕ). slice_get (rows_from_slots slots) (m - 1)) (λ (m : ℕ). get_or slots (m - 1) None)
@@ -124,7 +124,7 @@ module _ (texts : List (List ℕ)) (shard : Shard) (sources : List (Option ℕ))
             ∙ t.has;
       }
 
-      any_part : (n : ℕ) → 0 < n → n ≤ shard.shards → Any (IsSearchedPart (rows_from_slots slots) (run_of_shard shard) n) texts
+      any_part : (n : ℕ) → 0 < n → n ≤ shard.shards → Any (IsPartOfRows (rows_from_slots slots) (run_of_shard shard) n) texts
       any_part n low high =
           let a = h.sources_long in
           let t = text_of (n - 1) (omega arith) in
@@ -134,7 +134,7 @@ module _ (texts : List (List ℕ)) (shard : Shard) (sources : List (Option ℕ))
             nth_text texts t.at,
             t.within,
             get_or_default texts t.at (nth_text texts t.at) [] t.within,
-            subst (λ (k : ℕ). IsSearchedPart (rows_from_slots slots) (run_of_shard shard) k (nth_text texts t.at)) number
+            subst (λ (k : ℕ). IsPartOfRows (rows_from_slots slots) (run_of_shard shard) k (nth_text texts t.at)) number
                 (is_part (nth_text texts t.at) t.taken),
           )
 
@@ -146,7 +146,7 @@ module _ (texts : List (List ℕ)) (shard : Shard) (sources : List (Option ℕ))
         each = λ at d within.
             let t = h.taken at within in (
               t.n,
-              subst (λ (b : List ℕ). IsSearchedPart (rows_from_slots slots) (run_of_shard shard) t.n b)
+              subst (λ (b : List ℕ). IsPartOfRows (rows_from_slots slots) (run_of_shard shard) t.n b)
                   (get_or_default texts at [] d within)
                   (is_part (nth_text texts at) t),
             );
@@ -220,7 +220,7 @@ are_listed run rows texts parts new =
 -- ---- the answer
 
 module _ (texts : List (List ℕ)) (shard : Shard) (sources : List (Option ℕ)) (slots : List (Option Row))
-    (h : Holds texts (length texts) shard sources slots) (some : 0 < length texts) where
+    (h : AreTextsAdded texts (length texts) shard sources slots) (some : 0 < length texts) where
   pub complete : (rows : List Row) → IsComplete sources slots rows → AreParts rows texts
   complete rows whole =
       let parts = are_parts texts shard sources slots h whole.all some in
@@ -232,7 +232,7 @@ module _ (texts : List (List ℕ)) (shard : Shard) (sources : List (Option ℕ))
       } in
       subst (λ (x : List Row). AreParts x texts) (sym whole.are) all
 
-  flawed : (at : ℕ) (why : Flaw) → ExplainsIncomplete sources slots (error.Text at why) → HasMergeError texts (error.Text at why)
+  flawed : (at : ℕ) (why : Flaw) → ExplainsIncomplete sources slots (error.InvalidText at why) → HasMergeError texts (error.InvalidText at why)
   flawed at (flaw.RepeatedName n) w =
       has_name_twice texts shard sources slots h w.all some n at w.low w.there w.twice
   flawed at (flaw.Line line) w = absurd w
@@ -247,8 +247,8 @@ module _ (texts : List (List ℕ)) (shard : Shard) (sources : List (Option ℕ))
   pub unfinished : (e : MergeError) → ExplainsIncomplete sources slots e → HasMergeError texts e
   unfinished error.OutOfMemory w = tt
   unfinished error.NoTexts w = absurd w
-  unfinished (error.Text at why) w = flawed at why w
-  unfinished (error.Missing n) w = is_missing texts shard sources slots h n some w
+  unfinished (error.InvalidText at why) w = flawed at why w
+  unfinished (error.MissingShard n) w = is_missing texts shard sources slots h n some w
 
   pub sources_some : 0 < length sources
   sources_some =

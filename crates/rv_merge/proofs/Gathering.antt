@@ -19,9 +19,9 @@ use Rattle.rv_rows.specs.Differences.{IsSameReadError, AgreeBeforeError, first_r
 use Rattle.rv_rows.specs.LenientReport.{lenient_report}
 use Rattle.rv_merge.specs.declared.error.Flaw.{Flaw}
 use Rattle.rv_merge.specs.declared.error.Flaw.TheVariants as flaw
-use Rattle.rv_merge.specs.MergeState.{Holds, IsExtentFlaw, IsRunFlaw, IsSource, IsPartAdded, IsTextOf, filled_slots}
-use Rattle.rv_merge.specs.Parts.{IsReportAt, Run, run_of_shard, shard_in, nth_text}
-use Rattle.rv_merge.specs.Refusals.{AreDifferentReports, HasFlaw, IsUnread}
+use Rattle.rv_merge.specs.MergeState.{AreTextsAdded, IsExtentFlaw, IsRunFlaw, IsSource, IsPartAdded, IsTextOf, filled_slots}
+use Rattle.rv_merge.specs.Parts.{IsReportWithExtent, Run, run_of_shard, shard_in, nth_text}
+use Rattle.rv_merge.specs.Refusals.{AreDifferentReports, HasFlaw, IsInvalidReport}
 use Rattle.rv_merge.proofs.OneList.{HasNumbers, numbers_of_shard}
 use Rattle.rv_merge.proofs.Slots.{filled_has, filled_other, length-filled, map_agree}
 use Rattle.rv_merge.proofs.Stepping.{one_shard, stepped_at}
@@ -34,10 +34,10 @@ none_at X (suc count) zero = refl
 none_at X (suc count) (suc k) = none_at X count k
 
 pub holds_none : (texts : List (List ℕ)) (shard first : Shard) (sources : List (Option ℕ)) (slots : List (Option Row))
-    → IsReportAt (extent.Shard first) (nth_text texts 0) → shard ≡ first → sources ≡ replicate first.shards None
-    → slots ≡ replicate first.jobs None → Holds texts 0 shard sources slots
+    → IsReportWithExtent (extent.Shard first) (nth_text texts 0) → shard ≡ first → sources ≡ replicate first.shards None
+    → slots ≡ replicate first.jobs None → AreTextsAdded texts 0 shard sources slots
 holds_none texts shard first sources slots of same a b = record {
-  first = subst (λ (s : Shard). IsReportAt (extent.Shard s) (nth_text texts 0)) (sym same) of;
+  first = subst (λ (s : Shard). IsReportWithExtent (extent.Shard s) (nth_text texts 0)) (sym same) of;
   sources_long = ap length a ∙ length-replicate first.shards None ∙ sym (ap (λ (s : Shard). s.shards) same);
   slots_long = ap length b ∙ length-replicate first.jobs None ∙ sym (ap (λ (s : Shard). s.jobs) same);
   from = λ k at e.
@@ -48,12 +48,12 @@ holds_none texts shard first sources slots of same a b = record {
 -- ---- the same text again
 
 module _ (texts : List (List ℕ)) (at : ℕ) (shard : Shard) (sources : List (Option ℕ)) (slots : List (Option Row))
-    (h : Holds texts at shard sources slots) where
+    (h : AreTextsAdded texts at shard sources slots) where
   later : (k a : ℕ) → IsSource (run_of_shard shard) texts at k a → IsSource (run_of_shard shard) texts (at + 1) k a
   later k a s = record { within = let low = s.within in omega arith; of = s.of }
 
   pub holds_again : (k earlier : ℕ) → get_or sources k None ≡ Some earlier
-      → nth_text texts earlier ≡ nth_text texts at → Holds texts (at + 1) shard sources slots
+      → nth_text texts earlier ≡ nth_text texts at → AreTextsAdded texts (at + 1) shard sources slots
   holds_again k earlier e same = record {
     first = h.first;
     sources_long = h.sources_long;
@@ -73,7 +73,7 @@ module _ (texts : List (List ℕ)) (at : ℕ) (shard : Shard) (sources : List (O
   module _ (part : Shard) (numbers : List ℕ) (rows : List Row)
       (is : IsTextOf (record { extent = extent.Shard part; numbers = numbers; rows = rows }) (nth_text texts at))
       (same : run_of_shard part ≡ run_of_shard shard) where
-    of : IsReportAt (extent.Shard (shard_in (run_of_shard shard) part.number)) (nth_text texts at)
+    of : IsReportWithExtent (extent.Shard (shard_in (run_of_shard shard) part.number)) (nth_text texts at)
     of = record {
       report = record { extent = extent.Shard part; numbers = numbers; rows = rows };
       saved = is.saved;
@@ -171,15 +171,15 @@ module _ (texts : List (List ℕ)) (at : ℕ) (shard : Shard) (sources : List (O
             let mine = shard_in (run_of_shard shard) part.number in
             record {
               within = omega arith;
-              of = subst (λ (j : ℕ). IsReportAt (extent.Shard (shard_in (run_of_shard shard) j)) (nth_text texts a)) number
-                  (subst (λ (j : ℕ). IsReportAt (extent.Shard mine) (nth_text texts j)) found of);
+              of = subst (λ (j : ℕ). IsReportWithExtent (extent.Shard (shard_in (run_of_shard shard) j)) (nth_text texts a)) number
+                  (subst (λ (j : ℕ). IsReportWithExtent (extent.Shard mine) (nth_text texts j)) found of);
             }
         | inr other ↦
             later k a
             (h.from k a (sym (get_or-set_other sources (part.number - 1) k (Some at) None other) ∙ e))
       ]
 
-      pub holds_more : Holds texts (at + 1) shard (set sources (part.number - 1) (Some at)) (filled_slots numbers rows slots)
+      pub holds_more : AreTextsAdded texts (at + 1) shard (set sources (part.number - 1) (Some at)) (filled_slots numbers rows slots)
       holds_more = record {
         first = h.first;
         sources_long = length-set sources (part.number - 1) (Some at) ∙ h.sources_long;
@@ -205,7 +205,7 @@ module _ (texts : List (List ℕ)) (at : ℕ) (shard : Shard) (sources : List (O
           source.within,
           record {
             shard = shard_in (run_of_shard shard) part.number;
-            is = subst (λ (j : ℕ). IsReportAt (extent.Shard (shard_in (run_of_shard shard) j)) (nth_text texts earlier)) number
+            is = subst (λ (j : ℕ). IsReportWithExtent (extent.Shard (shard_in (run_of_shard shard) j)) (nth_text texts earlier)) number
                 source.of;
             of = of;
             differ = differ;
@@ -223,7 +223,7 @@ read_some xs k o x within read is = get_or_default xs k None o within ∙ sym re
 
 -- a part of another run
 pub has_other_run : (texts : List (List ℕ)) (at : ℕ) (first part : Shard) (why : Flaw)
-    → IsReportAt (extent.Shard first) (nth_text texts 0) → IsReportAt (extent.Shard part) (nth_text texts at)
+    → IsReportWithExtent (extent.Shard first) (nth_text texts 0) → IsReportWithExtent (extent.Shard part) (nth_text texts at)
     → IsRunFlaw why first part → HasFlaw texts at why
 has_other_run texts at first part flaw.DifferentShardCount a b h =
     record { shard = first; other = part; is = a; of = b; differ = h }
@@ -257,7 +257,7 @@ has_other_kind texts at report (flaw.RepeatedName n) is h = absurd h
 pub is_unread : (place : ReadError) (bytes : List ℕ) → (place ≡ read.OutOfMemory → ⊥)
     → ((report : SavedReport) → IsValidReport report → saved_text report ≡ bytes → place ≡ read.OutOfMemory)
     → (report : SavedReport) × IsValidReport report × AgreeBeforeError place (saved_text report) bytes
-    → IsSameReadError place (first_read_error (saved_text (lenient_report bytes)) bytes) → IsUnread place bytes
+    → IsSameReadError place (first_read_error (saved_text (lenient_report bytes)) bytes) → IsInvalidReport place bytes
 is_unread place bytes other only begins told = record {
   none = λ report saved text. other (only report saved text);
   begins = begins;

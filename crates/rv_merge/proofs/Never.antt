@@ -17,8 +17,8 @@ use Rattle.rv_merge.specs.declared.error.Flaw.{Flaw}
 use Rattle.rv_merge.specs.declared.error.Flaw.TheVariants as flaw
 use Rattle.rv_merge.specs.declared.error.MergeError.{MergeError}
 use Rattle.rv_merge.specs.declared.error.MergeError.TheVariants as error
-use Rattle.rv_merge.specs.Parts.{AreParts, ArePartsOfRun, IsSearchedPart, Run, shard_in, nth_text}
-use Rattle.rv_merge.specs.Refusals.{AreDifferentReports, Differ, HasFlaw, IsMissingShard, IsRepeatedName, HasMergeError, IsRowsOrOutOfMemory}
+use Rattle.rv_merge.specs.Parts.{AreParts, ArePartsOfRun, IsPartOfRows, Run, shard_in, nth_text}
+use Rattle.rv_merge.specs.Refusals.{AreDifferentReports, HaveDifferentValues, HasFlaw, IsMissingShard, IsRepeatedName, HasMergeError, IsRowsOrOutOfMemory}
 use Rattle.rv_merge.proofs.Named.{new_at}
 use Rattle.rv_merge.proofs.OneList.{each_part, numbers_of_shard, one_extent, one_list, one_shard_of, same_run}
 use Rattle.rv_merge.proofs.OneList.{some_part}
@@ -41,8 +41,8 @@ same_saved r t e f g =
     ∙ ap (λ (x : List ℕ). record { extent = t.extent; numbers = x; rows = r.rows }) f
     ∙ ap (λ (x : List Row). record { extent = t.extent; numbers = t.numbers; rows = x }) g
 
-same_part : (run : Run) (rows : List Row) (n m : ℕ) (bytes others : List ℕ) → IsSearchedPart rows run n bytes
-    → IsSearchedPart rows run m others → n ≡ m → bytes ≡ others
+same_part : (run : Run) (rows : List Row) (n m : ℕ) (bytes others : List ℕ) → IsPartOfRows rows run n bytes
+    → IsPartOfRows rows run m others → n ≡ m → bytes ≡ others
 same_part run rows n m bytes others x y is =
     let r = x.of.report in
     let t = y.of.report in
@@ -57,8 +57,8 @@ same_part run rows n m bytes others x y is =
     in
     sym x.of.text ∙ ap saved_text one ∙ y.of.text
 
-two_never : (run : Run) (rows : List Row) (n m : ℕ) (bytes others : List ℕ) → IsSearchedPart rows run n bytes
-    → IsSearchedPart rows run m others → AreDifferentReports bytes others → ⊥
+two_never : (run : Run) (rows : List Row) (n m : ℕ) (bytes others : List ℕ) → IsPartOfRows rows run n bytes
+    → IsPartOfRows rows run m others → AreDifferentReports bytes others → ⊥
 two_never run rows n m bytes others x y two =
     let a = one_shard_of two.shard (shard_in run n) bytes two.is x.of in
     let b = one_shard_of two.shard (shard_in run m) others two.of y.of in
@@ -67,8 +67,8 @@ two_never run rows n m bytes others x y two =
 -- ---- other runs
 
 differ_never : {X : Type 0} (what : Shard → X) (run : Run) (rows : List Row) (n m : ℕ) (bytes others : List ℕ)
-    → ((k j : ℕ) → what (shard_in run k) ≡ what (shard_in run j)) → IsSearchedPart rows run n bytes → IsSearchedPart rows run m others
-    → Differ what bytes others → ⊥
+    → ((k j : ℕ) → what (shard_in run k) ≡ what (shard_in run j)) → IsPartOfRows rows run n bytes → IsPartOfRows rows run m others
+    → HaveDifferentValues what bytes others → ⊥
 differ_never what run rows n m bytes others alike x y d =
     let a = one_shard_of d.shard (shard_in run n) bytes d.is x.of in
     let b = one_shard_of d.other (shard_in run m) others d.of y.of in
@@ -129,10 +129,10 @@ flaw_never run rows texts at (flaw.RepeatedName n) parts new within h =
 -- ---- a missing shard
 
 missing_any : (run : Run) (rows : List Row) (texts : List (List ℕ)) (n : ℕ) (m : IsMissingShard n texts)
-    → Any (IsSearchedPart rows run n) texts → ⊥
+    → Any (IsPartOfRows rows run n) texts → ⊥
 missing_any run rows texts n m (k, x, within, is, p) =
     let (other, of, differ) = m.each k x within in
-    let here = subst (λ (b : List ℕ). IsSearchedPart rows run n b) (sym is) p in
+    let here = subst (λ (b : List ℕ). IsPartOfRows rows run n b) (sym is) p in
     let one = one_shard_of (shard_in m.run other) (shard_in run n) (get_or texts k x) of here.of in
     differ (ap (λ (s : Shard). s.number) one)
 
@@ -155,9 +155,9 @@ refused_only rows texts error.NoTexts parts h =
     let some = some_part parts.run rows texts parts.parts in
     let none : length texts ≡ 0 = ap length h in
     absurd (omega arith)
-refused_only rows texts (error.Text at why) parts h =
+refused_only rows texts (error.InvalidText at why) parts h =
     absurd (flaw_never parts.run rows texts at why parts.parts parts.listed.new h.0 h.1)
-refused_only rows texts (error.Missing n) parts h = absurd (missing_never parts.run rows texts n parts.parts h)
+refused_only rows texts (error.MissingShard n) parts h = absurd (missing_never parts.run rows texts n parts.parts h)
 
 pub found_only : (rows found : List Row) (texts : List (List ℕ)) → AreParts rows texts → AreParts found texts
     → found ≡ rows

@@ -15,7 +15,7 @@ use Rattle.rv_rows.specs.declared_saved.Shard.{Shard}
 use Rattle.rv_rows.specs.declared_saved.SavedReport.{SavedReport}
 use Rattle.rv_rows.specs.Saved.{IsValidReport, are_evenly_spaced, matches_job_numbers, is_valid_shard}
 use Rattle.rv_rows.proofs.Public.{same_reports}
-use Rattle.rv_merge.specs.Parts.{ArePartsOfRun, IsReportAt, IsSearchedPart, Run, run_of_shard, shard_in, nth_text}
+use Rattle.rv_merge.specs.Parts.{ArePartsOfRun, IsReportWithExtent, IsPartOfRows, Run, run_of_shard, shard_in, nth_text}
 use Rattle.rv_merge.proofs.Slots.{same_by_get, under}
 use Rattle.rv_merge.proofs.Stepping.{shard_at, stepped_has}
 
@@ -63,11 +63,11 @@ numbers_of_shard s r saved is =
 
 -- ---- one text is that of one report
 
-pub one_report : (jobs others : Extent) (bytes : List ℕ) (x : IsReportAt jobs bytes) (y : IsReportAt others bytes)
+pub one_report : (jobs others : Extent) (bytes : List ℕ) (x : IsReportWithExtent jobs bytes) (y : IsReportWithExtent others bytes)
     → x.report ≡ y.report
 one_report jobs others bytes x y = same_reports x.report y.report x.saved y.saved (x.text ∙ sym y.text)
 
-pub one_extent : (jobs others : Extent) (bytes : List ℕ) → IsReportAt jobs bytes → IsReportAt others bytes
+pub one_extent : (jobs others : Extent) (bytes : List ℕ) → IsReportWithExtent jobs bytes → IsReportWithExtent others bytes
     → jobs ≡ others
 one_extent jobs others bytes x y =
     sym x.extent ∙ ap (λ (r : SavedReport). r.extent) (one_report jobs others bytes x y) ∙ y.extent
@@ -75,8 +75,8 @@ one_extent jobs others bytes x y =
 same_shard : (s t : Shard) → extent.Shard s ≡ extent.Shard t → s ≡ t
 same_shard s t e = cc
 
-pub one_shard_of : (s t : Shard) (bytes : List ℕ) → IsReportAt (extent.Shard s) bytes
-    → IsReportAt (extent.Shard t) bytes → s ≡ t
+pub one_shard_of : (s t : Shard) (bytes : List ℕ) → IsReportWithExtent (extent.Shard s) bytes
+    → IsReportWithExtent (extent.Shard t) bytes → s ≡ t
 one_shard_of s t bytes x y = same_shard s t (one_extent (extent.Shard s) (extent.Shard t) bytes x y)
 
 -- ---- the text that has a job
@@ -86,22 +86,22 @@ pub record HasJob (run : Run) (rows : List Row) (texts : List (List ℕ)) (place
   pub at : ℕ
   pub within : at < length texts
   pub n : ℕ
-  pub part : IsSearchedPart rows run n (nth_text texts at)
+  pub part : IsPartOfRows rows run n (nth_text texts at)
   pub q : ℕ
   pub there : slice_get part.of.report.numbers q ≡ Some (place + 1)
 
-part_has_job : (run : Run) (rows : List Row) (n place : ℕ) (bytes : List ℕ) (p : IsSearchedPart rows run n bytes)
+part_has_job : (run : Run) (rows : List Row) (n place : ℕ) (bytes : List ℕ) (p : IsPartOfRows rows run n bytes)
     → n ≤ place + 1 → place < run.jobs → (place + 1) % run.shards ≡ n % run.shards
     → (q : ℕ) × (slice_get p.of.report.numbers q ≡ Some (place + 1))
 part_has_job run rows n place bytes p low high same =
     let has = numbers_of_shard (shard_in run n) p.of.report p.of.saved p.of.extent in
     stepped_has n run.shards run.jobs p.of.report.numbers (place + 1) has.stepped low (omega arith) same
 
-any_job : (run : Run) (rows : List Row) (texts : List (List ℕ)) (n place : ℕ) → Any (IsSearchedPart rows run n) texts
+any_job : (run : Run) (rows : List Row) (texts : List (List ℕ)) (n place : ℕ) → Any (IsPartOfRows rows run n) texts
     → n ≤ place + 1 → place < run.jobs → (place + 1) % run.shards ≡ n % run.shards → HasJob run rows texts place
 any_job run rows texts n place (k, x, within, is, p) low high same =
     let here : x ≡ nth_text texts k = sym is ∙ get_or_default texts k x [] within in
-    let part : IsSearchedPart rows run n (nth_text texts k) = subst (λ (b : List ℕ). IsSearchedPart rows run n b) here p in
+    let part : IsPartOfRows rows run n (nth_text texts k) = subst (λ (b : List ℕ). IsPartOfRows rows run n b) here p in
     let there = part_has_job run rows n place (nth_text texts k) part low high same in
     record { at = k; within = within; n = n; part = part; q = there.0; there = there.1 }
 
@@ -127,9 +127,9 @@ pub record SomePart (run : Run) (rows : List Row) (texts : List (List ℕ)) : Ty
   pub at : ℕ
   pub within : at < length texts
   pub n : ℕ
-  pub part : IsSearchedPart rows run n (nth_text texts at)
+  pub part : IsPartOfRows rows run n (nth_text texts at)
 
-some_any : (run : Run) (rows : List Row) (texts : List (List ℕ)) (n : ℕ) → Any (IsSearchedPart rows run n) texts
+some_any : (run : Run) (rows : List Row) (texts : List (List ℕ)) (n : ℕ) → Any (IsPartOfRows rows run n) texts
     → SomePart run rows texts
 some_any run rows texts n (k, x, within, is, p) =
     let here : x ≡ nth_text texts k = sym is ∙ get_or_default texts k x [] within in
@@ -137,7 +137,7 @@ some_any run rows texts n (k, x, within, is, p) =
       at = k;
       within = within;
       n = n;
-      part = subst (λ (b : List ℕ). IsSearchedPart rows run n b) here p;
+      part = subst (λ (b : List ℕ). IsPartOfRows rows run n b) here p;
     }
 
 pub some_part : (run : Run) (rows : List Row) (texts : List (List ℕ)) → ArePartsOfRun run rows texts
@@ -145,7 +145,7 @@ pub some_part : (run : Run) (rows : List Row) (texts : List (List ℕ)) → AreP
 some_part run rows texts parts = some_any run rows texts 1 (parts.all 1 (omega arith) parts.some)
 
 pub each_part : (run : Run) (rows : List Row) (texts : List (List ℕ)) (at : ℕ) → ArePartsOfRun run rows texts
-    → at < length texts → (n : ℕ) × IsSearchedPart rows run n (nth_text texts at)
+    → at < length texts → (n : ℕ) × IsPartOfRows rows run n (nth_text texts at)
 each_part run rows texts at parts within = parts.each at [] within
 
 pub same_run : (run other : Run) (n m : ℕ) → shard_in run n ≡ shard_in other m → run ≡ other

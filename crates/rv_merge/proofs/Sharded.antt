@@ -23,7 +23,7 @@ use Rattle.rv_rows.specs.SameResults.{HaveSameResults, plan_of_jobs}
 use Rattle.rv_rows.specs.declared_saved.Extent.TheVariants as extent
 use Rattle.rv_rows.specs.declared_saved.Shard.{Shard}
 use Rattle.rv_rows.specs.Saved.{IsValidRow, IsValidReport, are_evenly_spaced, matches_job_numbers, is_valid_shard, row_names, saved_text}
-use Rattle.rv_merge.specs.Parts.{AreValidRows, AreParts, IsSearchedPart, Run, shard_in}
+use Rattle.rv_merge.specs.Parts.{AreValidRows, AreParts, IsPartOfRows, Run, shard_in}
 use Rattle.rv_merge.specs.Shards.{AreShardTexts, IsRunOf, IsShardText, is_in_shard, shard_indices, shard_report}
 use Rattle.rv_merge.proofs.Sharing.{new_under, rising_from, stepped_from}
 
@@ -196,7 +196,7 @@ module _ (list : List Job) (answers : List PathResult) (run : Run) (listed : Are
   part_from : ((places : List ℕ) (some : List PathResult) → All (HaveSameResults some answers) (jobs_needed_for list places)
       → rows_at (plan_of_jobs list some) places ≡ rows_at (plan_of_jobs list answers) places)
       → (n : ℕ) (bytes : List ℕ) → IsShardText list answers run n bytes
-      → IsSearchedPart (rows_of (plan_of_jobs list answers)) run n bytes
+      → IsPartOfRows (rows_of (plan_of_jobs list answers)) run n bytes
   part_from law n bytes t =
       let places = shard_indices run.shards n run.jobs in
       let same = law places t.kept t.same in
@@ -216,9 +216,9 @@ module _ (list : List Job) (answers : List PathResult) (run : Run) (listed : Are
       }
 
   any_from : ((bytes : List ℕ) (n : ℕ) → IsShardText list answers run n bytes
-      → IsSearchedPart (rows_of (plan_of_jobs list answers)) run n bytes)
+      → IsPartOfRows (rows_of (plan_of_jobs list answers)) run n bytes)
       → (n : ℕ) (texts : List (List ℕ)) → Any (IsShardText list answers run n) texts
-      → Any (IsSearchedPart (rows_of (plan_of_jobs list answers)) run n) texts
+      → Any (IsPartOfRows (rows_of (plan_of_jobs list answers)) run n) texts
   any_from f n texts (k, x, within, here, t) = (k, x, within, here, f x n t)
 
   pub parts_from : ((places : List ℕ) (some : List PathResult) → All (HaveSameResults some answers) (jobs_needed_for list places)

@@ -12,7 +12,7 @@ use Rattle.rv_rows.specs.Saved.{IsValidReport, saved_text}
 use Rattle.rv_merge.specs.declared.error.Flaw.{Flaw}
 use Rattle.rv_merge.specs.MergeState.{IsExtentFlaw}
 use Rattle.rv_merge.specs.Parts.{bytes_of_texts, nth_text}
-use Rattle.rv_merge.specs.Refusals.{HasFlaw, IsUnread}
+use Rattle.rv_merge.specs.Refusals.{HasFlaw, IsInvalidReport}
 use Rattle.rv_merge.proofs.Gathering.{has_other_kind, is_unread}
 
 pub length-bytes_of : (texts : List (Bor (List ℕ))) → length (bytes_of_texts texts) ≡ length texts
@@ -41,11 +41,11 @@ pub unread_at : (texts : List (Bor (List ℕ))) (at : ℕ) (d : Bor (List ℕ)) 
     → error ≡ read.OutOfMemory)
     → (report : SavedReport) × IsValidReport report × AgreeBeforeError error (saved_text report) (get_or texts at d).now
     → IsSameReadError error (first_read_error (saved_text (lenient_report (get_or texts at d).now)) (get_or texts at d).now)
-    → (at < length (bytes_of_texts texts)) × IsUnread place (nth_text (bytes_of_texts texts) at)
+    → (at < length (bytes_of_texts texts)) × IsInvalidReport place (nth_text (bytes_of_texts texts) at)
 unread_at texts at d error place within is other only begins told = (
   omega (arith, length-bytes_of texts),
-  subst (λ (b : List ℕ). IsUnread place b) (sym (text_at-bytes_of texts at d within))
-      (subst (λ (e : ReadError). IsUnread e (get_or texts at d).now) is
+  subst (λ (b : List ℕ). IsInvalidReport place b) (sym (text_at-bytes_of texts at d within))
+      (subst (λ (e : ReadError). IsInvalidReport e (get_or texts at d).now) is
       (is_unread error (get_or texts at d).now (λ out. other (sym is ∙ out)) only begins told)),
 )
 

@@ -13,7 +13,7 @@ use Rattle.rv_merge.specs.declared.error.MergeError.{MergeError}
 use Rattle.rv_merge.specs.declared.error.MergeError.TheVariants as error
 use Rattle.rv_merge.specs.declared.merge_state.MergeState.{MergeState}
 use Rattle.rv_merge.specs.declared.part.Part.{Part}
-use Rattle.rv_merge.specs.Parts.{IsReportAt, Run, run_of_shard, shard_in, nth_text}
+use Rattle.rv_merge.specs.Parts.{IsReportWithExtent, Run, run_of_shard, shard_in, nth_text}
 use Rattle.rv_merge.specs.Refusals.{IsRepeatedName}
 
 -- ---- a part
@@ -64,7 +64,7 @@ rows_from_slots (Some row ∷ slots) = row ∷ rows_from_slots slots
 pub record IsPartAdded (run : Run) (sources : List (Option ℕ)) (slots : List (Option Row))
     (bytes : List ℕ) : Type 0 where
   pub n : ℕ
-  pub of : IsReportAt (extent.Shard (shard_in run n)) bytes
+  pub of : IsReportWithExtent (extent.Shard (shard_in run n)) bytes
   pub noted : is_some (slice_index_or sources (n - 1) None) ≡ true
   pub has :
       map (λ m. slice_index_or slots (m - 1) None) of.report.numbers ≡ map Some of.report.rows
@@ -72,12 +72,12 @@ pub record IsPartAdded (run : Run) (sources : List (Option ℕ)) (slots : List (
 -- the text at the index `index` is one of the first `count` texts, and is the report of shard `k` + 1 of the run
 pub record IsSource (run : Run) (texts : List (List ℕ)) (count k index : ℕ) : Type 0 where
   pub within : index < count
-  pub of : IsReportAt (extent.Shard (shard_in run (k + 1))) (nth_text texts index)
+  pub of : IsReportWithExtent (extent.Shard (shard_in run (k + 1))) (nth_text texts index)
 
 -- the first `count` texts have been added to `sources` and `slots`, and all belong to the run of `shard`, the shard of the first text
-pub record Holds (texts : List (List ℕ)) (count : ℕ) (shard : Shard)
+pub record AreTextsAdded (texts : List (List ℕ)) (count : ℕ) (shard : Shard)
     (sources : List (Option ℕ)) (slots : List (Option Row)) : Type 0 where
-  pub first : IsReportAt (extent.Shard shard) (nth_text texts 0)
+  pub first : IsReportWithExtent (extent.Shard shard) (nth_text texts 0)
   pub sources_long : length sources ≡ shard.shards
   pub slots_long : length slots ≡ shard.jobs
   pub from :
@@ -86,9 +86,9 @@ pub record Holds (texts : List (List ℕ)) (count : ℕ) (shard : Shard)
   pub taken :
       (at : ℕ) → at < count → IsPartAdded (run_of_shard shard) sources slots (nth_text texts at)
 
--- the first `count` texts have been added to `g`
+-- the first `count` texts have been added to `state`
 abbrev pub IsMergeStateAfter : List (List ℕ) → ℕ → MergeState → Type 0
-IsMergeStateAfter texts count g = Holds texts count g.first g.sources.items g.slots.items
+IsMergeStateAfter texts count state = AreTextsAdded texts count state.first state.sources.items state.slots.items
 
 -- ---- the end
 
@@ -122,6 +122,6 @@ pub record IsRepeatedNameInSlots (sources : List (Option ℕ)) (slots : List (Op
 abbrev pub ExplainsIncomplete : List (Option ℕ) → List (Option Row) → MergeError → Type 0
 ExplainsIncomplete sources slots error.OutOfMemory = Unit {0}
 ExplainsIncomplete sources slots error.NoTexts = ⊥
-ExplainsIncomplete sources slots (error.Text index (flaw.RepeatedName n)) = IsRepeatedNameInSlots sources slots n index
-ExplainsIncomplete sources slots (error.Text index _) = ⊥
-ExplainsIncomplete sources slots (error.Missing n) = LacksSource sources n
+ExplainsIncomplete sources slots (error.InvalidText index (flaw.RepeatedName n)) = IsRepeatedNameInSlots sources slots n index
+ExplainsIncomplete sources slots (error.InvalidText index _) = ⊥
+ExplainsIncomplete sources slots (error.MissingShard n) = LacksSource sources n

@@ -36,24 +36,24 @@ abbrev pub shard_in : Run → ℕ → Shard
 shard_in run n =
     record { jobs = run.jobs; number = n; shards = run.shards; stamp = run.stamp }
 
--- the bytes are the text of a valid report with the extent `jobs`
-pub record IsReportAt (jobs : Extent) (bytes : List ℕ) : Type 0 where
+-- the bytes are the text of a valid report with this extent
+pub record IsReportWithExtent (extent_in_report : Extent) (bytes : List ℕ) : Type 0 where
   pub report : SavedReport
   pub saved : IsValidReport report
   pub text : saved_text report ≡ bytes
-  pub extent : report.extent ≡ jobs
+  pub extent : report.extent ≡ extent_in_report
 
 -- the bytes are the report of shard `n` of a run, which has under each job number the row of this job among `rows`
-pub record IsSearchedPart (rows : List Row) (run : Run) (n : ℕ) (bytes : List ℕ) : Type 0 where
-  pub of : IsReportAt (extent.Shard (shard_in run n)) bytes
+pub record IsPartOfRows (rows : List Row) (run : Run) (n : ℕ) (bytes : List ℕ) : Type 0 where
+  pub of : IsReportWithExtent (extent.Shard (shard_in run n)) bytes
   pub has : map (λ m. slice_get rows (m - 1)) of.report.numbers ≡ map Some of.report.rows
 
 -- each text is a part of a run of these rows, and each shard of the run has a text, in any order
 pub record ArePartsOfRun (run : Run) (rows : List Row) (texts : List (List ℕ)) : Type 0 where
   pub jobs : run.jobs ≡ length rows
   pub some : 0 < run.shards
-  pub each : All (λ bytes. (n : ℕ) × IsSearchedPart rows run n bytes) texts
-  pub all : (n : ℕ) → 0 < n → n ≤ run.shards → Any (IsSearchedPart rows run n) texts
+  pub each : All (λ bytes. (n : ℕ) × IsPartOfRows rows run n bytes) texts
+  pub all : (n : ℕ) → 0 < n → n ≤ run.shards → Any (IsPartOfRows rows run n) texts
 
 -- the rows can be the rows of a list: there are at most `max_jobs`, all are valid, and no two have the same name
 pub record AreValidRows (rows : List Row) : Type 0 where

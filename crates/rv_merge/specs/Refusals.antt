@@ -16,32 +16,32 @@ use Rattle.rv_merge.specs.declared.error.Flaw.{Flaw}
 use Rattle.rv_merge.specs.declared.error.Flaw.TheVariants as flaw
 use Rattle.rv_merge.specs.declared.error.MergeError.{MergeError}
 use Rattle.rv_merge.specs.declared.error.MergeError.TheVariants as error
-use Rattle.rv_merge.specs.Parts.{ArePartsOfRun, IsReportAt, Run, shard_in, nth_text}
+use Rattle.rv_merge.specs.Parts.{ArePartsOfRun, IsReportWithExtent, Run, shard_in, nth_text}
 
 -- the result is `rows`, or the error that memory ran out
 abbrev pub IsRowsOrOutOfMemory : List Row → Result (List Row) MergeError → Type 0
-IsRowsOrOutOfMemory rows (Ok found) = found ≡ rows
+IsRowsOrOutOfMemory rows (Ok merged) = merged ≡ rows
 IsRowsOrOutOfMemory rows (Err e) = e ≡ error.OutOfMemory
 
 -- the bytes are not the text of a report, but agree with one up to the error `error`
-pub record IsUnread (error : ReadError) (bytes : List ℕ) : Type 0 where
+pub record IsInvalidReport (error : ReadError) (bytes : List ℕ) : Type 0 where
   pub none : (report : SavedReport) → IsValidReport report → saved_text report ≡ bytes → ⊥
   pub begins : (report : SavedReport) × IsValidReport report × AgreeBeforeError error (saved_text report) bytes
   pub told : IsSameReadError error (first_read_error (saved_text (lenient_report bytes)) bytes)
 
 -- the two texts are reports of shards for which the function `value` has different values
-pub record Differ {X : Type 0} (value : Shard → X) (bytes other_bytes : List ℕ) : Type 0 where
+pub record HaveDifferentValues {X : Type 0} (value : Shard → X) (bytes other_bytes : List ℕ) : Type 0 where
   pub shard : Shard
   pub other : Shard
-  pub is : IsReportAt (extent.Shard shard) bytes
-  pub of : IsReportAt (extent.Shard other) other_bytes
+  pub is : IsReportWithExtent (extent.Shard shard) bytes
+  pub of : IsReportWithExtent (extent.Shard other) other_bytes
   pub differ : value shard ≡ value other → ⊥
 
 -- the two texts are different reports of the same shard
 pub record AreDifferentReports (bytes other_bytes : List ℕ) : Type 0 where
   pub shard : Shard
-  pub is : IsReportAt (extent.Shard shard) bytes
-  pub of : IsReportAt (extent.Shard shard) other_bytes
+  pub is : IsReportWithExtent (extent.Shard shard) bytes
+  pub of : IsReportWithExtent (extent.Shard shard) other_bytes
   pub differ : bytes ≡ other_bytes → ⊥
 
 -- the row at the index `index` has the name of an earlier row
@@ -57,22 +57,22 @@ pub record HasRepeatedName (texts : List (List ℕ)) (bytes : List ℕ) (n : ℕ
   pub shard : Shard
   pub parts : ArePartsOfRun run rows texts
   pub twice : IsRepeatedName rows (n - 1)
-  pub of : IsReportAt (extent.Shard shard) bytes
+  pub of : IsReportWithExtent (extent.Shard shard) bytes
   pub place : ℕ
   pub there : slice_get of.report.numbers place ≡ Some n
 
 -- the text at the index `index` has this flaw
 abbrev pub HasFlaw : List (List ℕ) → ℕ → Flaw → Type 0
-HasFlaw texts index (flaw.Line line) = IsUnread (read.Line line) (nth_text texts index)
-HasFlaw texts index flaw.Truncated = IsUnread read.Truncated (nth_text texts index)
-HasFlaw texts index flaw.Whole = IsReportAt extent.Whole (nth_text texts index)
-HasFlaw texts index flaw.Selection = (jobs : ℕ) × IsReportAt (extent.Selection jobs) (nth_text texts index)
+HasFlaw texts index (flaw.Line line) = IsInvalidReport (read.Line line) (nth_text texts index)
+HasFlaw texts index flaw.Truncated = IsInvalidReport read.Truncated (nth_text texts index)
+HasFlaw texts index flaw.Whole = IsReportWithExtent extent.Whole (nth_text texts index)
+HasFlaw texts index flaw.Selection = (jobs : ℕ) × IsReportWithExtent (extent.Selection jobs) (nth_text texts index)
 HasFlaw texts index flaw.DifferentShardCount =
-    Differ (λ (s : Shard). s.shards) (nth_text texts 0) (nth_text texts index)
+    HaveDifferentValues (λ (s : Shard). s.shards) (nth_text texts 0) (nth_text texts index)
 HasFlaw texts index flaw.DifferentJobCount =
-    Differ (λ (s : Shard). s.jobs) (nth_text texts 0) (nth_text texts index)
+    HaveDifferentValues (λ (s : Shard). s.jobs) (nth_text texts 0) (nth_text texts index)
 HasFlaw texts index flaw.DifferentStamp =
-    Differ (λ (s : Shard). s.stamp) (nth_text texts 0) (nth_text texts index)
+    HaveDifferentValues (λ (s : Shard). s.stamp) (nth_text texts 0) (nth_text texts index)
 HasFlaw texts index (flaw.DifferentText earlier) =
     (earlier < index) × AreDifferentReports (nth_text texts earlier) (nth_text texts index)
 HasFlaw texts index (flaw.RepeatedName n) = HasRepeatedName texts (nth_text texts index) n
@@ -80,7 +80,7 @@ HasFlaw texts index (flaw.RepeatedName n) = HasRepeatedName texts (nth_text text
 -- the bytes are the report of a shard of the run other than shard `n`
 abbrev pub IsOtherPart : Run → ℕ → List ℕ → Type 0
 IsOtherPart run n bytes =
-    (other : ℕ) × IsReportAt (extent.Shard (shard_in run other)) bytes × (other ≡ n → ⊥)
+    (other : ℕ) × IsReportWithExtent (extent.Shard (shard_in run other)) bytes × (other ≡ n → ⊥)
 
 -- each text is the report of a shard of one run, and none is the report of shard `n`
 pub record IsMissingShard (n : ℕ) (texts : List (List ℕ)) : Type 0 where
@@ -94,5 +94,5 @@ pub record IsMissingShard (n : ℕ) (texts : List (List ℕ)) : Type 0 where
 abbrev pub HasMergeError : List (List ℕ) → MergeError → Type 0
 HasMergeError texts error.OutOfMemory = Unit {0}
 HasMergeError texts error.NoTexts = texts ≡ []
-HasMergeError texts (error.Text index flaw) = (index < length texts) × HasFlaw texts index flaw
-HasMergeError texts (error.Missing n) = IsMissingShard n texts
+HasMergeError texts (error.InvalidText index flaw) = (index < length texts) × HasFlaw texts index flaw
+HasMergeError texts (error.MissingShard n) = IsMissingShard n texts

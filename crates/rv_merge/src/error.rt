@@ -17,10 +17,10 @@ pub enum MergeError {
     NoTexts,
     /// What is wrong with the text at an index.
     #[error("part {0}: {1}")]
-    Text(usize, Flaw),
+    InvalidText(usize, Flaw),
     /// No text is the report of the shard with this number.
     #[error("shard {0} is missing")]
-    Missing(usize),
+    MissingShard(usize),
 }
 
 /// What is wrong with a text.

@@ -35,7 +35,7 @@ pub fn merge_parts(alloc: Global, texts: &[&[u8]]) -> Result<Rows, MergeError>
 // Gathers the rows of all texts, or returns the first error of a text.
 fn gather_parts(alloc: Global, texts: &[&[u8]]) -> Result<MergeState, MergeError>
     requires { 0 < length texts.now }
-    ensures state { IfOk result (λ g. IsMergeStateAfter (bytes_of_texts texts.now) (length texts.now) g) }
+    ensures state { IfOk result (λ state. IsMergeStateAfter (bytes_of_texts texts.now) (length texts.now) state) }
     ensures error { IfErr result (HasMergeError (bytes_of_texts texts.now)) }
 {
     let part = part_at(alloc, texts, 0)?;
@@ -56,7 +56,7 @@ fn rows_of_parts(alloc: Global, state: MergeState) -> Result<Rows, MergeError>
     ensures error { IfErr result (ExplainsIncomplete state.sources.items state.slots.items) }
 {
     if let Some(shard) = first_missing_shard(&state.sources) {
-        return Err(MergeError::Missing(shard + 1));
+        return Err(MergeError::MissingShard(shard + 1));
     }
     let rows = rows_from_slots(alloc, state.slots)?;
     match first_repeated_name(alloc, &rows)? {
@@ -68,7 +68,7 @@ fn rows_of_parts(alloc: Global, state: MergeState) -> Result<Rows, MergeError>
 // Returns the index of the first shard without a text, or `None` if each has one.
 fn first_missing_shard(sources: &[Option<usize>]) -> Option<usize>
     ensures { MatchOption result (HaveSources sources.now)
-        (λ at. (at < length sources.now) × (slice_index_or sources.now at None ≡ None)) }
+        (λ index. (index < length sources.now) × (slice_index_or sources.now index None ≡ None)) }
 {
     for (at, source) in sources.iter().enumerate() {
         if source.is_none() {
@@ -83,13 +83,13 @@ fn repeated_name_error(sources: &[Option<usize>], index: usize) -> MergeError
     requires not_empty { 0 < length sources.now }
     requires index { index < usize.MAX }
     ensures { MatchOption (slice_index_or sources.now (index % length sources.now) None)
-        (result ≡ MergeError.Missing (index % length sources.now + 1))
-        (λ text. result ≡ MergeError.Text text (Flaw.RepeatedName (index + 1))) }
+        (result ≡ MergeError.MissingShard (index % length sources.now + 1))
+        (λ text. result ≡ MergeError.InvalidText text (Flaw.RepeatedName (index + 1))) }
 {
     let shard = index % sources.len();
     match sources[shard] {
-        Some(text) => MergeError::Text(text, Flaw::RepeatedName(index + 1)),
-        None => MergeError::Missing(shard + 1),
+        Some(text) => MergeError::InvalidText(text, Flaw::RepeatedName(index + 1)),
+        None => MergeError::MissingShard(shard + 1),
     }
 }
 

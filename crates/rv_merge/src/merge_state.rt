@@ -25,9 +25,9 @@ pub(crate) struct MergeState {
 
 /// Returns the state before the first text is added: it has the run of this shard, and no row.
 pub(crate) fn initial_state(alloc: Global, shard: &Shard) -> Result<MergeState, AllocError>
-    ensures first { IfOk result (λ g. g.first ≡ shard.now) }
-    ensures sources { IfOk result (λ g. g.sources.items ≡ replicate shard.now.shards None) }
-    ensures slots { IfOk result (λ g. g.slots.items ≡ replicate shard.now.jobs None) }
+    ensures first { IfOk result (λ state. state.first ≡ shard.now) }
+    ensures sources { IfOk result (λ state. state.sources.items ≡ replicate shard.now.shards None) }
+    ensures slots { IfOk result (λ state. state.slots.items ≡ replicate shard.now.jobs None) }
 {
     let stamp = String::from_str(alloc, shard.stamp.as_str())?;
     let sources = empty_slots(alloc, shard.shards)?;
@@ -70,7 +70,7 @@ pub(crate) fn add_part(
     ensures error { IfErr result (HasMergeError (bytes_of_texts texts.now)) }
 {
     if let Some(flaw) = other_run_flaw(&state.first, &part.shard) {
-        return Err(MergeError::Text(index, flaw));
+        return Err(MergeError::InvalidText(index, flaw));
     }
     let shard = part.shard.number as usize - 1;
     match state.sources[shard] {
@@ -81,7 +81,7 @@ pub(crate) fn add_part(
             Ok(())
         }
         Some(earlier) if are_same_texts(texts, earlier, index) => Ok(()),
-        Some(earlier) => Err(MergeError::Text(index, Flaw::DifferentText(earlier))),
+        Some(earlier) => Err(MergeError::InvalidText(index, Flaw::DifferentText(earlier))),
     }
 }
 

@@ -10,9 +10,9 @@ use std::collections::BTreeMap;
 
 /// Returns the index of the first row that has the name of an earlier row, or `None` if there is none.
 pub(crate) fn first_repeated_name(alloc: Global, rows: &[Row]) -> Result<Option<usize>, AllocError>
-    ensures repeated_name { IfOk result (λ place. MatchOption place (are_distinct [] (row_names rows.now) ≡ true)
+    ensures repeated_name { IfOk result (λ index. MatchOption index (are_distinct [] (row_names rows.now) ≡ true)
         (IsRepeatedName rows.now)) }
-    ensures low { IfOk result (λ place. IfSome place (λ at. at < usize.MAX)) }
+    ensures low { IfOk result (λ index. IfSome index (λ k. k < usize.MAX)) }
 {
     let mut places: BTreeMap<&str, usize> = BTreeMap::new(alloc);
     for (at, row) in rows.iter().enumerate() {

@@ -27,11 +27,11 @@ pub(crate) fn part_at(alloc: Global, texts: &[&[u8]], index: usize) -> Result<Pa
     match read_report(alloc, texts[index]) {
         Ok(report) => match part_of_report(report) {
             Ok(part) => Ok(part),
-            Err(flaw) => Err(MergeError::Text(index, flaw)),
+            Err(flaw) => Err(MergeError::InvalidText(index, flaw)),
         },
         Err(ReadError::OutOfMemory) => Err(MergeError::OutOfMemory),
-        Err(ReadError::Line(line)) => Err(MergeError::Text(index, Flaw::Line(line))),
-        Err(ReadError::Truncated) => Err(MergeError::Text(index, Flaw::Truncated)),
+        Err(ReadError::Line(line)) => Err(MergeError::InvalidText(index, Flaw::Line(line))),
+        Err(ReadError::Truncated) => Err(MergeError::InvalidText(index, Flaw::Truncated)),
     }
 }
 

@@ -13,9 +13,9 @@ use rv_rows::parts_have_the_rows_of_the_whole;
 /// Proves that the texts of a list's shards are the parts of the rows that a single machine computes, if each machine reads the same as the
 /// single one at the paths that its jobs need. So [`merge_parts`](crate::merge_parts) returns these rows.
 pub fn shards_give_the_parts_of_the_whole()
-    ensures { (list : List Job) (answers : List PathResult) (run : Run) (texts : List (List ℕ))
-        → AreValidRows (rows_of (plan_of_jobs list answers)) → IsRunOf list run
-        → AreShardTexts list answers run texts → AreParts (rows_of (plan_of_jobs list answers)) texts }
+    ensures { (list : List Job) (results : List PathResult) (run : Run) (texts : List (List ℕ))
+        → AreValidRows (rows_of (plan_of_jobs list results)) → IsRunOf list run
+        → AreShardTexts list results run texts → AreParts (rows_of (plan_of_jobs list results)) texts }
 {
     parts_have_the_rows_of_the_whole();
 }

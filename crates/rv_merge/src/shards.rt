@@ -16,14 +16,14 @@ pub fn shard_selection(
 ) -> Result<Vec<bool>, AllocError>
     requires low { 0 < number }
     requires high { number ≤ shards }
-    ensures marks { IfOk result (λ marks. marks.items ≡ shard_selection shards number job_count) }
-    ensures length { IfOk result (λ marks. length marks.items ≡ job_count) }
+    ensures selection { IfOk result (λ selection. selection.items ≡ shard_selection shards number job_count) }
+    ensures length { IfOk result (λ selection. length selection.items ≡ job_count) }
     ensures indices { IfOk result
-        (λ marks. selected_indices marks.items job_count ≡ shard_indices shards number job_count) }
+        (λ selection. selected_indices selection.items job_count ≡ shard_indices shards number job_count) }
 {
-    let mut marks = Vec::new(alloc);
-    for place in 0..job_count {
-        marks.push(place % shards as usize == number as usize - 1)?;
+    let mut selection = Vec::new(alloc);
+    for index in 0..job_count {
+        selection.push(index % shards as usize == number as usize - 1)?;
     }
-    Ok(marks)
+    Ok(selection)
 }

@@ -18,10 +18,10 @@ use rv_rows::Row;
 /// single machine computes with `run_fleet`, for every number of workers and every chunk size, and
 /// [`merge_parts`](crate::merge::merge_parts) returns these rows.
 pub fn shards_give_the_whole(rows: &[Row])
-    ensures { (bytes : List ℕ) (list : List Job) (answers : List PathResult) (run : Run)
+    ensures { (bytes : List ℕ) (list : List Job) (results : List PathResult) (run : Run)
         (texts : List (List ℕ))
-        → job_list_of bytes ≡ Ok list → rows.now ≡ rows_of (plan_of_jobs list answers)
-        → IsRunOf list run → AreShardTexts list answers run texts → AreParts rows.now texts }
+        → job_list_of bytes ≡ Ok list → rows.now ≡ rows_of (plan_of_jobs list results)
+        → IsRunOf list run → AreShardTexts list results run texts → AreParts rows.now texts }
 {
     rows_form_a_list(rows);
     shards_give_the_parts_of_the_whole();

@@ -5,7 +5,7 @@ use Rattle.std.proofs.lemmas.List.{take_all}
 use Rattle.std.specs.List.{list_all}
 use Rattle.std.specs.Str.{bytes_eq}
 use Rattle.rv_count_tables.specs.declared_call_node.CallNode.{CallNode}
-use Rattle.rv_count_tables.specs.Trees.{calls_of_node, sum_over_path, sum_over_nodes, last_path, path_after, steps_if, steps_of, HasCalls, IsTree, FollowsInPreorder}
+use Rattle.rv_count_tables.specs.Trees.{calls_of_node, sum_over_path, sum_over_nodes, last_path, path_after, steps_if, steps_of, HasCalls, IsTree, MayFollow}
 use Rattle.rv_count_tables.specs.Trees as spots
 use Rattle.rv_count_tables.proofs.Public.{last_parts, stand_of_parts}
 use Rattle.rv_stacks.specs.declared.preorder.PreorderBuilder.{PreorderBuilder}
@@ -92,7 +92,7 @@ module _ (nodes : List WalkNode) (old new : PreorderBuilder) (number : ℕ) (nod
   of_last =
       ap (last_path []) spot_is ∙ last_parts [] old.nodes.items (spot ∷ []) ∙ of_spot ∙ sym path
 
-  stands : FollowsInPreorder front spot
+  stands : MayFollow front spot
   stands =
       let within = h.within in record {
         within = omega (arith, deep, within);

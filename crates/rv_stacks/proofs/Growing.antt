@@ -4,7 +4,7 @@ use Rattle.std.proofs.lemmas.Bool.{cases_lt}
 use Rattle.std.proofs.lemmas.List.{get_or_append_left, take-append-le, take_all}
 use Rattle.std.proofs.Math.Seq.{get_or-append_seam}
 use Rattle.std.specs.Str.{bytes_eq}
-use Rattle.rv_count_tables.specs.Trees.{ends_with, address_if, steps_if}
+use Rattle.rv_count_tables.specs.Trees.{ends_with, one_if, steps_if}
 use Rattle.rv_stacks.specs.declared.node.WalkNode.{WalkNode}
 use Rattle.rv_stacks.specs.declared.walk.Walk.{Walk}
 use Rattle.rv_stacks.specs.Nodes.{all_calls, all_steps, calls_at, own_steps_of, path_below, paths_appended, path_of, paths_of, steps_at, weighted_sum, EntersOnce, HasChild, IsChild, KeepsPaths, StepsMore, times_if}
@@ -148,7 +148,7 @@ module _ (nodes : List WalkNode) (number : ℕ) (some : 0 < number) (within : nu
   arrived_once =
       let n : WalkNode = record { parent = old.parent; function = old.function; calls = old.calls + 1; steps = old.steps } in record {
         kept = kept n refl refl;
-        calls = λ path. more (λ p x. cond (bytes_eq p path) x.calls 0) n (address_if (bytes_eq (path_of number nodes) path)) refl refl
+        calls = λ path. more (λ p x. cond (bytes_eq p path) x.calls 0) n (one_if (bytes_eq (path_of number nodes) path)) refl refl
             (sum_if (bytes_eq (path_of number nodes) path) old.calls 1);
         steps = λ path. same (λ p x. cond (bytes_eq p path) x.steps 0) n refl refl refl;
         own = λ f. same (λ p x. steps_if (x.function == f) x.steps) n refl refl refl;
@@ -242,7 +242,7 @@ arrived old mid new parent depth function number made back here child once path 
           let a = once.calls at in
           let b = child.calls at in
           let c = ap (calls_at at) back.nodes in
-          let d = ap (λ (p : List ℕ). address_if (bytes_eq p at)) now in
+          let d = ap (λ (p : List ℕ). one_if (bytes_eq p at)) now in
           omega (arith, a, b, c, d);
       steps = λ at. once.steps at ∙ child.steps at ∙ ap (steps_at at) back.nodes;
       own = λ f. once.own f ∙ child.own f ∙ ap (own_steps_of f) back.nodes;

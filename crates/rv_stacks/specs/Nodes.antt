@@ -1,7 +1,7 @@
 -- Nodes: paths of functions, each of which called the next. A node stores the number of its parent and its own function.
 use Rattle.std.specs.Prelude.{◌≡◌, ◌==◌, ◌+◌, ◌<◌, ◌≤◌, ◌&&◌, ℕ, Bool, if◌then◌else◌, List, [], ◌∷◌, ◌++◌, length, slice_index_or}
 use Rattle.std.specs.Str.{bytes_eq}
-use Rattle.rv_count_tables.specs.Trees.{ends_with, address_if, steps_if}
+use Rattle.rv_count_tables.specs.Trees.{ends_with, one_if, steps_if}
 use Rattle.rv_stacks.specs.declared.node.WalkNode.{WalkNode}
 
 -- ---- the path of a node
@@ -93,7 +93,7 @@ pub record KeepsPaths (old new : List WalkNode) : Type 0 where
 -- the nodes `new` are the nodes `old` with one more entry into the node `number`; nothing else has changed
 pub record EntersOnce (number : ℕ) (old new : List WalkNode) : Type 0 where
   pub kept : KeepsPaths old new
-  pub calls : (path : List ℕ) → calls_at path new ≡ calls_at path old + address_if (bytes_eq (path_of number old) path)
+  pub calls : (path : List ℕ) → calls_at path new ≡ calls_at path old + one_if (bytes_eq (path_of number old) path)
   pub steps : (path : List ℕ) → steps_at path new ≡ steps_at path old
   pub own : (f : ℕ) → own_steps_of f new ≡ own_steps_of f old
   pub all_calls : all_calls new ≡ all_calls old + 1

@@ -3,7 +3,7 @@ use Rattle.std.specs.Prelude.{◌≡◌, ◌+◌, ◌<◌, ◌≤◌, ℕ, List,
 use Rattle.std.specs.Str.{bytes_eq}
 use Rattle.rv_count_tables.specs.declared_call_node.CallNode.{CallNode}
 use Rattle.rv_count_tables.specs.Trees as spots
-use Rattle.rv_count_tables.specs.Trees.{ends_with, last_path, address_if, HasCalls, IsTree}
+use Rattle.rv_count_tables.specs.Trees.{ends_with, last_path, one_if, HasCalls, IsTree}
 use Rattle.rv_stacks.specs.declared.preorder.PreorderBuilder.{PreorderBuilder}
 use Rattle.rv_stacks.specs.declared.node.WalkNode.{WalkNode}
 use Rattle.rv_stacks.specs.declared.walk.Walk.{Walk}
@@ -24,7 +24,7 @@ pub record Enters (there : List ℕ) (old new : Walk) : Type 0 where
   pub walk : IsWalk new
   pub path : new.path.items ≡ there
   pub calls : (at : List ℕ) → calls_at at new.nodes.items
-      ≡ calls_at at old.nodes.items + address_if (bytes_eq there at)
+      ≡ calls_at at old.nodes.items + one_if (bytes_eq there at)
   pub steps : (at : List ℕ) → steps_at at new.nodes.items ≡ steps_at at old.nodes.items
   pub own : (function : ℕ) → own_steps_of function new.nodes.items ≡ own_steps_of function old.nodes.items
   pub all_calls : all_calls new.nodes.items ≡ all_calls old.nodes.items + 1

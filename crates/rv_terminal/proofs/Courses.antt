@@ -29,7 +29,7 @@ pub course_begun : (colors : Colors) (before : Option (List ℕ)) → IsOutputSt
 unfolding colored
 course_begun colors.Plain before = tt
 course_begun colors.Colored None = tt
-course_begun colors.Colored (Some before) = record { text = []; shown = sym (append-nil before); position = refl }
+course_begun colors.Colored (Some before) = record { text = []; colored_is = sym (append-nil before); position = refl }
 
 -- ---- the results of what went out
 
@@ -53,7 +53,7 @@ results_shown before text =
 module _ (here : LinePosition) (before old more : List ℕ) (shown : IsColoredUpTo here before old) where
   longer : old ++ colored here more ≡ before ++ colored line_start (shown.text ++ more)
   longer =
-      ap (λ xs. xs ++ colored here more) shown.shown
+      ap (λ xs. xs ++ colored here more) shown.colored_is
       ∙ (append_assoc before (colored line_start shown.text) (colored here more)
       ∙ ap (λ xs. before ++ xs)
       (ap (λ position. colored line_start shown.text ++ colored position more) shown.position
@@ -62,7 +62,7 @@ module _ (here : LinePosition) (before old more : List ℕ) (shown : IsColoredUp
   pub shown_further : IsColoredUpTo (fold position_after here more) before (old ++ colored here more)
   shown_further = record {
     text = shown.text ++ more;
-    shown = longer;
+    colored_is = longer;
     position = ap (λ position. fold position_after position more) shown.position
         ∙ sym (fold-append position_after line_start shown.text more);
   }
@@ -74,7 +74,7 @@ module _ (here : LinePosition) (before old more : List ℕ) (shown : IsColoredUp
       ∙ (results_shown before (shown.text ++ more)
       ∙ (sym (append_assoc before shown.text more)
       ∙ ap (λ xs. xs ++ more) (sym (results_shown before shown.text)
-      ∙ ap (λ xs. before ++ uncolored InText (drop (length before) xs)) (sym shown.shown))))
+      ∙ ap (λ xs. before ++ uncolored InText (drop (length before) xs)) (sym shown.colored_is))))
 
 -- the same, and the first bytes of a mark behind it
 module _ (here : LinePosition) (before old new more part : List ℕ) (shown : IsColoredUpTo here before old) (begun : IsMarkPrefix part)
@@ -86,16 +86,16 @@ module _ (here : LinePosition) (before old new more part : List ℕ) (shown : Is
       ∙ append_assoc before (colored line_start (shown.text ++ more)) part))
 
   pub shown_in_part : IsColoredWithPrefix before new
-  shown_in_part = record { text = shown.text ++ more; part = part; begun = begun; shown = in_part }
+  shown_in_part = record { text = shown.text ++ more; part = part; mark_prefix = begun; colored_is = in_part }
 
   pub results_in_part_further : before ++ uncolored InText (drop (length before) new)
       ≡ (before ++ uncolored InText (drop (length before) old)) ++ more
   results_in_part_further =
       ap (λ xs. before ++ uncolored InText (drop (length before) xs)) in_part
-      ∙ (results_in_part before (shown.text ++ more) part (part_out begun.mark part begun.rest begun.whole)
+      ∙ (results_in_part before (shown.text ++ more) part (part_out begun.mark part begun.rest begun.mark_is)
       ∙ (sym (append_assoc before shown.text more)
       ∙ ap (λ xs. xs ++ more) (sym (results_shown before shown.text)
-      ∙ ap (λ xs. before ++ uncolored InText (drop (length before) xs)) (sym shown.shown))))
+      ∙ ap (λ xs. before ++ uncolored InText (drop (length before) xs)) (sym shown.colored_is))))
 
 -- a put keeps a sink on its course
 pub course_kept : (colors : Colors) (before old new : Option (List ℕ)) (here next : OutputState) (more : List ℕ)
@@ -151,8 +151,8 @@ out_whole colors.Colored (Some before) None here is whole = absurd is
 out_whole colors.Colored (Some before) (Some out) state.Plain is whole = absurd is
 out_whole colors.Colored (Some before) (Some out) (state.Colored here) is whole = record {
   text = is.text;
-  put = ap (λ xs. before ++ uncolored InText (drop (length before) xs)) is.shown ∙ results_shown before is.text;
-  shown = is.shown;
+  plain_is = ap (λ xs. before ++ uncolored InText (drop (length before) xs)) is.colored_is ∙ results_shown before is.text;
+  colored_is = is.colored_is;
 }
 out_whole colors.Colored (Some before) (Some out) state.Failed is whole = absurd (true≢false whole)
 
@@ -165,15 +165,15 @@ out_in_part colors.Colored (Some before) (Some out) state.Plain is = absurd is
 out_in_part colors.Colored (Some before) (Some out) (state.Colored here) is = record {
   text = is.text;
   part = [];
-  begun = record { mark = mark.Nothing; rest = []; whole = refl };
-  put = ap (λ xs. before ++ uncolored InText (drop (length before) xs)) is.shown ∙ results_shown before is.text;
-  shown = is.shown ∙ ap (λ xs. before ++ xs) (sym (append-nil (colored line_start is.text)));
+  mark_prefix = record { mark = mark.Nothing; rest = []; mark_is = refl };
+  plain_is = ap (λ xs. before ++ uncolored InText (drop (length before) xs)) is.colored_is ∙ results_shown before is.text;
+  colored_is = is.colored_is ∙ ap (λ xs. before ++ xs) (sym (append-nil (colored line_start is.text)));
 }
 out_in_part colors.Colored (Some before) (Some out) state.Failed is = record {
   text = is.text;
   part = is.part;
-  begun = is.begun;
-  put = ap (λ xs. before ++ uncolored InText (drop (length before) xs)) is.shown
-      ∙ results_in_part before is.text is.part (part_out is.begun.mark is.part is.begun.rest is.begun.whole);
-  shown = is.shown;
+  mark_prefix = is.mark_prefix;
+  plain_is = ap (λ xs. before ++ uncolored InText (drop (length before) xs)) is.colored_is
+      ∙ results_in_part before is.text is.part (part_out is.mark_prefix.mark is.part is.mark_prefix.rest is.mark_prefix.mark_is);
+  colored_is = is.colored_is;
 }

@@ -17,29 +17,29 @@ use Rattle.rv_terminal.specs.declared.line_position.LinePosition.{LinePosition}
 -- `plain` is `before` followed by a text, and `out` is `before` followed by that text in its colours
 pub record IsColored (before plain out : List ℕ) : Type 0 where
   pub text : List ℕ
-  pub put : plain ≡ before ++ text
-  pub shown : out ≡ before ++ colored line_start text
+  pub plain_is : plain ≡ before ++ text
+  pub colored_is : out ≡ before ++ colored line_start text
 
 -- `part` is a prefix of an escape sequence, perhaps the whole sequence
 pub record IsMarkPrefix (part : List ℕ) : Type 0 where
   pub mark : Mark
   pub rest : List ℕ
-  pub whole : mark_text mark ≡ part ++ rest
+  pub mark_is : mark_text mark ≡ part ++ rest
 
 -- `plain` is `before` followed by a text, and `out` is `before` followed by that text in its colours and perhaps a prefix of an escape
 -- sequence
 pub record IsColoredPrefix (before plain out : List ℕ) : Type 0 where
   pub text : List ℕ
   pub part : List ℕ
-  pub begun : IsMarkPrefix part
-  pub put : plain ≡ before ++ text
-  pub shown : out ≡ before ++ (colored line_start text ++ part)
+  pub mark_prefix : IsMarkPrefix part
+  pub plain_is : plain ≡ before ++ text
+  pub colored_is : out ≡ before ++ (colored line_start text ++ part)
 
 -- both texts are present, and the relation holds between them
 abbrev pub HoldsForBoth : (List ℕ → List ℕ → Type 0) → Option (List ℕ) → Option (List ℕ) → Type 0
-HoldsForBoth are None out = ⊥
-HoldsForBoth are (Some plain) None = ⊥
-HoldsForBoth are (Some plain) (Some out) = are plain out
+HoldsForBoth relation None out = ⊥
+HoldsForBoth relation (Some plain) None = ⊥
+HoldsForBoth relation (Some plain) (Some out) = relation plain out
 
 -- without colours, `out` is `plain`; with colours, `plain` is `before` followed by some results, and `out` is `before` followed by these
 -- results in their colours; `out` may be anything if `before` is `None`
@@ -94,8 +94,8 @@ IsWrittenInState state.Plain next text old new = (next ≡ state.Plain) × Appen
 IsWrittenInState (state.Colored here) next text old new = IsWrittenFrom here next text old new
 IsWrittenInState state.Failed next text old new = (next ≡ state.Failed) × ((text ≡ []) × (new ≡ old))
 
--- the number of failures of the underlying sink after a write of `count` bytes between these states: `before`, unless the write failed;
--- then one more
+-- the number of failures of the underlying sink after a write of `count` bytes between these states: one more than `before` if the write
+-- failed, and otherwise `before`
 abbrev pub sink_failures : OutputState → OutputState → ℕ → ℕ → ℕ
 sink_failures here next count before = if has_failed here then before
     else if has_failed next || count == 0 then one_more before else before
@@ -108,15 +108,15 @@ AreFailuresCounted _ failures below = failures ≡ below
 -- `out` is `before` followed by a text in its colours, which ends at the position `here` in a line
 pub record IsColoredUpTo (here : LinePosition) (before out : List ℕ) : Type 0 where
   pub text : List ℕ
-  pub shown : out ≡ before ++ colored line_start text
+  pub colored_is : out ≡ before ++ colored line_start text
   pub position : here ≡ fold position_after line_start text
 
 -- `out` is `before` followed by a text in its colours and a prefix of an escape sequence
 pub record IsColoredWithPrefix (before out : List ℕ) : Type 0 where
   pub text : List ℕ
   pub part : List ℕ
-  pub begun : IsMarkPrefix part
-  pub shown : out ≡ before ++ (colored line_start text ++ part)
+  pub mark_prefix : IsMarkPrefix part
+  pub colored_is : out ≡ before ++ (colored line_start text ++ part)
 
 -- the state of coloured output after `out` was written, which begins with `before`, the bytes of earlier output
 abbrev pub IsStateAfter : List ℕ → List ℕ → OutputState → Type 0

@@ -10,11 +10,11 @@ jobs_and_failed_text jobs failed = decimal jobs ++ codes " jobs done, " ++ decim
 abbrev pub progress_text : ℕ → ℕ → ℕ → List ℕ
 progress_text done jobs failed = decimal done ++ codes " of " ++ jobs_and_failed_text jobs failed
 
--- whether other output ends in the middle of a line after one more text, given the last byte of the text; if the text is empty, `held`,
--- which says whether it did before
+-- whether other output ends in the middle of a line after one more text, given the last byte of the text; if the text is empty, whether it
+-- did before (`was_mid_line`)
 abbrev pub is_mid_line : Bool → Option ℕ → Bool
-is_mid_line held None = held
-is_mid_line held (Some last) = not (last == 10)
+is_mid_line was_mid_line None = was_mid_line
+is_mid_line was_mid_line (Some last) = not (last == 10)
 
 -- the last byte of a text; `None` if it is empty
 abbrev pub last_byte : List ℕ → Option ℕ

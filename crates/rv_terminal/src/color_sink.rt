@@ -53,7 +53,7 @@ impl<J: ColorSpec, S: Sink + Drop> ColorSink<J, S> {
     pub fn new(sink: S, colors: Colors) -> ColorSink<J, S>
         requires colors { colors ≡ J.colors }
         requires before { S.accepted sink ≡ J.before }
-        ensures taken { results_of J.colors J.before (S.accepted result.sink) ≡ S.accepted sink }
+        ensures nothing_written { results_of J.colors J.before (S.accepted result.sink) ≡ S.accepted sink }
         ensures failures { result.failures ≡ S.failure_count sink }
         ensures state { result.state ≡ first_state colors }
     {
@@ -70,11 +70,11 @@ impl<J: ColorSpec, S: Sink + Drop> ColorSink<J, S> {
     /// completely.
     pub fn finish(self) -> (S, Result<(), SinkFailed>)
         ensures sink { result.0 ≡ self.sink }
-        ensures told { is_err result.1 ≡ has_failed self.state }
+        ensures error_if_failed { is_err result.1 ≡ has_failed self.state }
         ensures failed { IfErr result.1 (λ _. 1 ≤ S.failure_count self.sink) }
-        ensures whole { OnOk result.1 (IsColoredAs J.colors J.before (results_of J.colors J.before (S.accepted self.sink))
+        ensures colored { OnOk result.1 (IsColoredAs J.colors J.before (results_of J.colors J.before (S.accepted self.sink))
             (S.accepted self.sink)) }
-        ensures part { IsPartlyColoredAs J.colors J.before (results_of J.colors J.before (S.accepted self.sink)) (S.accepted self.sink) }
+        ensures partly_colored { IsPartlyColoredAs J.colors J.before (results_of J.colors J.before (S.accepted self.sink)) (S.accepted self.sink) }
     {
         let ColorSink {
             sink,

@@ -51,8 +51,8 @@ pub(crate) fn write_in_state<S: Sink>(
 ) -> (usize, OutputState)
     requires { 0 < length bytes.now }
     ensures within { result.0 ≤ length bytes.now }
-    ensures put { IsWrittenInState state result.1 (take result.0 bytes.now) (S.accepted sink.old) (S.accepted sink.new) }
-    ensures counted { S.failure_count sink.new ≡ sink_failures state result.1 result.0 (S.failure_count sink.old) }
+    ensures written { IsWrittenInState state result.1 (take result.0 bytes.now) (S.accepted sink.old) (S.accepted sink.new) }
+    ensures failure_count { S.failure_count sink.new ≡ sink_failures state result.1 result.0 (S.failure_count sink.old) }
 {
     match state {
         OutputState::Plain => match sink.put(bytes) {
@@ -73,8 +73,8 @@ fn write_colored<S: Sink>(
 ) -> (usize, OutputState)
     requires { 0 < length bytes.now }
     ensures within { result.0 ≤ length bytes.now }
-    ensures put { IsWrittenFrom position result.1 (take result.0 bytes.now) (S.accepted sink.old) (S.accepted sink.new) }
-    ensures counted { S.failure_count sink.new ≡ sink_failures (state.Colored position) result.1 result.0 (S.failure_count sink.old) }
+    ensures written { IsWrittenFrom position result.1 (take result.0 bytes.now) (S.accepted sink.old) (S.accepted sink.new) }
+    ensures failure_count { S.failure_count sink.new ≡ sink_failures (state.Colored position) result.1 result.0 (S.failure_count sink.old) }
 {
     let mut at = 0;
     let mut here = position;
@@ -100,10 +100,10 @@ fn write_span<S: Sink>(
     requires { 0 < length bytes.now }
     ensures within { IfOk result (λ count. (1 ≤ count) × (count ≤ length bytes.now)) }
     ensures colored { IfOk result (λ count. Appends (S.accepted sink.old) (S.accepted sink.new) (colored position (take count bytes.now))) }
-    ensures part { IfErr result (λ _. AppendsPrefix (S.accepted sink.old) (S.accepted sink.new)
+    ensures prefix_written { IfErr result (λ _. AppendsPrefix (S.accepted sink.old) (S.accepted sink.new)
         (mark_text (mark_before position (slice_index bytes.now 0)))) }
-    ensures counted { IfOk result (λ _. S.failure_count sink.new ≡ S.failure_count sink.old) }
-    ensures failure { IfErr result (λ _. S.failure_count sink.new ≡ one_more (S.failure_count sink.old)) }
+    ensures no_failed_writes { IfOk result (λ _. S.failure_count sink.new ≡ S.failure_count sink.old) }
+    ensures failed_write { IfErr result (λ _. S.failure_count sink.new ≡ one_more (S.failure_count sink.old)) }
 {
     let mark = position.mark_before(bytes[0]);
     put_all(sink, mark.text().as_bytes())?;
@@ -114,7 +114,7 @@ fn write_span<S: Sink>(
 fn span_len(position: LinePosition, bytes: &[u8]) -> usize
     requires { 0 < length bytes.now }
     ensures within { (1 ≤ result) × (result ≤ length bytes.now) }
-    ensures marked { (count : ℕ) → 1 ≤ count → count ≤ result
+    ensures no_mark_between { (count : ℕ) → 1 ≤ count → count ≤ result
         → colored position (take count bytes.now) ≡ mark_text (mark_before position (slice_index bytes.now 0)) ++ take count bytes.now }
 {
     let mut at = 1;

@@ -44,17 +44,17 @@ impl<'r, 't, 'p, 'k, R: Clock + Wait, T: RowReporter, W: Write + Drop> ProgressR
 
 impl<'r, 't, 'p, 'k, R: Clock + Wait, T: RowReporter, W: Write + Drop> RowReporter
     for ProgressReporter<'r, 't, 'p, 'k, R, T, W> {
-    ghost line = { λ counting position row. T.line counting.reporter.now position row };
+    ghost line = { λ counting index row. T.line counting.reporter.now index row };
 
     // Appends the text of the other reporter about the job at an index, and counts its row in the progress.
     fn push_row_text(
         &self,
         alloc: Global,
-        position: usize,
+        index: usize,
         row: &Row,
         text: &mut Vec<u8>,
     ) -> Result<(), AllocError> {
-        self.reporter.push_row_text(alloc, position, row, text)?;
+        self.reporter.push_row_text(alloc, index, row, text)?;
         self.progress.count_row(self.rt, alloc, row);
         Ok(())
     }

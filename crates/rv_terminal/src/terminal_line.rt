@@ -33,7 +33,7 @@ impl<W: Write + Drop> Line<W> {
     pub(crate) fn new(out: W) -> Line<W>
         ensures out { result.out ≡ out }
         ensures shown { result.is_shown ≡ false }
-        ensures held { result.is_blocked ≡ false }
+        ensures blocked { result.is_blocked ≡ false }
     {
         Line {
             out,
@@ -57,7 +57,7 @@ impl<W: Write + Drop> Line<W> {
     pub(crate) fn show_counts(&mut self, alloc: Global, counts: Counts) -> Result<(), WriteError>
         // In the middle of a line of other output, nothing is written.
         ensures unchanged { IsTrue self.old.is_blocked → self.new ≡ self.old }
-        ensures held { self.new.is_blocked ≡ self.old.is_blocked }
+        ensures blocked { self.new.is_blocked ≡ self.old.is_blocked }
         ensures shown { OnOk result (self.new.is_shown ≡ (self.old.is_shown || not self.old.is_blocked)) }
         ensures written { OnOk result (Appends (W.contents self.old.out) (W.contents self.new.out)
             (text_unless_blocked self.old.is_blocked (counts_text counts.tally.done counts.jobs counts.tally.failed))) }
@@ -81,7 +81,7 @@ impl<W: Write + Drop> Line<W> {
     /// Removes the line if it is shown; returns an error if the terminal did not accept all bytes.
     pub(crate) fn remove(&mut self) -> Result<(), WriteError>
         ensures removed { self.new.is_shown ≡ false }
-        ensures held { self.new.is_blocked ≡ self.old.is_blocked }
+        ensures blocked { self.new.is_blocked ≡ self.old.is_blocked }
         ensures written { OnOk result
             (Appends (W.contents self.old.out) (W.contents self.new.out) (erasing_text self.old.is_shown)) }
     {
@@ -95,7 +95,7 @@ impl<W: Write + Drop> Line<W> {
     /// Records that `text`, which is other output, was written to the terminal. Until such output ends with a line feed, no progress line
     /// is shown.
     pub(crate) fn record_other_text(&mut self, text: &[u8])
-        ensures held { self.new.is_blocked ≡ is_mid_line self.old.is_blocked (last_byte text.now) }
+        ensures blocked { self.new.is_blocked ≡ is_mid_line self.old.is_blocked (last_byte text.now) }
         ensures shown { self.new.is_shown ≡ self.old.is_shown }
         ensures out { self.new.out ≡ self.old.out }
     {
@@ -107,7 +107,7 @@ impl<W: Write + Drop> Line<W> {
     // Writes bytes to the terminal and flushes it; returns an error if either fails.
     fn write_and_flush(&mut self, bytes: &[u8]) -> Result<(), WriteError>
         ensures shown { self.new.is_shown ≡ self.old.is_shown }
-        ensures held { self.new.is_blocked ≡ self.old.is_blocked }
+        ensures blocked { self.new.is_blocked ≡ self.old.is_blocked }
         ensures written { OnOk result
             (Appends (W.contents self.old.out) (W.contents self.new.out) bytes.now) }
     {

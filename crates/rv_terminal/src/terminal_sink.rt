@@ -94,15 +94,15 @@ impl<'a, 'k, R: Wait, S: Sink + Drop, W: Write + Drop> TerminalSink<'a, 'k, R, S
     ) -> BesideLineResult
         requires { 0 < length bytes.now }
         ensures within { IfOk result.put (λ count. (1 ≤ count) × (count ≤ length bytes.now)) }
-        ensures taken { IfOk result.put
+        ensures accepted { IfOk result.put
             (λ count. Appends (S.accepted self.old.sink) (S.accepted self.new.sink) (take count bytes.now)) }
-        ensures counted { IfOk result.put (λ _. S.failure_count self.new.sink ≡ S.failure_count self.old.sink) }
-        ensures kept { IfErr result.put (λ _. Keeps (S.accepted self.old.sink) (S.accepted self.new.sink)) }
-        ensures failure { IfErr result.put (λ _. S.failure_count self.new.sink ≡ one_more (S.failure_count self.old.sink)) }
-        ensures held { MatchResult result.put
+        ensures no_failed_writes { IfOk result.put (λ _. S.failure_count self.new.sink ≡ S.failure_count self.old.sink) }
+        ensures nothing_written { IfErr result.put (λ _. Keeps (S.accepted self.old.sink) (S.accepted self.new.sink)) }
+        ensures failed_write { IfErr result.put (λ _. S.failure_count self.new.sink ≡ one_more (S.failure_count self.old.sink)) }
+        ensures blocked { MatchResult result.put
             (λ count. line.new.is_blocked ≡ is_mid_line line.old.is_blocked (last_byte (take count bytes.now)))
             (λ _. line.new.is_blocked ≡ line.old.is_blocked) }
-        ensures shown { OnOk result.line (line.new.is_shown ≡ (line.old.is_shown && not line.new.is_blocked)) }
+        ensures line_shown { OnOk result.line (line.new.is_shown ≡ (line.old.is_shown && not line.new.is_blocked)) }
         ensures written { OnOk result.line (Appends (W.contents line.old.out) (W.contents line.new.out)
             (text_around_write line.old.is_shown line.new.is_blocked
             (counts_text tally.done progress.now.jobs tally.failed))) }
@@ -130,14 +130,14 @@ fn write_beside_line<S: Sink, W: Write + Drop>(
 ) -> BesideLineResult
     requires { 0 < length bytes.now }
     ensures within { IfOk result.put (λ count. (1 ≤ count) × (count ≤ length bytes.now)) }
-    ensures taken { IfOk result.put (λ count. Appends (S.accepted sink.old) (S.accepted sink.new) (take count bytes.now)) }
-    ensures counted { IfOk result.put (λ _. S.failure_count sink.new ≡ S.failure_count sink.old) }
-    ensures kept { IfErr result.put (λ _. Keeps (S.accepted sink.old) (S.accepted sink.new)) }
-    ensures failure { IfErr result.put (λ _. S.failure_count sink.new ≡ one_more (S.failure_count sink.old)) }
-    ensures held { MatchResult result.put
+    ensures accepted { IfOk result.put (λ count. Appends (S.accepted sink.old) (S.accepted sink.new) (take count bytes.now)) }
+    ensures no_failed_writes { IfOk result.put (λ _. S.failure_count sink.new ≡ S.failure_count sink.old) }
+    ensures nothing_written { IfErr result.put (λ _. Keeps (S.accepted sink.old) (S.accepted sink.new)) }
+    ensures failed_write { IfErr result.put (λ _. S.failure_count sink.new ≡ one_more (S.failure_count sink.old)) }
+    ensures blocked { MatchResult result.put
         (λ count. line.new.is_blocked ≡ is_mid_line line.old.is_blocked (last_byte (take count bytes.now)))
         (λ _. line.new.is_blocked ≡ line.old.is_blocked) }
-    ensures shown { OnOk result.line (line.new.is_shown ≡ (line.old.is_shown && not line.new.is_blocked)) }
+    ensures line_shown { OnOk result.line (line.new.is_shown ≡ (line.old.is_shown && not line.new.is_blocked)) }
     ensures written { OnOk result.line (Appends (W.contents line.old.out) (W.contents line.new.out)
         (text_around_write line.old.is_shown line.new.is_blocked
         (counts_text counts.tally.done counts.jobs counts.tally.failed))) }
@@ -168,13 +168,13 @@ fn write_and_record<S: Sink, W: Write + Drop>(
     requires removed { line.old.is_shown ≡ false }
     requires some { 0 < length bytes.now }
     ensures within { IfOk result (λ count. (1 ≤ count) × (count ≤ length bytes.now)) }
-    ensures taken { IfOk result (λ count. Appends (S.accepted sink.old) (S.accepted sink.new) (take count bytes.now)) }
-    ensures counted { IfOk result (λ _. S.failure_count sink.new ≡ S.failure_count sink.old) }
-    ensures kept { IfErr result (λ _. Keeps (S.accepted sink.old) (S.accepted sink.new)) }
-    ensures failure { IfErr result (λ _. S.failure_count sink.new ≡ one_more (S.failure_count sink.old)) }
+    ensures accepted { IfOk result (λ count. Appends (S.accepted sink.old) (S.accepted sink.new) (take count bytes.now)) }
+    ensures no_failed_writes { IfOk result (λ _. S.failure_count sink.new ≡ S.failure_count sink.old) }
+    ensures nothing_written { IfErr result (λ _. Keeps (S.accepted sink.old) (S.accepted sink.new)) }
+    ensures failed_write { IfErr result (λ _. S.failure_count sink.new ≡ one_more (S.failure_count sink.old)) }
     ensures shown { line.new.is_shown ≡ line.old.is_shown }
     ensures out { line.new.out ≡ line.old.out }
-    ensures held { MatchResult result
+    ensures blocked { MatchResult result
         (λ count. line.new.is_blocked ≡ is_mid_line line.old.is_blocked (last_byte (take count bytes.now)))
         (λ _. line.new.is_blocked ≡ line.old.is_blocked) }
 {

@@ -50,9 +50,9 @@ flaw_message parts path text (flaw.RepeatedName number) =
 abbrev pub IsMergeErrorStop : List (Bor (List ℕ)) → List (List ℕ) → MergeError → Stop → Type 0
 IsMergeErrorStop parts texts error.OutOfMemory stop = stop ≡ stops.OutOfMemory
 IsMergeErrorStop parts texts error.NoTexts stop = IsStop 2 (codes "rvtest: expected at least one part\n") stop
-IsMergeErrorStop parts texts (error.Text index flaw) stop =
+IsMergeErrorStop parts texts (error.InvalidText index flaw) stop =
     IsStop 2 (flaw_message parts (part_path parts index) (nth_text texts index) flaw) stop
-IsMergeErrorStop parts texts (error.Missing number) stop =
+IsMergeErrorStop parts texts (error.MissingShard number) stop =
     IsStop 2 (codes "rvtest: no part for shard " ++ decimal number ++ codes "\n") stop
 
 -- why `merge` stopped: memory ran out, or the texts are not the parts of one run, for a reason that the stop reports

@@ -226,14 +226,14 @@ fn merge_error_stop(alloc: Global, args: &MergeArgs<'_>, texts: &[&[u8]], error:
                 &[Span::Text("rvtest: expected at least one part\n")],
             ))
         }
-        MergeError::Text(index, flaw) => {
+        MergeError::InvalidText(index, flaw) => {
             let part = Part {
                 path: part_path(args, index),
                 text: part_text(texts, index),
             };
             Stop::rejection(part_flaw_message(alloc, args, part, flaw))
         }
-        MergeError::Missing(number) => Stop::rejection(missing_shard_message(alloc, number)),
+        MergeError::MissingShard(number) => Stop::rejection(missing_shard_message(alloc, number)),
     }
 }
 

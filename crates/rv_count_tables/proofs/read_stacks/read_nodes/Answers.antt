@@ -8,7 +8,7 @@ use Rattle.rv_count_tables.proofs.ReadingLines.{further_within}
 use Rattle.rv_count_tables.proofs.ReadingStacks.{SpotsSoFar, all_spots, no_spots_so_far, one_spot, spot_is_long}
 use Rattle.rv_count_tables.proofs.read_stacks.read_nodes.Goals as goal
 use Rattle.rv_call_tree.specs.declared.call_node.CallNode.{CallNode}
-use Rattle.rv_call_tree.specs.Trees.{path_after, FollowsInPreorder}
+use Rattle.rv_call_tree.specs.Trees.{path_after, MayFollow}
 
 pub lines-init : goal.lines-init
 lines-init c = subst (λ (ss : List CallNode). SpotsSoFar c.args.text.now ss c.new-names.result c.new-front.result.items 0) (sym c.new-nodes.ensures.items)
@@ -33,7 +33,7 @@ lines-preserved c =
     let read = c.in-Some.read in
     let w = c.whole_line-line.ensures ∙ ap whole_line c.tail_from.ensures in
     let fits = rw c.in-Some.is at c.in_ok-read.ensures.node (drop c.lines.length text) w in
-    let stands = subst (λ (path : List ℕ). FollowsInPreorder path read.node) c.as_slice.ensures.value
+    let stands = subst (λ (path : List ℕ). MayFollow path read.node) c.as_slice.ensures.value
     (rw c.in-Some.is at c.in_ok-read.ensures.preorder) in
     let agrees : AgreesWithName read.name (name_of read.node.function names) = rw c.in-Some.is at c.in_ok-read.ensures.name in
     let line = rw c.in-Some.is at c.in_ok-read.ensures.line in

@@ -10,8 +10,8 @@ pub returns : goal.returns
 unfolding change_lines
 returns c =
     let compare = c.args.mode in
-    let old = c.args.old.now in
-    let new = c.args.new.now in
+    let old = c.args.old_row.now in
+    let new = c.args.new_row.now in
     let ending : List ℕ = change_line new.name (are_same_endings compare old.ending new.ending)
     (becomes (ending_text old.ending) (ending_text new.ending)) in
     let counts : List ℕ = change_line new.name (agree_in_steps compare old new) (steps_change_text compare old.steps new.steps) in

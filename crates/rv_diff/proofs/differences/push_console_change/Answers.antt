@@ -10,8 +10,8 @@ pub returns-in-Some : goal.returns-in-Some
 unfolding console_change_text
 returns-in-Some c =
     let place = c.in-Some.place in
-    let differ : have_same_console c.args.old.now c.args.new.now ≡ false = sym c.have_same_console.ensures ∙ c.if-have_same_console.false in
-    let first : first_differing_index c.args.old.now.console c.args.new.now.console ≡ Some place =
+    let differ : have_same_console c.args.old_row.now c.args.new_row.now ≡ false = sym c.have_same_console.ensures ∙ c.if-have_same_console.false in
+    let first : first_differing_index c.args.old_row.now.console c.args.new_row.now.console ≡ Some place =
     (λ i. first_differing_index (sym c.as_slice-before.ensures i) (sym c.as_slice-after.ensures i))
     ∙ sym c.first_differing_byte.ensures ∙ c.in-Some.is in
     rw (

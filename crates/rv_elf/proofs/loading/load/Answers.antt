@@ -4,7 +4,7 @@ use Rattle.rv_elf.proofs.loading.load.Goals as goal
 pub loop-segment-init : goal.loop-segment-init
 loop-segment-init c = opening_memory_none c.args.bus.now c.args.file.now c.args.load_at c.requires.new_bus
 
-pub write_segment-requires-clause-in_file : goal.write_segment-requires-clause-inside
+pub write_segment-requires-clause-in_file : goal.write_segment-requires-clause-in_file
 write_segment-requires-clause-in_file c =
     bytes_there c.args.file.now c.args.image.now c.as_slice-segment-items.result.now c.as_slice-segment-items.ensures
     c.requires.image c.loop-segment.segment-index c.loop-segment-test.true

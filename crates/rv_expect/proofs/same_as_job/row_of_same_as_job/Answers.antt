@@ -14,5 +14,5 @@ made_there f (x ∷ xs) place y below is =
 pub returns-in_ok-row_at-in-Some : goal.returns-in_ok-row_at-in-Some
 returns-in_ok-row_at-in-Some c =
     let plan = c.args.plan.now in
-    rw c.in-Some.is (made_there (row_of plan) plan.jobs c.in-Some.place c.in_ok-row_at-in-Some.field-0
+    rw c.in-Some.is (made_there (row_of plan) plan.jobs c.in-Some.index c.in_ok-row_at-in-Some.field-0
     (rw c.in-Some.is at c.requires) c.in_ok-row_at-in-Some.ensures)

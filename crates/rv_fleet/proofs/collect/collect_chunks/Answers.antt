@@ -8,7 +8,7 @@ pub store_chunks-requires-clause-chunks : goal.store_chunks-requires-clause-chun
 store_chunks-requires-clause-chunks c =
     let has = All-first (KeepsPromise (batch_rows c.args.pieces.now.batch) c.args.pieces.now.group c.args.claims.now) c.in-Some.field-0 _ _
     c.in-Some.ensures.steps.0 c.loop-pass.invariant.1 in
-    pieces_worked c.args.pieces.now _ c.in-Some.field-0 _ has c.in_ok-made.was c.requires.pieces
+    pieces_worked c.args.pieces.now _ c.in-Some.field-0 _ has c.in_ok-chunks.was c.requires.pieces
 
 pub loop-pass-preserved : goal.loop-pass-preserved
 loop-pass-preserved c = (

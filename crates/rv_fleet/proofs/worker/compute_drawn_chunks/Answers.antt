@@ -16,8 +16,8 @@ loop-number-preserved g c =
     let t = took_some _ _ _ _ c.in-Some.number (c.take.ensures.none, c.take.ensures.drawn) c.in-Some.is in
     let m = made_one (numbered_piece c.args.pieces.now) c.args.pass.now _ _ _ _ _ _ _
     was.1 t.0 t.2 (ap (λ (d : CounterView). d.pieces) c.requires.pass) was.2 c.in_ok-push.ensures.items
-    c.in_ok-made.ensures.piece in
-    (ap (λ (h : PassView). h.draw) t.0 ∙ was.0, m.0, m.1, c.in_ok-made.ensures.recent)
+    c.in_ok-chunk.ensures.piece in
+    (ap (λ (h : PassView). h.draw) t.0 ∙ was.0, m.0, m.1, c.in_ok-chunk.ensures.recent)
 
 pub returns-in_err-push-clause-pass : goal.returns-in_err-push-clause-pass
 returns-in_err-push-clause-pass g c =
@@ -36,8 +36,8 @@ returns-clause-ended g c =
     c.loop-number.invariant.1 (c.take.ensures.none, c.take.ensures.drawn) c.in_default.is
     (ap (λ (d : CounterView). d.pieces) c.requires.pass) c.loop-number.invariant.2).1
 
-pub returns-clause-made : goal.returns-clause-made
-returns-clause-made g c =
+pub returns-clause-chunks : goal.returns-clause-chunks
+returns-clause-chunks g c =
     (made_all (numbered_piece c.args.pieces.now) c.args.pass.now _ _ _ _ _
     c.loop-number.invariant.1 (c.take.ensures.none, c.take.ensures.drawn) c.in_default.is
     (ap (λ (d : CounterView). d.pieces) c.requires.pass) c.loop-number.invariant.2).2

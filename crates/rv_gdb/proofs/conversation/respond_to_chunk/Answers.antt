@@ -12,11 +12,11 @@ loop-index-init g c = (
   (same_run c.args.session.now, (refl, refl)),
 )
 
-pub returns-then-branch-clause-answered : goal.returns-then-branch-clause-answered
-returns-then-branch-clause-answered g c =
+pub returns-then-branch-clause-handled : goal.returns-then-branch-clause-handled
+returns-then-branch-clause-handled g c =
     let end_text = g.E.EndText.end_text c.args.context.now.end.now in
     let within : c.loop-index.index < length c.args.chunk.now = search rules in
-    let is_move_pending = rw c.if-branch.true at c.in_ok-respond_to_byte.ensures.answered in
+    let is_move_pending = rw c.if-branch.true at c.in_ok-respond_to_byte.ensures.handled in
     chunk_moved end_text c.args.session.now c.respond_to_byte.new.session c.move_while_reading.new.session c.args.chunk.now
     c.in_ok-move_while_reading.field-0.items c.loop-index.index _ _ _ _ _ is_move_pending.0
     (heard_byte end_text c.args.session.now c.loop-index.session c.respond_to_byte.new.session c.args.chunk.now c.loop-index.index 0 _ _ _
@@ -31,22 +31,22 @@ loop-index-preserved g c =
     let end_text = g.E.EndText.end_text c.args.context.now.end.now in
     let within : c.loop-index.index < length c.args.chunk.now = search rules in (
       heard_byte_on end_text c.args.session.now c.loop-index.session c.respond_to_byte.new.session c.args.chunk.now c.loop-index.index _ _ _
-          within c.loop-index.invariant.0 (rw c.if-branch.false at c.in_ok-respond_to_byte.ensures.answered),
+          within c.loop-index.invariant.0 (rw c.if-branch.false at c.in_ok-respond_to_byte.ensures.handled),
       (
         same_run_on c.args.session.now c.loop-index.session c.respond_to_byte.new.session c.loop-index.invariant.1.0
-            c.in_ok-respond_to_byte.ensures.run,
-        (c.loop-index.invariant.1.1.0, c.in_ok-respond_to_byte.ensures.counted ∙ c.loop-index.invariant.1.1.1),
+            c.in_ok-respond_to_byte.ensures.same_run,
+        (c.loop-index.invariant.1.1.0, c.in_ok-respond_to_byte.ensures.no_failed_writes ∙ c.loop-index.invariant.1.1.1),
       ),
     )
 
-pub returns-then-is_over-clause-answered : goal.returns-then-is_over-clause-answered
-returns-then-is_over-clause-answered g c =
+pub returns-then-is_over-clause-handled : goal.returns-then-is_over-clause-handled
+returns-then-is_over-clause-handled g c =
     let is : c.loop-index.index ≡ length c.args.chunk.now = search rules in
     chunk_over (g.E.EndText.end_text c.args.context.now.end.now) c.args.session.now c.loop-index.session c.args.chunk.now c.loop-index.index
     _ _ _ _ is c.loop-index.invariant.0 c.loop-index.invariant.1.1.0 (sym c.is_over.ensures ∙ c.if-is_over.true)
 
-pub returns-clause-answered : goal.returns-clause-answered
-returns-clause-answered g c =
+pub returns-clause-handled : goal.returns-clause-handled
+returns-clause-handled g c =
     let is : c.loop-index.index ≡ length c.args.chunk.now = search rules in
     chunk_read (g.E.EndText.end_text c.args.context.now.end.now) c.args.session.now c.loop-index.session c.args.chunk.now
     c.in_ok-read_chunk.field-0.items c.loop-index.index _ _ _ _ is c.loop-index.invariant.0 (sym c.is_over.ensures ∙ c.if-is_over.false)

@@ -28,8 +28,8 @@ loop-i-init g c =
       counted = refl;
     }
 
-pub returns-in_err-push_case-clause-part : goal.returns-in_err-push_case-clause-part
-returns-in_err-push_case-clause-part g c =
+pub returns-in_err-push_case-clause-prefix_written : goal.returns-in_err-push_case-clause-prefix_written
+returns-in_err-push_case-clause-prefix_written g c =
     let error = err_from_is_err_and c.from_residual.result c.from_residual.ensures.1 in
     let line = case_text c.args.suite.now.name.now (judge_view c.args.suite.now.judge) (g.T.RowReporter.line c.args.cases.now.reporter.now) in
     let text = c.args.text.now.items in
@@ -40,8 +40,8 @@ returns-in_err-push_case-clause-part g c =
     (text ++ joined_row_texts line indices (take i rows)) (concat (drop i (row_texts line indices rows)))
     (text ++ joined_row_texts line indices rows) c.loop-i.invariant.partly_written (told_rest line text indices rows i))
 
-pub returns-in_err-write_if_large-clause-part : goal.returns-in_err-write_if_large-clause-part
-returns-in_err-write_if_large-clause-part g c =
+pub returns-in_err-write_if_large-clause-prefix_written : goal.returns-in_err-write_if_large-clause-prefix_written
+returns-in_err-write_if_large-clause-prefix_written g c =
     let error = err_from_is_err_and c.from_residual-in_err-write_if_large.result
     c.from_residual-in_err-write_if_large.ensures.1 in
     let line = case_text c.args.suite.now.name.now (judge_view c.args.suite.now.judge) (g.T.RowReporter.line c.args.cases.now.reporter.now) in
@@ -59,7 +59,7 @@ returns-in_err-write_if_large-clause-part g c =
     (text ++ joined_row_texts line indices rows)
     (failed_under_way before (g.W.Sink.accepted c.loop-i.out) after c.loop-i.text.items (line (get_or indices i 0) row)
     c.push_case.new.text.items told_so_far longer c.loop-i.invariant.partly_written
-    (c.in_ok-push_case.ensures any) c.in_err-write_if_large.ensures.part
+    (c.in_ok-push_case.ensures any) c.in_err-write_if_large.ensures.prefix_written
     (told_behind line text indices rows i 0 row (omega arith) (omega arith) (get_or_default rows i any row (omega arith))))
     (told_rest line text indices rows (i + 1)))
 
@@ -79,7 +79,7 @@ loop-i-preserved g c =
           (text ++ joined_row_texts line indices (take (i + 1) rows)) c.loop-i.invariant.partly_written (c.in_ok-push_case.ensures any)
           c.in_ok-write_if_large.ensures.partly_written
           (told_behind line text indices rows i 0 row (omega arith) (omega arith) (get_or_default rows i any row (omega arith)));
-      counted = c.in_ok-write_if_large.ensures.counted ∙ c.loop-i.invariant.counted;
+      counted = c.in_ok-write_if_large.ensures.no_failed_writes ∙ c.loop-i.invariant.counted;
     }
 
 pub returns-clause-partly_written : goal.returns-clause-partly_written

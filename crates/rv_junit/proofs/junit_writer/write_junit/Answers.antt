@@ -6,13 +6,13 @@ use Rattle.rv_junit.specs.Junit.{suite_begin_text, suite_end_text}
 use Rattle.rv_junit.proofs.CaseTexts.{junit_begun, nothing_out}
 use Rattle.rv_junit.proofs.junit_writer.write_junit.Goals as goal
 
-pub returns-in_err-push_suite_begin-clause-part : goal.returns-in_err-push_suite_begin-clause-part
-returns-in_err-push_suite_begin-clause-part g c =
+pub returns-in_err-push_suite_begin-clause-prefix_written : goal.returns-in_err-push_suite_begin-clause-prefix_written
+returns-in_err-push_suite_begin-clause-prefix_written g c =
     let error = err_from_is_err_and c.from_residual.result c.from_residual.ensures.1 in
     rw error.1 (nothing_out _ _)
 
-pub returns-in_err-write_cases-clause-part : goal.returns-in_err-write_cases-clause-part
-returns-in_err-write_cases-clause-part g c =
+pub returns-in_err-write_cases-clause-prefix_written : goal.returns-in_err-write_cases-clause-prefix_written
+returns-in_err-write_cases-clause-prefix_written g c =
     let class = c.args.suite.now.name.now in
     let judging = judge_view c.args.suite.now.judge in
     let rows = c.args.cases.now.rows.now in
@@ -20,12 +20,12 @@ returns-in_err-write_cases-clause-part g c =
     ∙ ap (λ xs. xs ++ suite_begin_text class judging rows) c.new-begin.ensures.bytes in
     let error = err_from_is_err_and c.from_residual-in_err-write_cases.result
     c.from_residual-in_err-write_cases.ensures.1 in
-    rw error.1 (beginning_of_longer _ _ _ suite_end_text _ c.in_err-write_cases.ensures.part
+    rw error.1 (beginning_of_longer _ _ _ suite_end_text _ c.in_err-write_cases.ensures.prefix_written
     (junit_begun class judging (g.T.RowReporter.line c.args.cases.now.reporter.now) c.args.cases.now.indices.now rows
     c.into_bytes-text.result.items begun))
 
-pub returns-in_err-push_text-clause-part : goal.returns-in_err-push_text-clause-part
-returns-in_err-push_text-clause-part g c =
+pub returns-in_err-push_text-clause-prefix_written : goal.returns-in_err-push_text-clause-prefix_written
+returns-in_err-push_text-clause-prefix_written g c =
     let class = c.args.suite.now.name.now in
     let judging = judge_view c.args.suite.now.judge in
     let rows = c.args.cases.now.rows.now in
@@ -37,8 +37,8 @@ returns-in_err-push_text-clause-part g c =
     (junit_begun class judging (g.T.RowReporter.line c.args.cases.now.reporter.now) c.args.cases.now.indices.now rows
     c.into_bytes-text.result.items begun))
 
-pub returns-in_err-put_all-clause-part : goal.returns-in_err-put_all-clause-part
-returns-in_err-put_all-clause-part g c =
+pub returns-in_err-put_all-clause-prefix_written : goal.returns-in_err-put_all-clause-prefix_written
+returns-in_err-put_all-clause-prefix_written g c =
     let class = c.args.suite.now.name.now in
     let judging = judge_view c.args.suite.now.judge in
     let rows = c.args.cases.now.rows.now in
@@ -51,8 +51,8 @@ returns-in_err-put_all-clause-part g c =
     (junit_begun class judging (g.T.RowReporter.line c.args.cases.now.reporter.now) c.args.cases.now.indices.now rows
     c.into_bytes-text.result.items begun))
 
-pub returns-clause-appended : goal.returns-clause-appended
-returns-clause-appended g c =
+pub returns-clause-written : goal.returns-clause-written
+returns-clause-written g c =
     let class = c.args.suite.now.name.now in
     let judging = judge_view c.args.suite.now.judge in
     let rows = c.args.cases.now.rows.now in

@@ -3,7 +3,7 @@ use Rattle.std.specs.Prelude.{slice_set, vec_len}
 use Rattle.std.proofs.lemmas.Bool.{false≢true}
 use Rattle.std.proofs.lemmas.Option.{same_Some}
 use Rattle.rv_rows.specs.declared_row.Row.{Row}
-use Rattle.rv_merge.specs.MergeState.{Holds, filled_slots, report_of_part}
+use Rattle.rv_merge.specs.MergeState.{AreTextsAdded, filled_slots, report_of_part}
 use Rattle.rv_merge.specs.Parts.{bytes_of_texts, nth_text}
 use Rattle.rv_merge.proofs.Gathering.{are_two, has_other_run, holds_again, holds_more, number_within, read_none}
 use Rattle.rv_merge.proofs.Gathering.{numbers_each, read_some, shard_within}
@@ -68,7 +68,7 @@ returns-in-None-clause-next_state c =
     let rows = c.into_vec-rows.result.items in
     let is = c.fill_slots.ensures ∙ ap (λ (ns : List ℕ). filled_slots ns rows g.slots.items) c.as_slice.ensures
     ∙ ap (λ (rs : List Row). filled_slots p.numbers rs g.slots.items) c.into_vec-rows.ensures in
-    subst (λ (slots : List (Option Row)). Holds (bytes_of_texts c.args.texts.now) (c.args.index + 1) g.first
+    subst (λ (slots : List (Option Row)). AreTextsAdded (bytes_of_texts c.args.texts.now) (c.args.index + 1) g.first
     (slice_set g.sources.items (p.shard.number - 1) (Some c.args.index)) slots) (sym is) more
 
 pub are_same_texts-requires-clause-index : goal.are_same_texts-requires-clause-index

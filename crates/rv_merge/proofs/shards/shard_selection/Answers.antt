@@ -7,24 +7,24 @@ use Rattle.rv_merge.specs.Shards.{is_in_shard, shard_selection}
 use Rattle.rv_merge.proofs.Sharded.{marked_by}
 use Rattle.rv_merge.proofs.shards.shard_selection.Goals as goal
 
-pub loop-place-preserved : goal.loop-place-preserved
-loop-place-preserved c =
-    let place = c.loop-place.place in
+pub loop-index-preserved : goal.loop-index-preserved
+loop-index-preserved c =
+    let place = c.loop-index.index in
     let f = is_in_shard c.args.shards c.args.number in
     let zero : 0 + place ≡ place = omega arith in
-    c.in_ok-push.ensures.items ∙ ap (λ (l : List Bool). l ++ f place ∷ []) c.loop-place.invariant
+    c.in_ok-push.ensures.items ∙ ap (λ (l : List Bool). l ++ f place ∷ []) c.loop-index.invariant
     ∙ sym (map-range_with_len_more f 0 place place zero)
 
 pub returns-clause-length : goal.returns-clause-length
 returns-clause-length c =
-    let last : c.loop-place.place ≡ c.args.job_count = omega arith in
-    ap length c.loop-place.invariant
-    ∙ length-map (range_with_len 0 c.loop-place.place) (is_in_shard c.args.shards c.args.number)
-    ∙ length-range_with_len 0 c.loop-place.place ∙ last
+    let last : c.loop-index.index ≡ c.args.job_count = omega arith in
+    ap length c.loop-index.invariant
+    ∙ length-map (range_with_len 0 c.loop-index.index) (is_in_shard c.args.shards c.args.number)
+    ∙ length-range_with_len 0 c.loop-index.index ∙ last
 
 pub returns-clause-indices : goal.returns-clause-indices
 returns-clause-indices c =
-    let last : c.loop-place.place ≡ c.args.job_count = omega arith in
+    let last : c.loop-index.index ≡ c.args.job_count = omega arith in
     ap (λ (l : List Bool). selected_indices l c.args.job_count)
-    (c.loop-place.invariant ∙ ap (shard_selection c.args.shards c.args.number) last)
+    (c.loop-index.invariant ∙ ap (shard_selection c.args.shards c.args.number) last)
     ∙ marked_by (is_in_shard c.args.shards c.args.number) c.args.job_count

@@ -2,5 +2,5 @@ use Rattle.std.proofs.Common.{◌≡◌}
 use Rattle.rv_merge.specs.Shards.{shard_selection}
 use Rattle.rv_merge.proofs.shards.shard_selection.Given as goal
 
-abbrev pub invariant-loop-place : goal.invariant-loop-place
-invariant-loop-place l = l.marks.items ≡ shard_selection l.shards l.number l.place
+abbrev pub invariant-loop-index : goal.invariant-loop-index
+invariant-loop-index l = l.selection.items ≡ shard_selection l.shards l.number l.index

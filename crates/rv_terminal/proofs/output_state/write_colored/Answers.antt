@@ -26,13 +26,13 @@ loop-at-preserved g c =
       shown = next_piece (g.S.Sink.accepted c.args.sink.now) (g.S.Sink.accepted c.loop-at.sink)
           (g.S.Sink.accepted c.write_span.new.sink) c.args.position c.loop-at.here bytes c.loop-at.at c.in-Ok.count
           invariant.within invariant.here invariant.shown c.in-Ok.ensures.colored;
-      counted = c.in-Ok.ensures.counted ∙ invariant.counted;
+      counted = c.in-Ok.ensures.no_failed_writes ∙ invariant.counted;
     }
 
-pub returns-in-Err-clause-counted : goal.returns-in-Err-clause-counted
-returns-in-Err-clause-counted g c = c.in-Err.ensures.failure ∙ ap one_more c.loop-at.invariant.counted
+pub returns-in-Err-clause-failure_count : goal.returns-in-Err-clause-failure_count
+returns-in-Err-clause-failure_count g c = c.in-Err.ensures.failed_write ∙ ap one_more c.loop-at.invariant.counted
 
-pub returns-clause-counted : goal.returns-clause-counted
-returns-clause-counted g c =
+pub returns-clause-failure_count : goal.returns-clause-failure_count
+returns-clause-failure_count g c =
     let some : 1 ≤ c.loop-at.at = omega (arith, c.requires, c.loop-at-test.false) in
     rw (some_put c.loop-at.at some) c.loop-at.invariant.counted

@@ -13,22 +13,22 @@ serve-requires-clause-requested g c =
 
 pub returns-in-Ok-clause-served : goal.returns-in-Ok-clause-served
 returns-in-Ok-clause-served g c =
-    let received = rw (c.in-Ok.is, c.limit_memory.ensures) at c.serve.ensures.heard in record {
+    let received = rw (c.in-Ok.is, c.limit_memory.ensures) at c.serve.ensures.served in record {
       is_no_terminal = c.if-is_terminal.false;
       end_text = job_end_text c.in_ok-opened.opened.job.plan c.in_ok-opened.opened.job.unread.items c.in_ok-opened.opened.job.index;
       first = c.in_ok-opened.opened.session;
       opened = c.in_ok-opened.ensures.opened;
       received = received.received;
       read = received.read;
-      read_while_open = received.while_open;
+      read_while_open = received.read_while_open;
       replies = received.replies;
       last = c.serve.new.session;
       may_end = received.may_end;
       at_end = received.ended;
-      responded = received.fed;
-      no_pending_move = received.made;
+      responded = received.responded;
+      no_pending_move = received.no_pending_move;
       ended = rw c.in-Ok.is at c.serve.ensures.ended;
-      written = (received.put, refl, refl, refl);
+      written = (received.written, refl, refl, refl);
       exit_status = refl;
     }
 

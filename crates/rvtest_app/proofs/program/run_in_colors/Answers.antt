@@ -27,6 +27,6 @@ stop_of_whole (Err stop) whole result Untouched Stops is_whole is done stopped =
 pub returns-clause-stopped : goal.returns-clause-stopped
 returns-clause-stopped g c =
     stop_of_whole c.run_subcommand-destinations.result.1 c.finish-out.result.1 c.outcome_if_written.result _ _
-    (λ same. c.finish-out.ensures.told ∙ ap (λ s. has_failed s.state) same ∙ ap has_failed c.new-out.ensures.state
+    (λ same. c.finish-out.ensures.error_if_failed ∙ ap (λ s. has_failed s.state) same ∙ ap has_failed c.new-out.ensures.state
     ∙ begins_whole _)
     c.outcome_if_written.ensures c.run_subcommand-destinations.ensures.out_unchanged c.run_subcommand-destinations.ensures.stopped

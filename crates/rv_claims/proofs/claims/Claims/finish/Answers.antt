@@ -18,4 +18,4 @@ returns-clause-pieces c is_whole over x low =
 pub returns-clause-full : goal.returns-clause-full
 returns-clause-full c all =
     c.has_all_assigned_indices-all.ensures.full
-    (λ p low _. c.pass.invariant.set p (subst (λ (h : PassView). IsIn p h.places) (sym c.pass.view_is) (all p low)))
+    (λ p low _. c.pass.invariant.set p (subst (λ (h : PassView). IsIn p h.pass_indices) (sym c.pass.view_is) (all p low)))

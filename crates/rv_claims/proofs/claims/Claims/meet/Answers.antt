@@ -14,9 +14,9 @@ load-requires c =
 
 pub unreachable-requires : goal.unreachable-requires
 unreachable-requires c =
-    let places = ap (λ (h : PassView). h.places) (c.all.view_is ∙ c.join-all.ensures) in
-    let first = ap (λ (h : PassView). h.places) c.first.view_is in
-    let second = ap (λ (h : PassView). h.places) c.second.view_is in
+    let pass_indices = ap (λ (h : PassView). h.pass_indices) (c.all.view_is ∙ c.join-all.ensures) in
+    let first = ap (λ (h : PassView). h.pass_indices) c.first.view_is in
+    let second = ap (λ (h : PassView). h.pass_indices) c.second.view_is in
     overlap c.first.inside.seat.me c.second.inside.seat.me _ _ _ _ (omega arith) (omega arith) c.first.invariant
     c.second.invariant c.if-first-second-ne0.true
     (λ p. subst (λ (l : List ℕ). times p l ≤ 1) (places ∙ (λ i. sym first i ++ sym second i)) (c.load.ensures.2.once p))
@@ -45,7 +45,7 @@ load-requires-2 c =
 pub invariant_of-first : goal.invariant_of-first
 invariant_of-first c = let me = c.split_seat-note.ensures.2 in
     noted_pass c.first.inside.seat.me c.split_seat-note.new.seat.me _ _ c.first.invariant (ap (λ (m : SeatState). m.1) me)
-    (ap (λ (m : SeatState). m.0.pieces) me) (ap (λ (m : SeatState). m.0.places) me) (ap (λ (m : SeatState). m.0.draws) me)
+    (ap (λ (m : SeatState). m.0.pieces) me) (ap (λ (m : SeatState). m.0.pass_indices) me) (ap (λ (m : SeatState). m.0.draws) me)
 
 pub invariant_of-second : goal.invariant_of-second
 invariant_of-second c =
@@ -54,7 +54,7 @@ invariant_of-second c =
     let v = c.second.inside.seat.me.0 in
     noted_pass c.second.inside.seat.me c.load-2.new.seat.me _ _ c.second.invariant (ap (λ (m : SeatState). m.1) me)
     (ap (λ (m : SeatState). m.0.pieces) me)
-    (ap (λ (m : SeatState). m.0.places) me ∙ (ap (λ (m : SeatState). v.places ++ m.0.places) note ∙ append-nil v.places))
+    (ap (λ (m : SeatState). m.0.pass_indices) me ∙ (ap (λ (m : SeatState). v.pass_indices ++ m.0.pass_indices) note ∙ append-nil v.pass_indices))
     (ap (λ (m : SeatState). m.0.draws) me ∙ (ap (λ (m : SeatState). v.draws ++ m.0.draws) note ∙ append-nil v.draws))
 
 pub returns-clause-history : goal.returns-clause-history

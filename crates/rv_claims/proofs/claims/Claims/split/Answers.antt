@@ -13,4 +13,4 @@ split_seat-seat-requires c =
 pub invariant_of-pass : goal.invariant_of-pass
 invariant_of-pass c = let me = c.split_seat-seat.ensures.2 in
     noted_pass c.pass.inside.seat.me c.split_seat-seat.new.seat.me _ _ c.pass.invariant (ap (λ (m : SeatState). m.1) me)
-    (ap (λ (m : SeatState). m.0.pieces) me) (ap (λ (m : SeatState). m.0.places) me) (ap (λ (m : SeatState). m.0.draws) me)
+    (ap (λ (m : SeatState). m.0.pieces) me) (ap (λ (m : SeatState). m.0.pass_indices) me) (ap (λ (m : SeatState). m.0.draws) me)

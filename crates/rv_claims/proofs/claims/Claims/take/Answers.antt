@@ -24,7 +24,7 @@ invariant_of-pass c =
     (ap (λ (h : PassView). h.draw) c.pass.view_is ∙ (c.requires ∙ sym c.self.view_is)) in
     let v = c.pass.inside.seat.me.0 in
     drew_pass _ _ _ _ _ _ c.pass.invariant c.fetch_add-number.ensures.2
-    (c.if-pass.false ∙ goes_on _ v.draws (entry (first_pass_index v.places) c.fetch_add-number.result)
+    (c.if-pass.false ∙ goes_on _ v.draws (entry (first_pass_index v.pass_indices) c.fetch_add-number.result)
     (sym c.pass.invariant.stopped ∙ c.if-pass.false) (omega (arith, same, c.if-number-self.true)))
 
 pub invariant_of-pass-else-number-self : goal.invariant_of-pass-else-number-self
@@ -33,7 +33,7 @@ invariant_of-pass-else-number-self c =
     (ap (λ (h : PassView). h.draw) c.pass.view_is ∙ (c.requires ∙ sym c.self.view_is)) in
     let v = c.pass.inside.seat.me.0 in
     drew_pass _ _ _ _ _ _ c.pass.invariant c.fetch_add-number.ensures.2
-    (ends_now _ v.draws (entry (first_pass_index v.places) c.fetch_add-number.result)
+    (ends_now _ v.draws (entry (first_pass_index v.pass_indices) c.fetch_add-number.result)
     (omega (arith, same, c.if-number-self.false)))
 
 pub returns-then-number-self-clause-drawn : goal.returns-then-number-self-clause-drawn

@@ -6,7 +6,7 @@ use Rattle.rv_diff.proofs.rows_by_name.RowsByName.new.Given as goal
 
 abbrev pub invariant-loop-left : goal.invariant-loop-left
 invariant-loop-left l = record {
-  found : (name : List ℕ) → option_map (λ row. row.now) (get_by (λ key. bytes_eq name key.now) l.found)
+  first_by_name : (name : List ℕ) → option_map (λ row. row.now) (get_by (λ key. bytes_eq name key.now) l.first_by_name)
       ≡ row_named (drop l.left l.rows) name;
   within : l.left ≤ length l.rows;
 }

@@ -8,5 +8,5 @@ invariant_of-result g c = (
   rw (c.first.ensures, c.failures-failures.ensures) (counted_first c.args.colors (g.S.Sink.failure_count c.args.sink)),
 )
 
-pub returns-clause-taken : goal.returns-clause-taken
-returns-clause-taken g c = rw c.requires.before (results_begun g.J.ColorSpec.colors g.J.ColorSpec.before)
+pub returns-clause-nothing_written : goal.returns-clause-nothing_written
+returns-clause-nothing_written g c = rw c.requires.before (results_begun g.J.ColorSpec.colors g.J.ColorSpec.before)

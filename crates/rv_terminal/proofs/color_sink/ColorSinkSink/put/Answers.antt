@@ -8,12 +8,12 @@ pub invariant_of-self : goal.invariant_of-self
 invariant_of-self g c = (
   course_kept g.J.ColorSpec.colors g.J.ColorSpec.before (g.S.Sink.accepted c.self.inside.sink)
       (g.S.Sink.accepted c.write_in_state-count.new.sink) c.self.inside.state c.write_in_state-count.result.1
-      (take c.write_in_state-count.result.0 c.args.bytes.now) c.self.invariant.0 c.write_in_state-count.ensures.put,
-  rw (c.write_in_state-count.ensures.counted, c.saturating_add-self-inside.ensures, c.if-count-eq0.true)
+      (take c.write_in_state-count.result.0 c.args.bytes.now) c.self.invariant.0 c.write_in_state-count.ensures.written,
+  rw (c.write_in_state-count.ensures.failure_count, c.saturating_add-self-inside.ensures, c.if-count-eq0.true)
       (counted_none c.self.inside.state c.write_in_state-count.result.1
       (take c.write_in_state-count.result.0 c.args.bytes.now) (g.S.Sink.accepted c.self.inside.sink)
       (g.S.Sink.accepted c.write_in_state-count.new.sink) c.self.inside.failures
-      (g.S.Sink.failure_count c.self.inside.sink) c.write_in_state-count.ensures.put c.self.invariant.1),
+      (g.S.Sink.failure_count c.self.inside.sink) c.write_in_state-count.ensures.written c.self.invariant.1),
 )
 
 pub invariant_of-self-else-count-eq0 : goal.invariant_of-self-else-count-eq0
@@ -21,12 +21,12 @@ invariant_of-self-else-count-eq0 g c =
     let some : 1 ≤ c.write_in_state-count.result.0 = omega (arith, c.if-count-eq0.false) in (
       course_kept g.J.ColorSpec.colors g.J.ColorSpec.before (g.S.Sink.accepted c.self.inside.sink)
           (g.S.Sink.accepted c.write_in_state-count.new.sink) c.self.inside.state c.write_in_state-count.result.1
-          (take c.write_in_state-count.result.0 c.args.bytes.now) c.self.invariant.0 c.write_in_state-count.ensures.put,
-      rw c.write_in_state-count.ensures.counted
+          (take c.write_in_state-count.result.0 c.args.bytes.now) c.self.invariant.0 c.write_in_state-count.ensures.written,
+      rw c.write_in_state-count.ensures.failure_count
           (counted_some c.self.inside.state c.write_in_state-count.result.1
           (take c.write_in_state-count.result.0 c.args.bytes.now) (g.S.Sink.accepted c.self.inside.sink)
           (g.S.Sink.accepted c.write_in_state-count.new.sink) c.write_in_state-count.result.0
-          c.self.inside.failures (g.S.Sink.failure_count c.self.inside.sink) some c.write_in_state-count.ensures.put c.self.invariant.1),
+          c.self.inside.failures (g.S.Sink.failure_count c.self.inside.sink) some c.write_in_state-count.ensures.written c.self.invariant.1),
     )
 
 pub returns-then-count-eq0-clause-kept : goal.returns-then-count-eq0-clause-kept
@@ -38,11 +38,11 @@ returns-then-count-eq0-clause-kept g c =
     (nothing_taken (results_of g.J.ColorSpec.colors g.J.ColorSpec.before old)
     (results_of g.J.ColorSpec.colors g.J.ColorSpec.before new)
     (results_taken g.J.ColorSpec.colors g.J.ColorSpec.before old new c.self.inside.state state [] c.self.invariant.0
-    (rw c.if-count-eq0.true at c.write_in_state-count.ensures.put)))
+    (rw c.if-count-eq0.true at c.write_in_state-count.ensures.written)))
 
 pub returns-clause-taken : goal.returns-clause-taken
 returns-clause-taken g c =
     rw (← c.self.view_is)
     (results_taken g.J.ColorSpec.colors g.J.ColorSpec.before (g.S.Sink.accepted c.self.inside.sink)
     (g.S.Sink.accepted c.write_in_state-count.new.sink) c.self.inside.state c.write_in_state-count.result.1
-    (take c.write_in_state-count.result.0 c.args.bytes.now) c.self.invariant.0 c.write_in_state-count.ensures.put)
+    (take c.write_in_state-count.result.0 c.args.bytes.now) c.self.invariant.0 c.write_in_state-count.ensures.written)
