@@ -12,7 +12,7 @@ use Rattle.rv_count_tables.specs.declared.sum.SumError.{SumError}
 use Rattle.rv_count_tables.specs.declared.sum.SumError.TheVariants.{OutOfMemory, Count, Node, Names, Runs}
 use Rattle.rv_count_tables.specs.declared.sum_of_images.NextImage.{NextImage}
 use Rattle.rv_count_tables.specs.Lines.{lacks}
-use Rattle.rv_count_tables.specs.Table.{executed_at, taken_at, name_at, executed_in, taken_in, next_path, truncated_name, calls_in_image, steps_in, min_text, min_text_of}
+use Rattle.rv_count_tables.specs.Table.{executed_at, taken_at, name_at, executed_in, taken_in, path_of_image, name_in, calls_in_image, steps_in, min_text, min_text_of}
 use Rattle.rv_count_tables.specs.Table.{is_before, is_greater_than_last, digests_increase_from, AreNamesOf, AreValidNodes, IsValidImage, IsValidNode, IsValidTable}
 use Rattle.rv_count_tables.specs.Sum.{sum_error_of, NamesAgree, HasName, HasNameIn, IsSumOfTables, IsSumOfCounts, IsSumOfNames, CountsHaveNoSum, IsErrorOfNames}
 use Rattle.rv_count_tables.specs.SumSteps.{ImagesAddUp, IsNextImage, ImagesHaveNoSum, ImageHasNoSum}
@@ -71,10 +71,10 @@ still_up last digest i is h up = elim (cases_Bool (is_before i.digest digest)) [
 ]
 
 pub none_named : (is : List ImageCounts) (last digest : List ℕ) (f : ℕ) → digests_increase_from (Some last) is ≡ true
-    → is_before last digest ≡ false → truncated_name digest f is ≡ None
+    → is_before last digest ≡ false → name_in digest f is ≡ None
 none_named [] last digest f h up = refl
 none_named (i ∷ is) last digest f h up =
-    ap (λ (t : Bool). min_text_of (cond t (name_at f i.functions) None) (truncated_name digest f is)) (head_differs last digest i is h up)
+    ap (λ (t : Bool). min_text_of (cond t (name_at f i.functions) None) (name_in digest f is)) (head_differs last digest i is h up)
     ∙ none_named is i.digest digest f (images_behind (Some last) i is h) (still_up last digest i is h up)
 
 -- ---- names in which both lists agree
@@ -84,47 +84,47 @@ agree_with_none None = tt
 agree_with_none (Some name) = tt
 
 passed_image : (x : ImageCounts) (xs : List ImageCounts) (d : List ℕ) (f : ℕ) → bytes_eq x.digest d ≡ false
-    → truncated_name d f (x ∷ xs) ≡ truncated_name d f xs
-passed_image x xs d f t = ap (λ (b : Bool). min_text_of (cond b (name_at f x.functions) None) (truncated_name d f xs)) t
+    → name_in d f (x ∷ xs) ≡ name_in d f xs
+passed_image x xs d f t = ap (λ (b : Bool). min_text_of (cond b (name_at f x.functions) None) (name_in d f xs)) t
 
 -- none of those behind an image has its digest
 none_further : (x : ImageCounts) (xs : List ImageCounts) (d : List ℕ) (f : ℕ) → digests_increase_from (Some x.digest) xs ≡ true
-    → bytes_eq x.digest d ≡ true → truncated_name d f xs ≡ None
+    → bytes_eq x.digest d ≡ true → name_in d f xs ≡ None
 none_further x xs d f h t =
     let e = (bytes_decides x.digest d).0 t in
     none_named xs x.digest d f h (ap (is_before x.digest) (sym e) ∙ none_before_itself x.digest)
 
 its_names : (x : ImageCounts) (xs : List ImageCounts) (d : List ℕ) (f : ℕ) → digests_increase_from (Some x.digest) xs ≡ true
-    → bytes_eq x.digest d ≡ true → truncated_name d f (x ∷ xs) ≡ name_at f x.functions
+    → bytes_eq x.digest d ≡ true → name_in d f (x ∷ xs) ≡ name_at f x.functions
 its_names x xs d f h t =
-    ap (λ (b : Bool). min_text_of (cond b (name_at f x.functions) None) (truncated_name d f xs)) t
+    ap (λ (b : Bool). min_text_of (cond b (name_at f x.functions) None) (name_in d f xs)) t
     ∙ ap (min_text_of (name_at f x.functions)) (none_further x xs d f h t) ∙ none_behind (name_at f x.functions)
 
 first_agrees : (x : ImageCounts) (xs b : List ImageCounts) (d : List ℕ) (f : ℕ) → digests_increase_from (Some x.digest) b ≡ true
-    → NamesAgree (truncated_name d f xs) (truncated_name d f b) → NamesAgree (truncated_name d f (x ∷ xs)) (truncated_name d f b)
+    → NamesAgree (name_in d f xs) (name_in d f b) → NamesAgree (name_in d f (x ∷ xs)) (name_in d f b)
 first_agrees x xs b d f h k = elim (cases_Bool (bytes_eq x.digest d)) [
-  | inl t ↦ subst (NamesAgree (truncated_name d f (x ∷ xs))) (sym (none_further x b d f h t)) (agree_with_none (truncated_name d f (x ∷ xs)))
-  | inr t ↦ subst (λ (o : Option (List ℕ)). NamesAgree o (truncated_name d f b)) (sym (passed_image x xs d f t)) k
+  | inl t ↦ subst (NamesAgree (name_in d f (x ∷ xs))) (sym (none_further x b d f h t)) (agree_with_none (name_in d f (x ∷ xs)))
+  | inr t ↦ subst (λ (o : Option (List ℕ)). NamesAgree o (name_in d f b)) (sym (passed_image x xs d f t)) k
 ]
 
 second_agrees : (y : ImageCounts) (a ys : List ImageCounts) (d : List ℕ) (f : ℕ) → digests_increase_from (Some y.digest) a ≡ true
-    → NamesAgree (truncated_name d f a) (truncated_name d f ys) → NamesAgree (truncated_name d f a) (truncated_name d f (y ∷ ys))
+    → NamesAgree (name_in d f a) (name_in d f ys) → NamesAgree (name_in d f a) (name_in d f (y ∷ ys))
 second_agrees y a ys d f h k = elim (cases_Bool (bytes_eq y.digest d)) [
-  | inl t ↦ subst (λ (o : Option (List ℕ)). NamesAgree o (truncated_name d f (y ∷ ys))) (sym (none_further y a d f h t)) tt
-  | inr t ↦ subst (NamesAgree (truncated_name d f a)) (sym (passed_image y ys d f t)) k
+  | inl t ↦ subst (λ (o : Option (List ℕ)). NamesAgree o (name_in d f (y ∷ ys))) (sym (none_further y a d f h t)) tt
+  | inr t ↦ subst (NamesAgree (name_in d f a)) (sym (passed_image y ys d f t)) k
 ]
 
 both_agree : (x y : ImageCounts) (xs ys : List ImageCounts) (d : List ℕ) (f : ℕ) → x.digest ≡ y.digest
     → NamesAgree (name_at f x.functions) (name_at f y.functions) → digests_increase_from (Some x.digest) xs ≡ true
-    → digests_increase_from (Some y.digest) ys ≡ true → NamesAgree (truncated_name d f xs) (truncated_name d f ys)
-    → NamesAgree (truncated_name d f (x ∷ xs)) (truncated_name d f (y ∷ ys))
+    → digests_increase_from (Some y.digest) ys ≡ true → NamesAgree (name_in d f xs) (name_in d f ys)
+    → NamesAgree (name_in d f (x ∷ xs)) (name_in d f (y ∷ ys))
 both_agree x y xs ys d f one names h k others = elim (cases_Bool (bytes_eq x.digest d)) [
   | inl t ↦
-      subst (λ (o : Option (List ℕ)). NamesAgree o (truncated_name d f (y ∷ ys))) (sym (its_names x xs d f h t))
+      subst (λ (o : Option (List ℕ)). NamesAgree o (name_in d f (y ∷ ys))) (sym (its_names x xs d f h t))
       (subst (NamesAgree (name_at f x.functions)) (sym (its_names y ys d f k (ap (λ (s : List ℕ). bytes_eq s d) (sym one) ∙ t))) names)
   | inr t ↦
-      subst (λ (o : Option (List ℕ)). NamesAgree o (truncated_name d f (y ∷ ys))) (sym (passed_image x xs d f t))
-      (subst (NamesAgree (truncated_name d f xs)) (sym (passed_image y ys d f (ap (λ (s : List ℕ). bytes_eq s d) (sym one) ∙ t))) others)
+      subst (λ (o : Option (List ℕ)). NamesAgree o (name_in d f (y ∷ ys))) (sym (passed_image x xs d f t))
+      (subst (NamesAgree (name_in d f xs)) (sym (passed_image y ys d f (ap (λ (s : List ℕ). bytes_eq s d) (sym one) ∙ t))) others)
 ]
 
 -- ---- an image ahead of the others
@@ -142,9 +142,9 @@ first_image_ahead x xs b others image above h = record {
   executed = λ d n. let e = h.executed d n in omega (arith, e);
   taken = λ d n. let e = h.taken d n in omega (arith, e);
   paths = λ d. ap (min_text_of (cond (bytes_eq x.digest d) (Some x.path) None)) (h.paths d)
-      ∙ sym (any_first (cond (bytes_eq x.digest d) (Some x.path) None) (next_path d xs) (next_path d b));
+      ∙ sym (any_first (cond (bytes_eq x.digest d) (Some x.path) None) (path_of_image d xs) (path_of_image d b));
   names = λ d f. ap (min_text_of (cond (bytes_eq x.digest d) (name_at f x.functions) None)) (h.names d f)
-      ∙ sym (any_first (cond (bytes_eq x.digest d) (name_at f x.functions) None) (truncated_name d f xs) (truncated_name d f b));
+      ∙ sym (any_first (cond (bytes_eq x.digest d) (name_at f x.functions) None) (name_in d f xs) (name_in d f b));
   calls = λ d p. let e = h.calls d p in omega (arith, e);
   steps = λ d p. let e = h.steps d p in omega (arith, e);
 }
@@ -162,9 +162,9 @@ second_image_ahead y a ys others image above h = record {
   executed = λ d n. let e = h.executed d n in omega (arith, e);
   taken = λ d n. let e = h.taken d n in omega (arith, e);
   paths = λ d. ap (min_text_of (cond (bytes_eq y.digest d) (Some y.path) None)) (h.paths d)
-      ∙ second_first (next_path d a) (cond (bytes_eq y.digest d) (Some y.path) None) (next_path d ys);
+      ∙ second_first (path_of_image d a) (cond (bytes_eq y.digest d) (Some y.path) None) (path_of_image d ys);
   names = λ d f. ap (min_text_of (cond (bytes_eq y.digest d) (name_at f y.functions) None)) (h.names d f)
-      ∙ second_first (truncated_name d f a) (cond (bytes_eq y.digest d) (name_at f y.functions) None) (truncated_name d f ys);
+      ∙ second_first (name_in d f a) (cond (bytes_eq y.digest d) (name_at f y.functions) None) (name_in d f ys);
   calls = λ d p. let e = h.calls d p in omega (arith, e);
   steps = λ d p. let e = h.steps d p in omega (arith, e);
 }
@@ -228,12 +228,12 @@ both_images_ahead x y sum xs ys others image also one at path counts names of tr
   taken = λ d n. ap (λ (s : List ℕ). cond (bytes_eq s d) (taken_at n sum.addresses) 0 + taken_in d n others) at
       ∙ parts (bytes_eq x.digest d) (bytes_eq y.digest d) (taken_at n x.addresses) (taken_at n y.addresses)
       (taken_at n sum.addresses) _ _ _ (ap (λ (s : List ℕ). bytes_eq s d) one) (counts.taken n) (h.taken d n);
-  paths = λ d. (λ i. min_text_of (cond (bytes_eq (at i) d) (Some (path i)) None) (next_path d others))
-      ∙ path_parts (bytes_eq x.digest d) (bytes_eq y.digest d) x.path y.path _ (next_path d xs) (next_path d ys)
+  paths = λ d. (λ i. min_text_of (cond (bytes_eq (at i) d) (Some (path i)) None) (path_of_image d others))
+      ∙ path_parts (bytes_eq x.digest d) (bytes_eq y.digest d) x.path y.path _ (path_of_image d xs) (path_of_image d ys)
       (ap (λ (s : List ℕ). bytes_eq s d) one) (h.paths d);
-  names = λ d f. ap (λ (s : List ℕ). min_text_of (cond (bytes_eq s d) (name_at f sum.functions) None) (truncated_name d f others)) at
+  names = λ d f. ap (λ (s : List ℕ). min_text_of (cond (bytes_eq s d) (name_at f sum.functions) None) (name_in d f others)) at
       ∙ name_parts (bytes_eq x.digest d) (bytes_eq y.digest d) (name_at f sum.functions) (name_at f x.functions)
-      (name_at f y.functions) _ (truncated_name d f xs) (truncated_name d f ys)
+      (name_at f y.functions) _ (name_in d f xs) (name_in d f ys)
       (ap (λ (s : List ℕ). bytes_eq s d) one) (names.each f) (h.names d f);
   calls = λ d p. ap (λ (s : List ℕ). cond (bytes_eq s d) (calls_at p sum.nodes) 0 + calls_in_image d p others) at
       ∙ parts (bytes_eq x.digest d) (bytes_eq y.digest d) (calls_at p x.nodes) (calls_at p y.nodes)

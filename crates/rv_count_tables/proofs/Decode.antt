@@ -6,7 +6,7 @@ use Rattle.rv_count_tables.specs.declared.table.CountTable.{CountTable}
 use Rattle.rv_count_tables.specs.Lines.{lacks}
 use Rattle.rv_count_tables.specs.Table.{is_greater_than_last, digests_increase_from, IsValidImage, IsValidTable}
 use Rattle.rv_count_tables.specs.Text.{line, image_line, image_text, last_line}
-use Rattle.rv_count_tables.specs.ReadSteps.{Entry, IsValidEntry, entry_line, entries_of, NextLines, after_image_line, before_first_image, after_entry, after_entries, place_in, last_digest, CanComeNext, IsNotAnEntry, IsNotAnImage}
+use Rattle.rv_count_tables.specs.ReadSteps.{Entry, IsValidEntry, entry_line, entries_of, NextLines, after_image_line, before_first_image, after_entry, after_entries, after_images, last_digest, CanComeNext, IsNotAnEntry, IsNotAnImage}
 use Rattle.rv_count_tables.proofs.Pieces.{same_cut}
 use Rattle.rv_count_tables.proofs.Entries.{entries_fit, entries_stand, image_entries, StandIn}
 use Rattle.rv_count_tables.proofs.AddingImages.{image_low, images_behind}
@@ -139,7 +139,7 @@ behind_entries (e ∷ es) n last place s h r =
 
 pub behind_images : (is : List ImageCounts) (n : ℕ) (last : Option (List ℕ)) (place : NextLines) (s : List ℕ)
     → AllByRecursion IsValidImage is → IsRest n last place (flat_map image_text is ++ s)
-    → IsRest (n + length is) (last_digest last is) (place_in place is) s
+    → IsRest (n + length is) (last_digest last is) (after_images place is) s
 behind_images [] n last place s h r = let e : n ≡ n + 0 = omega arith in
     subst (λ (m : ℕ). IsRest m last place s) e r
 behind_images (i ∷ is) n last place s h r =
@@ -147,7 +147,7 @@ behind_images (i ∷ is) n last place s h r =
     (subst (λ (x : List ℕ). IsRest n last place x) (first_image i is s) r) in
     let inside = behind_entries (entries_of i) (n + 1) (Some i.digest) after_image_line (flat_map image_text is ++ s) (entries_fit i h.0) step.1 in
     let others = behind_images is (n + 1) (Some i.digest) (after_entries after_image_line (entries_of i)) s h.1 inside in
-    subst (λ (m : ℕ). IsRest m (last_digest (Some i.digest) is) (place_in (after_entries after_image_line (entries_of i)) is) s)
+    subst (λ (m : ℕ). IsRest m (last_digest (Some i.digest) is) (after_images (after_entries after_image_line (entries_of i)) is) s)
     (sym (one_behind n (length is))) others
 
 -- the whole text of a table, behind its first line

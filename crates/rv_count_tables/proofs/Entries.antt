@@ -98,7 +98,7 @@ StandIn p [] = Unit {0}
 StandIn p (e ∷ es) = CanComeNext p e × StandIn (after_entry p e) es
 
 stand_spots : (a : Option ℕ) (ms ns : List FunctionName) (front : List ℕ) (ss : List CallNode) → AreInPreorder front ss
-    → AgreeWithAll ns ms → StandIn (record { address = a; names = ms; front = Some front }) (map (entry_of_node ns) ss)
+    → AgreeWithAll ns ms → StandIn (record { address = a; names = ms; previous_path = Some front }) (map (entry_of_node ns) ss)
 stand_spots a ms ns front [] h k = tt
 stand_spots a ms ns front (s ∷ ss) h k = (
   (h.0, k s.function),
@@ -106,7 +106,7 @@ stand_spots a ms ns front (s ∷ ss) h k = (
 )
 
 stand_addresses : (lowest : ℕ) (cs : List AddressCounts) (ns : List FunctionName) (ss : List CallNode) → increase_from lowest cs ≡ true
-    → AreInPreorder [] ss → StandIn (record { address = Some lowest; names = []; front = Some [] }) (all_entries cs ns ss)
+    → AreInPreorder [] ss → StandIn (record { address = Some lowest; names = []; previous_path = Some [] }) (all_entries cs ns ss)
 unfolding increase_from
 stand_addresses lowest [] ns ss h m = stand_spots (Some lowest) [] ns [] ss m (λ f. tt)
 stand_addresses lowest (c ∷ cs) ns ss h m =
@@ -145,8 +145,8 @@ none_stays [] = refl
 none_stays (x ∷ xs) = refl
 
 spots_place : (a : Option ℕ) (ms ns : List FunctionName) (front : List ℕ) (ss : List CallNode)
-    → after_entries (record { address = a; names = ms; front = Some front }) (map (entry_of_node ns) ss)
-    ≡ record { address = if_none ss a; names = with_names ms (map (named ns) ss); front = Some (last_path front ss) }
+    → after_entries (record { address = a; names = ms; previous_path = Some front }) (map (entry_of_node ns) ss)
+    ≡ record { address = if_none ss a; names = with_names ms (map (named ns) ss); previous_path = Some (last_path front ss) }
 spots_place a ms ns front [] = refl
 spots_place a ms ns front (s ∷ ss) =
     let more = with_name (function_name (named ns s)) ms in
@@ -154,15 +154,15 @@ spots_place a ms ns front (s ∷ ss) =
     ∙ (λ i. record {
       address = none_stays ss i;
       names = with_names more (map (named ns) ss);
-      front = Some (last_path (path_after front s) ss);
+      previous_path = Some (last_path (path_after front s) ss);
     })
 
 entries_place : (lowest : ℕ) (cs : List AddressCounts) (ns : List FunctionName) (ss : List CallNode)
-    → after_entries (record { address = Some lowest; names = []; front = Some [] }) (all_entries cs ns ss)
+    → after_entries (record { address = Some lowest; names = []; previous_path = Some [] }) (all_entries cs ns ss)
     ≡ record {
       address = if_none ss (Some (lowest_after lowest cs));
       names = with_names [] (map (named ns) ss);
-      front = Some (last_path [] ss);
+      previous_path = Some (last_path [] ss);
     }
 entries_place lowest [] ns ss = spots_place (Some lowest) [] ns [] ss
 entries_place lowest (c ∷ cs) ns ss = entries_place (c.address + 1) cs ns ss
@@ -190,7 +190,7 @@ empty_entry cs ns ss first second no_address no_spot known one =
     by_kind : IsNotAnEntry (record {
       address = if_none ss (Some (lowest_after 0 cs));
       names = with_names [] (map (named ns) ss);
-      front = Some (last_path [] ss);
+      previous_path = Some (last_path [] ss);
     }) second
     by_kind (Address c) h may e = no_address_here cs first second no_address ss one c h may e
     by_kind (Node n) h may e = no_spot n h may.0

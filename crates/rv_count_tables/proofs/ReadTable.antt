@@ -13,7 +13,7 @@ use Rattle.rv_count_tables.specs.declared.read.ReadError.TheVariants.{Line, Trun
 use Rattle.rv_count_tables.specs.Lines.{lacks, line_feed_count, whole_line}
 use Rattle.rv_count_tables.specs.Table.{IsValidTable}
 use Rattle.rv_count_tables.specs.Text.{line, first_line, image_text, last_line, table_text}
-use Rattle.rv_count_tables.specs.ReadSteps.{before_first_image, place_in, last_digest, IsNotAnEntry, IsNotAnImage, AreParsedImages}
+use Rattle.rv_count_tables.specs.ReadSteps.{before_first_image, after_images, last_digest, IsNotAnEntry, IsNotAnImage, AreParsedImages}
 use Rattle.rv_count_tables.specs.Read.{IsFirstError, IsFirstInvalidLine, read_error_at}
 use Rattle.rv_count_tables.proofs.Pieces.{cases_line, line_at, no_line}
 use Rattle.rv_count_tables.proofs.Reading.{feeds-append}
@@ -40,7 +40,7 @@ pub record IsBehind (bytes : List ℕ) (images : List ImageCounts) (place : ℕ)
   pub all : bytes ≡ text_so_far images ++ drop place bytes
   pub front : take place bytes ≡ text_so_far images
   pub are : AreImages images
-  pub entry : IsNotAnEntry (place_in before_first_image images) (whole_line (drop place bytes))
+  pub entry : IsNotAnEntry (after_images before_first_image images) (whole_line (drop place bytes))
   pub image : IsNotAnImage (last_digest None images) (whole_line (drop place bytes))
 
 pub behind_images : (bytes : List ℕ) (read : ParsedImages) (place : ℕ) → whole_line bytes ≡ first_line
@@ -69,7 +69,7 @@ behind_images bytes read place first h few e =
       all = all;
       front = ap (take place) all ∙ take_at (text_so_far read.images) (drop place bytes) place long;
       are = record { each = h.images; rising = h.rising; few = few };
-      entry = subst (λ (s : List ℕ). IsNotAnEntry (place_in before_first_image read.images) (whole_line s)) rest h.entry;
+      entry = subst (λ (s : List ℕ). IsNotAnEntry (after_images before_first_image read.images) (whole_line s)) rest h.entry;
       image = subst (λ (s : List ℕ). IsNotAnImage (last_digest None read.images) (whole_line s)) rest h.image;
     }
 
@@ -117,7 +117,7 @@ told_refused : (bytes : List ℕ) (images : List ImageCounts) (place : ℕ) (fro
 told_refused bytes images place front rest h no_last plain e =
     let w : whole_line (drop place bytes) ≡ line front = ap whole_line e ∙ line_at front rest plain in
     invalid_line images front rest bytes (line_feed_count (take place bytes) + 1) h.are plain
-    (subst (λ (s : List ℕ). IsNotAnEntry (place_in before_first_image images) s) w h.entry)
+    (subst (λ (s : List ℕ). IsNotAnEntry (after_images before_first_image images) s) w h.entry)
     (subst (λ (s : List ℕ). IsNotAnImage (last_digest None images) s) w h.image)
     (λ r small same. no_last r small (w ∙ same))
     (h.all ∙ ap (λ (s : List ℕ). text_so_far images ++ s) e)

@@ -18,7 +18,7 @@ use Rattle.rv_count_tables.specs.declared.table.FunctionName.{FunctionName}
 use Rattle.rv_count_tables.specs.Lines.{lacks, whole_line}
 use Rattle.rv_count_tables.specs.Table.{is_before, is_greater_than_last, digests_increase_from, increase_from, IsValidCount, IsValidImage}
 use Rattle.rv_count_tables.specs.Text.{line, address_line, image_line, image_text, line_of_node}
-use Rattle.rv_count_tables.specs.ReadSteps.{lowest_after, last_digest, before_first_image, after_image_line, place_in, after_entries, entries_of, NextLines, IsNotAnAddress, IsNotAnEntry, IsNotAnImage, AreParsedAddresses, AreParsedImages, AreParsedNodes, IsParsedImage}
+use Rattle.rv_count_tables.specs.ReadSteps.{lowest_after, last_digest, before_first_image, after_image_line, after_images, after_entries, entries_of, NextLines, IsNotAnAddress, IsNotAnEntry, IsNotAnImage, AreParsedAddresses, AreParsedImages, AreParsedNodes, IsParsedImage}
 use Rattle.rv_call_tree.specs.declared.call_node.CallNode.{CallNode}
 use Rattle.rv_count_tables.proofs.Pieces.{cases_line, line_at, no_line}
 use Rattle.rv_count_tables.proofs.AddingImages.{image_low, images_behind, images_rise, no_images_rise}
@@ -87,7 +87,7 @@ digest_push last [] i = refl
 digest_push last (j ∷ js) i = digest_push (Some j.digest) js i
 
 pub place_push : (place : NextLines) (is : List ImageCounts) (i : ImageCounts)
-    → place_in place (is ++ i ∷ []) ≡ after_entries after_image_line (entries_of i)
+    → after_images place (is ++ i ∷ []) ≡ after_entries after_image_line (entries_of i)
 place_push place [] i = refl
 place_push place (j ∷ js) i = place_push (after_entries after_image_line (entries_of j)) js i
 
@@ -163,7 +163,7 @@ all_so_far text lowest read h no_more = record {
   within = h.within;
   lines = h.lines;
   counts = record { each = h.each; rising = h.rising };
-  behind = subst (λ (n : ℕ). IsNotAnAddress n (whole_line (drop read.length text))) h.lowest no_more;
+  next_line = subst (λ (n : ℕ). IsNotAnAddress n (whole_line (drop read.length text))) h.lowest no_more;
 }
 
 -- ---- one image
@@ -231,7 +231,7 @@ no_part text start lines nodes n h =
     subst (λ (t : List ℕ). IsNotAnEntry (after_entries after_image_line (all_entries lines.addresses nodes.functions nodes.nodes)) (whole_line t)) end
     (empty_entry lines.addresses nodes.functions nodes.nodes (whole_line (drop lines.length (drop start text)))
     (whole_line (drop nodes.length (drop (start + lines.length) text)))
-    h.addresses.behind h.stacks.behind h.stacks.known
+    h.addresses.next_line h.stacks.next_line h.stacks.known
     (λ e. ap whole_line (drop-drop lines.length start text ∙ h.stacks.lines
     ∙ ap (λ (ss : List CallNode). flat_map (line_of_node nodes.functions) ss ++ drop nodes.length (drop (start + lines.length) text)) e)))
 
@@ -266,7 +266,7 @@ one_image last text image lines nodes n is long rising bytes utf h =
         names_of_nodes = h.stacks.names_of_nodes;
       };
       rising = rising;
-      behind = no_part text (length w) lines nodes n h;
+      next_line = no_part text (length w) lines nodes n h;
     }
 
 pub no_image_digest : (last : Option (List ℕ)) (text digest : List ℕ)
@@ -296,7 +296,7 @@ pub record ImagesSoFar (text : List ℕ) (is : List ImageCounts) (n : ℕ) : Typ
   pub lines : text ≡ flat_map image_text is ++ drop n text
   pub images : AllByRecursion IsValidImage is
   pub rising : digests_increase_from None is ≡ true
-  pub entry : IsNotAnEntry (place_in before_first_image is) (whole_line (drop n text))
+  pub entry : IsNotAnEntry (after_images before_first_image is) (whole_line (drop n text))
 
 pub no_images_so_far : (text : List ℕ) → ImagesSoFar text [] 0
 no_images_so_far text = record {
@@ -322,7 +322,7 @@ image_so_far text is n m read h one e =
       images = each_push IsValidImage is read.image h.images one.image;
       rising = digests_push None is read.image h.rising one.rising;
       entry = subst (λ (p : NextLines). IsNotAnEntry p (whole_line (drop m text))) (sym (place_push before_first_image is read.image))
-          (subst (λ (s : List ℕ). IsNotAnEntry (after_entries after_image_line (entries_of read.image)) (whole_line s)) d one.behind);
+          (subst (λ (s : List ℕ). IsNotAnEntry (after_entries after_image_line (entries_of read.image)) (whole_line s)) d one.next_line);
     }
 
 pub images_read : (text : List ℕ) (read : ParsedImages) → ImagesSoFar text read.images read.length

@@ -93,7 +93,7 @@ spots_read text front read h no_more = record {
   names = h.named.names;
   names_of_nodes = h.named.names_of_nodes;
   known = h.named.known;
-  behind = subst (λ (path : List ℕ). IsNotANode read.functions path (whole_line (drop read.length text))) h.path no_more;
+  next_line = subst (λ (path : List ℕ). IsNotANode read.functions path (whole_line (drop read.length text))) h.path no_more;
 }
 
 -- ---- a line that is read

@@ -8,7 +8,7 @@ use Rattle.rv_count_tables.specs.declared.table.CountTable.{CountTable}
 use Rattle.rv_count_tables.specs.Lines.{lacks, line_feed_count, first_lines}
 use Rattle.rv_count_tables.specs.Table.{digests_increase_from, IsValidImage, IsValidTable}
 use Rattle.rv_count_tables.specs.Text.{line, first_line, image_line, image_text, last_line, table_text}
-use Rattle.rv_count_tables.specs.ReadSteps.{Entry, entry_line, entries_of, before_first_image, place_in, last_digest, IsNotAnEntry, IsNotAnImage}
+use Rattle.rv_count_tables.specs.ReadSteps.{Entry, entry_line, entries_of, before_first_image, after_images, last_digest, IsNotAnEntry, IsNotAnImage}
 use Rattle.rv_count_tables.proofs.Entries.{image_entries}
 use Rattle.rv_count_tables.specs.Read.{IsTablePrefix, IsFirstInvalidLine}
 use Rattle.rv_count_tables.proofs.LineTexts.{entry_words, image_words, last_words, entry_is_line, image_is_line, last_is_line, lacks-last}
@@ -124,7 +124,7 @@ begins_nothing = (
 -- what a table has behind these images
 behind_so_far : (t : CountTable) (images : List ImageCounts) (s : List ℕ) → IsValidTable t → AreImages images
     → table_text t ≡ text_so_far images ++ s
-    → IsRest (0 + length images) (last_digest None images) (place_in before_first_image images) s
+    → IsRest (0 + length images) (last_digest None images) (after_images before_first_image images) s
 unfolding table_text
 behind_so_far t images s h k e =
     behind_images images 0 None before_first_image s k.each
@@ -133,7 +133,7 @@ behind_so_far t images s h k e =
 -- ---- a line that is refused
 
 pub invalid_line : (images : List ImageCounts) (xs rest bytes : List ℕ) (n : ℕ) → AreImages images → lacks 10 xs ≡ true
-    → IsNotAnEntry (place_in before_first_image images) (line xs) → IsNotAnImage (last_digest None images) (line xs)
+    → IsNotAnEntry (after_images before_first_image images) (line xs) → IsNotAnImage (last_digest None images) (line xs)
     → ((r : ℕ) → r < 2 ^ 64 → line xs ≡ last_line (length images) r → ⊥)
     → bytes ≡ text_so_far images ++ (xs ++ 10 ∷ rest) → n ≡ line_feed_count (text_so_far images) + 1
     → IsFirstInvalidLine n bytes
@@ -151,7 +151,7 @@ invalid_line images xs rest bytes n h plain empty_entry no_image no_last is numb
       refused = λ b.
           let e = b.3 ∙ ap (λ (s : List ℕ). s ++ b.1) here ∙ append_assoc text (line xs) b.1 in
           let m : 0 + length images ≡ length images = omega arith in
-          no_rest (0 + length images) (last_digest None images) (place_in before_first_image images) xs b.1 plain empty_entry no_image
+          no_rest (0 + length images) (last_digest None images) (after_images before_first_image images) xs b.1 plain empty_entry no_image
           (λ r small same. no_last r small (same ∙ ap (λ (k : ℕ). last_line k r) m))
           (behind_so_far b.0 images (line xs ++ b.1) b.2 h e);
     }

@@ -6,7 +6,7 @@ use Rattle.std.specs.List.{AllByRecursion}
 use Rattle.std.specs.Str.{bytes_eq}
 use Rattle.rv_count_tables.specs.declared.table.ImageCounts.{ImageCounts}
 use Rattle.rv_count_tables.specs.declared.table.CountTable.{CountTable}
-use Rattle.rv_count_tables.specs.Table.{executed_at, taken_at, name_at, executed_in, taken_in, next_path, truncated_name, calls_in_image, steps_in, min_text_of, is_before, digests_increase_from, IsValidImage, IsValidTable}
+use Rattle.rv_count_tables.specs.Table.{executed_at, taken_at, name_at, executed_in, taken_in, path_of_image, name_in, calls_in_image, steps_in, min_text_of, is_before, digests_increase_from, IsValidImage, IsValidTable}
 use Rattle.rv_call_tree.specs.Trees.{calls_at, steps_at}
 use Rattle.rv_call_tree.proofs.Public.{one_tree_of_counts}
 use Rattle.rv_count_tables.proofs.AddingNames.{one_list_of_names}
@@ -18,10 +18,10 @@ use Rattle.rv_count_tables.proofs.Paths.{none_before_itself, none_behind, same_p
 -- ---- a digest that is not among those of a list
 
 no_path : (is : List ImageCounts) (last digest : List ℕ) → digests_increase_from (Some last) is ≡ true
-    → is_before last digest ≡ false → next_path digest is ≡ None
+    → is_before last digest ≡ false → path_of_image digest is ≡ None
 no_path [] last digest h up = refl
 no_path (i ∷ is) last digest h up =
-    ap (λ (t : Bool). min_text_of (cond t (Some i.path) None) (next_path digest is)) (head_differs last digest i is h up)
+    ap (λ (t : Bool). min_text_of (cond t (Some i.path) None) (path_of_image digest is)) (head_differs last digest i is h up)
     ∙ no_path is i.digest digest (images_behind (Some last) i is h) (still_up last digest i is h up)
 
 -- what is counted of each image, in that of a digest
@@ -66,9 +66,9 @@ itself : (s : List ℕ) → bytes_eq s s ≡ true
 itself s = (bytes_decides s s).1 refl
 
 path_after_first : (last : Option (List ℕ)) (i : ImageCounts) (is : List ImageCounts) → digests_increase_from last (i ∷ is) ≡ true
-    → next_path i.digest (i ∷ is) ≡ Some i.path
+    → path_of_image i.digest (i ∷ is) ≡ Some i.path
 path_after_first last i is h =
-    ap (λ (t : Bool). min_text_of (cond t (Some i.path) None) (next_path i.digest is)) (itself i.digest)
+    ap (λ (t : Bool). min_text_of (cond t (Some i.path) None) (path_of_image i.digest is)) (itself i.digest)
     ∙ ap (min_text_of (Some i.path)) (no_path is i.digest i.digest (images_behind last i is h) (none_before_itself i.digest))
 
 counted_of_first : (count : ImageCounts → ℕ) (last : Option (List ℕ)) (i : ImageCounts) (is : List ImageCounts)
@@ -79,15 +79,15 @@ counted_of_first count last i is h =
     omega (arith, e, r)
 
 name_of_first : (last : Option (List ℕ)) (i : ImageCounts) (is : List ImageCounts) (f : ℕ) → digests_increase_from last (i ∷ is) ≡ true
-    → truncated_name i.digest f (i ∷ is) ≡ name_at f i.functions
+    → name_in i.digest f (i ∷ is) ≡ name_at f i.functions
 name_of_first last i is f h =
-    ap (λ (t : Bool). min_text_of (cond t (name_at f i.functions) None) (truncated_name i.digest f is)) (itself i.digest)
+    ap (λ (t : Bool). min_text_of (cond t (name_at f i.functions) None) (name_in i.digest f is)) (itself i.digest)
     ∙ ap (min_text_of (name_at f i.functions)) (none_named is i.digest i.digest f (images_behind last i is h) (none_before_itself i.digest))
     ∙ none_behind (name_at f i.functions)
 
 -- the first digest of one list is not below that of a list with the same paths
 not_earlier : (l m : Option (List ℕ)) (i j : ImageCounts) (is js : List ImageCounts) → digests_increase_from l (i ∷ is) ≡ true
-    → digests_increase_from m (j ∷ js) ≡ true → next_path i.digest (i ∷ is) ≡ next_path i.digest (j ∷ js)
+    → digests_increase_from m (j ∷ js) ≡ true → path_of_image i.digest (i ∷ is) ≡ path_of_image i.digest (j ∷ js)
     → is_before i.digest j.digest ≡ false
 not_earlier l m i j is js h k e = elim (cases_Bool (is_before i.digest j.digest)) [
   | inl t ↦
@@ -104,8 +104,8 @@ some_is p q e = cc
 pub record AreAlike (is js : List ImageCounts) : Type 0 where
   pub executed : (digest : List ℕ) (n : ℕ) → executed_in digest n is ≡ executed_in digest n js
   pub taken : (digest : List ℕ) (n : ℕ) → taken_in digest n is ≡ taken_in digest n js
-  pub paths : (digest : List ℕ) → next_path digest is ≡ next_path digest js
-  pub names : (digest : List ℕ) (f : ℕ) → truncated_name digest f is ≡ truncated_name digest f js
+  pub paths : (digest : List ℕ) → path_of_image digest is ≡ path_of_image digest js
+  pub names : (digest : List ℕ) (f : ℕ) → name_in digest f is ≡ name_in digest f js
   pub calls : (digest path : List ℕ) → calls_in_image digest path is ≡ calls_in_image digest path js
   pub steps : (digest path : List ℕ) → steps_in digest path is ≡ steps_in digest path js
 
@@ -127,7 +127,7 @@ same_image : (l m : Option (List ℕ)) (i j : ImageCounts) (is js : List ImageCo
     → digests_increase_from m (j ∷ js) ≡ true → IsValidImage i → IsValidImage j → i.digest ≡ j.digest → AreAlike (i ∷ is) (j ∷ js) → i ≡ j
 same_image l m i j is js h k p q d alike =
     let path = some_is i.path j.path (sym (path_after_first l i is h) ∙ alike.paths i.digest
-    ∙ ap (λ (s : List ℕ). next_path s (j ∷ js)) d ∙ path_after_first m j js k) in
+    ∙ ap (λ (s : List ℕ). path_of_image s (j ∷ js)) d ∙ path_after_first m j js k) in
     let addresses = one_of i.addresses j.addresses p.counts q.counts
     (λ n. first_count (λ x. executed_at n x.addresses) l m i j is js h k d
     (sym (begun_is n i.digest (i ∷ is)) ∙ alike.executed i.digest n ∙ begun_is n i.digest (j ∷ js)))
@@ -135,7 +135,7 @@ same_image l m i j is js h k p q d alike =
     (sym (taken_is n i.digest (i ∷ is)) ∙ alike.taken i.digest n ∙ taken_is n i.digest (j ∷ js))) in
     let functions = one_list_of_names i.functions j.functions p.names q.names
     (λ f. sym (name_of_first l i is f h) ∙ alike.names i.digest f
-    ∙ ap (λ (s : List ℕ). truncated_name s f (j ∷ js)) d ∙ name_of_first m j js f k) in
+    ∙ ap (λ (s : List ℕ). name_in s f (j ∷ js)) d ∙ name_of_first m j js f k) in
     let nodes = one_tree_of_counts i.nodes j.nodes p.nodes.tree q.nodes.tree (all_come_to i.nodes p.nodes.each)
     (all_come_to j.nodes q.nodes.each)
     (λ at. first_count (λ x. calls_at at x.nodes) l m i j is js h k d
@@ -147,7 +147,7 @@ same_image l m i j is js h k p q d alike =
 -- the paths of the others
 other_paths : (l m : Option (List ℕ)) (i j : ImageCounts) (is js : List ImageCounts) (digest : List ℕ) → i ≡ j
     → digests_increase_from l (i ∷ is) ≡ true → digests_increase_from m (j ∷ js) ≡ true
-    → next_path digest (i ∷ is) ≡ next_path digest (j ∷ js) → next_path digest is ≡ next_path digest js
+    → path_of_image digest (i ∷ is) ≡ path_of_image digest (j ∷ js) → path_of_image digest is ≡ path_of_image digest js
 other_paths l m i j is js digest same h k e = elim (cases_Bool (bytes_eq i.digest digest)) [
   | inl t ↦
       let d : i.digest ≡ digest = (bytes_decides i.digest digest).0 t in
@@ -156,14 +156,14 @@ other_paths l m i j is js digest same h k e = elim (cases_Bool (bytes_eq i.diges
       ∙ sym (no_path js j.digest digest (images_behind m j js k) (ap (is_before j.digest) (sym d') ∙ none_before_itself j.digest))
   | inr f ↦
       let g : bytes_eq j.digest digest ≡ false = ap (λ (x : ImageCounts). bytes_eq x.digest digest) (sym same) ∙ f in
-      sym (ap (λ (t : Bool). min_text_of (cond t (Some i.path) None) (next_path digest is)) f) ∙ e
-      ∙ ap (λ (t : Bool). min_text_of (cond t (Some j.path) None) (next_path digest js)) g
+      sym (ap (λ (t : Bool). min_text_of (cond t (Some i.path) None) (path_of_image digest is)) f) ∙ e
+      ∙ ap (λ (t : Bool). min_text_of (cond t (Some j.path) None) (path_of_image digest js)) g
 ]
 
 -- the names
 other_names : (l m : Option (List ℕ)) (i j : ImageCounts) (is js : List ImageCounts) (digest : List ℕ) (f : ℕ) → i ≡ j
     → digests_increase_from l (i ∷ is) ≡ true → digests_increase_from m (j ∷ js) ≡ true
-    → truncated_name digest f (i ∷ is) ≡ truncated_name digest f (j ∷ js) → truncated_name digest f is ≡ truncated_name digest f js
+    → name_in digest f (i ∷ is) ≡ name_in digest f (j ∷ js) → name_in digest f is ≡ name_in digest f js
 other_names l m i j is js digest f same h k e = elim (cases_Bool (bytes_eq i.digest digest)) [
   | inl t ↦
       let d : i.digest ≡ digest = (bytes_decides i.digest digest).0 t in
@@ -172,8 +172,8 @@ other_names l m i j is js digest f same h k e = elim (cases_Bool (bytes_eq i.dig
       ∙ sym (none_named js j.digest digest f (images_behind m j js k) (ap (is_before j.digest) (sym d') ∙ none_before_itself j.digest))
   | inr t ↦
       let g : bytes_eq j.digest digest ≡ false = ap (λ (x : ImageCounts). bytes_eq x.digest digest) (sym same) ∙ t in
-      sym (ap (λ (b : Bool). min_text_of (cond b (name_at f i.functions) None) (truncated_name digest f is)) t) ∙ e
-      ∙ ap (λ (b : Bool). min_text_of (cond b (name_at f j.functions) None) (truncated_name digest f js)) g
+      sym (ap (λ (b : Bool). min_text_of (cond b (name_at f i.functions) None) (name_in digest f is)) t) ∙ e
+      ∙ ap (λ (b : Bool). min_text_of (cond b (name_at f j.functions) None) (name_in digest f js)) g
 ]
 
 others_alike : (l m : Option (List ℕ)) (i j : ImageCounts) (is js : List ImageCounts) → digests_increase_from l (i ∷ is) ≡ true
@@ -210,8 +210,8 @@ one_list (i ∷ is) (j ∷ js) l m p q h k alike =
 pub one_table_of : (t u : CountTable) → IsValidTable t → IsValidTable u
     → ((digest : List ℕ) (n : ℕ) → executed_in digest n t.images ≡ executed_in digest n u.images)
     → ((digest : List ℕ) (n : ℕ) → taken_in digest n t.images ≡ taken_in digest n u.images)
-    → ((digest : List ℕ) → next_path digest t.images ≡ next_path digest u.images)
-    → ((digest : List ℕ) (f : ℕ) → truncated_name digest f t.images ≡ truncated_name digest f u.images)
+    → ((digest : List ℕ) → path_of_image digest t.images ≡ path_of_image digest u.images)
+    → ((digest : List ℕ) (f : ℕ) → name_in digest f t.images ≡ name_in digest f u.images)
     → ((digest path : List ℕ) → calls_in_image digest path t.images ≡ calls_in_image digest path u.images)
     → ((digest path : List ℕ) → steps_in digest path t.images ≡ steps_in digest path u.images) → t.runs ≡ u.runs → t ≡ u
 one_table_of t u h k executed taken paths names calls steps runs =
@@ -232,8 +232,8 @@ pub tables_commute : (a b ab ba : CountTable) → IsSumOfTables a b ab → IsSum
 tables_commute a b ab ba p q = one_table_of ab ba p.table q.table
     (λ d n. either_order _ _ (executed_in d n a.images) (executed_in d n b.images) (p.executed d n) (q.executed d n))
     (λ d n. either_order _ _ (taken_in d n a.images) (taken_in d n b.images) (p.taken d n) (q.taken d n))
-    (λ d. p.paths d ∙ either (next_path d a.images) (next_path d b.images) ∙ sym (q.paths d))
-    (λ d f. p.names d f ∙ either (truncated_name d f a.images) (truncated_name d f b.images) ∙ sym (q.names d f))
+    (λ d. p.paths d ∙ either (path_of_image d a.images) (path_of_image d b.images) ∙ sym (q.paths d))
+    (λ d f. p.names d f ∙ either (name_in d f a.images) (name_in d f b.images) ∙ sym (q.names d f))
     (λ d n. either_order _ _ (calls_in_image d n a.images) (calls_in_image d n b.images) (p.calls d n) (q.calls d n))
     (λ d n. either_order _ _ (steps_in d n a.images) (steps_in d n b.images) (p.steps d n) (q.steps d n))
     (either_order _ _ a.runs b.runs p.runs q.runs)
@@ -245,12 +245,12 @@ tables_associate a b c ab bc first last p q r s = one_table_of first last q.tabl
     (executed_in d n b.images) (executed_in d n c.images) (p.executed d n) (q.executed d n) (r.executed d n) (s.executed d n))
     (λ d n. either_first (taken_in d n ab.images) (taken_in d n bc.images) _ _ (taken_in d n a.images)
     (taken_in d n b.images) (taken_in d n c.images) (p.taken d n) (q.taken d n) (r.taken d n) (s.taken d n))
-    (λ d. q.paths d ∙ ap (λ x. min_text_of x (next_path d c.images)) (p.paths d)
-    ∙ any_first (next_path d a.images) (next_path d b.images) (next_path d c.images)
-    ∙ sym (ap (min_text_of (next_path d a.images)) (r.paths d)) ∙ sym (s.paths d))
-    (λ d f. q.names d f ∙ ap (λ x. min_text_of x (truncated_name d f c.images)) (p.names d f)
-    ∙ any_first (truncated_name d f a.images) (truncated_name d f b.images) (truncated_name d f c.images)
-    ∙ sym (ap (min_text_of (truncated_name d f a.images)) (r.names d f)) ∙ sym (s.names d f))
+    (λ d. q.paths d ∙ ap (λ x. min_text_of x (path_of_image d c.images)) (p.paths d)
+    ∙ any_first (path_of_image d a.images) (path_of_image d b.images) (path_of_image d c.images)
+    ∙ sym (ap (min_text_of (path_of_image d a.images)) (r.paths d)) ∙ sym (s.paths d))
+    (λ d f. q.names d f ∙ ap (λ x. min_text_of x (name_in d f c.images)) (p.names d f)
+    ∙ any_first (name_in d f a.images) (name_in d f b.images) (name_in d f c.images)
+    ∙ sym (ap (min_text_of (name_in d f a.images)) (r.names d f)) ∙ sym (s.names d f))
     (λ d n. either_first (calls_in_image d n ab.images) (calls_in_image d n bc.images) _ _ (calls_in_image d n a.images)
     (calls_in_image d n b.images) (calls_in_image d n c.images) (p.calls d n) (q.calls d n) (r.calls d n) (s.calls d n))
     (λ d n. either_first (steps_in d n ab.images) (steps_in d n bc.images) _ _ (steps_in d n a.images)

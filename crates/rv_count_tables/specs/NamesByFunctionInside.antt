@@ -4,8 +4,8 @@ use Rattle.rv_count_tables.specs.declared.table.FunctionName.{FunctionName}
 
 -- an entry of the map, as a function and its name
 abbrev pub function_name_of_entry : ℕ × List ℕ → FunctionName
-function_name_of_entry e = record { function = e.0; name = e.1 }
+function_name_of_entry entry = record { function = entry.0; name = entry.1 }
 
 -- the entries of the map, as functions and their names, in order
 abbrev pub names_of_entries : List (ℕ × List ℕ) → List FunctionName
-names_of_entries es = map function_name_of_entry es
+names_of_entries entries = map function_name_of_entry entries

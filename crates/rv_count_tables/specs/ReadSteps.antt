@@ -58,7 +58,7 @@ entry_line (Node n) = node_line n
 
 -- the entry of a node, with the name of its function in a list
 abbrev pub entry_of_node : List FunctionName → CallNode → Entry
-entry_of_node names s = Node (named names s)
+entry_of_node names node = Node (named names node)
 
 -- the entries of all lines of an image after its first line, in order
 abbrev pub entries_of : ImageCounts → List Entry
@@ -73,35 +73,35 @@ pub record NextLines : Type 0 where
   -- the names of functions so far
   pub names : List FunctionName
   -- the path of the preceding node, if a node can come next
-  pub front : Option (List ℕ)
+  pub previous_path : Option (List ℕ)
 
 -- before the first image, no line of an address or a node can come next
 abbrev pub before_first_image : NextLines
-before_first_image = record { address = None; names = []; front = None }
+before_first_image = record { address = None; names = []; previous_path = None }
 
 -- the lines that can come next after the first line of an image: all addresses, or a node of depth 0
 abbrev pub after_image_line : NextLines
-after_image_line = record { address = Some 0; names = []; front = Some [] }
+after_image_line = record { address = Some 0; names = []; previous_path = Some [] }
 
 -- the path of a node that follows a node with the path `previous_path`, or `None` if no node can come next
 abbrev pub next_path : Option (List ℕ) → CallNode → Option (List ℕ)
-next_path None s = None
-next_path (Some previous_path) s = Some (path_after previous_path s)
+next_path None node = None
+next_path (Some previous_path) node = Some (path_after previous_path node)
 
 -- the lines that can come next after the line of an address or a node: after a node, only another node
 abbrev pub after_entry : NextLines → Entry → NextLines
-after_entry p (Address c) = record { address = Some (c.address + 1); names = []; front = Some [] }
-after_entry p (Node n) = record { address = None; names = with_name (function_name n) p.names; front = next_path p.front n.node }
+after_entry lines (Address c) = record { address = Some (c.address + 1); names = []; previous_path = Some [] }
+after_entry lines (Node n) = record { address = None; names = with_name (function_name n) lines.names; previous_path = next_path lines.previous_path n.node }
 
 -- the lines that can come next after the lines of these entries
 abbrev pub after_entries : NextLines → List Entry → NextLines
-after_entries p [] = p
-after_entries p (e ∷ es) = after_entries (after_entry p e) es
+after_entries lines [] = lines
+after_entries lines (e ∷ es) = after_entries (after_entry lines e) es
 
 -- the lines that can come next after the lines of these images
-abbrev pub place_in : NextLines → List ImageCounts → NextLines
-place_in p [] = p
-place_in p (i ∷ is) = place_in (after_entries after_image_line (entries_of i)) is
+abbrev pub after_images : NextLines → List ImageCounts → NextLines
+after_images lines [] = lines
+after_images lines (i ∷ is) = after_images (after_entries after_image_line (entries_of i)) is
 
 -- whether an address can come next: there is a lowest address, and this one is not below it
 abbrev pub can_be_next_address : Option ℕ → ℕ → Bool
@@ -110,17 +110,17 @@ can_be_next_address (Some lowest) address = nat_le lowest address
 
 -- a node can come next, and this node may follow the path of the preceding one
 abbrev pub NodeCanComeNext : Option (List ℕ) → CallNode → Type 0
-NodeCanComeNext None s = ⊥
-NodeCanComeNext (Some previous_path) s = MayFollow previous_path s
+NodeCanComeNext None node = ⊥
+NodeCanComeNext (Some previous_path) node = MayFollow previous_path node
 
 -- the entry can come next: its address is not too low, or its node may follow the preceding one and its name agrees with the earlier ones
 abbrev pub CanComeNext : NextLines → Entry → Type 0
-CanComeNext p (Address c) = can_be_next_address p.address c.address ≡ true
-CanComeNext p (Node n) = NodeCanComeNext p.front n.node × AgreesWithName n.name (name_of n.node.function p.names)
+CanComeNext lines (Address c) = can_be_next_address lines.address c.address ≡ true
+CanComeNext lines (Node n) = NodeCanComeNext lines.previous_path n.node × AgreesWithName n.name (name_of n.node.function lines.names)
 
 -- the line is not the line of an address or a node that can come next
 abbrev pub IsNotAnEntry : NextLines → List ℕ → Type 0
-IsNotAnEntry p line = (e : Entry) → IsValidEntry e → CanComeNext p e → line ≡ entry_line e → ⊥
+IsNotAnEntry lines line = (e : Entry) → IsValidEntry e → CanComeNext lines e → line ≡ entry_line e → ⊥
 
 -- ---- lines of one kind
 
@@ -153,7 +153,7 @@ pub record AreParsedAddresses (text : List ℕ) (read : ParsedAddresses) : Type 
   pub within : read.length ≤ length text
   pub lines : text ≡ flat_map address_line read.addresses ++ drop read.length text
   pub counts : AreValidCounts read.addresses
-  pub behind : IsNotAnAddress (lowest_after 0 read.addresses) (whole_line (drop read.length text))
+  pub next_line : IsNotAnAddress (lowest_after 0 read.addresses) (whole_line (drop read.length text))
 
 -- `read` has the nodes of the first lines of the text, the names of their functions, and the length of these lines in bytes; the next line
 -- is not the line of a node that may follow
@@ -164,7 +164,7 @@ pub record AreParsedNodes (text : List ℕ) (read : ParsedNodes) : Type 0 where
   pub names : AreValidNames read.functions
   pub names_of_nodes : AreNamesOf read.nodes read.functions
   pub known : read.functions ≡ with_names [] (map (named read.functions) read.nodes)
-  pub behind : IsNotANode read.functions (last_path [] read.nodes) (whole_line (drop read.length text))
+  pub next_line : IsNotANode read.functions (last_path [] read.nodes) (whole_line (drop read.length text))
 
 -- ---- images
 
@@ -176,7 +176,7 @@ pub record IsParsedImage (last : Option (List ℕ)) (text : List ℕ) (read : Pa
   pub some : 0 < read.length
   pub image : IsValidImage read.image
   pub rising : is_greater_than_last last read.image.digest ≡ true
-  pub behind : IsNotAnEntry (after_entries after_image_line (entries_of read.image)) (whole_line (drop read.length text))
+  pub next_line : IsNotAnEntry (after_entries after_image_line (entries_of read.image)) (whole_line (drop read.length text))
 
 -- `read` has the images of the first lines of the text, and the length of these lines in bytes; the next line cannot belong to the last
 -- image or begin another one
@@ -185,5 +185,5 @@ pub record AreParsedImages (text : List ℕ) (read : ParsedImages) : Type 0 wher
   pub lines : text ≡ flat_map image_text read.images ++ drop read.length text
   pub images : AllByRecursion IsValidImage read.images
   pub rising : digests_increase_from None read.images ≡ true
-  pub entry : IsNotAnEntry (place_in before_first_image read.images) (whole_line (drop read.length text))
+  pub entry : IsNotAnEntry (after_images before_first_image read.images) (whole_line (drop read.length text))
   pub image : IsNotAnImage (last_digest None read.images) (whole_line (drop read.length text))

@@ -7,7 +7,7 @@ use Rattle.rv_count_tables.specs.declared.table.ImageCounts.{ImageCounts}
 use Rattle.rv_count_tables.specs.declared.table.CountTable.{CountTable}
 use Rattle.rv_count_tables.specs.declared.sum.SumError.{SumError}
 use Rattle.rv_count_tables.specs.declared.sum.SumError.TheVariants.{OutOfMemory, Count, Node, Names, Runs}
-use Rattle.rv_count_tables.specs.Table.{executed_at, taken_at, name_at, executed_in, taken_in, next_path, truncated_name, calls_in_image, steps_in, min_text_of, AreValidCounts, AreValidNames, IsValidTable}
+use Rattle.rv_count_tables.specs.Table.{executed_at, taken_at, name_at, executed_in, taken_in, path_of_image, name_in, calls_in_image, steps_in, min_text_of, AreValidCounts, AreValidNames, IsValidTable}
 use Rattle.rv_call_tree.specs.Trees.{ends_with}
 use Rattle.rv_call_tree.specs.declared.sum.CallTreeSumError.{CallTreeSumError}
 use Rattle.rv_call_tree.specs.declared.sum.CallTreeSumError.TheVariants as nodes
@@ -40,11 +40,11 @@ pub record IsSumOfTables (a b sum : CountTable) : Type 0 where
   pub taken : (digest : List ℕ) → (address : ℕ)
       → taken_in digest address sum.images ≡ taken_in digest address a.images + taken_in digest address b.images
   pub paths : (digest : List ℕ)
-      → next_path digest sum.images ≡ min_text_of (next_path digest a.images) (next_path digest b.images)
+      → path_of_image digest sum.images ≡ min_text_of (path_of_image digest a.images) (path_of_image digest b.images)
   pub agree : (digest : List ℕ) → (function : ℕ)
-      → NamesAgree (truncated_name digest function a.images) (truncated_name digest function b.images)
+      → NamesAgree (name_in digest function a.images) (name_in digest function b.images)
   pub names : (digest : List ℕ) → (function : ℕ)
-      → truncated_name digest function sum.images ≡ min_text_of (truncated_name digest function a.images) (truncated_name digest function b.images)
+      → name_in digest function sum.images ≡ min_text_of (name_in digest function a.images) (name_in digest function b.images)
   pub calls : (digest path : List ℕ)
       → calls_in_image digest path sum.images ≡ calls_in_image digest path a.images + calls_in_image digest path b.images
   pub steps : (digest path : List ℕ)

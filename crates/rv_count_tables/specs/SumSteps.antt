@@ -10,7 +10,7 @@ use Rattle.rv_count_tables.specs.declared.sum_of_counts.NextCount.{NextCount}
 use Rattle.rv_count_tables.specs.declared.sum_of_images.NextImage.{NextImage}
 use Rattle.rv_count_tables.specs.declared.union_of_names.NextName.{NextName}
 use Rattle.rv_count_tables.specs.Sum.{NamesAgree, CountsHaveNoSum, HasNameIn, IsErrorOfNames}
-use Rattle.rv_count_tables.specs.Table.{executed_at, taken_at, name_at, executed_in, taken_in, next_path, truncated_name, calls_in_image, steps_in, min_text_of}
+use Rattle.rv_count_tables.specs.Table.{executed_at, taken_at, name_at, executed_in, taken_in, path_of_image, name_in, calls_in_image, steps_in, min_text_of}
 use Rattle.rv_count_tables.specs.Table.{increase_from, functions_increase_from, digests_increase_from, IsValidCount, IsValidImage, IsValidName}
 use Rattle.rv_call_tree.specs.Trees.{calls_at, ends_with, steps_at}
 
@@ -59,11 +59,11 @@ pub record ImagesAddUp (a b sum : List ImageCounts) : Type 0 where
       → executed_in digest address sum ≡ executed_in digest address a + executed_in digest address b
   pub taken : (digest : List ℕ) (address : ℕ)
       → taken_in digest address sum ≡ taken_in digest address a + taken_in digest address b
-  pub paths : (digest : List ℕ) → next_path digest sum ≡ min_text_of (next_path digest a) (next_path digest b)
+  pub paths : (digest : List ℕ) → path_of_image digest sum ≡ min_text_of (path_of_image digest a) (path_of_image digest b)
   pub agree : (last : Option (List ℕ)) → digests_increase_from last a ≡ true → digests_increase_from last b ≡ true
-      → (digest : List ℕ) (function : ℕ) → NamesAgree (truncated_name digest function a) (truncated_name digest function b)
+      → (digest : List ℕ) (function : ℕ) → NamesAgree (name_in digest function a) (name_in digest function b)
   pub names : (digest : List ℕ) (function : ℕ)
-      → truncated_name digest function sum ≡ min_text_of (truncated_name digest function a) (truncated_name digest function b)
+      → name_in digest function sum ≡ min_text_of (name_in digest function a) (name_in digest function b)
   pub calls : (digest path : List ℕ)
       → calls_in_image digest path sum ≡ calls_in_image digest path a + calls_in_image digest path b
   pub steps : (digest path : List ℕ) → steps_in digest path sum ≡ steps_in digest path a + steps_in digest path b

@@ -54,10 +54,10 @@ min_text_of (Some path) None = Some path
 min_text_of (Some path) (Some other) = Some (min_text path other)
 
 -- the path of the image with this digest, or `None` if there is none
-abbrev pub next_path : List ℕ → List ImageCounts → Option (List ℕ)
-next_path digest [] = None
-next_path digest (i ∷ is) =
-    min_text_of (if bytes_eq i.digest digest then Some i.path else None) (next_path digest is)
+abbrev pub path_of_image : List ℕ → List ImageCounts → Option (List ℕ)
+path_of_image digest [] = None
+path_of_image digest (i ∷ is) =
+    min_text_of (if bytes_eq i.digest digest then Some i.path else None) (path_of_image digest is)
 
 -- the name of a function, or `None` if it has none; if it has several, the first in byte order
 abbrev pub name_at : ℕ → List FunctionName → Option (List ℕ)
@@ -65,10 +65,10 @@ name_at function [] = None
 name_at function (n ∷ ns) = min_text_of (if n.function == function then Some n.name else None) (name_at function ns)
 
 -- the name of a function in the image with this digest, or `None` if it has none; if it has several, the first in byte order
-abbrev pub truncated_name : List ℕ → ℕ → List ImageCounts → Option (List ℕ)
-truncated_name digest function [] = None
-truncated_name digest function (i ∷ is) =
-    min_text_of (if bytes_eq i.digest digest then name_at function i.functions else None) (truncated_name digest function is)
+abbrev pub name_in : List ℕ → ℕ → List ImageCounts → Option (List ℕ)
+name_in digest function [] = None
+name_in digest function (i ∷ is) =
+    min_text_of (if bytes_eq i.digest digest then name_at function i.functions else None) (name_in digest function is)
 
 -- how often runs entered a call path in the image with this digest
 abbrev pub calls_in_image : List ℕ → List ℕ → List ImageCounts → ℕ
@@ -120,12 +120,12 @@ pub record AreValidNames (ns : List FunctionName) : Type 0 where
   pub rising : functions_increase_from 0 ns ≡ true
 
 -- the node is valid: its numbers fit their fields, and a run entered it
-pub record IsValidNode (s : CallNode) : Type 0 where
-  pub depth : s.depth < 2 ^ 64
-  pub function : s.function < 2 ^ 32
-  pub some : 0 < s.calls
-  pub calls : s.calls < 2 ^ 64
-  pub steps : s.steps < 2 ^ 64
+pub record IsValidNode (node : CallNode) : Type 0 where
+  pub depth : node.depth < 2 ^ 64
+  pub function : node.function < 2 ^ 32
+  pub some : 0 < node.calls
+  pub calls : node.calls < 2 ^ 64
+  pub steps : node.steps < 2 ^ 64
 
 -- the node and the name of its function are valid
 pub record IsValidNamedNode (n : NamedCallNode) : Type 0 where

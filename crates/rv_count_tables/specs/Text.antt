@@ -20,16 +20,16 @@ line text = text ++ 10 ∷ []
 abbrev pub first_line : List ℕ
 first_line = line (codes "rvcounts 1")
 
--- the line `ADDRESS BEGUN TAKEN` of an address
+-- the line `ADDRESS EXECUTED TAKEN` of an address
 unfoldable pub address_line : AddressCounts → List ℕ
 address_line c = line (word_digits c.address ++ codes " " ++ decimal c.executed ++ codes " " ++ decimal c.taken)
 
--- the words `node DEPTH FUNCTION ARRIVALS STEPS` of a node
+-- the fields `spot DEPTH FUNCTION CALLS STEPS` of a node
 unfoldable pub fields_of_node : CallNode → List ℕ
-fields_of_node s = codes "spot " ++ decimal s.depth ++ codes " " ++ word_digits s.function ++ codes " "
-    ++ decimal s.calls ++ codes " " ++ decimal s.steps
+fields_of_node node = codes "spot " ++ decimal node.depth ++ codes " " ++ word_digits node.function ++ codes " "
+    ++ decimal node.calls ++ codes " " ++ decimal node.steps
 
--- the line `node DEPTH FUNCTION ARRIVALS STEPS NAME` of a node
+-- the line `spot DEPTH FUNCTION CALLS STEPS NAME` of a node
 unfoldable pub node_line : NamedCallNode → List ℕ
 node_line n = line (fields_of_node n.node ++ codes " " ++ n.name)
 
@@ -40,11 +40,11 @@ name_or_empty (Some name) = name
 
 -- a node with the name of its function in the list, or with an empty name if it has none there
 abbrev pub named : List FunctionName → CallNode → NamedCallNode
-named names s = record { node = s; name = name_or_empty (name_of s.function names) }
+named names node = record { node = node; name = name_or_empty (name_of node.function names) }
 
 -- the line of a node, with the name of its function in the list
 abbrev pub line_of_node : List FunctionName → CallNode → List ℕ
-line_of_node names s = node_line (named names s)
+line_of_node names node = node_line (named names node)
 
 -- the line `image DIGEST PATH` of an image
 unfoldable pub image_line : ImageCounts → List ℕ

@@ -3,7 +3,7 @@
 ghost use Rattle.std.specs.Prelude.{◌≡◌, ℕ, List};
 ghost use Rattle.rv_count_tables.specs.declared.table.AddressCounts.{AddressCounts};
 ghost use Rattle.rv_count_tables.specs.declared.table.CountTable.{CountTable};
-ghost use Rattle.rv_count_tables.specs.Table.{AreValidCounts, IsValidTable, executed_at, taken_at, executed_in, taken_in, next_path, truncated_name, calls_in_image, steps_in};
+ghost use Rattle.rv_count_tables.specs.Table.{AreValidCounts, IsValidTable, executed_at, taken_at, executed_in, taken_in, path_of_image, name_in, calls_in_image, steps_in};
 ghost use Rattle.rv_count_tables.specs.Text.{table_text};
 ghost use Rattle.rv_count_tables.specs.Sum.{IsSumOfCounts, IsSumOfTables, no_counts};
 
@@ -31,8 +31,8 @@ pub fn tables_with_equal_counts_are_equal()
     ensures { (t u : CountTable) → IsValidTable t → IsValidTable u
         → ((digest : List ℕ) (address : ℕ) → executed_in digest address t.images ≡ executed_in digest address u.images)
         → ((digest : List ℕ) (address : ℕ) → taken_in digest address t.images ≡ taken_in digest address u.images)
-        → ((digest : List ℕ) → next_path digest t.images ≡ next_path digest u.images)
-        → ((digest : List ℕ) (function : ℕ) → truncated_name digest function t.images ≡ truncated_name digest function u.images)
+        → ((digest : List ℕ) → path_of_image digest t.images ≡ path_of_image digest u.images)
+        → ((digest : List ℕ) (function : ℕ) → name_in digest function t.images ≡ name_in digest function u.images)
         → ((digest path : List ℕ) → calls_in_image digest path t.images ≡ calls_in_image digest path u.images)
         → ((digest path : List ℕ) → steps_in digest path t.images ≡ steps_in digest path u.images)
         → t.runs ≡ u.runs → t ≡ u }

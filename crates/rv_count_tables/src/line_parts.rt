@@ -52,11 +52,11 @@ pub(crate) fn text_after_byte(byte: u8, text: &[u8]) -> &[u8]
 pub(crate) fn whole_line(text: &[u8]) -> &[u8]
     ensures { result.now ≡ whole_line text.now }
 {
-    let place = index_of_byte(b'\n', text);
-    if place == text.len() {
+    let index = index_of_byte(b'\n', text);
+    if index == text.len() {
         &[]
     } else {
-        leading_bytes(text, place + 1)
+        leading_bytes(text, index + 1)
     }
 }
 

@@ -12,9 +12,9 @@ pub fn counts_at(counts: &[AddressCounts], address: u32) -> AddressCounts
     requires { increase_from 0 counts.now ≡ true }
     ensures { result ≡ record { address = address; executed = executed_at address counts.now; taken = taken_at address counts.now } }
 {
-    let place = index_of_address(counts, address);
-    if place < counts.len() && counts[place].address == address {
-        return counts[place];
+    let index = index_of_address(counts, address);
+    if index < counts.len() && counts[index].address == address {
+        return counts[index];
     }
     AddressCounts {
         address,
@@ -23,13 +23,13 @@ pub fn counts_at(counts: &[AddressCounts], address: u32) -> AddressCounts
     }
 }
 
-/// Whether an instruction was executed at some address in the range `start..behind`. `counts` is sorted by address.
+/// Whether an instruction was executed at some address in the range `start..end`. `counts` is sorted by address.
 pub fn was_executed_within(counts: &[AddressCounts], start: u32, end: u64) -> bool
     requires { increase_from 0 counts.now ≡ true }
     ensures { result ≡ list_any (λ c. nat_le start c.address && nat_lt c.address end) counts.now }
 {
-    let place = index_of_address(counts, start);
-    place < counts.len() && u64::from(counts[place].address) < end
+    let index = index_of_address(counts, start);
+    index < counts.len() && u64::from(counts[index].address) < end
 }
 
 /// Returns the index of the first count at or above an address, or the number of counts if there is none. `counts` is sorted by address.

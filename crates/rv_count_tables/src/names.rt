@@ -13,14 +13,14 @@ pub fn name_of(names: &[FunctionName], function: u32) -> Option<&str>
     ensures { option_map (λ name. name.now) result ≡ name_of function names.now }
 {
     match first_of(names, function) {
-        Some(found) => Some(found.name.as_str()),
+        Some(entry) => Some(entry.name.as_str()),
         None => None,
     }
 }
 
 // Returns the first entry of a function in the list, or `None` if it has none.
 fn first_of(names: &[FunctionName], function: u32) -> Option<&FunctionName>
-    ensures { option_map (λ found. found.now) result ≡ find (λ name. name.function == function) names.now }
+    ensures { option_map (λ entry. entry.now) result ≡ find (λ name. name.function == function) names.now }
 {
     names.iter().find(|name| name.function == function)
 }
@@ -32,8 +32,8 @@ pub fn add_name(names: &mut Vec<FunctionName>, name: FunctionName) -> Result<(),
     if name_of(names.as_slice(), name.function).is_some() {
         return Ok(());
     }
-    let place = index_of_function(names.as_slice(), name.function);
-    names.insert(place, name)?;
+    let index = index_of_function(names.as_slice(), name.function);
+    names.insert(index, name)?;
     Ok(())
 }
 

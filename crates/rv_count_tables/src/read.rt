@@ -1,7 +1,7 @@
 //! Parses a table, or finds the first invalid line.
 
 ghost use Rattle.std.specs.Prelude.{◌≡◌, ◌+◌, ◌≤◌, IfOk, IfErr, length, take, drop};
-ghost use Rattle.rv_count_tables.specs.declared.table.CountTable.{CountTable as Counted};
+ghost use Rattle.rv_count_tables.specs.declared.table.CountTable.{CountTable as Table};
 ghost use Rattle.rv_count_tables.specs.Lines.{line_feed_count, whole_line};
 ghost use Rattle.rv_count_tables.specs.Table.{IsValidTable};
 ghost use Rattle.rv_count_tables.specs.Text.{table_text};
@@ -44,7 +44,7 @@ pub fn read_table(alloc: Global, bytes: &[u8]) -> Result<CountTable, ReadError>
     ensures table { IfOk result (λ table. IsValidTable table) }
     ensures text { IfOk result (λ table. table_text table ≡ bytes.now) }
     // Every valid table with this text is the result.
-    ensures accepts { (table : Counted) → IsValidTable table → table_text table ≡ bytes.now
+    ensures accepts { (table : Table) → IsValidTable table → table_text table ≡ bytes.now
         → IsOkOrOutOfMemory table result }
     // Some table begins with the lines before the reported one, and none with those lines and the reported one.
     ensures first_error { IfErr result (λ error. IsFirstError error bytes.now) }
@@ -53,12 +53,12 @@ pub fn read_table(alloc: Global, bytes: &[u8]) -> Result<CountTable, ReadError>
         return Err(read_error_at(bytes, 0));
     }
     let read = read_images(alloc, tail_from(bytes, 11))?;
-    let place = 11 + read.length;
-    let line = whole_line(tail_from(bytes, place));
+    let index = 11 + read.length;
+    let line = whole_line(tail_from(bytes, index));
     match runs_of_last_line(alloc, line, read.images.as_slice().len())? {
-        None => Err(read_error_at(bytes, place)),
+        None => Err(read_error_at(bytes, index)),
         Some(runs) => {
-            let end = place + line.len();
+            let end = index + line.len();
             if end == bytes.len() {
                 Ok(CountTable {
                     images: read.images,
@@ -86,9 +86,9 @@ fn read_error_at(bytes: &[u8], index: usize) -> ReadError
 fn line_number_at(bytes: &[u8], index: usize) -> usize
     ensures { result ≡ line_feed_count (take index bytes.now) + 1 }
 {
-    let front = leading_bytes(bytes, index);
+    let earlier = leading_bytes(bytes, index);
     let mut number = 1;
-    for b in front {
+    for b in earlier {
         if *b == b'\n' {
             number += 1;
         }

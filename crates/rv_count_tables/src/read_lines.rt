@@ -47,7 +47,7 @@ pub(crate) struct ParsedImages {
 
 /// Parses the lines of images at the start of a text, up to the first line that cannot belong to them.
 pub(crate) fn read_images(alloc: Global, text: &[u8]) -> Result<ParsedImages, AllocError>
-    ensures { IfOk result (λ read. AreParsedImages text.now read) }
+    ensures { IfOk result (λ parsed. AreParsedImages text.now parsed) }
 {
     let mut images = Vec::new(alloc);
     let mut length = 0;
@@ -74,8 +74,8 @@ fn read_image(
     text: &[u8],
     earlier: &[ImageCounts],
 ) -> Result<Option<ParsedImage>, AllocError>
-    ensures image { IfOk result (λ read. IfSome read (IsParsedImage (last_digest None earlier.now) text.now)) }
-    ensures none { IfOk result (λ read. IfNone read (IsNotAnImage (last_digest None earlier.now) (whole_line text.now))) }
+    ensures image { IfOk result (λ parsed. IfSome parsed (IsParsedImage (last_digest None earlier.now) text.now)) }
+    ensures none { IfOk result (λ parsed. IfNone parsed (IsNotAnImage (last_digest None earlier.now) (whole_line text.now))) }
 {
     let line = whole_line(text);
     let mut image = image_of_line(alloc, line)?;
@@ -109,7 +109,7 @@ fn can_follow_images(digest: &[u8], earlier: &[ImageCounts]) -> bool
 
 // Parses the lines of addresses at the start of a text, up to the first line that is not a line of a higher address.
 fn read_addresses(alloc: Global, text: &[u8]) -> Result<ParsedAddresses, AllocError>
-    ensures { IfOk result (λ read. AreParsedAddresses text.now read) }
+    ensures { IfOk result (λ parsed. AreParsedAddresses text.now parsed) }
 {
     let mut addresses = Vec::new(alloc);
     let mut length = 0;
@@ -138,10 +138,10 @@ fn parse_address_line(
     line: &[u8],
     lowest: u64,
 ) -> Result<Option<AddressCounts>, AllocError>
-    ensures valid { IfOk result (λ read. IfSome read IsValidCount) }
-    ensures low { IfOk result (λ read. IfSome read (λ c. lowest ≤ c.address)) }
-    ensures line { IfOk result (λ read. IfSome read (λ c. line.now ≡ address_line c)) }
-    ensures none { IfOk result (λ read. IfNone read (IsNotAnAddress lowest line.now)) }
+    ensures valid { IfOk result (λ counts. IfSome counts IsValidCount) }
+    ensures low { IfOk result (λ counts. IfSome counts (λ c. lowest ≤ c.address)) }
+    ensures line { IfOk result (λ counts. IfSome counts (λ c. line.now ≡ address_line c)) }
+    ensures none { IfOk result (λ counts. IfNone counts (IsNotAnAddress lowest line.now)) }
 {
     let counts = counts_of_line(line);
     if can_come_next(counts, lowest) && is_address_line(alloc, counts, line)? {
@@ -161,7 +161,7 @@ fn can_come_next(counts: AddressCounts, lowest: u64) -> bool
         && lowest <= u64::from(counts.address)
 }
 
-// Returns the counts in a line `ADDRESS BEGUN TAKEN`. For any other line, the result is arbitrary.
+// Returns the counts in a line `ADDRESS EXECUTED TAKEN`. For any other line, the result is arbitrary.
 fn counts_of_line(line: &[u8]) -> AddressCounts
     ensures { (c : Counts) → IsValidCount c → line.now ≡ address_line c → result ≡ c }
 {
@@ -175,7 +175,7 @@ fn counts_of_line(line: &[u8]) -> AddressCounts
 
 // Whether `line` is the text of the line of these counts.
 fn is_address_line(alloc: Global, counts: AddressCounts, line: &[u8]) -> Result<bool, AllocError>
-    ensures { IfOk result (λ same. same ≡ bytes_eq line.now (address_line counts)) }
+    ensures { IfOk result (λ is_equal. is_equal ≡ bytes_eq line.now (address_line counts)) }
 {
     let mut text = String::new(alloc);
     push_address_line(alloc, &mut text, counts)?;
@@ -185,16 +185,16 @@ fn is_address_line(alloc: Global, counts: AddressCounts, line: &[u8]) -> Result<
 // Returns the image, without counts, in a line `image DIGEST PATH`. For any other line, the result is arbitrary.
 fn image_of_line(alloc: Global, line: &[u8]) -> Result<ImageCounts, AllocError>
     ensures digest { (i : Image) → IsValidImage i → line.now ≡ image_line i
-        → IfOk result (λ read. read.digest ≡ i.digest) }
+        → IfOk result (λ image. image.digest ≡ i.digest) }
     ensures path { (i : Image) → IsValidImage i → line.now ≡ image_line i
-        → IfOk result (λ read. read.path ≡ i.path) }
-    ensures text { IfOk result (λ read. IsUtf8 read.path) }
+        → IfOk result (λ image. image.path ≡ i.path) }
+    ensures text { IfOk result (λ image. IsUtf8 image.path) }
 {
-    let words = tail_from(line, 6);
-    let digest = hex_bytes(alloc, text_before_byte(b' ', words))?;
+    let fields = tail_from(line, 6);
+    let digest = hex_bytes(alloc, text_before_byte(b' ', fields))?;
     let path = String::from_utf8_lossy(
         alloc,
-        text_before_byte(b'\n', text_after_byte(b' ', words)),
+        text_before_byte(b'\n', text_after_byte(b' ', fields)),
     )?;
     Ok(ImageCounts {
         digest: Digest::new(digest),
@@ -207,7 +207,7 @@ fn image_of_line(alloc: Global, line: &[u8]) -> Result<ImageCounts, AllocError>
 
 // Whether `line` is the text of this image's line.
 fn has_image_line(alloc: Global, image: &ImageCounts, line: &[u8]) -> Result<bool, AllocError>
-    ensures { IfOk result (λ same. same ≡ bytes_eq line.now (image_line image.now)) }
+    ensures { IfOk result (λ is_equal. is_equal ≡ bytes_eq line.now (image_line image.now)) }
 {
     let mut text = String::new(alloc);
     push_image_line(alloc, &mut text, image)?;
@@ -221,12 +221,12 @@ pub(crate) fn runs_of_last_line(
     image_count: usize,
 ) -> Result<Option<u64>, AllocError>
     ensures count_fits { image_count < 2 ^ 64 }
-    ensures fits { IfOk result (λ read. IfSome read (λ runs. runs < 2 ^ 64)) }
-    ensures line { IfOk result (λ read. IfSome read (λ runs. line.now ≡ last_line image_count runs)) }
-    ensures none { IfOk result (λ read. IfNone read ((runs : ℕ) → runs < 2 ^ 64 → line.now ≡ last_line image_count runs → ⊥)) }
+    ensures fits { IfOk result (λ runs_or_none. IfSome runs_or_none (λ runs. runs < 2 ^ 64)) }
+    ensures line { IfOk result (λ runs_or_none. IfSome runs_or_none (λ runs. line.now ≡ last_line image_count runs)) }
+    ensures none { IfOk result (λ runs_or_none. IfNone runs_or_none ((runs : ℕ) → runs < 2 ^ 64 → line.now ≡ last_line image_count runs → ⊥)) }
 {
-    let words = tail_from(line, 5);
-    let runs = decimal_number(text_before_byte(b'\n', text_after_byte(b' ', words)));
+    let fields = tail_from(line, 5);
+    let runs = decimal_number(text_before_byte(b'\n', text_after_byte(b' ', fields)));
     let mut text = String::new(alloc);
     push_last_line(&mut text, image_count, runs)?;
     if line == text.as_bytes() {

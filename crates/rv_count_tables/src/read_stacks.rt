@@ -2,7 +2,7 @@
 
 ghost use Rattle.std.specs.Prelude.{◌≡◌, ◌≤◌, ◌<◌, ◌^◌, ℕ, List, IfOk, IfSome, IfNone, IsTrue, ◌↔◌};
 ghost use Rattle.std.specs.Str.{bytes_eq, IsUtf8};
-ghost use Rattle.rv_count_tables.specs.declared.table.NamedCallNode.{NamedCallNode as ANamedSpot};
+ghost use Rattle.rv_count_tables.specs.declared.table.NamedCallNode.{NamedCallNode as NamedNode};
 ghost use Rattle.rv_count_tables.specs.Lines.{whole_line};
 ghost use Rattle.rv_count_tables.specs.ReadSteps.{function_name, AgreesWithName, AreParsedNodes, IsNotANode};
 ghost use Rattle.rv_count_tables.specs.Table.{name_of, IsValidNamedNode, IsValidNode};
@@ -30,21 +30,21 @@ pub(crate) struct ParsedNodes {
 
 /// Parses the lines of call-tree nodes at the start of a text, up to the first line that is not a line of a node that may follow.
 pub(crate) fn read_nodes(alloc: Global, text: &[u8]) -> Result<ParsedNodes, AllocError>
-    ensures { IfOk result (λ read. AreParsedNodes text.now read) }
+    ensures { IfOk result (λ parsed. AreParsedNodes text.now parsed) }
 {
     let mut nodes = Vec::new(alloc);
     let mut names = NamesByFunction::new(alloc);
-    let mut front = Vec::new(alloc);
+    let mut path = Vec::new(alloc);
     let mut length = 0;
     'lines: loop {
         let line = whole_line(tail_from(text, length));
-        match next_node(alloc, line, front.as_slice(), &names)? {
-            Some(read) => {
+        match next_node(alloc, line, path.as_slice(), &names)? {
+            Some(parsed) => {
                 length += line.len();
-                front.truncate(read.node.depth);
-                push_item(&mut front, read.node.function)?;
-                push_item(&mut nodes, read.node)?;
-                names.add(function_name(read))?;
+                path.truncate(parsed.node.depth);
+                push_item(&mut path, parsed.node.function)?;
+                push_item(&mut nodes, parsed.node)?;
+                names.add(function_name(parsed))?;
             }
             None => {
                 return Ok(ParsedNodes {
@@ -75,15 +75,15 @@ fn next_node(
     previous_path: &[u32],
     names: &NamesByFunction,
 ) -> Result<Option<NamedCallNode>, AllocError>
-    ensures node { (text : List ℕ) → line.now ≡ whole_line text → IfOk result (λ read. IfSome read IsValidNamedNode) }
-    ensures preorder { IfOk result (λ read. IfSome read (λ n. MayFollow previous_path.now n.node)) }
-    ensures name { IfOk result (λ read. IfSome read (λ n. AgreesWithName n.name (name_of n.node.function names.now))) }
-    ensures line { IfOk result (λ read. IfSome read (λ n. line.now ≡ node_line n)) }
-    ensures none { IfOk result (λ read. IfNone read (IsNotANode names.now previous_path.now line.now)) }
+    ensures node { (text : List ℕ) → line.now ≡ whole_line text → IfOk result (λ parsed. IfSome parsed IsValidNamedNode) }
+    ensures preorder { IfOk result (λ parsed. IfSome parsed (λ n. MayFollow previous_path.now n.node)) }
+    ensures name { IfOk result (λ parsed. IfSome parsed (λ n. AgreesWithName n.name (name_of n.node.function names.now))) }
+    ensures line { IfOk result (λ parsed. IfSome parsed (λ n. line.now ≡ node_line n)) }
+    ensures none { IfOk result (λ parsed. IfNone parsed (IsNotANode names.now previous_path.now line.now)) }
 {
     let read = node_of_line(alloc, line)?;
     if can_come_next(read.node, previous_path)
-        && agrees(&read, names)
+        && agrees_with_earlier_name(&read, names)
         && has_node_line(alloc, &read, line)?
     {
         Ok(Some(read))
@@ -102,45 +102,45 @@ fn can_come_next(node: CallNode, previous_path: &[u32]) -> bool
 }
 
 // Whether the node's name equals the name of its function in `names`, or `names` has none for it.
-fn agrees(read: &NamedCallNode, names: &NamesByFunction) -> bool
-    ensures { IsTrue result ↔ AgreesWithName read.now.name (name_of read.now.node.function names.now) }
+fn agrees_with_earlier_name(parsed: &NamedCallNode, names: &NamesByFunction) -> bool
+    ensures { IsTrue result ↔ AgreesWithName parsed.now.name (name_of parsed.now.node.function names.now) }
 {
-    match names.find(read.node.function) {
-        Some(name) => name == read.name.as_str(),
+    match names.find(parsed.node.function) {
+        Some(name) => name == parsed.name.as_str(),
         None => true,
     }
 }
 
-// Returns the node of a line `node DEPTH FUNCTION ARRIVALS STEPS NAME`. For any other line, the result is arbitrary.
+// Returns the node of a line `spot DEPTH FUNCTION CALLS STEPS NAME`. For any other line, the result is arbitrary.
 fn node_of_line(alloc: Global, line: &[u8]) -> Result<NamedCallNode, AllocError>
-    ensures node { (n : ANamedSpot) → IsValidNamedNode n → line.now ≡ node_line n → IfOk result (λ read. read.node ≡ n.node) }
-    ensures name { (n : ANamedSpot) → IsValidNamedNode n → line.now ≡ node_line n → IfOk result (λ read. read.name ≡ n.name) }
-    ensures text { IfOk result (λ read. IsUtf8 read.name) }
+    ensures node { (n : NamedNode) → IsValidNamedNode n → line.now ≡ node_line n → IfOk result (λ parsed. parsed.node ≡ n.node) }
+    ensures name { (n : NamedNode) → IsValidNamedNode n → line.now ≡ node_line n → IfOk result (λ parsed. parsed.name ≡ n.name) }
+    ensures text { IfOk result (λ parsed. IsUtf8 parsed.name) }
 {
-    let words = tail_from(line, 5);
-    let function = text_after_byte(b' ', words);
+    let fields = tail_from(line, 5);
+    let function = text_after_byte(b' ', fields);
     let numbers = tail_from(function, 9);
-    let behind = text_after_byte(b' ', numbers);
+    let later_numbers = text_after_byte(b' ', numbers);
     let name = String::from_utf8_lossy(
         alloc,
-        text_before_byte(b'\n', text_after_byte(b' ', behind)),
+        text_before_byte(b'\n', text_after_byte(b' ', later_numbers)),
     )?;
     Ok(NamedCallNode {
         node: CallNode {
-            depth: decimal_number(text_before_byte(b' ', words)) as usize,
+            depth: decimal_number(text_before_byte(b' ', fields)) as usize,
             function: hex_word(leading_bytes(function, 8)),
             calls: decimal_number(text_before_byte(b' ', numbers)),
-            steps: decimal_number(text_before_byte(b' ', behind)),
+            steps: decimal_number(text_before_byte(b' ', later_numbers)),
         },
         name: Text::new(name),
     })
 }
 
 // Whether `line` is the text of this node's line.
-fn has_node_line(alloc: Global, read: &NamedCallNode, line: &[u8]) -> Result<bool, AllocError>
-    ensures { IfOk result (λ same. same ≡ bytes_eq line.now (node_line read.now)) }
+fn has_node_line(alloc: Global, parsed: &NamedCallNode, line: &[u8]) -> Result<bool, AllocError>
+    ensures { IfOk result (λ is_equal. is_equal ≡ bytes_eq line.now (node_line parsed.now)) }
 {
     let mut text = String::new(alloc);
-    push_node_line(alloc, &mut text, read.node, read.name.as_str())?;
+    push_node_line(alloc, &mut text, parsed.node, parsed.name.as_str())?;
     Ok(line == text.as_bytes())
 }

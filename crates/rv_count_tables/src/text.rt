@@ -79,14 +79,14 @@ fn push_nodes(
     Ok(())
 }
 
-/// The words that the lines of all nodes of one function have.
+/// The fields that the lines of all nodes of one function have.
 #[derive(Drop)]
 pub(crate) struct FunctionFields {
     pub(crate) digits: Text,
     pub(crate) name: Text,
 }
 
-// Returns a map from each function to its words in the lines of nodes; the first name of each function counts.
+// Returns a map from each function to its fields in the lines of nodes; the first name of each function counts.
 fn index_of_functions(
     alloc: Global,
     names: &[FunctionName],
@@ -96,17 +96,17 @@ fn index_of_functions(
     let mut index = BTreeMap::new(alloc);
     for name in names {
         if !index.contains_key(&name.function) {
-            let words = fields_of_function(alloc, name)?;
-            index.insert(name.function, words)?;
+            let fields = fields_of_function(alloc, name)?;
+            index.insert(name.function, fields)?;
         }
     }
     Ok(index)
 }
 
-// Returns the words of a function: the digits of its address, and its name.
+// Returns the fields of a function: the digits of its address, and its name.
 #[tactic(auto, unfolding(rv_text::specs::Numbers::word_digits))]
 fn fields_of_function(alloc: Global, name: &FunctionName) -> Result<FunctionFields, AllocError>
-    ensures { IfOk result (λ words. words ≡ fields_of_function name.now.function name.now.name) }
+    ensures { IfOk result (λ fields. fields ≡ fields_of_function name.now.function name.now.name) }
 {
     let digits = hex::encode(alloc, name.function.to_be_bytes().as_slice())?;
     Ok(FunctionFields {
@@ -115,7 +115,7 @@ fn fields_of_function(alloc: Global, name: &FunctionName) -> Result<FunctionFiel
     })
 }
 
-// Appends the line of a node, with the words of its function from the index. In a valid table each function has a name; a function without
+// Appends the line of a node, with the fields of its function from the index. In a valid table each function has a name; a function without
 // one gets an empty name.
 #[tactic(auto, unfolding(crate::specs::ParsedNodes::line_by_index))]
 fn push_indexed_line(
@@ -127,8 +127,8 @@ fn push_indexed_line(
     ensures { OnOk result (string_bytes text.new ≡ string_bytes text.old ++ line_by_index index.now node) }
 {
     match index.get(&node.function) {
-        Some(words) => {
-            push_line_with_digits(text, node, words.digits.as_str(), words.name.as_str())
+        Some(fields) => {
+            push_line_with_digits(text, node, fields.digits.as_str(), fields.name.as_str())
         }
         None => push_node_line(alloc, text, node, ""),
     }
@@ -194,7 +194,7 @@ fn push_line_with_digits(
     text.push_str("\n")
 }
 
-// Appends the words of a node's line before the name, with these digits for the address of its function.
+// Appends the fields of a node's line before the name, with these digits for the address of its function.
 #[tactic(auto, unfolding(crate::specs::ParsedNodes::fields_with_digits))]
 fn push_fields_with_digits(
     text: &mut String,
@@ -210,12 +210,12 @@ fn push_fields_with_digits(
     push_number(text, node.steps)
 }
 
-// Appends a space and a word.
-fn push_field(text: &mut String, word: &str) -> Result<(), AllocError>
-    ensures { OnOk result (string_bytes text.new ≡ string_bytes text.old ++ codes " " ++ word.now) }
+// Appends a space and a field.
+fn push_field(text: &mut String, field: &str) -> Result<(), AllocError>
+    ensures { OnOk result (string_bytes text.new ≡ string_bytes text.old ++ codes " " ++ field.now) }
 {
     text.push_str(" ")?;
-    text.push_str(word)
+    text.push_str(field)
 }
 
 // Appends a space and a number. With `write!` a line takes about a third longer, and a table can have hundreds of thousands of lines.

@@ -15,7 +15,7 @@ use Rattle.rv_count_tables.specs.declared.table.FunctionName.{FunctionName}
 use Rattle.rv_count_tables.specs.declared.table.ImageCounts.{ImageCounts}
 use Rattle.rv_count_tables.specs.declared.sum.SumError.TheVariants.{Names}
 use Rattle.rv_count_tables.specs.Sum.{HasName, HasNameIn, HaveNoSum, IsSumOfTables, no_counts}
-use Rattle.rv_count_tables.specs.Table.{name_at, truncated_name, min_text, min_text_of, digests_increase_from, functions_increase_from, AreValidNames, AreNamesOf, AreValidNodes, IsValidImage, IsValidTable}
+use Rattle.rv_count_tables.specs.Table.{name_at, name_in, min_text, min_text_of, digests_increase_from, functions_increase_from, AreValidNames, AreNamesOf, AreValidNodes, IsValidImage, IsValidTable}
 use Rattle.rv_trace.specs.declared_answers.PathResult.{PathResult}
 use Rattle.rv_trace.specs.declared_job.Job.{Job}
 use Rattle.rv_trace.specs.State.{State}
@@ -120,15 +120,15 @@ taken_if : (t : Bool) (o : Option (List ℕ)) → t ≡ true → cond t o None �
 taken_if true o h e = e
 taken_if false o h e = absurd (false≢true h)
 
-no_name_in : (digest : List ℕ) (f : ℕ) (name : List ℕ) (is : List ImageCounts) → truncated_name digest f is ≡ None
+no_name_in : (digest : List ℕ) (f : ℕ) (name : List ℕ) (is : List ImageCounts) → name_in digest f is ≡ None
     → HasNameIn digest f name is → ⊥
 no_name_in digest f name [] none has = has
 no_name_in digest f name (i ∷ is) none (inl here) =
     no_name_of f name i.functions (taken_if (bytes_eq i.digest digest) (name_at f i.functions) ((bytes_decides i.digest digest).1 here.0)
-    (none_of_either (cond (bytes_eq i.digest digest) (name_at f i.functions) None) (truncated_name digest f is) none).0) here.1
+    (none_of_either (cond (bytes_eq i.digest digest) (name_at f i.functions) None) (name_in digest f is) none).0) here.1
 no_name_in digest f name (i ∷ is) none (inr more) =
     no_name_in digest f name is
-    (none_of_either (cond (bytes_eq i.digest digest) (name_at f i.functions) None) (truncated_name digest f is) none).1 more
+    (none_of_either (cond (bytes_eq i.digest digest) (name_at f i.functions) None) (name_in digest f is) none).1 more
 
 pub no_two_names : (t u : CountTable) (f : ℕ) → HasNoStacks t → HaveNoSum (Names f) t u → ⊥
 no_two_names t u f h have = no_name_in have.0 f have.1 t.images (h.names have.0 f) have.3

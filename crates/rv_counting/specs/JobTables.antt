@@ -8,7 +8,7 @@ use Rattle.sha2.specs.Sha256.{sha256}
 use Rattle.rv_count_tables.specs.declared.table.AddressCounts.{AddressCounts}
 use Rattle.rv_count_tables.specs.declared.table.CountTable.{CountTable}
 use Rattle.rv_count_tables.specs.Sum.{IsSumOfTables}
-use Rattle.rv_count_tables.specs.Table.{executed_in, taken_in, next_path, truncated_name, calls_in_image, steps_in, min_text_of, IsValidTable}
+use Rattle.rv_count_tables.specs.Table.{executed_in, taken_in, path_of_image, name_in, calls_in_image, steps_in, min_text_of, IsValidTable}
 use Rattle.rv_trace.specs.declared_answers.PathResult.{PathResult}
 use Rattle.rv_trace.specs.declared_job.Job.{Job}
 use Rattle.rv_trace.specs.Jobs.{single_job}
@@ -75,7 +75,7 @@ table_of_runs runs path bytes addresses = record {
 
 -- the table has no call trees and no function names
 pub record HasNoStacks (t : CountTable) : Type 0 where
-  pub names : (digest : List ℕ) (function : ℕ) → truncated_name digest function t.images ≡ None
+  pub names : (digest : List ℕ) (function : ℕ) → name_in digest function t.images ≡ None
   pub calls : (digest path : List ℕ) → calls_in_image digest path t.images ≡ 0
   pub steps : (digest path : List ℕ) → steps_in digest path t.images ≡ 0
 
@@ -86,7 +86,7 @@ pub record IsTableOfJobs (answers : List PathResult) (jobs : List Job) (t : Coun
       → executed_in digest address t.images ≡ sum_by (executed_by answers digest address) jobs
   pub taken : (digest : List ℕ) (address : ℕ)
       → taken_in digest address t.images ≡ sum_by (taken_by answers digest address) jobs
-  pub paths : (digest : List ℕ) → next_path digest t.images ≡ first_path answers digest jobs
+  pub paths : (digest : List ℕ) → path_of_image digest t.images ≡ first_path answers digest jobs
   pub runs : t.runs ≡ sum_by (runs_by answers) jobs
   pub stacks : HasNoStacks t
 

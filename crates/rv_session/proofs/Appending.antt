@@ -12,22 +12,22 @@ use Rattle.rv_session.specs.declared.session.Session.{Session}
 
 -- nothing is appended
 pub nothing_more : (old : List ℕ) (IsSuch : List ℕ → Type 0) → IsSuch [] → AppendsSome old old IsSuch
-nothing_more old IsSuch such = record { out = []; new_is = sym (append-nil old); such = such }
+nothing_more old IsSuch such = record { out = []; new_is = sym (append-nil old); satisfied = such }
 
 -- these bytes are
 pub these_more : (old new out : List ℕ) (IsSuch : List ℕ → Type 0) → new ≡ old ++ out → IsSuch out → AppendsSome old new IsSuch
-these_more old new out IsSuch is such = record { out = out; new_is = is; such = such }
+these_more old new out IsSuch is such = record { out = out; new_is = is; satisfied = such }
 
 -- what is appended to nothing
 pub to_nothing : (old new : List ℕ) (IsSuch : List ℕ → Type 0) → old ≡ [] → AppendsSome old new IsSuch → IsSuch new
 to_nothing old new IsSuch none more =
-    subst IsSuch (ap (λ (front : List ℕ). front ++ more.out) (sym none) ∙ sym more.new_is) more.such
+    subst IsSuch (ap (λ (front : List ℕ). front ++ more.out) (sym none) ∙ sym more.new_is) more.satisfied
 
 -- what is appended has another name
 pub named_otherwise : (old new : List ℕ) (IsSuch IsOther : List ℕ → Type 0) → ((out : List ℕ) → IsSuch out → IsOther out)
     → AppendsSome old new IsSuch → AppendsSome old new IsOther
 named_otherwise old new IsSuch IsOther other more =
-    record { out = more.out; new_is = more.new_is; such = other more.out more.such }
+    record { out = more.out; new_is = more.new_is; satisfied = other more.out more.satisfied }
 
 -- what two clauses of a call say together
 pub both_ok : {E : Type 0} (P Q R : Type 0) (result : Result (Unit {0}) E) → OnOk result P → OnOk result Q → (P → Q → R)
@@ -58,7 +58,7 @@ taken session behind next body old middle last reply acknowledged answered sent 
   out = acknowledgement session ++ packets_of reply;
   new_is = sent ∙ ap (λ (front : List ℕ). front ++ packets_of reply) acknowledged
       ∙ append_assoc old (acknowledgement session) (packets_of reply);
-  such = record { reply = reply; after_reply = behind; answered = answered; out_is = refl; next_is = kept };
+  satisfied = record { reply = reply; after_reply = behind; is_reply = answered; out_is = refl; next_is = kept };
 }
 
 -- ---- bytes

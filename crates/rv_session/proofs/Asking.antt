@@ -50,7 +50,7 @@ answered_may session next (ask.Move requested) reply going none answered = inr (
 answered_may session next (ask.WriteRegister register value) reply going none answered =
     inl (written_unasked session next register value reply none answered)
 answered_may session next (ask.Set stoppoint) reply going none answered =
-    inl (set_unasked session next answered.outcome reply none answered.set)
+    inl (set_unasked session next answered.outcome reply none answered.set_reply)
 answered_may session next (ask.Command text) reply going none answered =
     inl (placed_unasked session next 0 (is_reset text) none answered.1)
 answered_may session next request reply going none answered = inl (unasked next _ answered.1 none)
@@ -58,7 +58,7 @@ answered_may session next request reply going none answered = inl (unasked next 
 taken_may : (session next : Session) (body out : List ℕ) → session.is_over ≡ false → session.requested ≡ None
     → IsPacketResponse session body out next → IsOpenIfRequested next
 taken_may session next body out going none took =
-    elim (answered_may session took.after_reply (request_of body) took.reply going none took.answered) [
+    elim (answered_may session took.after_reply (request_of body) took.reply going none took.is_reply) [
       | inl unasks ↦ inl (unasked next (with_sent took.after_reply took.reply) took.next_is unasks)
       | inr opens ↦ inr (ap (λ (s : Session). s.is_over) took.next_is ∙ opens)
     ]

@@ -11,7 +11,7 @@ moved_more : (end_text : List ℕ) (one other : Bool) (session next : Session) (
 moved_more end_text one other session next requested reply more moved = record {
   step = moved.step;
   outcome = moved.outcome;
-  gone = moved.gone;
+  is_result = moved.is_result;
   interrupted = λ broken. more (moved.interrupted broken);
   reply_is = moved.reply_is;
   next_is = moved.next_is;
@@ -22,7 +22,7 @@ pub worked_more : (end_text : List ℕ) (one other : Bool) (session next : Sessi
     → IsRequestedMoveMade end_text one session out next → IsRequestedMoveMade end_text other session out next
 worked_more end_text one other session next out more made = record {
   requested = made.requested;
-  asked_is = made.asked_is;
+  requested_is = made.requested_is;
   reply = made.reply;
   after_reply = made.after_reply;
   moved = moved_more end_text one other (record session { requested = None }) made.after_reply made.requested made.reply more made.moved;

@@ -61,7 +61,7 @@ moved_one : (end_text : List ℕ) (may_break : Bool) (session one other : Sessio
     → IsMoved end_text may_break session requested reply one → IsMoved end_text may_break session requested again other → (reply ≡ again) × (one ≡ other)
 moved_one end_text may_break session one other requested reply again never first second =
     let same = gone_one requested session.stops session.history.budget session.history.step first.step second.step
-    session.history.start first.outcome second.outcome first.gone second.gone
+    session.history.start first.outcome second.outcome first.is_result second.is_result
     (unbroken may_break first.outcome never first.interrupted) (unbroken may_break second.outcome never second.interrupted) in
     let said : ℕ → MoveResult → Reply = λ step outcome.
     reply_with_end (console_before_stop session requested (state_at session step)) (end_text_at end_text outcome)
@@ -69,7 +69,7 @@ moved_one end_text may_break session one other requested reply again never first
     let stands : ℕ → MoveResult → Session = λ step outcome. record session {
       history = record session.history { step = step };
       console_sent = console_sent_after session requested (state_at session step);
-      last = stop_of session requested step outcome;
+      last_stop = stop_of session requested step outcome;
     } in (
       first.reply_is ∙ ap (λ (k : ℕ). said k first.outcome) same.0 ∙ ap (said second.step) same.1 ∙ sym second.reply_is,
       first.next_is ∙ ap (λ (k : ℕ). stands k first.outcome) same.0 ∙ ap (stands second.step) same.1 ∙ sym second.next_is,
@@ -95,7 +95,7 @@ sought_as_one session one other count value false false first second =
 sought_one : (session one other : Session) (count : Count) (value : ℕ) (reply again : Reply)
     → IsSeekHandled session count value reply one → IsSeekHandled session count value again other → (reply ≡ again) × (one ≡ other)
 sought_one session one other count value reply again first second =
-    let same = sought_as_one session one other count value first.succeeds second.succeeds first.sought second.sought in (
+    let same = sought_as_one session one other count value first.succeeds second.succeeds first.seek_result second.seek_result in (
       first.reply_is ∙ ap (λ (is : Bool). ok_if is refusal.NotReached) same.0 ∙ sym second.reply_is,
       first.run ∙ ap (at_step session) same.1 ∙ sym second.run,
     )
@@ -171,9 +171,9 @@ trap_one : (session one other : Session) (stoppoint : Stoppoint) (reply again : 
     → IsStoppointSet session stoppoint again other → (reply ≡ again) × (one ≡ other)
 trap_one session one other stoppoint reply again first second =
     let same = trapped_one session.stops (state_at session session.history.stoppoint).bus stoppoint first.outcome second.outcome
-    first.trapped second.trapped in
+    first.added_is second.added_is in
     set_one session one other second.outcome reply again
-    (subst (λ (o : Result Stops Refusal). IsSetReply session o reply one) same first.set) second.set
+    (subst (λ (o : Result Stops Refusal). IsSetReply session o reply one) same first.set_reply) second.set_reply
 
 -- ---- answers
 
@@ -189,7 +189,7 @@ taken_one : (session one other : Session) (body out more : List ℕ) → IsPacke
     → IsPacketResponse session body more other → (out ≡ more) × (one ≡ other)
 taken_one session one other body out more first second =
     let same = answered_one session first.after_reply second.after_reply (request_of body) first.reply second.reply
-    first.answered second.answered in (
+    first.is_reply second.is_reply in (
       first.out_is ∙ ap (λ (reply : Reply). acknowledgement session ++ packets_of reply) same.0 ∙ sym second.out_is,
       first.next_is ∙ ap (with_sent first.after_reply) same.0 ∙ ap (λ (s : Session). with_sent s second.reply) same.1
           ∙ sym second.next_is,
@@ -231,7 +231,7 @@ byte_one session one other byte out more first second =
 worked_one : (end_text : List ℕ) (may_break : Bool) (session one other : Session) (out more : List ℕ) → may_break ≡ false
     → IsRequestedMoveMade end_text may_break session out one → IsRequestedMoveMade end_text may_break session more other → (out ≡ more) × (one ≡ other)
 worked_one end_text may_break session one other out more never first second =
-    let requested : first.requested ≡ second.requested = some_one first.requested second.requested (sym first.asked_is ∙ second.asked_is) in
+    let requested : first.requested ≡ second.requested = some_one first.requested second.requested (sym first.requested_is ∙ second.requested_is) in
     let same = moved_one end_text may_break (record session { requested = None }) first.after_reply second.after_reply second.requested first.reply
     second.reply never
     (subst (λ (a : Move). IsMoved end_text may_break (record session { requested = None }) a first.reply first.after_reply) requested first.moved)
@@ -246,7 +246,7 @@ worked_one end_text may_break session one other out more never first second =
 
 not_asked : (end_text : List ℕ) (may_break : Bool) (session next : Session) (out : List ℕ) → session.requested ≡ None
     → IsRequestedMoveMade end_text may_break session out next → ⊥
-not_asked end_text may_break session next out going made = absurd (cc (going, made.asked_is))
+not_asked end_text may_break session next out going made = absurd (cc (going, made.requested_is))
 
 none_next : (bytes : List ℕ) → HasNoInterrupt bytes → is_interrupted bytes false ≡ false
 none_next [] none = refl

@@ -62,10 +62,10 @@ text_is_told end_text outcome.Interrupted = refl
 
 pub end_told : (end_text : List ℕ) (may_break : Bool) (session next : Session) (requested : Move) (reply : Reply)
     (moved : IsMoved end_text may_break session requested reply next)
-    → (end_kind_of_stop next.last ≡ end_kind_of_move_result moved.outcome) × (reply.end_text ≡ text_at_end (end_kind_of_stop next.last) end_text)
+    → (end_kind_of_stop next.last_stop ≡ end_kind_of_move_result moved.outcome) × (reply.end_text ≡ text_at_end (end_kind_of_stop next.last_stop) end_text)
 end_told end_text may_break session next requested reply moved =
-    let told : end_kind_of_stop next.last ≡ end_kind_of_move_result moved.outcome =
-    ap (λ (s : Session). end_kind_of_stop s.last) moved.next_is ∙ stop_is_told session requested moved.step moved.outcome in (
+    let told : end_kind_of_stop next.last_stop ≡ end_kind_of_move_result moved.outcome =
+    ap (λ (s : Session). end_kind_of_stop s.last_stop) moved.next_is ∙ stop_is_told session requested moved.step moved.outcome in (
       told,
       ap (λ (r : Reply). r.end_text) moved.reply_is ∙ text_is_told end_text moved.outcome
           ∙ ap (λ (t : EndKind). text_at_end t end_text) (sym told),

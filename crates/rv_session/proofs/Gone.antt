@@ -72,18 +72,18 @@ moved_at : (end_text : List ℕ) (may_break : Bool) (session next : Session) (re
     → IsMoveResult requested session.stops session.history.budget session.history.start session.history.step step outcome
     → (IsInterrupted outcome → may_break ≡ true) → told ≡ stop_of (at_step session step) requested step outcome
     → reply ≡ reply_with_end (console_before_stop session requested (state_at session step)) (end_text_at end_text outcome) (stop_text told)
-    → next ≡ record (at_step session step) { console_sent = console_sent_after session requested (state_at session step); last = told }
+    → next ≡ record (at_step session step) { console_sent = console_sent_after session requested (state_at session step); last_stop = told }
     → IsMoved end_text may_break session requested reply next
 moved_at end_text may_break session next requested reply step outcome told gone broken is said stands = record {
   step = step;
   outcome = outcome;
-  gone = gone;
+  is_result = gone;
   interrupted = broken;
   reply_is = said ∙ ap (λ (stop : Stop). reply_with_end (console_before_stop session requested (state_at session step)) (end_text_at end_text outcome)
       (stop_text stop)) is;
   next_is = stands ∙ ap (λ (stop : Stop). record (at_step session step) {
     console_sent = console_sent_after session requested (state_at session step);
-    last = stop;
+    last_stop = stop;
   }) is;
 }
 
@@ -92,10 +92,10 @@ pub moved : (end_text : List ℕ) (may_break : Bool) (session between next : Ses
     → IsMoveResult requested session.stops session.history.budget session.history.start session.history.step between.history.step outcome
     → (IsInterrupted outcome → may_break ≡ true) → told ≡ stop_of between requested between.history.step outcome
     → reply ≡ reply_with_end (console_before_stop between requested (current_state between)) (end_text_at end_text outcome) (stop_text told)
-    → next ≡ record between { console_sent = console_sent_after between requested (current_state between); last = told } → IsMoved end_text may_break session requested reply next
+    → next ≡ record between { console_sent = console_sent_after between requested (current_state between); last_stop = told } → IsMoved end_text may_break session requested reply next
 moved end_text may_break session between next requested reply outcome told same gone broken =
     let step = between.history.step in
     subst (λ (b : Session). told ≡ stop_of b requested step outcome
     → reply ≡ reply_with_end (console_before_stop b requested (state_at b step)) (end_text_at end_text outcome) (stop_text told)
-    → next ≡ record b { console_sent = console_sent_after b requested (state_at b step); last = told } → IsMoved end_text may_break session requested reply next)
+    → next ≡ record b { console_sent = console_sent_after b requested (state_at b step); last_stop = told } → IsMoved end_text may_break session requested reply next)
     (sym same) (moved_at end_text may_break session next requested reply step outcome told gone broken)

@@ -97,7 +97,7 @@ answered_quiet : (session next : Session) (request : Request) (reply : Reply) �
 answered_quiet session next (ask.Move requested) reply answered = by_fields session next _ answered.1 refl refl refl refl refl
 answered_quiet session next (ask.WriteRegister register value) reply answered =
     written_quiet session next register value reply answered
-answered_quiet session next (ask.Set stoppoint) reply answered = set_quiet session next answered.outcome reply answered.set
+answered_quiet session next (ask.Set stoppoint) reply answered = set_quiet session next answered.outcome reply answered.set_reply
 answered_quiet session next (ask.Clear stoppoint) reply answered = by_fields session next _ answered.1 refl refl refl refl refl
 answered_quiet session next (ask.Command text) reply answered =
     stays_or_goes session next 0 (is_reset text) answered.1
@@ -112,7 +112,7 @@ sent_quiet session next reply is = by_fields session next (with_sent session rep
 
 taken_quiet : (session next : Session) (body out : List ℕ) → IsPacketResponse session body out next → IsQuiet session next
 taken_quiet session next body out took = quiet_on session took.after_reply next
-    (answered_quiet session took.after_reply (request_of body) took.reply took.answered)
+    (answered_quiet session took.after_reply (request_of body) took.reply took.is_reply)
     (sent_quiet took.after_reply next took.reply took.next_is)
 
 judged_quiet : (session next : Session) (again : Bool) (body out : List ℕ) → IsCheckedPacketResponse session again body out next

@@ -100,7 +100,7 @@ pub shown_once : (end_text : List ℕ) (may_break : Bool) (session next : Sessio
     → IsMoved end_text may_break session requested reply next → HasSentConsole next (console_sent ++ reply.printed)
 shown_once end_text may_break session next requested reply console_sent before moved =
     let last = last_step session.history.budget session.history.start in
-    let shows = shows_on session requested moved.step moved.outcome console_sent (is_forward requested) refl moved.gone before in
+    let shows = shows_on session requested moved.step moved.outcome console_sent (is_forward requested) refl moved.is_result before in
     let printed : reply.printed ≡ console_before_stop session requested (state_at session moved.step) =
     ap (λ (r : Reply). r.printed) moved.reply_is in
     let same : console_of_run next ≡ console_of_run session = ap console_of_run moved.next_is in

@@ -6,9 +6,9 @@ use Rattle.rv_gdb_protocol.specs.ReaderStates.{state_after_byte, incoming_at}
 use Rattle.rv_gdb_protocol.specs.Packets.{request_of}
 use Rattle.rv_gdb_protocol.specs.Checksums.{packet_of}
 use Rattle.rv_gdb_protocol.specs.declared.frame.Incoming.{Incoming}
-use Rattle.rv_gdb_protocol.specs.declared.frame.Incoming.TheVariants as received
+use Rattle.rv_gdb_protocol.specs.declared.frame.Incoming.TheVariants as incoming
 use Rattle.rv_gdb_protocol.specs.declared.frame.Checksum.{Checksum}
-use Rattle.rv_gdb_protocol.specs.declared.frame.Checksum.TheVariants as verdict
+use Rattle.rv_gdb_protocol.specs.declared.frame.Checksum.TheVariants as checksum
 use Rattle.rv_gdb_protocol.specs.declared.request.Move.{Move}
 use Rattle.rv_gdb_protocol.specs.declared.request.Refusal.TheVariants as refusal
 use Rattle.rv_session.specs.SessionReplies.{IsReply}
@@ -66,7 +66,7 @@ last_packet_if_acknowledged session = if session.acknowledges then session.sent 
 pub record AppendsSome (old new : List ℕ) (IsSuch : List ℕ → Type 0) : Type 0 where
   pub out : List ℕ
   pub new_is : new ≡ old ++ out
-  pub such : IsSuch out
+  pub satisfied : IsSuch out
 
 -- ---- received items
 
@@ -76,7 +76,7 @@ pub record IsPacketResponse (session : Session) (body out : List ℕ) (next : Se
   pub reply : Reply
   -- the session after the reply
   pub after_reply : Session
-  pub answered : IsReply session (request_of body) reply after_reply
+  pub is_reply : IsReply session (request_of body) reply after_reply
   pub out_is : out ≡ acknowledgement session ++ packets_of reply
   pub next_is : next ≡ with_sent after_reply reply
 
@@ -88,17 +88,17 @@ IsCheckedPacketResponse session false body out next = IsPacketResponse session b
 
 -- whether a checksum is wrong
 abbrev pub is_wrong_checksum : Checksum → Bool
-is_wrong_checksum verdict.Wrong = true
-is_wrong_checksum verdict.Right = false
+is_wrong_checksum checksum.Wrong = true
+is_wrong_checksum checksum.Right = false
 
 -- `out` is sent for a received item, and `next` is the session after it; Ctrl-C has no effect, since no move is in progress
 abbrev pub IsResponse : Session → Incoming → List ℕ → Session → Type 0
-IsResponse session received.Interrupt out next = (out ≡ []) × (next ≡ session)
-IsResponse session received.Acknowledged out next = (out ≡ []) × (next ≡ session)
-IsResponse session received.ResendRequested out next = (out ≡ last_packet_if_acknowledged session) × (next ≡ session)
-IsResponse session received.TooLong out next =
+IsResponse session incoming.Interrupt out next = (out ≡ []) × (next ≡ session)
+IsResponse session incoming.Acknowledged out next = (out ≡ []) × (next ≡ session)
+IsResponse session incoming.ResendRequested out next = (out ≡ last_packet_if_acknowledged session) × (next ≡ session)
+IsResponse session incoming.TooLong out next =
     (out ≡ acknowledgement session ++ packets_of (error_reply refusal.TooLong)) × (next ≡ with_sent session (error_reply refusal.TooLong))
-IsResponse session (received.Packet body sum) out next =
+IsResponse session (incoming.Packet body sum) out next =
     IsCheckedPacketResponse session (session.acknowledges && is_wrong_checksum sum) body out next
 
 -- `out` is sent for a received item, and `next` is the session after it; if the Bool says that the session is over, nothing is sent and
@@ -123,7 +123,7 @@ IsByteReceived session byte out next = IsRespondedTo (record session { reader = 
 pub record IsRequestedMoveMade (end_text : List ℕ) (may_break : Bool) (session : Session) (out : List ℕ) (next : Session) : Type 0 where
   -- the requested move
   pub requested : Move
-  pub asked_is : session.requested ≡ Some requested
+  pub requested_is : session.requested ≡ Some requested
   pub reply : Reply
   -- the session after the move
   pub after_reply : Session
@@ -132,10 +132,10 @@ pub record IsRequestedMoveMade (end_text : List ℕ) (may_break : Bool) (session
   pub next_is : next ≡ with_sent after_reply reply
 
 -- whether a move can be interrupted that is made before these bytes are received: whether the first byte is 0x03, which gdb sends for
--- Ctrl-C; without bytes, `behind`
+-- Ctrl-C; `default` if there are no bytes
 abbrev pub is_interrupted : List ℕ → Bool → Bool
-is_interrupted [] behind = behind
-is_interrupted (byte ∷ rest) behind = byte == 3
+is_interrupted [] default = default
+is_interrupted (byte ∷ rest) default = byte == 3
 
 -- none of the bytes is 0x03
 abbrev pub HasNoInterrupt : List ℕ → Type 0
@@ -143,12 +143,12 @@ HasNoInterrupt [] = ⊤
 HasNoInterrupt (byte ∷ rest) = (byte ≢ 3) × HasNoInterrupt rest
 
 -- `out` is sent while these bytes are received one after another, and the session changes accordingly; a requested move is made before the
--- next byte is received, and `behind` says whether a move that the last byte requests can be interrupted
-pub data IsReceived (end_text : List ℕ) (behind : Bool) : Session → List ℕ → List ℕ → Session → Type 0 where
-  no_bytes : (session : Session) → IsReceived end_text behind session [] [] session
+-- next byte is received, and `may_break` says whether a move that the last byte requests can be interrupted
+pub data IsReceived (end_text : List ℕ) (may_break : Bool) : Session → List ℕ → List ℕ → Session → Type 0 where
+  no_bytes : (session : Session) → IsReceived end_text may_break session [] [] session
   byte_first : (session between next : Session) (byte : ℕ) (rest out more : List ℕ) → session.requested ≡ None
-      → IsByteReceived session byte out between → IsReceived end_text behind between rest more next
-      → IsReceived end_text behind session (byte ∷ rest) (out ++ more) next
+      → IsByteReceived session byte out between → IsReceived end_text may_break between rest more next
+      → IsReceived end_text may_break session (byte ∷ rest) (out ++ more) next
   move_first : (session between next : Session) (bytes out more : List ℕ)
-      → IsRequestedMoveMade end_text (is_interrupted bytes behind) session out between → IsReceived end_text behind between bytes more next
-      → IsReceived end_text behind session bytes (out ++ more) next
+      → IsRequestedMoveMade end_text (is_interrupted bytes may_break) session out between → IsReceived end_text may_break between bytes more next
+      → IsReceived end_text may_break session bytes (out ++ more) next

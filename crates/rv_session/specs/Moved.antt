@@ -53,9 +53,9 @@ stop_of_watch_hit (Some (hit.Read address)) = stop.Watch watch.Reads address
 stop_of_watch_hit (Some (hit.Access address)) = stop.Watch watch.Accesses address
 stop_of_watch_hit None = stop.Trap
 
--- the first watchpoint that triggers between the states at the steps `one` and `other`; `None` if none does
+-- the first watchpoint that triggers between the states at the steps `first` and `second`; `None` if none does
 abbrev pub watch_between : Session → ℕ → ℕ → Option WatchHit
-watch_between session one other = first_triggered session.stops (state_at session one) (state_at session other)
+watch_between session first second = first_triggered session.stops (state_at session first) (state_at session second)
 
 -- the stop for a watchpoint hit at step `step`: the step after it triggers the watchpoint if the move was forwards, and the step before it
 -- if it was backwards
@@ -102,12 +102,12 @@ pub record IsMoved (end_text : List ℕ) (may_break : Bool) (session : Session) 
     : Type 0 where
   pub step : ℕ
   pub outcome : MoveResult
-  pub gone : IsMoveResult requested session.stops session.history.budget session.history.start session.history.step step outcome
+  pub is_result : IsMoveResult requested session.stops session.history.budget session.history.start session.history.step step outcome
   pub interrupted : IsInterrupted outcome → may_break ≡ true
   pub reply_is : reply ≡ reply_with_end (console_before_stop session requested (state_at session step)) (end_text_at end_text outcome)
       (stop_text (stop_of session requested step outcome))
   pub next_is : next ≡ record session {
     history = record session.history { step = step };
     console_sent = console_sent_after session requested (state_at session step);
-    last = stop_of session requested step outcome;
+    last_stop = stop_of session requested step outcome;
   }

@@ -20,7 +20,7 @@ use Rattle.rv_gdb_protocol.specs.declared.request.Refusal.TheVariants as refusal
 use Rattle.rv_gdb_protocol.specs.declared.request.Register.{Register}
 use Rattle.rv_gdb_protocol.specs.declared.request.Register.TheVariants as reg
 use Rattle.rv_gdb_protocol.specs.declared.request.Request.{Request}
-use Rattle.rv_gdb_protocol.specs.declared.request.Request.TheVariants as ask
+use Rattle.rv_gdb_protocol.specs.declared.request.Request.TheVariants as gdb_request
 use Rattle.rv_gdb_protocol.specs.declared.request.Stoppoint.{Stoppoint}
 use Rattle.rv_gdb_protocol.specs.declared.stop.Stop.TheVariants as stop
 use Rattle.rv_gdb_protocol.specs.declared.target.TheConstants.{TARGET}
@@ -92,19 +92,19 @@ common_reply request = with_body (unwrap_or (fixed_reply request) [])
 
 -- the reply to a request that does not change the session
 abbrev pub read_only_reply : Session → Request → Reply
-read_only_reply session ask.LastStop = with_body (stop_text session.last)
-read_only_reply session ask.Registers = with_body (current_registers session)
-read_only_reply session (ask.Register register) = with_body (register_text (value_of session register))
-read_only_reply session (ask.ReadMemory range) = memory_reply (bytes_from (current_state session).bus range)
-read_only_reply session (ask.Description part) = with_body (part_text TARGET.now part)
-read_only_reply session (ask.ImagePath part) = with_body (part_text session.program.path part)
-read_only_reply session (ask.OpenFile path) =
+read_only_reply session gdb_request.LastStop = with_body (stop_text session.last_stop)
+read_only_reply session gdb_request.Registers = with_body (current_registers session)
+read_only_reply session (gdb_request.Register register) = with_body (register_text (value_of session register))
+read_only_reply session (gdb_request.ReadMemory range) = memory_reply (bytes_from (current_state session).bus range)
+read_only_reply session (gdb_request.Description part) = with_body (part_text TARGET.now part)
+read_only_reply session (gdb_request.ImagePath part) = with_body (part_text session.program.path part)
+read_only_reply session (gdb_request.OpenFile path) =
     if bytes_eq session.program.path path then with_body (codes "F5") else error_reply refusal.OtherFile
-read_only_reply session ask.FileSize = size_reply (length session.program.image)
-read_only_reply session (ask.ReadFile part) = file_reply (file_part session.program.image part)
-read_only_reply session (ask.WriteRegisters bytes) =
+read_only_reply session gdb_request.FileSize = size_reply (length session.program.image)
+read_only_reply session (gdb_request.ReadFile part) = file_reply (file_part session.program.image part)
+read_only_reply session (gdb_request.WriteRegisters bytes) =
     ok_if (bytes_eq (current_registers session) (encode_lower bytes)) refusal.WouldChange
-read_only_reply session (ask.WriteMemory address bytes) =
+read_only_reply session (gdb_request.WriteMemory address bytes) =
     ok_if (has_bytes_at (current_state session).bus address bytes) refusal.WouldChange
 read_only_reply session request = common_reply request
 
@@ -138,7 +138,7 @@ IsSeekResult false session count value next =
 pub record IsSeekHandled (session : Session) (count : Count) (value : ℕ) (reply : Reply) (next : Session) : Type 0 where
   pub succeeds : Bool
   pub reply_is : reply ≡ ok_if succeeds refusal.NotReached
-  pub sought : IsSeekResult succeeds session count value next
+  pub seek_result : IsSeekResult succeeds session count value next
   pub run : next ≡ at_step session next.history.step
 
 -- a request to move to the step `step`: the reply is `OK` if the run reaches it; otherwise it is a refusal, and the session is unchanged
@@ -165,8 +165,8 @@ IsSetReply session (Err refusal) reply next = (reply ≡ error_reply refusal) ×
 -- `reply` is the reply to a request to set the stoppoint `stoppoint`, and `next` is the session after it
 pub record IsStoppointSet (session : Session) (stoppoint : Stoppoint) (reply : Reply) (next : Session) : Type 0 where
   pub outcome : Result Stops Refusal
-  pub trapped : IsStoppointAdded session.stops (current_state session).bus stoppoint outcome
-  pub set : IsSetReply session outcome reply next
+  pub added_is : IsStoppointAdded session.stops (current_state session).bus stoppoint outcome
+  pub set_reply : IsSetReply session outcome reply next
 
 -- the reply to a `monitor` command: `OK` for a reset, and otherwise its output followed by `OK`
 abbrev pub command_reply : Session → List ℕ → Reply
@@ -181,16 +181,16 @@ IsCommandHandled session text reply next =
 -- `reply` is the reply to the request, and `next` is the session after it; a requested move is only recorded, and its reply follows once it
 -- has been made
 abbrev pub IsReply : Session → Request → Reply → Session → Type 0
-IsReply session (ask.Move requested) reply next = (reply ≡ empty_reply) × (next ≡ record session { requested = Some requested })
-IsReply session (ask.WriteRegister register value) reply next = IsRegisterWriteHandled session register value reply next
-IsReply session (ask.Set stoppoint) reply next = IsStoppointSet session stoppoint reply next
-IsReply session (ask.Clear stoppoint) reply next =
+IsReply session (gdb_request.Move requested) reply next = (reply ≡ empty_reply) × (next ≡ record session { requested = Some requested })
+IsReply session (gdb_request.WriteRegister register value) reply next = IsRegisterWriteHandled session register value reply next
+IsReply session (gdb_request.Set stoppoint) reply next = IsStoppointSet session stoppoint reply next
+IsReply session (gdb_request.Clear stoppoint) reply next =
     (reply ≡ ok_reply) × (next ≡ record session { stops = without_stoppoint session.stops stoppoint })
-IsReply session (ask.Command text) reply next = IsCommandHandled session text reply next
-IsReply session ask.Restart reply next =
-    (reply ≡ with_body (stop_text stop.Trap)) × (next ≡ record (at_step session 0) { last = stop.Trap })
-IsReply session ask.NoAcknowledgements reply next = (reply ≡ ok_reply) × (next ≡ record session { acknowledges = false })
-IsReply session ask.Detach reply next = (reply ≡ ok_reply) × (next ≡ record session { is_over = true })
-IsReply session ask.Kill reply next =
+IsReply session (gdb_request.Command text) reply next = IsCommandHandled session text reply next
+IsReply session gdb_request.Restart reply next =
+    (reply ≡ with_body (stop_text stop.Trap)) × (next ≡ record (at_step session 0) { last_stop = stop.Trap })
+IsReply session gdb_request.NoAcknowledgements reply next = (reply ≡ ok_reply) × (next ≡ record session { acknowledges = false })
+IsReply session gdb_request.Detach reply next = (reply ≡ ok_reply) × (next ≡ record session { is_over = true })
+IsReply session gdb_request.Kill reply next =
     (reply ≡ empty_reply) × (next ≡ record session { is_over = true })
 IsReply session request reply next = (reply ≡ read_only_reply session request) × (next ≡ session)

@@ -19,7 +19,7 @@ at_start start budget program = record {
   stops = record { breaks = []; watches = []; reads = []; accesses = [] };
   acknowledges = true;
   console_sent = 0;
-  last = stop.Trap;
+  last_stop = stop.Trap;
   sent = [];
   requested = None;
   is_over = false;

@@ -9,7 +9,7 @@ use Rattle.rv_gdb_protocol.specs.declared.request.Range.{Range}
 use Rattle.rv_gdb_protocol.specs.declared.request.Refusal.{Refusal}
 use Rattle.rv_gdb_protocol.specs.declared.request.Refusal.TheVariants as refusal
 use Rattle.rv_gdb_protocol.specs.declared.request.Stoppoint.{Stoppoint}
-use Rattle.rv_gdb_protocol.specs.declared.request.Stoppoint.TheVariants as trap
+use Rattle.rv_gdb_protocol.specs.declared.request.Stoppoint.TheVariants as stoppoint
 use Rattle.rv_gdb_protocol.specs.declared.request.WatchKind.{WatchKind}
 use Rattle.rv_gdb_protocol.specs.declared.request.WatchKind.TheVariants as watch
 
@@ -35,8 +35,8 @@ with_watches stops watch.Accesses watches = record stops { accesses = watches }
 
 -- whether the breakpoint or watchpoint is among the stops
 abbrev pub is_set : Stops → Stoppoint → Bool
-is_set stops (trap.Break address) = list_any (λ other. other == address) stops.breaks
-is_set stops (trap.Watch kind range) = list_any (is_for_range range) (watches_of stops kind)
+is_set stops (stoppoint.Break address) = list_any (λ other. other == address) stops.breaks
+is_set stops (stoppoint.Watch kind range) = list_any (is_for_range range) (watches_of stops kind)
 
 -- whether at least one byte of the range is in a region
 abbrev pub has_byte : BusContents → Range → Bool
@@ -45,8 +45,8 @@ has_byte bus range = list_any (λ address. is_some (fin.get bus.memory address))
 -- whether the stoppoint is valid: a breakpoint always is; a watchpoint must be within the address space and have at least one byte in a
 -- region
 abbrev pub can_be_set : BusContents → Stoppoint → Bool
-can_be_set bus (trap.Break address) = true
-can_be_set bus (trap.Watch kind range) = nat_le (range.address + range.count) 4294967296 && has_byte bus range
+can_be_set bus (stoppoint.Break address) = true
+can_be_set bus (stoppoint.Watch kind range) = nat_le (range.address + range.count) 4294967296 && has_byte bus range
 
 -- whether the number of breakpoints and watchpoints has reached `max_stoppoints`
 abbrev pub is_full : Stops → Bool
@@ -61,9 +61,9 @@ stoppoint_refusal stops bus stoppoint =
 
 -- the stops without this stoppoint
 abbrev pub without_stoppoint : Stops → Stoppoint → Stops
-without_stoppoint stops (trap.Break address) =
+without_stoppoint stops (stoppoint.Break address) =
     record stops { breaks = filter (λ other. not (other == address)) stops.breaks }
-without_stoppoint stops (trap.Watch kind range) =
+without_stoppoint stops (stoppoint.Watch kind range) =
     with_watches stops kind (filter (λ watch. not (is_for_range range watch)) (watches_of stops kind))
 
 -- `next` is `watches` with a watchpoint for this range added at the end
@@ -80,8 +80,8 @@ pub record IsKindAdded (stops : Stops) (kind : WatchKind) (range : Range) (next 
 
 -- `next` is `stops` with this stoppoint added
 abbrev pub IsTableAdded : Stops → Stoppoint → Stops → Type 0
-IsTableAdded stops (trap.Break address) next = next ≡ record stops { breaks = stops.breaks ++ address ∷ [] }
-IsTableAdded stops (trap.Watch kind range) next = IsKindAdded stops kind range next
+IsTableAdded stops (stoppoint.Break address) next = next ≡ record stops { breaks = stops.breaks ++ address ∷ [] }
+IsTableAdded stops (stoppoint.Watch kind range) next = IsKindAdded stops kind range next
 
 -- `next` is `stops` with this stoppoint added, or `stops` itself if the Bool says that the stoppoint is already set
 abbrev pub IsAddedUnless : Bool → Stops → Stoppoint → Stops → Type 0

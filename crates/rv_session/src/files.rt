@@ -8,7 +8,7 @@ ghost use Rattle.rv_gdb_protocol.specs.declared.request.Refusal.TheVariants as r
 ghost use Rattle.rv_session.specs.SessionReplies.{file_reply_prefix, file_part, file_reply, size_reply, stat_words};
 ghost use Rattle.rv_session.specs.Replies.{error_reply, with_body};
 
-use crate::reading::{are_same, shown_count};
+use crate::reading::{are_equal, shown_count};
 use crate::reply::Reply;
 use crate::session::Session;
 use rv_gdb_protocol::{Part, Refusal};
@@ -29,7 +29,7 @@ impl Session {
         ensures { IfOk result (λ reply. reply
             ≡ (if bytes_eq self.now.program.path path.now then with_body (codes "F5") else error_reply refusal.OtherFile)) }
     {
-        if are_same(self.program.path.as_slice(), path) {
+        if are_equal(self.program.path.as_slice(), path) {
             Reply::with_text(alloc, "F5")
         } else {
             Reply::error_reply(alloc, Refusal::OtherFile)
@@ -62,7 +62,7 @@ impl Session {
 // Returns the requested part of the image file, with at most [`MAX_PART`] bytes.
 fn file_part(image: &[u8], part: Part) -> &[u8]
     ensures bytes { result.now ≡ file_part image.now part }
-    ensures short { length result.now ≤ 8180 }
+    ensures at_most_max { length result.now ≤ 8180 }
 {
     let rest = &image[image.len().min(part.offset as usize)..];
     let count = MAX_PART.min(part.count as usize);

@@ -12,9 +12,9 @@ ghost use Rattle.rv_session.specs.declared.session.Session.{Session};
 
 /// The bytes that are sent do not depend on whether the received bytes arrive in one read or in two.
 pub fn reads_can_be_split()
-    ensures { (end_text : List ℕ) (behind : Bool) (session between next : Session) (front rest out more : List ℕ)
-        → IsReceived end_text (is_interrupted rest behind) session front out between → IsReceived end_text behind between rest more next
-        → IsReceived end_text behind session (front ++ rest) (out ++ more) next }
+    ensures { (end_text : List ℕ) (may_break : Bool) (session between next : Session) (front rest out more : List ℕ)
+        → IsReceived end_text (is_interrupted rest may_break) session front out between → IsReceived end_text may_break between rest more next
+        → IsReceived end_text may_break session (front ++ rest) (out ++ more) next }
 {}
 
 /// If no 0x03 is received, the session and the received bytes determine the bytes that are sent and the resulting session, once all
@@ -43,5 +43,5 @@ pub fn console_is_sent_only_for_moves()
 pub fn ends_are_reported()
     ensures { (end_text : List ℕ) (may_break : Bool) (session next : Session) (requested : Move) (reply : Reply)
         (moved : IsMoved end_text may_break session requested reply next)
-        → (end_kind_of_stop next.last ≡ end_kind_of_move_result moved.outcome) × (reply.end_text ≡ text_at_end (end_kind_of_stop next.last) end_text) }
+        → (end_kind_of_stop next.last_stop ≡ end_kind_of_move_result moved.outcome) × (reply.end_text ≡ text_at_end (end_kind_of_stop next.last_stop) end_text) }
 {}

@@ -4,7 +4,7 @@ ghost use Rattle.std.specs.Prelude.{◌≡◌, ◌++◌, IfOk, codes};
 ghost use Rattle.std.specs.Fmt.{decimal};
 ghost use Rattle.rv_session.specs.SessionReplies.{IsCommandHandled, command_text, is_reset, script_bytes_consumed};
 
-use crate::reading::are_same;
+use crate::reading::are_equal;
 use crate::reply::Reply;
 use crate::session::Session;
 use std::alloc::{AllocError, Global};
@@ -30,11 +30,11 @@ impl Session {
     fn command_text(&self, alloc: Global, text: &[u8]) -> Result<Vec<u8>, AllocError>
         ensures { IfOk result (λ printed. printed.items ≡ command_text self.now text.now) }
     {
-        if are_same(text, b"when") {
+        if are_equal(text, b"when") {
             self.steps_text(alloc)
-        } else if are_same(text, b"console") {
+        } else if are_equal(text, b"console") {
             Vec::from_slice(alloc, self.history.machine().bus().console())
-        } else if are_same(text, b"input") {
+        } else if are_equal(text, b"input") {
             self.input_text(alloc)
         } else {
             Vec::from_slice(alloc, HELP.as_bytes())
@@ -64,5 +64,5 @@ impl Session {
 fn is_reset(text: &[u8]) -> bool
     ensures { result ≡ is_reset text.now }
 {
-    are_same(text, b"reset") || are_same(text, b"reset halt")
+    are_equal(text, b"reset") || are_equal(text, b"reset halt")
 }

@@ -27,10 +27,10 @@ impl Session {
     ) -> Result<Vec<u8>, AllocError>
         requires requested { is_some self.old.requested ≡ true }
         requires of_run { E.start end.now ≡ self.old.history.start }
-        ensures worked { IfOk result
+        ensures move_made { IfOk result
             (λ out. IsRequestedMoveMade (E.end_text end.now) (I.was_raised interrupt.new) self.old out.items self.new) }
-        ensures made { OnOk result (self.new.requested ≡ None) }
-        ensures run { OnOk result (IsSameRun self.old self.new) }
+        ensures no_pending_move { OnOk result (self.new.requested ≡ None) }
+        ensures same_run { OnOk result (IsSameRun self.old self.new) }
     {
         let Some(requested) = self.requested.take() else {
             return Ok(Vec::new(alloc));
@@ -66,10 +66,10 @@ impl Session {
         requested: Move,
         interrupt: &mut I,
     ) -> Result<MoveResult, AllocError>
-        ensures gone { IfOk result (IsMoveResult requested self.old.stops self.old.history.budget self.old.history.start
+        ensures is_result { IfOk result (IsMoveResult requested self.old.stops self.old.history.budget self.old.history.start
             self.old.history.step self.new.history.step) }
         ensures interrupted { IfOk result (λ outcome. IsInterrupted outcome → I.was_raised interrupt.new ≡ true) }
-        ensures same { self.new ≡ at_step self.old self.new.history.step }
+        ensures only_moved { self.new ≡ at_step self.old self.new.history.step }
     {
         match requested {
             Move::Continue => {
@@ -155,12 +155,12 @@ impl Session {
     ) -> Result<Reply, AllocError>
         ensures reply { IfOk result
             (λ reply. reply ≡ reply_with_end (console_before_stop self.old requested (current_state self.old)) text.items (stop_text stop)) }
-        ensures next { OnOk result (self.new ≡ record self.old { console_sent = console_sent_after self.old requested (current_state self.old); last = stop }) }
+        ensures next { OnOk result (self.new ≡ record self.old { console_sent = console_sent_after self.old requested (current_state self.old); last_stop = stop }) }
     {
         let mut body = Vec::new(alloc);
         push_stop(&mut body, stop)?;
         let printed = self.take_unsent_console(alloc, requested)?;
-        self.last = stop;
+        self.last_stop = stop;
         Ok(Reply {
             printed: Bytes::new(printed),
             end_text: Bytes::new(text),

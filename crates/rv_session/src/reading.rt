@@ -65,8 +65,8 @@ impl Session {
     pub(crate) fn script_bytes_consumed(&self) -> usize
         ensures { result ≡ script_bytes_consumed self.now }
     {
-        let left = self.history.machine().bus().script_remaining();
-        self.script.saturating_sub(left)
+        let remaining = self.history.machine().bus().script_remaining();
+        self.script.saturating_sub(remaining)
     }
 
     /// Handles `m`: returns the reply with the bytes of a range before the first address that is in no region.
@@ -84,10 +84,10 @@ impl Session {
 }
 
 /// Whether two texts are equal.
-pub(crate) fn are_same(one: &[u8], other: &[u8]) -> bool
-    ensures { result ≡ bytes_eq one.now other.now }
+pub(crate) fn are_equal(first: &[u8], second: &[u8]) -> bool
+    ensures { result ≡ bytes_eq first.now second.now }
 {
-    one == other
+    first == second
 }
 
 /// Returns the count, or 2^32 - 1 if it does not fit in 32 bits.

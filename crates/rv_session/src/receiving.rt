@@ -22,9 +22,9 @@ impl Session {
     /// byte is received. After an error the session must be abandoned.
     pub fn receive(&mut self, alloc: Global, byte: u8) -> Result<Vec<u8>, AllocError>
         requires { self.old.requested ≡ None }
-        ensures heard { IfOk result (λ out. IsByteReceived self.old byte out.items self.new) }
+        ensures received { IfOk result (λ out. IsByteReceived self.old byte out.items self.new) }
         ensures not_over { OnOk result (IsOpenIfRequested self.new) }
-        ensures run { OnOk result (IsSameRun self.old self.new) }
+        ensures same_run { OnOk result (IsSameRun self.old self.new) }
     {
         let mut out = Vec::new(alloc);
         self.receive_byte(alloc, &mut out, byte)?;
@@ -34,7 +34,7 @@ impl Session {
     // Appends the bytes to send when this byte is received.
     fn receive_byte(&mut self, alloc: Global, out: &mut Vec<u8>, byte: u8) -> Result<(), AllocError>
         ensures { OnOk result (AppendsSome out.old.items out.new.items
-            (λ told. IsByteReceived self.old byte told self.new)) }
+            (λ sent. IsByteReceived self.old byte sent self.new)) }
     {
         match self.reader.receive_byte(alloc, byte)? {
             Some(received) => self.respond(alloc, out, &received),
@@ -50,7 +50,7 @@ impl Session {
         received: &Incoming,
     ) -> Result<(), AllocError>
         ensures { OnOk result (AppendsSome out.old.items out.new.items
-            (λ told. IsRespondedTo self.old (Some received.now) told self.new)) }
+            (λ sent. IsRespondedTo self.old (Some received.now) sent self.new)) }
     {
         if self.is_over {
             return Ok(());
@@ -105,7 +105,7 @@ impl Session {
         body: &[u8],
     ) -> Result<(), AllocError>
         ensures { OnOk result (AppendsSome out.old.items out.new.items
-            (λ told. IsPacketResponse self.old body.now told self.new)) }
+            (λ sent. IsPacketResponse self.old body.now sent self.new)) }
     {
         self.acknowledge(out)?;
         let request = parse_request(alloc, body)?;

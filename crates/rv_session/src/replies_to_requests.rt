@@ -26,8 +26,8 @@ impl Session {
             Request::WriteRegister(register, value) => {
                 self.write_register(alloc, *register, *value)
             }
-            Request::Set(trap) => self.set_stoppoint(alloc, *trap),
-            Request::Clear(trap) => self.clear_stoppoint(alloc, *trap),
+            Request::Set(stoppoint) => self.set_stoppoint(alloc, *stoppoint),
+            Request::Clear(stoppoint) => self.clear_stoppoint(alloc, *stoppoint),
             Request::Move(requested) => Ok(self.record_move(alloc, *requested)),
             Request::Command(text) => self.run_command(alloc, text.as_slice()),
             Request::Restart => self.restart(alloc),
@@ -43,7 +43,7 @@ impl Session {
         ensures { IfOk result (λ reply. reply ≡ read_only_reply self.now request.now) }
     {
         match request {
-            Request::LastStop => self.last_stop(alloc),
+            Request::LastStop => self.last_stop_reply(alloc),
             Request::Registers => self.registers(alloc),
             Request::Register(register) => self.register(alloc, *register),
             Request::ReadMemory(range) => self.memory(alloc, *range),
@@ -61,19 +61,19 @@ impl Session {
     }
 
     // Handles `?`: returns the reply with the last stop.
-    fn last_stop(&self, alloc: Global) -> Result<Reply, AllocError>
-        ensures { IfOk result (λ reply. reply ≡ with_body (stop_text self.now.last)) }
+    fn last_stop_reply(&self, alloc: Global) -> Result<Reply, AllocError>
+        ensures { IfOk result (λ reply. reply ≡ with_body (stop_text self.now.last_stop)) }
     {
         let mut body = Vec::new(alloc);
-        push_stop(&mut body, self.last)?;
+        push_stop(&mut body, self.last_stop)?;
         Ok(Reply::with_body(alloc, body))
     }
 
     // Handles `Z`: sets a breakpoint or watchpoint, and returns `OK` or a refusal.
-    fn set_stoppoint(&mut self, alloc: Global, trap: Stoppoint) -> Result<Reply, AllocError>
-        ensures { IfOk result (λ reply. IsStoppointSet self.old trap reply self.new) }
+    fn set_stoppoint(&mut self, alloc: Global, stoppoint: Stoppoint) -> Result<Reply, AllocError>
+        ensures { IfOk result (λ reply. IsStoppointSet self.old stoppoint reply self.new) }
     {
-        match with_stoppoint(alloc, &self.stops, self.history.machine().bus(), trap)? {
+        match with_stoppoint(alloc, &self.stops, self.history.machine().bus(), stoppoint)? {
             Ok(stops) => {
                 let reply = Reply::ok_reply(alloc)?;
                 self.stops = stops;
@@ -84,23 +84,23 @@ impl Session {
     }
 
     // Handles `z`: clears a breakpoint or watchpoint, if it is set, and returns `OK`.
-    fn clear_stoppoint(&mut self, alloc: Global, trap: Stoppoint) -> Result<Reply, AllocError>
+    fn clear_stoppoint(&mut self, alloc: Global, stoppoint: Stoppoint) -> Result<Reply, AllocError>
         ensures { IfOk result (λ reply. (reply ≡ ok_reply)
-            × (self.new ≡ record self.old { stops = without_stoppoint self.old.stops trap })) }
+            × (self.new ≡ record self.old { stops = without_stoppoint self.old.stops stoppoint })) }
     {
         let reply = Reply::ok_reply(alloc)?;
-        self.stops = without_stoppoint(alloc, &self.stops, trap)?;
+        self.stops = without_stoppoint(alloc, &self.stops, stoppoint)?;
         Ok(reply)
     }
 
     // Handles `vRun`: moves to the start of the run, and returns the reply that reports a stop there.
     fn restart(&mut self, alloc: Global) -> Result<Reply, AllocError>
         ensures { IfOk result (λ reply. (reply ≡ with_body (stop_text stop.Trap))
-            × (self.new ≡ record (at_step self.old 0) { last = stop.Trap })) }
+            × (self.new ≡ record (at_step self.old 0) { last_stop = stop.Trap })) }
     {
         self.go_to_start(alloc)?;
-        self.last = Stop::Trap;
-        self.last_stop(alloc)
+        self.last_stop = Stop::Trap;
+        self.last_stop_reply(alloc)
     }
 
     // Handles `QStartNoAckMode`: returns `OK`, and no later packet is acknowledged.

@@ -23,7 +23,7 @@ pub struct Session {
     /// The number of console bytes that were sent so far.
     pub(crate) console_sent: usize,
     /// The stop that was reported last.
-    pub(crate) last: Stop,
+    pub(crate) last_stop: Stop,
     /// The packet that was sent last.
     pub(crate) sent: Bytes,
     /// The requested move that is not made yet.
@@ -56,7 +56,7 @@ impl Session {
             },
             acknowledges: true,
             console_sent: 0,
-            last: Stop::Trap,
+            last_stop: Stop::Trap,
             sent: Bytes::new(Vec::new(alloc)),
             requested: None,
             is_over: false,

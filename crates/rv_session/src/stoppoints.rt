@@ -3,7 +3,7 @@
 ghost use Rattle.std.specs.Prelude.{◌≡◌, ◌≤◌, ◌+◌, ◌^◌, IfOk};
 ghost use Rattle.rv_session.specs.Stoppoints.{IsStoppointAdded, has_byte, is_full, is_for_range, is_set, watches_of, with_watches, without_stoppoint};
 ghost use Rattle.rv_history.specs.Bus.{BusContents};
-ghost use Rattle.rv_gdb_protocol.specs.declared.request.Stoppoint.TheVariants as trap;
+ghost use Rattle.rv_gdb_protocol.specs.declared.request.Stoppoint.TheVariants as stoppoint;
 
 use rv_gdb_protocol::{Range, Refusal, Sequence, Stoppoint, WatchKind};
 use rv_history::{Bus, Stops, Watch};
@@ -17,11 +17,11 @@ pub(crate) fn with_stoppoint(
     alloc: Global,
     stops: &Stops,
     bus: &Bus,
-    trap: Stoppoint,
+    stoppoint: Stoppoint,
 ) -> Result<Result<Stops, Refusal>, AllocError>
-    ensures { IfOk result (IsStoppointAdded stops.now bus.now trap) }
+    ensures { IfOk result (IsStoppointAdded stops.now bus.now stoppoint) }
 {
-    match trap {
+    match stoppoint {
         Stoppoint::Break(address) => with_break(alloc, stops, address),
         Stoppoint::Watch(kind, range) => with_watch(alloc, stops, bus, kind, range),
     }
@@ -31,11 +31,11 @@ pub(crate) fn with_stoppoint(
 pub(crate) fn without_stoppoint(
     alloc: Global,
     stops: &Stops,
-    trap: Stoppoint,
+    stoppoint: Stoppoint,
 ) -> Result<Stops, AllocError>
-    ensures { IfOk result (λ next. next ≡ without_stoppoint stops.now trap) }
+    ensures { IfOk result (λ next. next ≡ without_stoppoint stops.now stoppoint) }
 {
-    match trap {
+    match stoppoint {
         Stoppoint::Break(address) => without_break(alloc, stops, address),
         Stoppoint::Watch(kind, range) => without_watch(alloc, stops, kind, range),
     }
@@ -58,7 +58,7 @@ fn with_break(
     stops: &Stops,
     address: u32,
 ) -> Result<Result<Stops, Refusal>, AllocError>
-    ensures { (bus : BusContents) → IfOk result (IsStoppointAdded stops.now bus (trap.Break address)) }
+    ensures { (bus : BusContents) → IfOk result (IsStoppointAdded stops.now bus (stoppoint.Break address)) }
 {
     if has_break(stops, address) {
         let same = copy_stops(alloc, stops)?;
@@ -82,7 +82,7 @@ fn with_watch(
     kind: WatchKind,
     range: Range,
 ) -> Result<Result<Stops, Refusal>, AllocError>
-    ensures { IfOk result (IsStoppointAdded stops.now bus.now (trap.Watch kind range)) }
+    ensures { IfOk result (IsStoppointAdded stops.now bus.now (stoppoint.Watch kind range)) }
 {
     let end = u64::from(range.address) + u64::from(range.count);
     if end > 1 << 32 {
@@ -109,7 +109,7 @@ fn with_watch(
 
 // Returns the stops without the breakpoint at this address; unchanged if it is not set.
 fn without_break(alloc: Global, stops: &Stops, address: u32) -> Result<Stops, AllocError>
-    ensures { IfOk result (λ next. next ≡ without_stoppoint stops.now (trap.Break address)) }
+    ensures { IfOk result (λ next. next ≡ without_stoppoint stops.now (stoppoint.Break address)) }
 {
     let breaks = stops
         .breaks
@@ -130,7 +130,7 @@ fn without_watch(
     kind: WatchKind,
     range: Range,
 ) -> Result<Stops, AllocError>
-    ensures { IfOk result (λ next. next ≡ without_stoppoint stops.now (trap.Watch kind range)) }
+    ensures { IfOk result (λ next. next ≡ without_stoppoint stops.now (stoppoint.Watch kind range)) }
 {
     let watches = watches_of(stops, kind)
         .iter()
@@ -166,14 +166,14 @@ fn with_watches(mut stops: Stops, kind: WatchKind, watches: Vec<Watch>) -> Stops
 
 // Whether a breakpoint at this address is set.
 fn has_break(stops: &Stops, address: u32) -> bool
-    ensures { result ≡ is_set stops.now (trap.Break address) }
+    ensures { result ≡ is_set stops.now (stoppoint.Break address) }
 {
     stops.breaks.as_slice().contains(&address)
 }
 
 // Whether a watchpoint of this kind for exactly this range is set.
 fn has_watch(stops: &Stops, kind: WatchKind, range: Range) -> bool
-    ensures { result ≡ is_set stops.now (trap.Watch kind range) }
+    ensures { result ≡ is_set stops.now (stoppoint.Watch kind range) }
 {
     watches_of(stops, kind)
         .iter()

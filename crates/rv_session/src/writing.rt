@@ -10,7 +10,7 @@ ghost use Rattle.rv_session.specs.Memory.{end_of_addresses, is_byte, has_bytes_a
 ghost use Rattle.rv_session.specs.Replies.{ok_if};
 ghost use Rattle.rv_session.specs.Sessions.{current_state};
 
-use crate::reading::are_same;
+use crate::reading::are_equal;
 use crate::reply::Reply;
 use crate::session::Session;
 use rv_gdb_protocol::{Refusal, Register, push_memory, push_registers};
@@ -27,12 +27,12 @@ impl Session {
             ≡ ok_if (bytes_eq (current_registers self.now) (encode_lower bytes.now)) refusal.WouldChange) }
     {
         let machine = self.history.machine();
-        let mut current_state = Vec::new(alloc);
-        push_registers(&mut current_state, &machine.registers(), machine.pc())?;
+        let mut current = Vec::new(alloc);
+        push_registers(&mut current, &machine.registers(), machine.pc())?;
         let mut requested = Vec::new(alloc);
         push_memory(alloc, &mut requested, bytes)?;
-        let same = are_same(current_state.as_slice(), requested.as_slice());
-        Reply::ok_if(alloc, same, Refusal::WouldChange)
+        let is_unchanged = are_equal(current.as_slice(), requested.as_slice());
+        Reply::ok_if(alloc, is_unchanged, Refusal::WouldChange)
     }
 
     /// Handles `P`: a write to a register of the hart is granted only if the value does not change; a write to a count of the run moves to
@@ -47,8 +47,8 @@ impl Session {
     {
         match register {
             Register::Hart(_) => {
-                let same = self.value(register) == value;
-                Reply::ok_if(alloc, same, Refusal::WouldChange)
+                let is_unchanged = self.value(register) == value;
+                Reply::ok_if(alloc, is_unchanged, Refusal::WouldChange)
             }
             Register::Steps => self.seek_step(alloc, value),
             Register::Printed => self.seek_count(alloc, Count::Printed, value),
@@ -66,8 +66,8 @@ impl Session {
         ensures { IfOk result (λ reply. reply
             ≡ ok_if (has_bytes_at (current_state self.now).bus address bytes.now) refusal.WouldChange) }
     {
-        let same = has_bytes_at(self.history.machine().bus(), address, bytes);
-        Reply::ok_if(alloc, same, Refusal::WouldChange)
+        let is_unchanged = has_bytes_at(self.history.machine().bus(), address, bytes);
+        Reply::ok_if(alloc, is_unchanged, Refusal::WouldChange)
     }
 }
 
@@ -90,11 +90,11 @@ fn has_byte_at(bus: &Bus, address: u64, byte: u8) -> bool
     address < END_OF_ADDRESSES && is_byte(bus.byte(address as u32), byte)
 }
 
-// Whether `outcome` has a value, and the value is `byte`.
-fn is_byte(outcome: Option<u8>, byte: u8) -> bool
-    ensures { result ≡ is_byte outcome byte }
+// Whether `found` has a value, and the value is `byte`.
+fn is_byte(found: Option<u8>, byte: u8) -> bool
+    ensures { result ≡ is_byte found byte }
 {
-    match outcome {
+    match found {
         Some(other) => other == byte,
         None => false,
     }

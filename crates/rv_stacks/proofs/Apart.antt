@@ -6,7 +6,7 @@ use Rattle.std.specs.Str.{bytes_eq}
 use Rattle.rv_count_tables.specs.declared.table.CountTable.{CountTable}
 use Rattle.rv_count_tables.specs.declared.table.ImageCounts.{ImageCounts}
 use Rattle.rv_count_tables.specs.Sum.{NamesAgree, IsSumOfTables}
-use Rattle.rv_count_tables.specs.Table.{executed_at, taken_at, executed_in, taken_in, next_path, name_at, truncated_name, calls_in_image, steps_in, digests_increase_from, is_greater_than_last, min_text_of, IsValidImage, IsValidTable}
+use Rattle.rv_count_tables.specs.Table.{executed_at, taken_at, executed_in, taken_in, path_of_image, name_at, name_in, calls_in_image, steps_in, digests_increase_from, is_greater_than_last, min_text_of, IsValidImage, IsValidTable}
 use Rattle.rv_counting.proofs.Public.{no_names, no_owners, no_spots}
 use Rattle.rv_counting.specs.JobTables.{jobs_at, IsTableOfJobsAt}
 use Rattle.rv_counting.specs.Plans.{PlanView}
@@ -72,13 +72,13 @@ module _ (digest : List ℕ) where
   same_taken address (i ∷ is) =
       ap (λ (n : ℕ). cond (bytes_eq i.digest digest) (taken_at address i.addresses) 0 + n) (same_taken address is)
 
-  same_path : (is : List ImageCounts) → next_path digest (bare is) ≡ next_path digest is
+  same_path : (is : List ImageCounts) → path_of_image digest (bare is) ≡ path_of_image digest is
   same_path [] = refl
   same_path (i ∷ is) = ap (min_text_of (cond (bytes_eq i.digest digest) (Some i.path) None)) (same_path is)
 
-  no_name : (f : ℕ) (is : List ImageCounts) → truncated_name digest f (bare is) ≡ None
+  no_name : (f : ℕ) (is : List ImageCounts) → name_in digest f (bare is) ≡ None
   no_name f [] = refl
-  no_name f (i ∷ is) = none_picked (bytes_eq i.digest digest) (truncated_name digest f (bare is)) ∙ no_name f is
+  no_name f (i ∷ is) = none_picked (bytes_eq i.digest digest) (name_in digest f (bare is)) ∙ no_name f is
 
   no_arrivals : (path : List ℕ) (is : List ImageCounts) → calls_in_image digest path (bare is) ≡ 0
   no_arrivals path [] = refl
@@ -166,11 +166,11 @@ module _ (digest : List ℕ) where
   no_taken address (i ∷ is) =
       zero_picked (bytes_eq i.digest digest) (taken_in digest address (stacked is)) (no_taken address is)
 
-  stacked_path : (is : List ImageCounts) → next_path digest (stacked is) ≡ next_path digest is
+  stacked_path : (is : List ImageCounts) → path_of_image digest (stacked is) ≡ path_of_image digest is
   stacked_path [] = refl
   stacked_path (i ∷ is) = ap (min_text_of (cond (bytes_eq i.digest digest) (Some i.path) None)) (stacked_path is)
 
-  same_name : (f : ℕ) (is : List ImageCounts) → truncated_name digest f (stacked is) ≡ truncated_name digest f is
+  same_name : (f : ℕ) (is : List ImageCounts) → name_in digest f (stacked is) ≡ name_in digest f is
   same_name f [] = refl
   same_name f (i ∷ is) =
       ap (min_text_of (cond (bytes_eq i.digest digest) (name_at f i.functions) None)) (same_name f is)
@@ -213,10 +213,10 @@ both_sum t table = record {
       let p = same_taken digest address t.images in
       let q = no_taken digest address t.images in
       omega (arith, p, q);
-  paths = λ digest. sym (with_itself (next_path digest t.images))
+  paths = λ digest. sym (with_itself (path_of_image digest t.images))
       ∙ (λ i. min_text_of (sym (same_path digest t.images) i) (sym (stacked_path digest t.images) i));
   agree = λ digest f.
-      subst (λ (o : Option (List ℕ)). NamesAgree o (truncated_name digest f (stacked t.images))) (sym (no_name digest f t.images)) tt;
+      subst (λ (o : Option (List ℕ)). NamesAgree o (name_in digest f (stacked t.images))) (sym (no_name digest f t.images)) tt;
   names = λ digest f. sym (λ i. min_text_of (no_name digest f t.images i) (same_name digest f t.images i));
   calls = λ digest path.
       let p = no_arrivals digest path t.images in

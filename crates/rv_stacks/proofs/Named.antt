@@ -7,7 +7,7 @@ use Rattle.std.specs.List.{AllByRecursion}
 use Rattle.std.specs.Str.{bytes_eq}
 use Rattle.rv_count_tables.proofs.Public.{first_is}
 use Rattle.rv_count_tables.specs.declared.table.ImageCounts.{ImageCounts}
-use Rattle.rv_count_tables.specs.Table.{calls_in_image, has_name, min_text_of, name_at, truncated_name, IsValidImage, IsValidNode}
+use Rattle.rv_count_tables.specs.Table.{calls_in_image, has_name, min_text_of, name_at, name_in, IsValidImage, IsValidNode}
 use Rattle.rv_count_tables.specs.declared_call_node.CallNode.{CallNode}
 use Rattle.rv_count_tables.specs.Profiles.{ends_some_path}
 use Rattle.rv_count_tables.specs.Trees.{calls_at, calls_of_node, sum_over_path, ends_with, path_after}
@@ -65,10 +65,10 @@ pub record IsComeTo (f : ℕ) (digest : List ℕ) (is : List ImageCounts) : Type
   pub some : 0 < calls_in_image digest path is
 
 pub come_to : (f : ℕ) (digest : List ℕ) (is : List ImageCounts) → AllByRecursion IsValidImage is
-    → has_name (truncated_name digest f is) ≡ true → IsComeTo f digest is
+    → has_name (name_in digest f is) ≡ true → IsComeTo f digest is
 come_to f digest [] h named = absurd (false≢true named)
 come_to f digest (i ∷ is) h named =
-    elim (either_named (cond (bytes_eq i.digest digest) (name_at f i.functions) None) (truncated_name digest f is) named) [
+    elim (either_named (cond (bytes_eq i.digest digest) (name_at f i.functions) None) (name_in digest f is) named) [
       | inl t ↦
           let here = named_here (bytes_eq i.digest digest) (name_at f i.functions) t in
           let last = sym (h.0.names_of_nodes f) ∙ ap has_name (first_is i.functions 0 f h.0.names.rising) ∙ here.1 in

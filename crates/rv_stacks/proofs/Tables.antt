@@ -9,7 +9,7 @@ use Rattle.rv_count_tables.specs.declared.table.FunctionName.{FunctionName}
 use Rattle.rv_count_tables.specs.declared.table.ImageCounts.{ImageCounts}
 use Rattle.rv_count_tables.specs.Lines.{lacks}
 use Rattle.rv_count_tables.specs.Sum.{NamesAgree, IsSumOfTables}
-use Rattle.rv_count_tables.specs.Table.{truncated_name, min_text_of, increase_from, AreValidCounts, IsValidImage, IsValidTable}
+use Rattle.rv_count_tables.specs.Table.{name_in, min_text_of, increase_from, AreValidCounts, IsValidImage, IsValidTable}
 use Rattle.rv_counting.proofs.Public.{one_rises}
 use Rattle.rv_counting.specs.declared_answers.PathResult.{PathResult}
 use Rattle.rv_counting.specs.declared_job.Job.{Job}
@@ -98,10 +98,10 @@ pub names_of_both : (answers : List PathResult) (js ks : List Job) (t u sum : Co
 names_of_both answers js ks t u sum is digest f =
     all_both (IsNamedBy answers t digest f) (IsNamedBy answers u digest f) (IsNamedBy answers sum digest f) js ks
     (λ job named path ends some. is.names digest f
-    ∙ named_first (truncated_name digest f t.images) (truncated_name digest f u.images) (name_of_job answers job f) (is.agree digest f)
+    ∙ named_first (name_in digest f t.images) (name_in digest f u.images) (name_of_job answers job f) (is.agree digest f)
     (named path ends some))
     (λ job named path ends some. is.names digest f
-    ∙ named_second (truncated_name digest f t.images) (truncated_name digest f u.images) (name_of_job answers job f) (is.agree digest f)
+    ∙ named_second (name_in digest f t.images) (name_in digest f u.images) (name_of_job answers job f) (is.agree digest f)
     (named path ends some))
 
 pub budgets_of_both : (answers : List PathResult) (js ks : List Job) → AllByRecursion (RunsWithinABudget answers) js

@@ -8,7 +8,7 @@ use Rattle.std.specs.List.Sorted.{IsPermutation}
 use Rattle.rv_count_tables.proofs.Public.{one_table_of}
 use Rattle.rv_count_tables.specs.declared.table.CountTable.{CountTable}
 use Rattle.rv_count_tables.specs.Sum.{IsSumOfTables, no_counts}
-use Rattle.rv_count_tables.specs.Table.{executed_in, taken_in, next_path, truncated_name, calls_in_image, steps_in, has_name, is_before, min_text_of, IsValidTable}
+use Rattle.rv_count_tables.specs.Table.{executed_in, taken_in, path_of_image, name_in, calls_in_image, steps_in, has_name, is_before, min_text_of, IsValidTable}
 use Rattle.rv_counting.proofs.Public.{first_moved, first_path-append, no_counts_is_table}
 use Rattle.rv_counting.specs.JobTables.{executed_by, first_path, jobs_at, runs_by, taken_by}
 use Rattle.rv_counting.specs.declared_answers.PathResult.{PathResult}
@@ -26,7 +26,7 @@ pub record IsOfJobs (answers : List PathResult) (jobs : List Job) (t : CountTabl
       → executed_in digest address t.images ≡ sum_by (executed_by answers digest address) jobs
   pub taken : (digest : List ℕ) (address : ℕ)
       → taken_in digest address t.images ≡ sum_by (taken_by answers digest address) jobs
-  pub paths : (digest : List ℕ) → next_path digest t.images ≡ first_path answers digest jobs
+  pub paths : (digest : List ℕ) → path_of_image digest t.images ≡ first_path answers digest jobs
   pub calls : (digest path : List ℕ)
       → calls_in_image digest path t.images ≡ sum_by (calls_by_job answers digest path) jobs
   pub steps : (digest path : List ℕ) → steps_in digest path t.images ≡ sum_by (steps_by_job answers digest path) jobs
@@ -74,7 +74,7 @@ of_places plan indices t h = record {
   names = λ digest f.
       each_so (IsNamedBy plan.results h.stacks digest f) (IsNamedBy plan.results t digest f) (jobs_at plan indices)
       (λ job named path ends some. h.sum.names digest f
-      ∙ ap (λ (o : Option (List ℕ)). min_text_of o (truncated_name digest f h.stacks.images)) (h.counted.stacks.names digest f)
+      ∙ ap (λ (o : Option (List ℕ)). min_text_of o (name_in digest f h.stacks.images)) (h.counted.stacks.names digest f)
       ∙ named path ends some)
       (h.stacked.names digest f);
   runs = (let s = h.sum.runs in
@@ -169,7 +169,7 @@ module _ (answers : List PathResult) where
   -- the job whose run came to the function names it in both
   named_by_a_job : (t u : CountTable) (digest : List ℕ) (f : ℕ) (path : List ℕ) (jobs : List Job) → ends_with f path ≡ true
       → 0 < sum_by (calls_by_job answers digest path) jobs → AllByRecursion (IsNamedBy answers t digest f) jobs
-      → AllByRecursion (IsNamedBy answers u digest f) jobs → truncated_name digest f t.images ≡ truncated_name digest f u.images
+      → AllByRecursion (IsNamedBy answers u digest f) jobs → name_in digest f t.images ≡ name_in digest f u.images
   named_by_a_job t u digest f path [] ends some h k = absurd (omega (arith, some))
   named_by_a_job t u digest f path (j ∷ js) ends some h k = elim (none_or_some (calls_by_job answers digest path j)) [
     | inl e ↦
@@ -184,9 +184,9 @@ module _ (answers : List PathResult) where
   same_if_either (Some name) p f g = f refl
 
   same_names : (jobs : List Job) (t u : CountTable) → IsOfJobs answers jobs t → IsOfJobs answers jobs u → (digest : List ℕ) (f : ℕ)
-      → truncated_name digest f t.images ≡ truncated_name digest f u.images
+      → name_in digest f t.images ≡ name_in digest f u.images
   same_names jobs t u h k digest f =
-      same_if_either (truncated_name digest f t.images) (truncated_name digest f u.images)
+      same_if_either (name_in digest f t.images) (name_in digest f u.images)
       (λ named. let c = come_to f digest t.images h.table.images named in
       let e = h.calls digest c.path in
       let some = c.some in

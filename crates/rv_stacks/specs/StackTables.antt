@@ -12,7 +12,7 @@ use Rattle.rv_count_tables.specs.declared.table.CountTable.{CountTable}
 use Rattle.rv_count_tables.specs.declared.table.FunctionName.{FunctionName}
 use Rattle.rv_count_tables.specs.declared.table.ImageCounts.{ImageCounts}
 use Rattle.rv_count_tables.specs.Sum.{HaveNoSum, IsSumOfTables}
-use Rattle.rv_count_tables.specs.Table.{executed_in, taken_in, next_path, truncated_name, calls_in_image, steps_in, has_name, name_of, AreValidNames, AreNamesOf, IsValidTable}
+use Rattle.rv_count_tables.specs.Table.{executed_in, taken_in, path_of_image, name_in, calls_in_image, steps_in, has_name, name_of, AreValidNames, AreNamesOf, IsValidTable}
 use Rattle.rv_counting.specs.Coverage.{address_if}
 use Rattle.rv_counting.specs.JobTables.{first_path, jobs_at, start_state_of_image, IsTableOfJobsAt}
 use Rattle.rv_counting.specs.declared_image.Image.{Image}
@@ -125,7 +125,7 @@ steps_by_job answers digest path job =
 -- image
 abbrev pub IsNamedBy : List PathResult → CountTable → List ℕ → ℕ → Job → Type 0
 IsNamedBy answers t digest f job = (path : List ℕ) → ends_with f path ≡ true
-    → 0 < calls_by_job answers digest path job → truncated_name digest f t.images ≡ Some (name_of_job answers job f)
+    → 0 < calls_by_job answers digest path job → name_in digest f t.images ≡ Some (name_of_job answers job f)
 
 -- the job is refused, or its budget is below 2^32
 abbrev pub RunsWithinABudget : List PathResult → Job → Type 0
@@ -138,7 +138,7 @@ pub record AreStacksOfJobs (answers : List PathResult) (jobs : List Job) (t : Co
   pub table : IsValidTable t
   pub executed : (digest : List ℕ) (address : ℕ) → executed_in digest address t.images ≡ 0
   pub taken : (digest : List ℕ) (address : ℕ) → taken_in digest address t.images ≡ 0
-  pub paths : (digest : List ℕ) → next_path digest t.images ≡ first_path answers digest jobs
+  pub paths : (digest : List ℕ) → path_of_image digest t.images ≡ first_path answers digest jobs
   pub calls : (digest path : List ℕ)
       → calls_in_image digest path t.images ≡ sum_by (calls_by_job answers digest path) jobs
   pub steps : (digest path : List ℕ) → steps_in digest path t.images

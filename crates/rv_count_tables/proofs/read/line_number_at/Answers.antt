@@ -6,7 +6,7 @@ use Rattle.rv_count_tables.proofs.read.line_number_at.Goals as goal
 
 pub loop-b-preserved : goal.loop-b-preserved
 loop-b-preserved c =
-    let front = c.leading_bytes-front.result.now in
+    let front = c.leading_bytes-earlier.result.now in
     let i = c.loop-b.b-index in
     let inv = c.loop-b.invariant in
     let more = feeds_more front i (omega arith) in

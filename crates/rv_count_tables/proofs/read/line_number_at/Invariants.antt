@@ -5,6 +5,6 @@ use Rattle.rv_count_tables.proofs.read.line_number_at.Given as goal
 
 abbrev pub invariant-loop-b : goal.invariant-loop-b
 invariant-loop-b l = record {
-  feeds : l.number ≡ line_feed_count (take l.b-index l.front) + 1;
+  feeds : l.number ≡ line_feed_count (take l.b-index l.earlier) + 1;
   few : l.number ≤ l.b-index + 1;
 }

@@ -9,13 +9,13 @@ use Rattle.rv_count_tables.proofs.read_lines.image_of_line.Goals as goal
 pub returns-clause-digest : goal.returns-clause-digest
 returns-clause-digest c i h is =
     c.new.ensures ∙ c.in_ok-digest.ensures
-    ∙ ap hex_bytes (c.text_before_byte.ensures ∙ ap (text_before_byte 32) (c.tail_from-words.ensures ∙ ap (drop 6) is))
+    ∙ ap hex_bytes (c.text_before_byte.ensures ∙ ap (text_before_byte 32) (c.tail_from-fields.ensures ∙ ap (drop 6) is))
     ∙ digest_in_line i h
 
 pub returns-clause-path : goal.returns-clause-path
 returns-clause-path c i h is =
     let e = c.text_before_byte-2.ensures ∙ ap (text_before_byte 10) (c.text_after_byte.ensures
-    ∙ ap (text_after_byte 32) (c.tail_from-words.ensures ∙ ap (drop 6) is)) ∙ path_text i h in
+    ∙ ap (text_after_byte 32) (c.tail_from-fields.ensures ∙ ap (drop 6) is)) ∙ path_text i h in
     c.new-2.ensures ∙ c.in_ok-path.ensures.ok (subst (λ (s : List ℕ). IsUtf8 s) (sym e) h.text) ∙ e
 
 pub returns-clause-text : goal.returns-clause-text

@@ -11,7 +11,7 @@ pub returns-clause-none : goal.returns-clause-none
 returns-clause-none c runs small is =
     let e : c.decimal_number-runs.result ≡ runs = c.decimal_number-runs.ensures runs small
     (c.text_before_byte.ensures ∙ ap (text_before_byte 10) (c.text_after_byte.ensures
-    ∙ ap (text_after_byte 32) (c.tail_from-words.ensures ∙ ap (drop 5) is))
+    ∙ ap (text_after_byte 32) (c.tail_from-fields.ensures ∙ ap (drop 5) is))
     ∙ runs_digits c.args.image_count runs (let k = c.ranges.image_count.fits in omega (arith, k)) small) in
     let written = c.as_bytes.ensures.value ∙ c.in_ok-push_last_line.ensures
     ∙ ap (λ s. s ++ last_line c.args.image_count c.decimal_number-runs.result) c.new-text.ensures.bytes

@@ -9,10 +9,10 @@ use Rattle.rv_count_tables.proofs.read_stacks.node_of_line.Goals as goal
 pub returns-clause-node : goal.returns-clause-node
 returns-clause-node c n h is =
     let k = h.node in
-    let words = c.tail_from-words.ensures ∙ ap (drop 5) is in
+    let words = c.tail_from-fields.ensures ∙ ap (drop 5) is in
     let function = c.text_after_byte-function.ensures ∙ ap (text_after_byte 32) words in
     let numbers = c.tail_from-numbers.ensures ∙ ap (drop 9) function in
-    let behind = c.text_after_byte-behind.ensures ∙ ap (text_after_byte 32) numbers in
+    let behind = c.text_after_byte-later_numbers.ensures ∙ ap (text_after_byte 32) numbers in
     same_spot_of _ n.node
     (c.decimal_number.ensures n.node.depth k.depth
     (c.text_before_byte-2.ensures ∙ ap (text_before_byte 32) words ∙ depth_digits n k))
@@ -25,10 +25,10 @@ returns-clause-node c n h is =
 
 pub returns-clause-name : goal.returns-clause-name
 returns-clause-name c n h is =
-    let words = c.tail_from-words.ensures ∙ ap (drop 5) is in
+    let words = c.tail_from-fields.ensures ∙ ap (drop 5) is in
     let function = c.text_after_byte-function.ensures ∙ ap (text_after_byte 32) words in
     let numbers = c.tail_from-numbers.ensures ∙ ap (drop 9) function in
-    let behind = c.text_after_byte-behind.ensures ∙ ap (text_after_byte 32) numbers in
+    let behind = c.text_after_byte-later_numbers.ensures ∙ ap (text_after_byte 32) numbers in
     let e = c.text_before_byte.ensures ∙ ap (text_before_byte 10) (c.text_after_byte.ensures ∙ ap (text_after_byte 32) behind)
     ∙ name_text n h in
     c.new.ensures ∙ c.in_ok-name.ensures.ok (subst (λ (s : List ℕ). IsUtf8 s) (sym e) h.text) ∙ e

@@ -11,18 +11,18 @@ use Rattle.rv_call_tree.specs.declared.call_node.CallNode.{CallNode}
 use Rattle.rv_call_tree.specs.Trees.{path_after, MayFollow}
 
 pub lines-init : goal.lines-init
-lines-init c = subst (λ (ss : List CallNode). SpotsSoFar c.args.text.now ss c.new-names.result c.new-front.result.items 0) (sym c.new-nodes.ensures.items)
-    (subst (λ (ns : List FunctionName). SpotsSoFar c.args.text.now [] ns c.new-front.result.items 0) (sym c.new-names.ensures)
-    (subst (λ (path : List ℕ). SpotsSoFar c.args.text.now [] [] path 0) (sym c.new-front.ensures.items)
+lines-init c = subst (λ (ss : List CallNode). SpotsSoFar c.args.text.now ss c.new-names.result c.new-path.result.items 0) (sym c.new-nodes.ensures.items)
+    (subst (λ (ns : List FunctionName). SpotsSoFar c.args.text.now [] ns c.new-path.result.items 0) (sym c.new-names.ensures)
+    (subst (λ (path : List ℕ). SpotsSoFar c.args.text.now [] [] path 0) (sym c.new-path.ensures.items)
     (no_spots_so_far c.args.text.now)))
 
 pub lines-smaller : goal.lines-smaller
 lines-smaller c =
     let w = c.whole_line-line.ensures ∙ ap whole_line c.tail_from.ensures in
-    let line = rw c.in-Some.is at c.in_ok-read.ensures.line in
+    let line = rw c.in-Some.is at c.in_ok-parsed.ensures.line in
     let inside = further_within c.args.text.now c.lines.length c.lines.invariant.lines.within in
     let same = ap (λ (s : List ℕ). length s) w in
-    let long = subst (λ (s : List ℕ). 0 < length s) (sym line) (spot_is_long c.in-Some.read) in
+    let long = subst (λ (s : List ℕ). 0 < length s) (sym line) (spot_is_long c.in-Some.parsed) in
     omega (arith, inside, same, long)
 
 pub lines-preserved : goal.lines-preserved
@@ -30,13 +30,13 @@ lines-preserved c =
     let text = c.args.text.now in
     let front = c.lines.front.items in
     let names = c.lines.names in
-    let read = c.in-Some.read in
+    let read = c.in-Some.parsed in
     let w = c.whole_line-line.ensures ∙ ap whole_line c.tail_from.ensures in
-    let fits = rw c.in-Some.is at c.in_ok-read.ensures.node (drop c.lines.length text) w in
+    let fits = rw c.in-Some.is at c.in_ok-parsed.ensures.node (drop c.lines.length text) w in
     let stands = subst (λ (path : List ℕ). MayFollow path read.node) c.as_slice.ensures.value
-    (rw c.in-Some.is at c.in_ok-read.ensures.preorder) in
-    let agrees : AgreesWithName read.name (name_of read.node.function names) = rw c.in-Some.is at c.in_ok-read.ensures.name in
-    let line = rw c.in-Some.is at c.in_ok-read.ensures.line in
+    (rw c.in-Some.is at c.in_ok-parsed.ensures.preorder) in
+    let agrees : AgreesWithName read.name (name_of read.node.function names) = rw c.in-Some.is at c.in_ok-parsed.ensures.name in
+    let line = rw c.in-Some.is at c.in_ok-parsed.ensures.line in
     let m = c.lines.length + length c.whole_line-line.result.now in
     let more = one_spot text c.lines.nodes.items names front c.lines.length m read c.lines.invariant fits stands agrees
     (sym w ∙ line) (ap (λ (s : List ℕ). c.lines.length + length s) w) in
@@ -56,4 +56,4 @@ returns-in-None c =
     let w = c.whole_line-line.ensures ∙ ap whole_line c.tail_from.ensures in
     all_spots c.args.text.now c.as_slice.result.now c.lines.front.items c.whole_line-line.result.now c.lines.nodes.items c.lines.names _
     c.lines.invariant c.new.ensures c.in_ok-into_names-in-None.ensures c.as_slice.ensures.value w
-    (rw c.in-None.is at c.in_ok-read.ensures.none)
+    (rw c.in-None.is at c.in_ok-parsed.ensures.none)

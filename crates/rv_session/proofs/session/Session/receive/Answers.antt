@@ -4,13 +4,13 @@ use Rattle.rv_session.proofs.Asking.{byte_may}
 use Rattle.rv_session.proofs.Same.{byte_same}
 use Rattle.rv_session.proofs.session.Session.receive.Goals as goal
 
-pub returns-clause-heard : goal.returns-clause-heard
-returns-clause-heard c =
+pub returns-clause-received : goal.returns-clause-received
+returns-clause-received c =
     to_nothing _ c.receive_byte.new.out.items (λ out. IsByteReceived c.args.self.now c.args.byte out c.receive_byte.new.self)
     c.new-out.ensures.items c.in_ok-receive_byte.ensures
 
-pub returns-clause-run : goal.returns-clause-run
-returns-clause-run c =
+pub returns-clause-same_run : goal.returns-clause-same_run
+returns-clause-same_run c =
     byte_same c.args.self.now c.receive_byte.new.self c.args.byte c.receive_byte.new.out.items
     (to_nothing _ c.receive_byte.new.out.items (λ out. IsByteReceived c.args.self.now c.args.byte out c.receive_byte.new.self)
     c.new-out.ensures.items c.in_ok-receive_byte.ensures)

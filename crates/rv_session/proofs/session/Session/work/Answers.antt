@@ -5,12 +5,12 @@ use Rattle.rv_session.specs.Incoming.{packets_of}
 use Rattle.rv_session.specs.Moved.{IsMoved}
 use Rattle.rv_session.proofs.session.Session.work.Goals as goal
 
-pub returns-clause-worked : goal.returns-clause-worked
-returns-clause-worked g c =
+pub returns-clause-move_made : goal.returns-clause-move_made
+returns-clause-move_made g c =
     let session = c.args.self.now in
     let is : session.requested ≡ Some c.in-Some.requested = search rules in record {
       requested = c.in-Some.requested;
-      asked_is = is;
+      requested_is = is;
       reply = c.in_ok-reply.reply;
       after_reply = c.make_requested_move.new.self;
       moved = subst (λ (requested : Option Move). IsMoved (g.E.EndText.end_text c.args.end.now)
