@@ -56,11 +56,11 @@ fn frames_of_run(
 #[tactic(auto, unfolding(crate::specs::Calls::calls_in))]
 pub fn calls_at_end(alloc: Global, job: &JobImage<'_>) -> Result<Option<Calls>, AllocError>
     ensures { IfOk result (λ calls. (d : AJob) → calls
-        ≡ calls_in job.now.plan.now (job_at job.now.plan.now job.now.place d)) }
+        ≡ calls_in job.now.plan.now (job_at job.now.plan.now job.now.index d)) }
 {
-    match machine_at(alloc, job.plan, job.place, job.image)? {
+    match machine_at(alloc, job.plan, job.index, job.image)? {
         Ok(machine) => {
-            let budget = job.plan.job(job.place).budget;
+            let budget = job.plan.job(job.index).budget;
             Ok(Some(calls_of_run(alloc, machine, budget)?))
         }
         Err(_) => Ok(None),

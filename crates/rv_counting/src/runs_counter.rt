@@ -39,12 +39,12 @@ impl RunsCounter {
     ) -> Result<(), AllocError>
         requires ready { CanCountRuns self.old }
         requires few { self.old.runs < max_jobs }
-        ensures { OnOk result ((d : AJob) → AddsJob job.now.plan.now.results (job_at job.now.plan.now job.now.place d) self.old self.new) }
+        ensures { OnOk result ((d : AJob) → AddsJob job.now.plan.now.results (job_at job.now.plan.now job.now.index d) self.old self.new) }
     {
-        let Ok(machine) = machine_at_reusing(alloc, job.plan, job.place, job.image, spare)? else {
+        let Ok(machine) = machine_at_reusing(alloc, job.plan, job.index, job.image, spare)? else {
             return Ok(());
         };
-        let budget = job.plan.job(job.place).budget;
+        let budget = job.plan.job(job.index).budget;
         let machine = self.count_run(machine, budget)?;
         spare.recycle_bus(machine.into_bus());
         Ok(())

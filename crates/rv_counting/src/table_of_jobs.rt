@@ -77,7 +77,7 @@ fn count_job_at(
     };
     let job_image = JobImage {
         plan,
-        place: index,
+        index,
         image: &image,
     };
     counter.count_job(alloc, &job_image, spare)

@@ -25,43 +25,43 @@ never_run counts fs = filter (λ f. not (has_run counts f)) fs
 
 -- whether RV32IMC has an instruction for the encoding
 abbrev pub is_instruction : AddressedCode → Bool
-is_instruction p = is_some (instr_of p.1)
+is_instruction encoding = is_some (instr_of encoding.1)
 
 -- whether an instruction was executed at the encoding's address
 abbrev pub was_executed : List AddressCounts → AddressedCode → Bool
-was_executed counts p = nat_lt 0 (executed_at p.0 counts)
+was_executed counts encoding = nat_lt 0 (executed_at encoding.0 counts)
 
 -- whether RV32IMC has an instruction for the encoding and an instruction was executed at its address
 abbrev pub is_executed_instruction : List AddressCounts → AddressedCode → Bool
-is_executed_instruction counts p = is_instruction p && was_executed counts p
+is_executed_instruction counts encoding = is_instruction encoding && was_executed counts encoding
 
 -- whether the branch was taken at least once and not taken at least once
 abbrev pub went_both_ways : List AddressCounts → AddressedCode → Bool
-went_both_ways counts p = nat_lt 0 (taken_at p.0 counts) && nat_lt (taken_at p.0 counts) (executed_at p.0 counts)
+went_both_ways counts encoding = nat_lt 0 (taken_at encoding.0 counts) && nat_lt (taken_at encoding.0 counts) (executed_at encoding.0 counts)
 
 -- whether the encoding is a conditional branch that was both taken and not taken
 abbrev pub is_branch_both_ways : List AddressCounts → AddressedCode → Bool
-is_branch_both_ways counts p = is_branch_code p.1 && went_both_ways counts p
+is_branch_both_ways counts encoding = is_branch_code encoding.1 && went_both_ways counts encoding
 
 -- whether the encoding is a conditional branch that was executed, and was always taken or never taken
 abbrev pub is_branch_one_way : List AddressCounts → AddressedCode → Bool
-is_branch_one_way counts p = is_branch_code p.1 && (was_executed counts p && not (went_both_ways counts p))
+is_branch_one_way counts encoding = is_branch_code encoding.1 && (was_executed counts encoding && not (went_both_ways counts encoding))
 
 -- whether the encoding is a conditional branch that was never executed
 abbrev pub is_branch_never : List AddressCounts → AddressedCode → Bool
-is_branch_never counts p = is_branch_code p.1 && not (was_executed counts p)
+is_branch_never counts encoding = is_branch_code encoding.1 && not (was_executed counts encoding)
 
 -- ---- sums
 
 -- the coverage of encodings: how many are instructions, how many of these ran, and how many are conditional branches that went both ways,
 -- one way, or never ran
 abbrev pub totals_of_codes : List AddressCounts → List AddressedCode → CodeTotals
-totals_of_codes counts ps = record {
-  instructions = count_by is_instruction ps;
-  instructions_run = count_by (is_executed_instruction counts) ps;
-  branches_both_ways = count_by (is_branch_both_ways counts) ps;
-  branches_one_way = count_by (is_branch_one_way counts) ps;
-  branches_never = count_by (is_branch_never counts) ps;
+totals_of_codes counts encodings = record {
+  instructions = count_by is_instruction encodings;
+  instructions_run = count_by (is_executed_instruction counts) encodings;
+  branches_both_ways = count_by (is_branch_both_ways counts) encodings;
+  branches_one_way = count_by (is_branch_one_way counts) encodings;
+  branches_never = count_by (is_branch_never counts) encodings;
 }
 
 -- the coverage of functions: how many there are, how many ran, and the coverage of their encodings

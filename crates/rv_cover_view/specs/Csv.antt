@@ -27,17 +27,17 @@ csv_field field = if list_any is_special field then codes "\"" ++ with_doubled_q
 
 -- the fields of a row for the numbers of functions
 unfoldable pub csv_functions : CoverageTotals → List ℕ
-csv_functions a = codes "," ++ decimal a.functions ++ codes "," ++ decimal a.functions_run
+csv_functions totals = codes "," ++ decimal totals.functions ++ codes "," ++ decimal totals.functions_run
 
 -- the fields of a row for the numbers of instructions
 unfoldable pub csv_instructions : CodeTotals → List ℕ
-csv_instructions a = codes "," ++ decimal a.instructions ++ codes "," ++ decimal a.instructions_run
+csv_instructions totals = codes "," ++ decimal totals.instructions ++ codes "," ++ decimal totals.instructions_run
 
 -- the fields of a row for the numbers of conditional branches
 unfoldable pub csv_branches : CodeTotals → List ℕ
-csv_branches a = codes "," ++ decimal a.branches_both_ways ++ codes "," ++ decimal a.branches_one_way
-    ++ codes "," ++ decimal a.branches_never
+csv_branches totals = codes "," ++ decimal totals.branches_both_ways ++ codes "," ++ decimal totals.branches_one_way
+    ++ codes "," ++ decimal totals.branches_never
 
 -- the row of the image with this path and coverage
 unfoldable pub csv_row : List ℕ → CoverageTotals → List ℕ
-csv_row path a = csv_field path ++ csv_functions a ++ csv_instructions a.code ++ csv_branches a.code ++ codes "\n"
+csv_row path totals = csv_field path ++ csv_functions totals ++ csv_instructions totals.code ++ csv_branches totals.code ++ codes "\n"

@@ -13,5 +13,5 @@ pub record IsCoverOf (path : List ℕ) (image : Image) (file : List ℕ) (counts
   pub found : List FunctionView
   pub once : IsEachOnce (functions image file) found
   pub shown : cover.path.now ≡ path
-  pub counted : cover.totals ≡ totals_of counts found
-  pub never_run_is : map view_of_function cover.never_run.items ≡ never_run counts found
+  pub totals : cover.totals ≡ totals_of counts found
+  pub never_run_functions : map view_of_function cover.never_run.items ≡ never_run counts found

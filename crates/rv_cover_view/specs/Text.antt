@@ -8,8 +8,8 @@ use Rattle.rv_cover_view.specs.declared.totals.CoverageTotals.{CoverageTotals}
 use Rattle.rv_cover_view.specs.declared.totals.CodeTotals.{CodeTotals}
 
 -- a number, with leading spaces so that it fills `width` characters
-unfoldable pub right : ℕ → ℕ → List ℕ
-right width number = replicate (width - length (decimal number)) 32 ++ decimal number
+unfoldable pub right_aligned : ℕ → ℕ → List ℕ
+right_aligned width number = replicate (width - length (decimal number)) 32 ++ decimal number
 
 -- the heading of the coverage table for people
 unfoldable pub cover_header : List ℕ
@@ -17,16 +17,16 @@ cover_header = codes "   functions run        instructions run  branches both wa
 
 -- the columns for the numbers of functions
 unfoldable pub function_columns : CoverageTotals → List ℕ
-function_columns a = right 6 a.functions_run ++ codes " of " ++ right 6 a.functions
+function_columns totals = right_aligned 6 totals.functions_run ++ codes " of " ++ right_aligned 6 totals.functions
 
 -- the columns for the numbers of instructions and of conditional branches
 unfoldable pub code_columns : CodeTotals → List ℕ
-code_columns a = right 11 a.instructions_run ++ codes " of " ++ right 9 a.instructions
-    ++ right 20 a.branches_both_ways ++ right 10 a.branches_one_way ++ right 10 a.branches_never
+code_columns totals = right_aligned 11 totals.instructions_run ++ codes " of " ++ right_aligned 9 totals.instructions
+    ++ right_aligned 20 totals.branches_both_ways ++ right_aligned 10 totals.branches_one_way ++ right_aligned 10 totals.branches_never
 
 -- the line of the image with this path and coverage
 unfoldable pub image_line : List ℕ → CoverageTotals → List ℕ
-image_line path a = function_columns a ++ code_columns a.code ++ codes "  " ++ printable_text path ++ codes "\n"
+image_line path totals = function_columns totals ++ code_columns totals.code ++ codes "  " ++ printable_text path ++ codes "\n"
 
 -- the names of functions, each after a comma and a space
 abbrev pub further_names : List FunctionView → List ℕ

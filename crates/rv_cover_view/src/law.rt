@@ -8,7 +8,7 @@ ghost use Rattle.rv_elf.specs.Functions.{FunctionView};
 ghost use Rattle.rv_cover_view.specs.Cover.{WasNotExecuted, never_run};
 
 /// Proves that `never_run` has exactly the functions at whose addresses no instruction was executed.
-pub fn functions_never_run_have_not_begun()
+pub fn functions_never_run_were_not_executed()
     ensures { (counts : List Counts) (fs : List FunctionView) (f : FunctionView) → AreValidCounts counts
         → Contains (never_run counts fs) f ↔ (Contains fs f × WasNotExecuted counts f) }
 {}

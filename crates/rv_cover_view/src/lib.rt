@@ -2,7 +2,7 @@
 //!
 //! [`functions_by_address`] returns the functions of an image, one for each address. [`cover_of_functions`] counts how many of them, of
 //! their instructions and of their conditional branches ran, and [`never_run`] returns those that never did: exactly those at whose
-//! addresses no instruction was executed ([`functions_never_run_have_not_begun`]). [`push_image_line`] and [`push_never_run_line`] format
+//! addresses no instruction was executed ([`functions_never_run_were_not_executed`]). [`push_image_line`] and [`push_never_run_line`] format
 //! them, and [`push_csv_row`] writes the totals for tools. [`cover_of_image`] returns both for an image, and [`cover_text`] formats them
 //! for the images of jobs, which [`images_of_jobs`] returns. Other views of images share [`entry_of_image`], [`push_right_aligned`] and
 //! [`push_csv_field`].
@@ -31,7 +31,7 @@ pub use image_cover::{ImageCover, cover_of_image};
 pub use image_file::ImageFile;
 pub use images_text::cover_text;
 pub use job_images::images_of_jobs;
-pub use law::functions_never_run_have_not_begun;
+pub use law::functions_never_run_were_not_executed;
 pub use text::{
     push_cover_header, push_image_line, push_never_run_line, push_right_aligned, push_spaces,
 };

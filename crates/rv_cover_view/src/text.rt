@@ -2,7 +2,7 @@
 
 ghost use Rattle.std.specs.Prelude.{◌≡◌, ◌++◌, OnOk, map, replicate};
 ghost use Rattle.rv_cover_view.specs.Functions.{view_of_function};
-ghost use Rattle.rv_cover_view.specs.Text.{code_columns, cover_header, function_columns, further_names, image_line, never_run_line, right};
+ghost use Rattle.rv_cover_view.specs.Text.{code_columns, cover_header, function_columns, further_names, image_line, never_run_line, right_aligned};
 
 use crate::totals::{CodeTotals, CoverageTotals};
 use rv_count_tables::{Span, push_number, push_spans, push_text};
@@ -96,14 +96,14 @@ fn push_code_columns(
 }
 
 /// Appends a number, with leading spaces so that it fills `width` characters. A longer number widens the column.
-#[tactic(auto, unfolding(crate::specs::Text::right))]
+#[tactic(auto, unfolding(crate::specs::Text::right_aligned))]
 pub fn push_right_aligned(
     alloc: Global,
     bytes: &mut Vec<u8>,
     width: usize,
     number: u64,
 ) -> Result<(), AllocError>
-    ensures { OnOk result (bytes.new.items ≡ bytes.old.items ++ right width number) }
+    ensures { OnOk result (bytes.new.items ≡ bytes.old.items ++ right_aligned width number) }
 {
     let mut digits = Vec::new(alloc);
     push_number(&mut digits, number)?;

@@ -11,7 +11,7 @@ use Rattle.rv_trace.specs.State.{State}
 use Rattle.rv_trace.specs.Trace.{state_after}
 use Rattle.rv_trace.proofs.Public.{after_more, completes, each_completes, steps_more}
 use Rattle.rv_hang.specs.Quiet.{is_step_quiet}
-use Rattle.rv_hang.specs.Repetition.{HaveNoStops, RepeatsAtEnd, IsRepetition, matching_steps_after, first_matching, has_values}
+use Rattle.rv_hang.specs.Repetition.{AreQuietSteps, RepeatsAtEnd, IsRepetition, matching_steps_after, first_matching, has_values}
 use Rattle.rv_hang.specs.declared.hart.HartValues.{HartValues}
 use Rattle.rv_hang.specs.declared.repetition.MatchingSteps.{MatchingSteps}
 use Rattle.rv_hang.specs.declared.repetition.Repetition.{Repetition}
@@ -73,7 +73,7 @@ both_same s t u p q = (q.0 ∙ p.0, q.1 ∙ p.1)
 
 -- between two places
 quiet_same : (steps step n : ℕ) (s : State) → (run_of steps s).steps ≡ steps → step + n ≤ steps
-    → HaveNoStops step (step + n) s → Same (state_after step s) (state_after (step + n) s)
+    → AreQuietSteps step (step + n) s → Same (state_after step s) (state_after (step + n) s)
 quiet_same steps step zero s complete h quiet =
     let none : step ≡ step + zero = omega arith in
     (ap (λ k. (state_after k s).bus) (sym none), ap (λ k. (state_after k s).isa) (sym none))
@@ -99,7 +99,7 @@ same_state s t pc registers same =
 pub record IsBefore (values : HartValues) (p step : ℕ) (s : State) : Type 0 where
   pub before : p < step
   pub has : has_values values (state_after p s) ≡ true
-  pub quiet : HaveNoStops p step s
+  pub quiet : AreQuietSteps p step s
 
 pub record Known (values : HartValues) (begin step : ℕ) (s : State) (matching : Option MatchingSteps) : Type 0 where
   pub some : IfSome matching (λ a. IsBefore values a.first step s × IsBefore values a.last step s × (a.first ≤ a.last)
@@ -113,10 +113,10 @@ known_first values begin s = record {
 }
 
 module _ (values : HartValues) (begin step : ℕ) (s t : State) (here : t ≡ state_after step s) where
-  quiet_here : HaveNoStops step (step + 1) s → is_step_quiet t ≡ true
+  quiet_here : AreQuietSteps step (step + 1) s → is_step_quiet t ≡ true
   quiet_here q = ap is_step_quiet here ∙ q step (omega arith) (omega arith)
 
-  quiet_more : (p : ℕ) → is_step_quiet t ≡ true → HaveNoStops p step s → HaveNoStops p (step + 1) s
+  quiet_more : (p : ℕ) → is_step_quiet t ≡ true → AreQuietSteps p step s → AreQuietSteps p (step + 1) s
   quiet_more p q old k l m = elim (order k step) [
     | inl less ↦ old k l less
     | inr most ↦ let same : k ≡ step = omega arith in

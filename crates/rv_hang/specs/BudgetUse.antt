@@ -25,5 +25,5 @@ IsBudgetUse steps s (NoRepetition within) = (within ≡ searched_steps steps)
 abbrev pub IsBudgetUseIn : PlanView → Job → ℕ → Option BudgetUse → Type 0
 IsBudgetUseIn plan job steps None =
     (s : State) → start_state_in plan.results job ≡ Ok s → (run_of steps s).steps ≡ steps → ⊥
-IsBudgetUseIn plan job steps (Some found) = (s : State) × (start_state_in plan.results job ≡ Ok s)
-    × ((run_of steps s).steps ≡ steps) × IsBudgetUse steps s found
+IsBudgetUseIn plan job steps (Some budget_use) = (s : State) × (start_state_in plan.results job ≡ Ok s)
+    × ((run_of steps s).steps ≡ steps) × IsBudgetUse steps s budget_use

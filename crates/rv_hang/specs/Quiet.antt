@@ -14,9 +14,9 @@ use Rattle.rv_trace.specs.Steps.{instr_at}
 
 -- ---- stores that change nothing
 
--- whether the `n` bytes that begin at an address are in the address space, and none of them is among the console's 16 bytes
+-- whether the `size` bytes that begin at an address are in the address space, and none of them is among the console's 16 bytes
 abbrev pub are_outside_console : ℕ → ℕ → Bool
-are_outside_console a n = nat_le (a + n) 0x1000_0000 || (nat_le 0x1000_0010 a && nat_le (a + n) 0x1_0000_0000)
+are_outside_console address size = nat_le (address + size) 0x1000_0000 || (nat_le 0x1000_0010 address && nat_le (address + size) 0x1_0000_0000)
 
 -- whether there is a value and it equals the given one
 abbrev pub equals_value : Option ℕ → ℕ → Bool
@@ -25,24 +25,24 @@ equals_value (Some other) value = other == value
 
 -- whether the byte at an address already has this value, and counts as stored
 abbrev pub has_byte_stored : BusContents → ℕ → ℕ → Bool
-has_byte_stored c a byte = equals_value (fin.get c.memory a) byte && set.contains c.stored a
+has_byte_stored bus address byte = equals_value (fin.get bus.memory address) byte && set.contains bus.stored address
 
 -- whether the bytes at an address already have the values that a store of this width and value would give them, and count as stored
 abbrev pub has_value_stored : BusContents → ℕ → Width → ℕ → Bool
-has_value_stored c a Byte v = has_byte_stored c a (v % 0x100)
-has_value_stored c a Half v = has_byte_stored c a (v % 0x100) && has_byte_stored c (a + 1) (v / 0x100 % 0x100)
-has_value_stored c a Word v = has_byte_stored c a (v % 0x100) && (has_byte_stored c (a + 1) (v / 0x100 % 0x100)
-    && (has_byte_stored c (a + 2) (v / 0x1_0000 % 0x100) && has_byte_stored c (a + 3) (v / 0x100_0000 % 0x100)))
+has_value_stored bus address Byte value = has_byte_stored bus address (value % 0x100)
+has_value_stored bus address Half value = has_byte_stored bus address (value % 0x100) && has_byte_stored bus (address + 1) (value / 0x100 % 0x100)
+has_value_stored bus address Word value = has_byte_stored bus address (value % 0x100) && (has_byte_stored bus (address + 1) (value / 0x100 % 0x100)
+    && (has_byte_stored bus (address + 2) (value / 0x1_0000 % 0x100) && has_byte_stored bus (address + 3) (value / 0x100_0000 % 0x100)))
 
 -- whether a store of this width and value is outside the console and changes nothing
 abbrev pub is_store_redundant : BusContents → ℕ → Width → ℕ → Bool
-is_store_redundant c a w v = are_outside_console a (size_of w) && has_value_stored c a w v
+is_store_redundant bus address width value = are_outside_console address (size_of width) && has_value_stored bus address width value
 
 -- ---- steps
 
 -- whether a word load at this address consumes a byte of the input script: at the console's first address, while there is one
 abbrev pub consumes_script : BusContents → ℕ → Bool
-consumes_script c a = a == 0x1000_0000 && not (length c.script == 0)
+consumes_script bus address = address == 0x1000_0000 && not (length bus.script == 0)
 
 -- whether an instruction leaves the bus unchanged if it completes: only loads and stores access the bus; FENCE.I counts as if it changed
 -- the bus

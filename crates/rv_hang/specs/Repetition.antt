@@ -20,8 +20,8 @@ pub record IsRepetition (steps : ℕ) (s : State) (r : Repetition) : Type 0 wher
   pub matching : state_after (r.begin + r.period) s ≡ state_after r.begin s
 
 -- no step of the run from the state `s`, from step `step` up to step `end`, can change the bus
-abbrev pub HaveNoStops : ℕ → ℕ → State → Type 0
-HaveNoStops step end s = (k : ℕ) → step ≤ k → k < end → is_step_quiet (state_after k s) ≡ true
+abbrev pub AreQuietSteps : ℕ → ℕ → State → Type 0
+AreQuietSteps step end s = (k : ℕ) → step ≤ k → k < end → is_step_quiet (state_after k s) ≡ true
 
 -- before step `step`, the run from the state `s` has the pc and the registers that it has after `steps` steps, and no step in between can
 -- change the bus
@@ -29,7 +29,7 @@ pub record RepeatsAtEnd (steps step : ℕ) (s : State) : Type 0 where
   pub before : step < steps
   pub pc : (state_after step s).pc ≡ (state_after steps s).pc
   pub registers : (state_after step s).registers ≡ (state_after steps s).registers
-  pub quiet : HaveNoStops step steps s
+  pub quiet : AreQuietSteps step steps s
 
 -- the repetition is reported to wait for input if and only if a step after its first `r.begin` steps loads from the exhausted input script
 pub record IsWaitReported (steps : ℕ) (s : State) (r : Repetition) : Type 0 where

@@ -32,17 +32,17 @@ pub fn budget_use_of(
     job: &JobImage<'_>,
     steps: u32,
 ) -> Result<Option<BudgetUse>, AllocError>
-    ensures { IfOk result (λ found. (d : AJob) → IsBudgetUseIn job.now.plan.now
-        (job_at job.now.plan.now job.now.place d) steps found) }
+    ensures { IfOk result (λ budget_use. (d : AJob) → IsBudgetUseIn job.now.plan.now
+        (job_at job.now.plan.now job.now.index d) steps budget_use) }
 {
-    let machine = match machine_at(alloc, job.plan, job.place, job.image)? {
+    let machine = match machine_at(alloc, job.plan, job.index, job.image)? {
         Ok(machine) => machine,
         Err(_) => return Ok(None),
     };
     let Some(end) = values_after(machine, steps) else {
         return Ok(None);
     };
-    match machine_at(alloc, job.plan, job.place, job.image)? {
+    match machine_at(alloc, job.plan, job.index, job.image)? {
         Ok(machine) => Ok(Some(budget_use(machine, steps, &end))),
         Err(_) => Ok(None),
     }

@@ -99,7 +99,7 @@ fn has_byte_stored(bus: &Bus, addr: u32, byte: u32) -> bool
     ensures { result ≡ has_byte_stored bus.now addr byte }
 {
     match bus.byte(addr) {
-        Some(there) => u32::from(there) == byte && bus.is_stored(addr),
+        Some(value) => u32::from(value) == byte && bus.is_stored(addr),
         None => false,
     }
 }

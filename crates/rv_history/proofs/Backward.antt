@@ -12,8 +12,8 @@ use Rattle.rv_history.specs.declared.stepping.StepResult.{StepResult}
 use Rattle.rv_history.specs.declared.stepping.StepResult.TheVariants as stepped
 use Rattle.rv_history.specs.declared.stops.Stops.{Stops}
 use Rattle.rv_history.specs.LastStop.{HaveNoStops, IsLastStopIn, HasNoStopAt, last_at, last_stop_after}
-use Rattle.rv_history.specs.Moves.{HasNoBackwardStop, IsChangeBefore, IsStepBack, IsStopBefore, IsUninterrupted, IsBackwardStop}
-use Rattle.rv_history.specs.Places.{IsBreakAt, IsChangeAt, IsReached, last_step}
+use Rattle.rv_history.specs.Moves.{HasNoBackwardStop, IsTriggerBefore, IsStepBack, IsStopBefore, IsUninterrupted, IsBackwardStop}
+use Rattle.rv_history.specs.Places.{IsBreakAt, IsTriggerAt, IsReached, last_step}
 use Rattle.rv_history.specs.Stepping.{IsStepped}
 use Rattle.rv_history.specs.Stops.{TriggersWatch, TriggersNoWatch, is_break}
 use Rattle.rv_history.proofs.Reaching.{next_place}
@@ -24,17 +24,17 @@ abbrev pub IsLastStop : Stops → ℕ → State → ℕ → SearchEnd → Type 0
 IsLastStop stops budget start from last = IsStopBefore stops budget start from last.step last.outcome
 
 -- a change is behind one place alone
-change_before : (stops : Stops) (budget step : ℕ) (start : State) → IsChangeBefore stops budget start (step + 1)
-    → IsChangeAt stops budget start step
+change_before : (stops : Stops) (budget step : ℕ) (start : State) → IsTriggerBefore stops budget start (step + 1)
+    → IsTriggerAt stops budget start step
 change_before stops budget step start change =
-    let same : change.before ≡ step = let is = change.place_is in omega arith in
-    subst (λ (k : ℕ). IsChangeAt stops budget start k) same change.change
+    let same : change.before ≡ step = let is = change.step_is in omega arith in
+    subst (λ (k : ℕ). IsTriggerAt stops budget start k) same change.triggers
 
 -- at the start there is nothing before
 begins : (stops : Stops) (budget : ℕ) (start : State) → IsStopBefore stops budget start 0 0 outcome.RunStart
 begins stops budget start = record {
   order = omega arith;
-  meets = (refl, λ below. absurd (omega arith));
+  is_stop = (refl, λ below. absurd (omega arith));
   between = λ j low high. absurd (omega arith);
 }
 
@@ -64,24 +64,24 @@ goes_later : (stops : Stops) (budget from j : ℕ) (start : State) → j ≤ fro
     → HasNoBackwardStop stops budget start from j → HasNoBackwardStop stops budget start (from + 1) j
 goes_later stops budget from j start order absent goes = record {
   no_break = λ below is. no_break_later stops from j start order absent goes.no_break is;
-  no_change = goes.no_change;
+  no_trigger = goes.no_trigger;
 }
 
 -- the place behind a step that changes nothing
-goes_there : (stops : Stops) (budget from : ℕ) (start : State) → (IsChangeAt stops budget start from → ⊥)
+goes_there : (stops : Stops) (budget from : ℕ) (start : State) → (IsTriggerAt stops budget start from → ⊥)
     → HasNoBackwardStop stops budget start (from + 1) (from + 1)
 goes_there stops budget from start none = record {
   no_break = λ below. absurd (omega arith);
-  no_change = λ change. none (change_before stops budget from start change);
+  no_trigger = λ change. none (change_before stops budget from start change);
 }
 
 -- behind a step that changes nothing, at whose place there is no breakpoint
 last_stays : (stops : Stops) (budget from : ℕ) (start : State) (last : SearchEnd) → (IsBreakAt stops start from → ⊥)
-    → (IsChangeAt stops budget start from → ⊥) → IsUninterrupted last.outcome → IsLastStop stops budget start from last
+    → (IsTriggerAt stops budget start from → ⊥) → IsUninterrupted last.outcome → IsLastStop stops budget start from last
     → IsLastStop stops budget start (from + 1) last
 last_stays stops budget from start last absent none unbroken stop = record {
   order = let order = stop.order in omega arith;
-  meets = meets_later stops budget from last.step start last.outcome stop.order absent unbroken stop.meets;
+  is_stop = meets_later stops budget from last.step start last.outcome stop.order absent unbroken stop.is_stop;
   between = λ j low high. elim (cases_eq j (from + 1)) [
     | inl there ↦ rw there (goes_there stops budget from start none)
     | inr other ↦ goes_later stops budget from j start (omega arith) absent (stop.between j low (omega arith))
@@ -90,21 +90,21 @@ last_stays stops budget from start last absent none unbroken stop = record {
 
 -- the same where there is one
 last_breaks : (stops : Stops) (budget from : ℕ) (start : State) → IsBreakAt stops start from
-    → (IsChangeAt stops budget start from → ⊥) → IsStopBefore stops budget start (from + 1) from outcome.Breakpoint
+    → (IsTriggerAt stops budget start from → ⊥) → IsStopBefore stops budget start (from + 1) from outcome.Breakpoint
 last_breaks stops budget from start is none = record {
   order = omega arith;
-  meets = (omega arith, is);
+  is_stop = (omega arith, is);
   between = λ j low high.
       let there : j ≡ from + 1 = omega arith in
       rw there (goes_there stops budget from start none);
 }
 
 -- behind a step that changes something
-last_changes : (stops : Stops) (budget from : ℕ) (start : State) → IsChangeAt stops budget start from
+last_changes : (stops : Stops) (budget from : ℕ) (start : State) → IsTriggerAt stops budget start from
     → IsStopBefore stops budget start (from + 1) (from + 1) outcome.WatchTriggered
 last_changes stops budget from start change = record {
   order = omega arith;
-  meets = (record { before = from; place_is = refl; change = change }, λ below. absurd (omega arith));
+  is_stop = (record { before = from; step_is = refl; triggers = change }, λ below. absurd (omega arith));
   between = λ j low high. absurd (omega arith);
 }
 
@@ -116,18 +116,18 @@ last_stays_on stops budget begin from start None quiet stop = λ j low high. eli
   | inr other ↦ stop j low (omega arith)
 ]
 last_stays_on stops budget begin from start (Some last) quiet stop =
-    (last_stays stops budget from start last quiet.no_break quiet.no_change stop.1 stop.0, stop.1)
+    (last_stays stops budget from start last quiet.no_break quiet.no_trigger stop.1 stop.0, stop.1)
 
 -- with a breakpoint or without one
 last_quiet : (stops : Stops) (budget begin from : ℕ) (start s : State) (last : Option SearchEnd) (is : Bool) → IsReached start from s
-    → is ≡ is_break stops s.pc → (IsChangeAt stops budget start from → ⊥) → IsLastStopIn stops budget start begin from last
+    → is ≡ is_break stops s.pc → (IsTriggerAt stops budget start from → ⊥) → IsLastStopIn stops budget start begin from last
     → IsLastStopIn stops budget start begin (from + 1) (last_at last from is)
 last_quiet stops budget begin from start s last true reached told none stop =
-    (last_breaks stops budget from start (ap (λ (t : State). is_break stops t.pc) (sym reached.same) ∙ sym told) none, λ same. cc same)
+    (last_breaks stops budget from start (ap (λ (t : State). is_break stops t.pc) (sym reached.state_is) ∙ sym told) none, λ same. cc same)
 last_quiet stops budget begin from start s last false reached told none stop =
     last_stays_on stops budget begin from start last (record {
-      no_break = λ is. both_ways (is_break stops s.pc) (sym told) (ap (λ (t : State). is_break stops t.pc) reached.same ∙ is);
-      no_change = none;
+      no_break = λ is. both_ways (is_break stops s.pc) (sym told) (ap (λ (t : State). is_break stops t.pc) reached.state_is ∙ is);
+      no_trigger = none;
     }) stop
 
 -- behind a step of any kind
@@ -139,7 +139,7 @@ last_more stops budget begin from start s t last is stepped.WatchTriggered reach
 last_more stops budget begin from start s t last is stepped.NotTriggered reached goes told did within stop =
     last_quiet stops budget begin from start s last is reached told (no_change_at stops budget from start s t reached did.0 did.1) stop
 last_more stops budget begin from start s t last is (stepped.Ended ending) reached goes told did within stop =
-    let ok = ap step_of reached.same ∙ each_completes budget from start goes in absurd (cc (sym did.0, ok))
+    let ok = ap step_of reached.state_is ∙ each_completes budget from start goes in absurd (cc (sym did.0, ok))
 
 -- ---- the parts of a search
 
@@ -152,7 +152,7 @@ stays_over stops budget end (suc more) start last quiet unbroken stop =
     let before : end + more + 1 ≡ end + suc more = omega arith in
     let here = quiet (end + more) (omega arith) (omega arith) in
     subst (λ (k : ℕ). IsLastStop stops budget start k last) before
-    (last_stays stops budget (end + more) start last here.no_break here.no_change unbroken
+    (last_stays stops budget (end + more) start last here.no_break here.no_trigger unbroken
     (stays_over stops budget end more start last (λ j low high. quiet j low (omega arith)) unbroken stop))
 
 pub last_before : (stops : Stops) (budget end from : ℕ) (start : State) (last : SearchEnd) → end ≤ from
@@ -183,7 +183,7 @@ begins_over stops budget from start quiet =
 pub stays_broken : (stops : Stops) (budget from : ℕ) (start : State) → IsStopBefore stops budget start from from outcome.Interrupted
 stays_broken stops budget from start = record {
   order = omega arith;
-  meets = refl;
+  is_stop = refl;
   between = λ j low high. absurd (omega arith);
 }
 
@@ -193,7 +193,7 @@ pub stepped_place : (stops : Stops) (budget from : ℕ) (start s t : State) (kin
 stepped_place stops budget from start s t stepped.WatchTriggered reached goes did = next_place start s t from reached did.0
 stepped_place stops budget from start s t stepped.NotTriggered reached goes did = next_place start s t from reached did.0
 stepped_place stops budget from start s t (stepped.Ended ending) reached goes did =
-    let ok = ap step_of reached.same ∙ each_completes budget from start goes in absurd (cc (sym did.0, ok))
+    let ok = ap step_of reached.state_is ∙ each_completes budget from start goes in absurd (cc (sym did.0, ok))
 
 -- ---- one step back
 
@@ -206,13 +206,13 @@ pub stays_behind_change : (stops : Stops) (budget before from : ℕ) (start s t 
     → IsReached start before s → step_of s ≡ Ok t → TriggersWatch stops s t
     → IsStepBack stops budget start from from outcome.WatchTriggered
 stays_behind_change stops budget before from start s t is within reached e differ =
-    (refl, record { before = before; place_is = is; change = change_at stops budget before start s t reached within e differ })
+    (refl, record { before = before; step_is = is; triggers = change_at stops budget before start s t reached within e differ })
 
 -- the step in front of a place that the run comes to completes
 pub completes_before : (before from : ℕ) (start s : State) → from ≡ before + 1 → (run_of from start).steps ≡ from
     → IsReached start before s → step_of s ≡ Ok (state_after (before + 1) start)
 completes_before before from start s is there reached =
-    ap step_of reached.same ∙ each_completes from before start (omega arith)
+    ap step_of reached.state_is ∙ each_completes from before start (omega arith)
 
 pub back_within : (stops : Stops) (budget from step : ℕ) (start : State) (outcome : MoveResult)
     → IsStepBack stops budget start from step outcome → step ≤ from

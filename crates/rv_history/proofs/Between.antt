@@ -111,7 +111,7 @@ pub step_completes : (o : Option Ending) (end step : ℕ) (start s t : State) �
     → MatchOption o (step_of s ≡ Ok t) (λ e. (step_of s ≡ Err e) × (t ≡ s)) → step_of s ≡ Ok t
 step_completes None end step start s t reached goes did = did
 step_completes (Some e) end step start s t reached goes did =
-    let ok = ap step_of reached.same ∙ each_completes end step start goes in absurd (cc (sym did.0, ok))
+    let ok = ap step_of reached.state_is ∙ each_completes end step start goes in absurd (cc (sym did.0, ok))
 
 pub last_run : (stops : Stops) (budget begin step n : ℕ) (start s t : State) (last : Option SearchEnd) → AreUnwatched stops
     → IsReached start step s → step + n ≤ last_step budget start → last_step budget start ≤ budget → Completes n s t

@@ -17,7 +17,7 @@ LacksUpTo count value start step = (j : ℕ) → j < step → count_at count sta
 
 count_here : (count : Count) (start s : State) (step : ℕ) → IsReached start step s
     → count_value count (length start.bus.script) s.bus ≡ count_at count start step
-count_here count start s step reached = ap (λ (t : State). count_value count (length start.bus.script) t.bus) reached.same
+count_here count start s step reached = ap (λ (t : State). count_value count (length start.bus.script) t.bus) reached.state_is
 
 pub lacks_more : (count : Count) (value step : ℕ) (start s : State) → IsReached start step s
     → (count_value count (length start.bus.script) s.bus ≡ value → ⊥) → LacksUpTo count value start step
@@ -33,7 +33,7 @@ pub found_here : (count : Count) (value budget step : ℕ) (start s : State) →
     → IsFirstStepIfAny count value budget start (Some step)
 found_here count value budget step start s reached within is before = record {
   within = comes_within budget step start reached.completed within;
-  there = sym (count_here count start s step reached) ∙ is;
+  value_is = sym (count_here count start s step reached) ∙ is;
   first = before;
 }
 

@@ -7,8 +7,8 @@ use Rattle.rv_history.specs.declared.outcome.MoveResult.{MoveResult}
 use Rattle.rv_history.specs.declared.outcome.MoveResult.TheVariants as outcome
 use Rattle.rv_history.specs.declared.stops.Stops.{Stops}
 use Rattle.rv_history.specs.Counts.{IsFirstStepWith}
-use Rattle.rv_history.specs.Moves.{HasNoForwardStop, HasNoBackwardStop, IsChangeBefore, IsNextStep, IsNextStop, IsStepBack, IsStopBefore, IsUninterrupted, IsForwardStop, IsBackwardStop}
-use Rattle.rv_history.specs.Places.{IsChangeAt}
+use Rattle.rv_history.specs.Moves.{HasNoForwardStop, HasNoBackwardStop, IsTriggerBefore, IsNextStep, IsNextStop, IsStepBack, IsStopBefore, IsUninterrupted, IsForwardStop, IsBackwardStop}
+use Rattle.rv_history.specs.Places.{IsTriggerAt}
 
 -- neither of two places is before the other
 one_place : (p q : ℕ) → (p < q → ⊥) → (q < p → ⊥) → p ≡ q
@@ -21,7 +21,7 @@ meets_or_goes : (stops : Stops) (bounds : Bounds) (budget from step : ℕ) (star
 meets_or_goes stops bounds budget from step start outcome.Breakpoint unbroken meets goes = goes.no_halt meets.0 meets.1
 meets_or_goes stops bounds budget from step start (outcome.End ending) unbroken meets goes =
     let there = meets.0.0 in let before = goes.no_end in omega arith
-meets_or_goes stops bounds budget from step start outcome.WatchTriggered unbroken meets goes = goes.no_change meets.0
+meets_or_goes stops bounds budget from step start outcome.WatchTriggered unbroken meets goes = goes.no_trigger meets.0
 meets_or_goes stops bounds budget from step start outcome.Done unbroken meets goes = absurd meets
 meets_or_goes stops bounds budget from step start outcome.RunStart unbroken meets goes = absurd meets
 meets_or_goes stops bounds budget from step start outcome.Interrupted unbroken meets goes = unbroken refl
@@ -59,11 +59,11 @@ pub one_next_stop : (stops : Stops) (bounds : Bounds) (budget from p q : ℕ) (s
     → IsUninterrupted other → (p ≡ q) × (one ≡ other)
 one_next_stop stops bounds budget from p q start one other first second whole sound =
     let same : p ≡ q = one_place p q
-    (λ before. meets_or_goes stops bounds budget from p start one whole first.meets (second.between p first.order before))
-    (λ before. meets_or_goes stops bounds budget from q start other sound second.meets (first.between q second.order before)) in (
+    (λ before. meets_or_goes stops bounds budget from p start one whole first.is_stop (second.between p first.order before))
+    (λ before. meets_or_goes stops bounds budget from q start other sound second.is_stop (first.between q second.order before)) in (
       same,
       met_ahead stops bounds budget from q start one other whole sound
-          (subst (λ (k : ℕ). IsForwardStop stops bounds budget start from k one) same first.meets) second.meets,
+          (subst (λ (k : ℕ). IsForwardStop stops bounds budget start from k one) same first.is_stop) second.is_stop,
     )
 
 pub one_next_step : (stops : Stops) (budget from p q : ℕ) (start : State) (one other : MoveResult)
@@ -100,14 +100,14 @@ one_next_step stops budget from p q start outcome.Interrupted other first second
 met_or_went : (stops : Stops) (budget from step low : ℕ) (start : State) (outcome : MoveResult) → low < step → IsUninterrupted outcome
     → IsBackwardStop stops budget start from step outcome → HasNoBackwardStop stops budget start from step → ⊥
 met_or_went stops budget from step low start outcome.Breakpoint above unbroken meets goes = goes.no_break meets.0 meets.1
-met_or_went stops budget from step low start outcome.WatchTriggered above unbroken meets goes = goes.no_change meets.0
+met_or_went stops budget from step low start outcome.WatchTriggered above unbroken meets goes = goes.no_trigger meets.0
 met_or_went stops budget from step low start outcome.RunStart above unbroken meets goes = let none = meets.0 in omega arith
 met_or_went stops budget from step low start (outcome.End ending) above unbroken meets goes = absurd meets
 met_or_went stops budget from step low start outcome.Done above unbroken meets goes = absurd meets
 met_or_went stops budget from step low start outcome.Interrupted above unbroken meets goes = unbroken refl
 
-no_change_at_start : (stops : Stops) (budget step : ℕ) (start : State) → step ≡ 0 → IsChangeBefore stops budget start step → ⊥
-no_change_at_start stops budget step start none change = let is = change.place_is in omega arith
+no_change_at_start : (stops : Stops) (budget step : ℕ) (start : State) → step ≡ 0 → IsTriggerBefore stops budget start step → ⊥
+no_change_at_start stops budget step start none change = let is = change.step_is in omega arith
 
 met_back : (stops : Stops) (budget from step : ℕ) (start : State) (one other : MoveResult)
     → IsUninterrupted one → IsUninterrupted other → IsBackwardStop stops budget start from step one
@@ -141,19 +141,19 @@ pub one_stop_before : (stops : Stops) (budget from p q : ℕ) (start : State) (o
     → IsUninterrupted other → (p ≡ q) × (one ≡ other)
 one_stop_before stops budget from p q start one other first second whole sound =
     let same : p ≡ q = one_place p q
-    (λ above. met_or_went stops budget from q p start other above sound second.meets (first.between q above second.order))
-    (λ above. met_or_went stops budget from p q start one above whole first.meets (second.between p above first.order)) in (
+    (λ above. met_or_went stops budget from q p start other above sound second.is_stop (first.between q above second.order))
+    (λ above. met_or_went stops budget from p q start one above whole first.is_stop (second.between p above first.order)) in (
       same,
       met_back stops budget from q start one other whole sound
-          (subst (λ (k : ℕ). IsBackwardStop stops budget start from k one) same first.meets) second.meets,
+          (subst (λ (k : ℕ). IsBackwardStop stops budget start from k one) same first.is_stop) second.is_stop,
     )
 
 -- the step behind a place changes something, or nothing
 changes_or_not : (stops : Stops) (budget from step : ℕ) (start : State) → from ≡ step + 1
-    → (IsChangeAt stops budget start step → ⊥) → IsChangeBefore stops budget start from → ⊥
+    → (IsTriggerAt stops budget start step → ⊥) → IsTriggerBefore stops budget start from → ⊥
 changes_or_not stops budget from step start is none change =
-    let there : change.before ≡ step = let at = change.place_is in omega arith in
-    none (subst (λ (k : ℕ). IsChangeAt stops budget start k) there change.change)
+    let there : change.before ≡ step = let at = change.step_is in omega arith in
+    none (subst (λ (k : ℕ). IsTriggerAt stops budget start k) there change.triggers)
 
 pub one_step_before : (stops : Stops) (budget from p q : ℕ) (start : State) (one other : MoveResult)
     → IsStepBack stops budget start from p one → IsStepBack stops budget start from q other → (p ≡ q) × (one ≡ other)
@@ -191,4 +191,4 @@ one_step_before stops budget from p q start outcome.Interrupted other first seco
 pub one_first_with : (count : Count) (value budget p q : ℕ) (start : State) → IsFirstStepWith count value budget start p
     → IsFirstStepWith count value budget start q → p ≡ q
 one_first_with count value budget p q start first second =
-    one_place p q (λ before. second.first p before first.there) (λ before. first.first q before second.there)
+    one_place p q (λ before. second.first p before first.value_is) (λ before. first.first q before second.value_is)

@@ -12,7 +12,7 @@ use Rattle.rv_history.specs.declared.outcome.MoveResult.{MoveResult}
 use Rattle.rv_history.specs.declared.outcome.MoveResult.TheVariants as outcome
 use Rattle.rv_history.specs.declared.stops.Stops.{Stops}
 use Rattle.rv_history.specs.Moves.{HasNoForwardStop, IsNextStep, IsNextStop, result_at_budget}
-use Rattle.rv_history.specs.Places.{IsChangeAt, IsHaltAt, IsReached, last_step}
+use Rattle.rv_history.specs.Places.{IsTriggerAt, IsHaltAt, IsReached, last_step}
 use Rattle.rv_history.specs.Stops.{TriggersWatch, TriggersNoWatch, halts_at, access_hit}
 use Rattle.rv_history.proofs.Reaching.{comes_within, ends_by_budget, ends_here, goes_on, next_place}
 
@@ -22,14 +22,14 @@ use Rattle.rv_history.proofs.Reaching.{comes_within, ends_by_budget, ends_here, 
 no_halt_at : (stops : Stops) (bounds : Bounds) (start s : State) (from step : ℕ) → IsReached start step s
     → (ltb from step && halts_at stops bounds s.pc) ≡ false → from < step → IsHaltAt stops bounds start step → ⊥
 no_halt_at stops bounds start s from step reached absent behind is =
-    let here : halts_at stops bounds s.pc ≡ true = ap (λ (t : State). halts_at stops bounds t.pc) reached.same ∙ is in
+    let here : halts_at stops bounds s.pc ≡ true = ap (λ (t : State). halts_at stops bounds t.pc) reached.state_is ∙ is in
     both_ways (ltb from step && halts_at stops bounds s.pc) absent (and_from (ltb from step) (halts_at stops bounds s.pc) (lt-ltb from step behind) here)
 
 halt_at : (stops : Stops) (bounds : Bounds) (start s : State) (from step : ℕ) → IsReached start step s
     → (ltb from step && halts_at stops bounds s.pc) ≡ true → (from < step) × IsHaltAt stops bounds start step
 halt_at stops bounds start s from step reached is =
     let parts = and_parts (ltb from step) (halts_at stops bounds s.pc) is in
-    (ltb-true from step parts.0, ap (λ (t : State). halts_at stops bounds t.pc) (sym reached.same) ∙ parts.1)
+    (ltb-true from step parts.0, ap (λ (t : State). halts_at stops bounds t.pc) (sym reached.state_is) ∙ parts.1)
 
 -- a step sets off a watch, or none
 not_both : (stops : Stops) (s t : State) → TriggersNoWatch stops s t → TriggersWatch stops s t → ⊥
@@ -38,21 +38,21 @@ not_both stops s t unset (inr touches) = both_ways (is_some (access_hit stops s)
 
 -- a step that sets off a watch
 pub change_at : (stops : Stops) (budget step : ℕ) (start s t : State) → IsReached start step s → step < budget → step_of s ≡ Ok t
-    → TriggersWatch stops s t → IsChangeAt stops budget start step
+    → TriggersWatch stops s t → IsTriggerAt stops budget start step
 change_at stops budget step start s t reached within e differ =
     let next = next_place start s t step reached e in record {
       completes = goes_on budget step start s t reached within e;
-      triggers = subst (λ (u : State). TriggersWatch stops u (state_after (step + 1) start)) reached.same
-          (subst (λ (u : State). TriggersWatch stops s u) next.same differ);
+      triggers = subst (λ (u : State). TriggersWatch stops u (state_after (step + 1) start)) reached.state_is
+          (subst (λ (u : State). TriggersWatch stops s u) next.state_is differ);
     }
 
 -- a step that sets off none
 pub no_change_at : (stops : Stops) (budget step : ℕ) (start s t : State) → IsReached start step s → step_of s ≡ Ok t
-    → TriggersNoWatch stops s t → IsChangeAt stops budget start step → ⊥
+    → TriggersNoWatch stops s t → IsTriggerAt stops budget start step → ⊥
 no_change_at stops budget step start s t reached e same change =
     let next = next_place start s t step reached e in
-    not_both stops s t same (subst (λ (u : State). TriggersWatch stops s u) (sym next.same)
-    (subst (λ (u : State). TriggersWatch stops u (state_after (step + 1) start)) (sym reached.same) change.triggers))
+    not_both stops s t same (subst (λ (u : State). TriggersWatch stops s u) (sym next.state_is)
+    (subst (λ (u : State). TriggersWatch stops u (state_after (step + 1) start)) (sym reached.state_is) change.triggers))
 
 -- ---- the search
 
@@ -68,7 +68,7 @@ quiet_more stops bounds budget from step start s t reached within e same absent 
       | inl here ↦ rw here (record {
         no_halt = no_halt_at stops bounds start s from step reached absent;
         no_end = goes_on budget step start s t reached within e;
-        no_change = no_change_at stops budget step start s t reached e same;
+        no_trigger = no_change_at stops budget step start s t reached e same;
       })
       | inr other ↦ quiet j low (omega arith)
     ]
@@ -79,7 +79,7 @@ pub stops_by_break : (stops : Stops) (bounds : Bounds) (budget from step : ℕ) 
 stops_by_break stops bounds budget from step start s reached low within is quiet = record {
   order = low;
   within = comes_within budget step start reached.completed within;
-  meets = halt_at stops bounds start s from step reached is;
+  is_stop = halt_at stops bounds start s from step reached is;
   between = quiet;
 }
 
@@ -90,7 +90,7 @@ pub stops_by_change : (stops : Stops) (bounds : Bounds) (budget from step : ℕ)
 stops_by_change stops bounds budget from step start s t reached low within e differ absent quiet = record {
   order = low;
   within = comes_within budget step start reached.completed (omega arith);
-  meets = (change_at stops budget step start s t reached within e differ, no_halt_at stops bounds start s from step reached absent);
+  is_stop = (change_at stops budget step start s t reached within e differ, no_halt_at stops bounds start s from step reached absent);
   between = quiet;
 }
 
@@ -100,7 +100,7 @@ pub stops_by_end : (stops : Stops) (bounds : Bounds) (budget from step : ℕ) (s
 stops_by_end stops bounds budget from step start s ending reached low within e absent quiet = record {
   order = low;
   within = comes_within budget step start reached.completed (omega arith);
-  meets = (ends_here budget step start s ending reached within e, no_halt_at stops bounds start s from step reached absent);
+  is_stop = (ends_here budget step start s ending reached within e, no_halt_at stops bounds start s from step reached absent);
   between = quiet;
 }
 
@@ -110,7 +110,7 @@ pub stops_by_interrupt : (stops : Stops) (bounds : Bounds) (budget from step : �
 stops_by_interrupt stops bounds budget from step start s reached low within absent quiet = record {
   order = low;
   within = comes_within budget step start reached.completed within;
-  meets = no_halt_at stops bounds start s from step reached absent;
+  is_stop = no_halt_at stops bounds start s from step reached absent;
   between = quiet;
 }
 
@@ -136,7 +136,7 @@ stops_by_budget stops bounds budget from step start s reached low end absent qui
     let there = at_budget stops bounds budget from step start s end reached quiet in record {
       order = low;
       within = comes_within budget budget start there.0.completed (omega arith);
-      meets = (ends_by_budget budget start there.0.completed, no_halt_at stops bounds start s from budget there.0 absent);
+      is_stop = (ends_by_budget budget start there.0.completed, no_halt_at stops bounds start s from budget there.0 absent);
       between = there.1;
     }
 

@@ -26,12 +26,12 @@ abbrev Grows : State → State → Type 0
 Grows s u = BeginsWith u.bus.output s.bus.output
 
 same_begins : (whole front : List ℕ) → whole ≡ front → BeginsWith whole front
-same_begins whole front same = record { rest = []; whole_is = same ∙ sym (append-nil front) }
+same_begins whole front same = record { rest = []; text_is = same ∙ sym (append-nil front) }
 
 begins_on : (whole middle front : List ℕ) → BeginsWith middle front → BeginsWith whole middle → BeginsWith whole front
 begins_on whole middle front first second = record {
   rest = first.rest ++ second.rest;
-  whole_is = second.whole_is ∙ ap (λ (text : List ℕ). text ++ second.rest) first.whole_is
+  text_is = second.text_is ∙ ap (λ (text : List ℕ). text ++ second.rest) first.text_is
       ∙ append_assoc front first.rest second.rest;
 }
 
@@ -55,7 +55,7 @@ console_grows c a Word v =
     let r : Result BusContents BusFault = cond (ltb (length c.output) 0x1_0000) written (Err ConsoleFull) in
     by_test (Prints c) (not (eqb a 0x1000_0000)) (Err Access) r tt
     (by_test (Prints c) (ltb (length c.output) 0x1_0000) written (Err ConsoleFull)
-    (record { rest = (v % 0x100) ∷ []; whole_is = refl }) tt)
+    (record { rest = (v % 0x100) ∷ []; text_is = refl }) tt)
 
 put_prints : (c : BusContents) (a : ℕ) (w : Width) (v : ℕ) → Prints c (put c a w v)
 put_prints c a Byte v = same_begins c.output c.output refl

@@ -69,15 +69,15 @@ all_used (suc n) s h = by_step s ((run_of (suc n) s).ending ≡ Budget)
 -- ---- places
 
 pub at_start : (start s : State) → s ≡ start → IsReached start 0 s
-at_start start s is = record { completed = ap (λ r. r.steps) (run_none start); same = is ∙ sym (after_none start) }
+at_start start s is = record { completed = ap (λ r. r.steps) (run_none start); state_is = is ∙ sym (after_none start) }
 
 pub next_place : (start s t : State) (step : ℕ) → IsReached start step s → step_of s ≡ Ok t → IsReached start (step + 1) t
 next_place start s t step reached e =
-    let here : step_of (state_after step start) ≡ Ok t = ap step_of (sym reached.same) ∙ e in
+    let here : step_of (state_after step start) ≡ Ok t = ap step_of (sym reached.state_is) ∙ e in
     let more = steps_more step 1 start reached.completed in
     let one = one_steps (state_after step start) t here in record {
       completed = omega arith;
-      same = sym (after_more step 1 start reached.completed ∙ one_state (state_after step start) t here);
+      state_is = sym (after_more step 1 start reached.completed ∙ one_state (state_after step start) t here);
     }
 
 -- the run comes to a place within its budget
@@ -114,7 +114,7 @@ run_from start s t from step steps ending reached order ran =
     let sum : from + rest ≡ step = omega arith in
     let more = steps_more from rest start reached.completed in
     let here : run_of rest (state_after from start) ≡ record { ending = ending; steps = steps; state = t } =
-    ap (λ u. run_of rest u) (sym reached.same) ∙ ran in
+    ap (λ u. run_of rest u) (sym reached.state_is) ∙ ran in
     subst (λ (k : ℕ). run_of k start ≡ record { ending = ending; steps = from + steps; state = t }) sum
     (same_ran (run_of (from + rest) start) ending (from + steps) t
     (ending_more from rest start reached.completed ∙ ap (λ r. r.ending) here)
@@ -127,7 +127,7 @@ pub ran_to : (start t : State) (step steps : ℕ) (ending : Ending)
 ran_to start t step steps ending ran =
     let count : (run_of step start).steps ≡ steps = ap (λ r. r.steps) ran in record {
       completed = completes step steps start (omega arith);
-      same = sym (sym (ap (λ k. state_after k start) count) ∙ same_end step start ∙ ap (λ r. r.state) ran);
+      state_is = sym (sym (ap (λ k. state_after k start) count) ∙ same_end step start ∙ ap (λ r. r.state) ran);
     }
 
 -- a run completes no more steps than its budget has
@@ -144,7 +144,7 @@ ran_there start t step steps ending ran far =
     let count = ap (λ r. r.steps) ran in
     let few = within_budget step start in record {
       completed = omega (arith, count, few, far);
-      same = sym (ap (λ r. r.state) ran);
+      state_is = sym (ap (λ r. r.state) ran);
     }
 
 -- a step that completes within the budget is not the last
@@ -159,7 +159,7 @@ goes_on budget step start s t reached within e =
 pub ends_here : (budget step : ℕ) (start s : State) (ending : Ending) → IsReached start step s → step < budget
     → step_of s ≡ Err ending → (step ≡ last_step budget start) × (ending ≡ (run_of budget start).ending)
 ends_here budget step start s ending reached within e =
-    let here : step_of (state_after step start) ≡ Err ending = ap step_of (sym reached.same) ∙ e in
+    let here : step_of (state_after step start) ≡ Err ending = ap step_of (sym reached.state_is) ∙ e in
     let rest = budget - (step + 1) in
     let sum : step + suc rest ≡ budget = omega arith in
     let more = steps_more step (suc rest) start reached.completed in

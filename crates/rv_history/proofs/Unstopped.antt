@@ -27,7 +27,7 @@ use Rattle.rv_history.specs.StoredStates.{IsAt}
 use Rattle.rv_history.specs.LastStop.{HasNoStopAt}
 use Rattle.rv_history.specs.ForwardMoves.{IsForwardMoveEnd, IsMoveInProgress}
 use Rattle.rv_history.specs.Moves.{HasNoForwardStop, IsEndAt, IsNextStop, IsStepBack, IsStopBefore}
-use Rattle.rv_history.specs.Places.{IsChangeAt, IsHaltAt, last_step}
+use Rattle.rv_history.specs.Places.{IsTriggerAt, IsHaltAt, last_step}
 use Rattle.rv_history.specs.Stops.{AreEmpty, AreUnwatched, TriggersWatch, TriggersNoWatch, first_hit, first_read, is_break, halts_at, hit_or, access_hit, hit_by_access, watch_bytes, watched_bytes}
 use Rattle.rv_history.proofs.Backward.{begins_over}
 use Rattle.rv_history.proofs.Reaching.{by_step, comes_within, ends_by_budget, ends_here, goes_on, ran_to}
@@ -63,14 +63,14 @@ unset stops s t none (inr touches) = both_ways (is_some (access_hit stops s)) (u
 pub is_unset : (stops : Stops) (s t : State) → AreUnwatched stops → TriggersNoWatch stops s t
 is_unset stops s t none = (no_bytes stops s.bus none.0 ∙ sym (no_bytes stops t.bus none.0), untouched stops s none)
 
-no_change : (stops : Stops) (budget step : ℕ) (start : State) → AreUnwatched stops → IsChangeAt stops budget start step → ⊥
+no_change : (stops : Stops) (budget step : ℕ) (start : State) → AreUnwatched stops → IsTriggerAt stops budget start step → ⊥
 no_change stops budget step start none change =
     unset stops (state_after step start) (state_after (step + 1) start) none change.triggers
 
 quiet_at : (stops : Stops) (budget step : ℕ) (start : State) → AreEmpty stops → HasNoStopAt stops budget start step
 quiet_at stops budget step start none = record {
   no_break = λ is. both_ways (is_break stops (state_after step start).pc) (no_break stops (state_after step start).pc none) is;
-  no_change = no_change stops budget step start none.1;
+  no_trigger = no_change stops budget step start none.1;
 }
 
 pub begins_unstopped : (stops : Stops) (budget from : ℕ) (start : State) → AreEmpty stops
@@ -103,7 +103,7 @@ goes_unstopped : (stops : Stops) (budget from step j : ℕ) (start : State) → 
 goes_unstopped stops budget from step j start none within before = record {
   no_halt = λ below is. no_halt stops j start none is;
   no_end = omega arith;
-  no_change = no_change stops budget j start none.1;
+  no_trigger = no_change stops budget j start none.1;
 }
 
 ends_everywhere : (stops : Stops) (budget from step : ℕ) (start : State) (ending : Ending) → AreEmpty stops
@@ -113,7 +113,7 @@ ends_everywhere stops budget from step start ending none order there =
     let here = there.0 in record {
       order = omega arith;
       within = omega arith;
-      meets = (there, λ below is. no_halt stops step start none is);
+      is_stop = (there, λ below is. no_halt stops step start none is);
       between = λ j low high. goes_unstopped stops budget from step j start none (omega arith) high;
     }
 
@@ -142,10 +142,10 @@ ends_within budget end step start t ending ran short within =
 pub under_way : (stops : Stops) (start : State) (forward_move : ForwardMove) → AreEmpty stops → forward_move.bounds ≡ bounds.All → IsAt start forward_move.at
     → forward_move.from ≤ forward_move.at.step → forward_move.at.step ≤ forward_move.budget → IsMoveInProgress stops start forward_move
 under_way stops start forward_move none all there order within = record {
-  there = there;
+  is_at = there;
   order = order;
   within = within;
-  quiet = λ j low high. subst (λ (b : Bounds). HasNoForwardStop stops b forward_move.budget start forward_move.from j) (sym all)
+  passed_no_stop = λ j low high. subst (λ (b : Bounds). HasNoForwardStop stops b forward_move.budget start forward_move.from j) (sym all)
       (goes_unstopped stops forward_move.budget forward_move.from forward_move.at.step j start none
       (comes_within forward_move.budget forward_move.at.step start there.completed within) high);
 }

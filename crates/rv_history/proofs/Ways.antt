@@ -32,7 +32,7 @@ same_at : (start : State) (one other : MachineAt) → IsAt start one → other.s
     → state_of other.machine ≡ state_of one.machine → IsAt start other
 same_at start one other there step state = record {
   completed = subst (λ (k : ℕ). (run_of k start).steps ≡ k) (sym step) there.completed;
-  same = state ∙ there.same ∙ ap (λ k. state_after k start) (sym step);
+  state_is = state ∙ there.state_is ∙ ap (λ k. state_after k start) (sym step);
 }
 
 -- a move that ends ends where it stands
@@ -49,32 +49,32 @@ module _ (stops : Stops) (start : State) (forward_move now : ForwardMove) (arriv
     (same : now ≡ record forward_move { at = now.at }) where
   pub arrives_halted : arrived ≡ record { at = now.at; outcome = outcome.Breakpoint }
       → (ltb now.from now.at.step && halts_at stops now.bounds (state_of now.at.machine).pc) ≡ true → IsForwardMoveEnd stops start forward_move arrived
-  arrives_halted is halts = arrives stops start forward_move now now.at outcome.Breakpoint arrived same is way.there refl
-      (stops_by_break stops now.bounds now.budget now.from now.at.step start (state_of now.at.machine) way.there way.order
-      way.within halts way.quiet)
+  arrives_halted is halts = arrives stops start forward_move now now.at outcome.Breakpoint arrived same is way.is_at refl
+      (stops_by_break stops now.bounds now.budget now.from now.at.step start (state_of now.at.machine) way.is_at way.order
+      way.within halts way.passed_no_stop)
 
   pub arrives_broken : arrived ≡ record { at = now.at; outcome = outcome.Interrupted }
       → (ltb now.from now.at.step && halts_at stops now.bounds (state_of now.at.machine).pc) ≡ false → IsForwardMoveEnd stops start forward_move arrived
-  arrives_broken is halts = arrives stops start forward_move now now.at outcome.Interrupted arrived same is way.there refl
-      (stops_by_interrupt stops now.bounds now.budget now.from now.at.step start (state_of now.at.machine) way.there way.order
-      way.within halts way.quiet)
+  arrives_broken is halts = arrives stops start forward_move now now.at outcome.Interrupted arrived same is way.is_at refl
+      (stops_by_interrupt stops now.bounds now.budget now.from now.at.step start (state_of now.at.machine) way.is_at way.order
+      way.within halts way.passed_no_stop)
 
   pub arrives_ended : (at : MachineAt) (ending : Ending) → arrived ≡ record { at = at; outcome = outcome.End ending }
       → at.step ≡ now.at.step → state_of at.machine ≡ state_of now.at.machine → now.at.step < now.budget
       → step_of (state_of now.at.machine) ≡ Err ending
       → (ltb now.from now.at.step && halts_at stops now.bounds (state_of now.at.machine).pc) ≡ false → IsForwardMoveEnd stops start forward_move arrived
   arrives_ended at ending is step state goes e halts = arrives stops start forward_move now at (outcome.End ending) arrived same is
-      (same_at start now.at at way.there step state) step
-      (stops_by_end stops now.bounds now.budget now.from now.at.step start (state_of now.at.machine) ending way.there way.order
-      goes e halts way.quiet)
+      (same_at start now.at at way.is_at step state) step
+      (stops_by_end stops now.bounds now.budget now.from now.at.step start (state_of now.at.machine) ending way.is_at way.order
+      goes e halts way.passed_no_stop)
 
   pub arrives_changed : (at : MachineAt) (t : State) → arrived ≡ record { at = at; outcome = outcome.WatchTriggered } → IsAt start at
       → at.step ≡ now.at.step → now.at.step < now.budget → step_of (state_of now.at.machine) ≡ Ok t
       → TriggersWatch stops (state_of now.at.machine) t
       → (ltb now.from now.at.step && halts_at stops now.bounds (state_of now.at.machine).pc) ≡ false → IsForwardMoveEnd stops start forward_move arrived
   arrives_changed at t is there step goes e differ halts = arrives stops start forward_move now at outcome.WatchTriggered arrived same is there step
-      (stops_by_change stops now.bounds now.budget now.from now.at.step start (state_of now.at.machine) t way.there way.order
-      goes e differ halts way.quiet)
+      (stops_by_change stops now.bounds now.budget now.from now.at.step start (state_of now.at.machine) t way.is_at way.order
+      goes e differ halts way.passed_no_stop)
 
   pub arrives_at_budget : (told : MoveResult) → arrived ≡ record { at = now.at; outcome = told } → now.budget ≤ now.at.step
       → told ≡ result_at_budget (ltb now.from now.at.step && halts_at stops now.bounds (state_of now.at.machine).pc)
@@ -84,6 +84,6 @@ module _ (stops : Stops) (start : State) (forward_move now : ForwardMove) (arriv
       let order = way.order in
       let all : now.at.step ≡ now.budget = omega (arith, within, end) in
       let here = ap (λ (k : ℕ). result_at_budget (ltb now.from k && halts_at stops now.bounds (state_of now.at.machine).pc)) all in
-      arrives stops start forward_move now now.at told arrived same is way.there refl
-      (stops_at_budget stops now.bounds now.budget now.from now.at.step now.at.step start (state_of now.at.machine) told way.there
-      (omega (arith, order, within)) all all (told_is ∙ here) way.quiet)
+      arrives stops start forward_move now now.at told arrived same is way.is_at refl
+      (stops_at_budget stops now.bounds now.budget now.from now.at.step now.at.step start (state_of now.at.machine) told way.is_at
+      (omega (arith, order, within)) all all (told_is ∙ here) way.passed_no_stop)

@@ -32,7 +32,7 @@ access_kind_of _ = None
 
 -- the bytes that the instruction `i` reads or writes in the state `s`, or `None` if it does not access memory
 abbrev pub access_by : State → Instr → Option Access
-access_by s i = option_map (λ reach. record { is_read = reach.is_read; address = address s i; count = reach.count }) (access_kind_of i.op)
+access_by s i = option_map (λ kind. record { is_read = kind.is_read; address = address s i; count = kind.count }) (access_kind_of i.op)
 
 -- the bytes that the instruction at the pc reads or writes, or `None` if it does not access memory or there is no instruction
 abbrev pub access_at : State → Option Access

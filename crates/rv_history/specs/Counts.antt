@@ -19,7 +19,7 @@ count_at count start step = count_value count (length start.bus.script) (state_a
 -- `step` is the first step of the run at which the count has this value, and the run reaches it within the budget
 pub record IsFirstStepWith (count : Count) (value budget : ℕ) (start : State) (step : ℕ) : Type 0 where
   pub within : step ≤ last_step budget start
-  pub there : count_at count start step ≡ value
+  pub value_is : count_at count start step ≡ value
   pub first : (j : ℕ) → j < step → count_at count start j ≢ value
 
 -- the first step of the run at which the count has this value, or `None` if the run reaches no such step within the budget

@@ -9,12 +9,12 @@ use Rattle.rv_history.specs.declared.stops.Stops.{Stops}
 
 -- a forward move is at a step of the run from `start`, within its budget, and has passed no stop so far
 pub record IsMoveInProgress (stops : Stops) (start : State) (forward_move : ForwardMove) : Type 0 where
-  pub there : IsAt start forward_move.at
+  pub is_at : IsAt start forward_move.at
   pub order : forward_move.from ≤ forward_move.at.step
   pub within : forward_move.at.step ≤ forward_move.budget
-  pub quiet : (j : ℕ) → forward_move.from ≤ j → j < forward_move.at.step → HasNoForwardStop stops forward_move.bounds forward_move.budget start forward_move.from j
+  pub passed_no_stop : (j : ℕ) → forward_move.from ≤ j → j < forward_move.at.step → HasNoForwardStop stops forward_move.bounds forward_move.budget start forward_move.from j
 
 -- a forward move ended at its next stop, and its machine is in the state of the run at this step
 abbrev pub IsForwardMoveEnd : Stops → State → ForwardMove → MoveEnd → Type 0
-IsForwardMoveEnd stops start forward_move arrived =
-    IsAt start arrived.at × IsNextStop stops forward_move.bounds forward_move.budget start forward_move.from arrived.at.step arrived.outcome
+IsForwardMoveEnd stops start forward_move end =
+    IsAt start end.at × IsNextStop stops forward_move.bounds forward_move.budget start forward_move.from end.at.step end.outcome

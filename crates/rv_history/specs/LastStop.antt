@@ -2,29 +2,29 @@
 use Rattle.std.specs.Prelude.{ℕ, ◌+◌, ◌<◌, ◌≤◌, Bool, Option, Some, None, if◌then◌else◌}
 use Rattle.rv_trace.specs.State.{State}
 use Rattle.rv_history.specs.Moves.{IsStopBefore, IsUninterrupted}
-use Rattle.rv_history.specs.Places.{IsBreakAt, IsChangeAt}
+use Rattle.rv_history.specs.Places.{IsBreakAt, IsTriggerAt}
 use Rattle.rv_history.specs.declared.outcome.SearchEnd.{SearchEnd}
-use Rattle.rv_history.specs.declared.outcome.MoveResult.TheVariants as outcome
+use Rattle.rv_history.specs.declared.outcome.MoveResult.TheVariants as move_result
 use Rattle.rv_history.specs.declared.search_back.SearchedPart.{SearchedPart}
 use Rattle.rv_history.specs.declared.stepping.StepResult.{StepResult}
-use Rattle.rv_history.specs.declared.stepping.StepResult.TheVariants as stepped
+use Rattle.rv_history.specs.declared.stepping.StepResult.TheVariants as step_result
 use Rattle.rv_history.specs.declared.stops.Stops.{Stops}
 
 -- the last stop after the search has passed the step `step`: `step` if the Bool says that there is a breakpoint, or else `last`
 abbrev pub last_at : Option SearchEnd → ℕ → Bool → Option SearchEnd
-last_at last step is_break = if is_break then Some (record { step = step; outcome = outcome.Breakpoint }) else last
+last_at last step is_break = if is_break then Some (record { step = step; outcome = move_result.Breakpoint }) else last
 
 -- the last stop after the search has passed the step `step`, or `None` if it has found none; given the last stop before, whether there is
 -- a breakpoint at `step`, and the result of the step from there
 abbrev pub last_stop_after : Option SearchEnd → ℕ → Bool → StepResult → Option SearchEnd
-last_stop_after last step is_break stepped.WatchTriggered = Some (record { step = step + 1; outcome = outcome.WatchTriggered })
-last_stop_after last step is_break stepped.NotTriggered = last_at last step is_break
-last_stop_after last step is_break (stepped.Ended ending) = last_at last step is_break
+last_stop_after last step is_break step_result.WatchTriggered = Some (record { step = step + 1; outcome = move_result.WatchTriggered })
+last_stop_after last step is_break step_result.NotTriggered = last_at last step is_break
+last_stop_after last step is_break (step_result.Ended ending) = last_at last step is_break
 
 -- there is no breakpoint at the step `step`, and the step from there triggers no watchpoint
 pub record HasNoStopAt (stops : Stops) (budget : ℕ) (start : State) (step : ℕ) : Type 0 where
   pub no_break : IsBreakAt stops start step → ⊥
-  pub no_change : IsChangeAt stops budget start step → ⊥
+  pub no_trigger : IsTriggerAt stops budget start step → ⊥
 
 -- from the step `begin` up to the step `end`, there are no breakpoints, and no step triggers a watchpoint
 abbrev pub HaveNoStops : Stops → ℕ → State → ℕ → ℕ → Type 0

@@ -4,10 +4,10 @@ use Rattle.rv_trace.specs.Run.{run_of}
 use Rattle.rv_trace.specs.State.{State}
 use Rattle.rv_trace.specs.declared_ending.Ending.{Ending}
 use Rattle.rv_trace.specs.declared_ending.Ending.TheVariants.{Budget}
-use Rattle.rv_history.specs.Places.{IsBreakAt, IsChangeAt, IsHaltAt, last_step}
+use Rattle.rv_history.specs.Places.{IsBreakAt, IsTriggerAt, IsHaltAt, last_step}
 use Rattle.rv_history.specs.declared.bounds.Bounds.{Bounds}
 use Rattle.rv_history.specs.declared.outcome.MoveResult.{MoveResult}
-use Rattle.rv_history.specs.declared.outcome.MoveResult.TheVariants as outcome
+use Rattle.rv_history.specs.declared.outcome.MoveResult.TheVariants as move_result
 use Rattle.rv_history.specs.declared.stops.Stops.{Stops}
 
 -- the run ends at the step `step` in this way
@@ -16,11 +16,11 @@ IsEndAt budget start step ending = (step ≡ last_step budget start) × (ending 
 
 -- a move ended because of an interrupt
 abbrev pub IsInterrupted : MoveResult → Type 0
-IsInterrupted what = what ≡ outcome.Interrupted
+IsInterrupted result = result ≡ move_result.Interrupted
 
 -- a move did not end because of an interrupt
 abbrev pub IsUninterrupted : MoveResult → Type 0
-IsUninterrupted what = IsInterrupted what → ⊥
+IsUninterrupted result = IsInterrupted result → ⊥
 
 -- ---- forwards
 
@@ -28,81 +28,81 @@ IsUninterrupted what = IsInterrupted what → ⊥
 -- address outside of the bounds comes first, then the end of the run, then a watchpoint that the next step triggers. An interrupt cannot
 -- end the move at a breakpoint or outside of the bounds, because the next move would then skip this stop.
 abbrev pub IsForwardStop : Stops → Bounds → ℕ → State → ℕ → ℕ → MoveResult → Type 0
-IsForwardStop stops bounds budget start from step outcome.Breakpoint = (from < step) × IsHaltAt stops bounds start step
-IsForwardStop stops bounds budget start from step (outcome.End ending) =
+IsForwardStop stops bounds budget start from step move_result.Breakpoint = (from < step) × IsHaltAt stops bounds start step
+IsForwardStop stops bounds budget start from step (move_result.End ending) =
     IsEndAt budget start step ending × (from < step → IsHaltAt stops bounds start step → ⊥)
-IsForwardStop stops bounds budget start from step outcome.WatchTriggered =
-    IsChangeAt stops budget start step × (from < step → IsHaltAt stops bounds start step → ⊥)
-IsForwardStop stops bounds budget start from step outcome.Done = ⊥
-IsForwardStop stops bounds budget start from step outcome.RunStart = ⊥
-IsForwardStop stops bounds budget start from step outcome.Interrupted = from < step → IsHaltAt stops bounds start step → ⊥
+IsForwardStop stops bounds budget start from step move_result.WatchTriggered =
+    IsTriggerAt stops budget start step × (from < step → IsHaltAt stops bounds start step → ⊥)
+IsForwardStop stops bounds budget start from step move_result.Done = ⊥
+IsForwardStop stops bounds budget start from step move_result.RunStart = ⊥
+IsForwardStop stops bounds budget start from step move_result.Interrupted = from < step → IsHaltAt stops bounds start step → ⊥
 
 -- the result of a forward move that has used up the budget: `Breakpoint` if the Bool says that it is at a breakpoint or outside of the
 -- bounds, or else the end of the run
 abbrev pub result_at_budget : Bool → MoveResult
-result_at_budget halts = if halts then outcome.Breakpoint else outcome.End Budget
+result_at_budget halts = if halts then move_result.Breakpoint else move_result.End Budget
 
 -- a forward move that began at the step `from` does not stop at the step `step`
 pub record HasNoForwardStop (stops : Stops) (bounds : Bounds) (budget : ℕ) (start : State) (from step : ℕ) : Type 0 where
   pub no_halt : from < step → IsHaltAt stops bounds start step → ⊥
   pub no_end : step < last_step budget start
-  pub no_change : IsChangeAt stops budget start step → ⊥
+  pub no_trigger : IsTriggerAt stops budget start step → ⊥
 
 -- a forward move from the step `from` ends at the step `step` with this result, and has no stop in between
 pub record IsNextStop (stops : Stops) (bounds : Bounds) (budget : ℕ) (start : State) (from step : ℕ) (outcome : MoveResult) : Type 0 where
   pub order : from ≤ step
   pub within : step ≤ last_step budget start
-  pub meets : IsForwardStop stops bounds budget start from step outcome
+  pub is_stop : IsForwardStop stops bounds budget start from step outcome
   pub between : (j : ℕ) → from ≤ j → j < step → HasNoForwardStop stops bounds budget start from j
 
 -- a single step forwards from the step `from` ends at the step `step` with this result; it does not move at the end of the run, or if it
 -- would trigger a watchpoint
 abbrev pub IsNextStep : Stops → ℕ → State → ℕ → ℕ → MoveResult → Type 0
-IsNextStep stops budget start from step outcome.Done =
-    (step ≡ from + 1) × (from < last_step budget start) × (IsChangeAt stops budget start from → ⊥)
-IsNextStep stops budget start from step (outcome.End ending) = (step ≡ from) × IsEndAt budget start from ending
-IsNextStep stops budget start from step outcome.WatchTriggered = (step ≡ from) × IsChangeAt stops budget start from
-IsNextStep stops budget start from step outcome.Breakpoint = ⊥
-IsNextStep stops budget start from step outcome.RunStart = ⊥
-IsNextStep stops budget start from step outcome.Interrupted = ⊥
+IsNextStep stops budget start from step move_result.Done =
+    (step ≡ from + 1) × (from < last_step budget start) × (IsTriggerAt stops budget start from → ⊥)
+IsNextStep stops budget start from step (move_result.End ending) = (step ≡ from) × IsEndAt budget start from ending
+IsNextStep stops budget start from step move_result.WatchTriggered = (step ≡ from) × IsTriggerAt stops budget start from
+IsNextStep stops budget start from step move_result.Breakpoint = ⊥
+IsNextStep stops budget start from step move_result.RunStart = ⊥
+IsNextStep stops budget start from step move_result.Interrupted = ⊥
 
 -- ---- backwards
 
 -- the step that leads to the step `step` triggers a watchpoint
-pub record IsChangeBefore (stops : Stops) (budget : ℕ) (start : State) (step : ℕ) : Type 0 where
+pub record IsTriggerBefore (stops : Stops) (budget : ℕ) (start : State) (step : ℕ) : Type 0 where
   pub before : ℕ
-  pub place_is : step ≡ before + 1
-  pub change : IsChangeAt stops budget start before
+  pub step_is : step ≡ before + 1
+  pub triggers : IsTriggerAt stops budget start before
 
 -- a backward move that began at the step `from` can end with this result at the step `step`: at a breakpoint, except where it began; after
 -- a step that triggers a watchpoint; or at step 0. An interrupted move is back where it began.
 abbrev pub IsBackwardStop : Stops → ℕ → State → ℕ → ℕ → MoveResult → Type 0
-IsBackwardStop stops budget start from step outcome.Breakpoint = (step < from) × IsBreakAt stops start step
-IsBackwardStop stops budget start from step outcome.WatchTriggered =
-    IsChangeBefore stops budget start step × (step < from → IsBreakAt stops start step → ⊥)
-IsBackwardStop stops budget start from step outcome.RunStart = (step ≡ 0) × (step < from → IsBreakAt stops start step → ⊥)
-IsBackwardStop stops budget start from step (outcome.End ending) = ⊥
-IsBackwardStop stops budget start from step outcome.Done = ⊥
-IsBackwardStop stops budget start from step outcome.Interrupted = step ≡ from
+IsBackwardStop stops budget start from step move_result.Breakpoint = (step < from) × IsBreakAt stops start step
+IsBackwardStop stops budget start from step move_result.WatchTriggered =
+    IsTriggerBefore stops budget start step × (step < from → IsBreakAt stops start step → ⊥)
+IsBackwardStop stops budget start from step move_result.RunStart = (step ≡ 0) × (step < from → IsBreakAt stops start step → ⊥)
+IsBackwardStop stops budget start from step (move_result.End ending) = ⊥
+IsBackwardStop stops budget start from step move_result.Done = ⊥
+IsBackwardStop stops budget start from step move_result.Interrupted = step ≡ from
 
 -- a backward move that began at the step `from` does not stop at the step `step`
 pub record HasNoBackwardStop (stops : Stops) (budget : ℕ) (start : State) (from step : ℕ) : Type 0 where
   pub no_break : step < from → IsBreakAt stops start step → ⊥
-  pub no_change : IsChangeBefore stops budget start step → ⊥
+  pub no_trigger : IsTriggerBefore stops budget start step → ⊥
 
 -- a backward move from the step `from` ends at the step `step` with this result, and has no stop in between
 pub record IsStopBefore (stops : Stops) (budget : ℕ) (start : State) (from step : ℕ) (outcome : MoveResult) : Type 0 where
   pub order : step ≤ from
-  pub meets : IsBackwardStop stops budget start from step outcome
+  pub is_stop : IsBackwardStop stops budget start from step outcome
   pub between : (j : ℕ) → step < j → j ≤ from → HasNoBackwardStop stops budget start from j
 
 -- a single step back from the step `from` ends at the step `step` with this result; it does not move at step 0, or after a step that
 -- triggers a watchpoint
 abbrev pub IsStepBack : Stops → ℕ → State → ℕ → ℕ → MoveResult → Type 0
-IsStepBack stops budget start from step outcome.Done =
-    (from ≡ step + 1) × (IsChangeAt stops budget start step → ⊥)
-IsStepBack stops budget start from step outcome.WatchTriggered = (step ≡ from) × IsChangeBefore stops budget start from
-IsStepBack stops budget start from step outcome.RunStart = (step ≡ 0) × (from ≡ 0)
-IsStepBack stops budget start from step outcome.Breakpoint = ⊥
-IsStepBack stops budget start from step (outcome.End ending) = ⊥
-IsStepBack stops budget start from step outcome.Interrupted = ⊥
+IsStepBack stops budget start from step move_result.Done =
+    (from ≡ step + 1) × (IsTriggerAt stops budget start step → ⊥)
+IsStepBack stops budget start from step move_result.WatchTriggered = (step ≡ from) × IsTriggerBefore stops budget start from
+IsStepBack stops budget start from step move_result.RunStart = (step ≡ 0) × (from ≡ 0)
+IsStepBack stops budget start from step move_result.Breakpoint = ⊥
+IsStepBack stops budget start from step (move_result.End ending) = ⊥
+IsStepBack stops budget start from step move_result.Interrupted = ⊥

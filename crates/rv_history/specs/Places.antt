@@ -14,7 +14,7 @@ last_step budget start = (run_of budget start).steps
 -- the run from `start` completes `step` steps, and `s` is its state after them
 pub record IsReached (start : State) (step : ℕ) (s : State) : Type 0 where
   pub completed : (run_of step start).steps ≡ step
-  pub same : s ≡ state_after step start
+  pub state_is : s ≡ state_after step start
 
 -- the pc after `step` steps is a breakpoint
 abbrev pub IsBreakAt : Stops → State → ℕ → Type 0
@@ -25,6 +25,6 @@ abbrev pub IsHaltAt : Stops → Bounds → State → ℕ → Type 0
 IsHaltAt stops bounds start step = halts_at stops bounds (state_after step start).pc ≡ true
 
 -- the run completes another step after its first `step` steps within the budget, and this step triggers a watchpoint
-pub record IsChangeAt (stops : Stops) (budget : ℕ) (start : State) (step : ℕ) : Type 0 where
+pub record IsTriggerAt (stops : Stops) (budget : ℕ) (start : State) (step : ℕ) : Type 0 where
   pub completes : step < last_step budget start
   pub triggers : TriggersWatch stops (state_after step start) (state_after (step + 1) start)

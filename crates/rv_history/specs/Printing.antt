@@ -1,7 +1,7 @@
 -- What a run prints.
 use Rattle.std.specs.Prelude.{ℕ, List, ◌++◌, ◌≡◌}
 
--- the text `whole` begins with the text `front`
-pub record BeginsWith (whole front : List ℕ) : Type 0 where
+-- the text `text` begins with the text `prefix`
+pub record BeginsWith (text prefix : List ℕ) : Type 0 where
   pub rest : List ℕ
-  pub whole_is : whole ≡ front ++ rest
+  pub text_is : text ≡ prefix ++ rest

@@ -10,7 +10,7 @@ use Rattle.rv_history.specs.declared.access.Access.{Access}
 use Rattle.rv_history.specs.declared.bounds.Bounds.{Bounds}
 use Rattle.rv_history.specs.declared.bounds.Bounds.TheVariants as bounds
 use Rattle.rv_history.specs.declared.stops.WatchHit.{WatchHit}
-use Rattle.rv_history.specs.declared.stops.WatchHit.TheVariants as hit
+use Rattle.rv_history.specs.declared.stops.WatchHit.TheVariants as watch_hit
 use Rattle.rv_history.specs.declared.stops.Stops.{Stops}
 use Rattle.rv_history.specs.declared.stops.Watch.{Watch}
 
@@ -45,9 +45,9 @@ watched_bytes stops bus = flat_map (watch_bytes bus) stops.watches
 
 -- the address of the first watchpoint whose bytes differ between the two buses, or `None` if none differ
 unfoldable pub first_differing : List Watch → BusContents → BusContents → Option ℕ
-first_differing [] one other = None
-first_differing (watch ∷ rest) one other =
-    if bytes_eq (watch_bytes one watch) (watch_bytes other watch) then first_differing rest one other else Some watch.address
+first_differing [] first second = None
+first_differing (watch ∷ rest) first second =
+    if bytes_eq (watch_bytes first watch) (watch_bytes second watch) then first_differing rest first second else Some watch.address
 
 -- ---- watchpoint hits
 
@@ -59,17 +59,17 @@ first_hit access watches = option_map (λ (watch : Watch). watch.address) (find 
 abbrev pub first_read : Access → List Watch → Option ℕ
 first_read access watches = if access.is_read then first_hit access watches else None
 
--- the result of `told` for the address, or `other` if there is no address
+-- the result of `make_hit` for the address, or `fallback` if there is no address
 abbrev pub hit_or : (ℕ → WatchHit) → Option ℕ → Option WatchHit → Option WatchHit
-hit_or told None other = other
-hit_or told (Some address) other = Some (told address)
+hit_or make_hit None fallback = fallback
+hit_or make_hit (Some address) fallback = Some (make_hit address)
 
 -- the first read watchpoint, or else the first access watchpoint, that an access triggers, or `None` if there is no access or it triggers
 -- none
 abbrev pub hit_by_access : Stops → Option Access → Option WatchHit
 hit_by_access stops None = None
-hit_by_access stops (Some access) = hit_or hit.Read (first_read access stops.reads)
-    (hit_or hit.Access (first_hit access stops.accesses) None)
+hit_by_access stops (Some access) = hit_or watch_hit.Read (first_read access stops.reads)
+    (hit_or watch_hit.Access (first_hit access stops.accesses) None)
 
 -- the first read watchpoint, or else the first access watchpoint, that the instruction at the pc triggers, or `None` if it triggers none
 abbrev pub access_hit : Stops → State → Option WatchHit
@@ -78,7 +78,7 @@ access_hit stops s = hit_by_access stops (access_at s)
 -- the first watchpoint that a step from the state `s` to the state `t` triggers, or `None`: watchpoints for changes come first, then for
 -- reads, then for accesses
 abbrev pub first_triggered : Stops → State → State → Option WatchHit
-first_triggered stops s t = hit_or hit.Change (first_differing stops.watches s.bus t.bus) (access_hit stops s)
+first_triggered stops s t = hit_or watch_hit.Change (first_differing stops.watches s.bus t.bus) (access_hit stops s)
 
 -- a step from state `s` to state `t` triggers a watchpoint
 abbrev pub TriggersWatch : Stops → State → State → Type 0

@@ -12,12 +12,12 @@ IsAt start at = IsReached start at.step (state_of at.machine)
 
 -- for each of the machines, the run from `start` reaches its step, and it is in the state of the run there
 abbrev pub AreStates : State → List MachineAt → Type 0
-AreStates start kept = All (IsAt start) kept
+AreStates start machines = All (IsAt start) machines
 
 -- the machines are at strictly decreasing steps
 abbrev pub AreDecreasing : List MachineAt → Type 0
-AreDecreasing kept = AllPairs (λ one other. other.step < one.step) kept
+AreDecreasing machines = AllPairs (λ first second. second.step < first.step) machines
 
 -- each machine of the list that is not after the step `step` is not after the step `last`
 abbrev pub IsLastUpTo : List MachineAt → ℕ → ℕ → Type 0
-IsLastUpTo kept step last = All (λ (other : MachineAt). other.step ≤ step → other.step ≤ last) kept
+IsLastUpTo machines step last = All (λ (machine : MachineAt). machine.step ≤ step → machine.step ≤ last) machines

@@ -40,11 +40,11 @@ fn access_by(machine: &Machine, instr: Instr) -> Option<Access>
     requires { IsWellFormed instr }
     ensures { result ≡ access_by (state_of machine.now) instr }
 {
-    let reach = access_kind_of(instr.op)?;
+    let kind = access_kind_of(instr.op)?;
     Some(Access {
-        is_read: reach.is_read,
+        is_read: kind.is_read,
         address: accessed_address(machine, instr),
-        count: reach.count,
+        count: kind.count,
     })
 }
 

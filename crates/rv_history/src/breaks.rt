@@ -30,12 +30,12 @@ pub(crate) fn next_breakpoint<I: Interrupt>(
     stops: &Stops,
     interrupt: &mut I,
 ) -> Result<MoveEnd, AllocError>
-    requires way { IsMoveInProgress stops.now checkpoints.old forward_move }
+    requires in_progress { IsMoveInProgress stops.now checkpoints.old forward_move }
     requires unbounded { forward_move.bounds ≡ AllAddresses }
     requires unwatched { AreUnwatched stops.now }
     ensures stop { IfOk result (IsForwardMoveEnd stops.now checkpoints.old forward_move) }
-    ensures interrupted { IfOk result (λ arrived. arrived.outcome ≡ Interrupted → I.was_raised interrupt.new ≡ true) }
-    ensures same { checkpoints.new ≡ checkpoints.old }
+    ensures interrupted { IfOk result (λ end. end.outcome ≡ Interrupted → I.was_raised interrupt.new ≡ true) }
+    ensures run_unchanged { checkpoints.new ≡ checkpoints.old }
 {
     'places: while forward_move.at.step < forward_move.budget {
         if forward_move.is_stopped(stops) {
@@ -65,8 +65,8 @@ pub(crate) fn search_breakpoints<I: Interrupt>(
     stops: &Stops,
     interrupt: &mut I,
 ) -> Result<Option<SearchedPart>, AllocError>
-    requires some { 0 < end }
-    requires comes { (run_of end checkpoints.now).steps ≡ end }
+    requires not_empty { 0 < end }
+    requires reached { (run_of end checkpoints.now).steps ≡ end }
     requires unwatched { AreUnwatched stops.now }
     ensures part { IfOk result (λ searched. IfSome searched (IsSearchedPart stops.now checkpoints.now end)) }
     ensures interrupted { IfOk result (λ searched. IfNone searched (I.was_raised interrupt.new ≡ true)) }
@@ -90,7 +90,7 @@ pub(crate) fn search_breakpoints<I: Interrupt>(
 
 // Executes at most `max_steps` steps, none of them at a breakpoint, and returns how many it executed. Takes the time of a run.
 fn run_between(machine: &mut Machine, stops: &Stops, max_steps: u32) -> u32
-    ensures ran { run_of result (state_of machine.old)
+    ensures run { run_of result (state_of machine.old)
         ≡ record { ending = Budget; steps = result; state = state_of machine.new } }
     ensures within { result ≤ max_steps }
     ensures no_break { (j : ℕ) → j < result → is_break stops.now (run_of j (state_of machine.old)).state.pc ≡ false }

@@ -118,9 +118,9 @@ impl Checkpoints {
         at: MachineAt,
         step: u32,
     ) -> Result<MachineAt, AllocError>
-        requires there { IsAt self.now at }
+        requires is_at { IsAt self.now at }
         requires within { at.step ≤ step }
-        ensures there { IfOk result (IsAt self.now) }
+        ensures is_at { IfOk result (IsAt self.now) }
         ensures order { IfOk result (λ last. (at.step ≤ last.step) × (last.step ≤ step)) }
     {
         match self.last_stored(step) {
@@ -161,7 +161,7 @@ impl Checkpoints {
     ) -> Result<(MachineAt, Ending), AllocError>
         ensures run { IfOk result (λ reached. run_of step self.old
             ≡ record { ending = reached.1; steps = reached.0.step; state = state_of reached.0.machine }) }
-        ensures same { self.new ≡ self.old }
+        ensures run_unchanged { self.new ≡ self.old }
     {
         let mut at = self.before(alloc, step)?;
         while let Some(next) = self.next_step_to_store(at.step, step) {
@@ -183,8 +183,8 @@ impl Checkpoints {
     ) -> Result<MachineAt, AllocError>
         requires { (run_of step self.old).steps ≡ step }
         ensures step { IfOk result (λ at. at.step ≡ step) }
-        ensures there { IfOk result (IsAt self.old) }
-        ensures same { self.new ≡ self.old }
+        ensures is_at { IfOk result (IsAt self.old) }
+        ensures run_unchanged { self.new ≡ self.old }
     {
         let (at, _) = self.reach(alloc, step)?;
         Ok(at)
@@ -239,8 +239,8 @@ impl Checkpoints {
     }
 }
 
-// Returns two empty lists of states for a machine with this bus, with as much room as the memory limit allows: the first for multiples of
-// the interval, the second for states before the ends of backward moves, seeks and moves to watchpoints.
+// Returns two empty lists of states for a machine with this bus, which have as much room as the memory limit allows: the first is for
+// states at multiples of the interval, the second for states before the ends of backward moves, seeks and moves to watchpoints.
 fn empty_checkpoint_lists(
     alloc: Global,
     bus: &Bus,

@@ -74,10 +74,10 @@ impl ForwardMove {
         checkpoints: &mut Checkpoints,
         interrupt: &mut I,
     ) -> Result<bool, AllocError>
-        requires there { IsAt checkpoints.old self.now.at }
+        requires is_at { IsAt checkpoints.old self.now.at }
         requires order { self.now.from ≤ self.now.at.step }
-        ensures raised { IfOk result (λ broken. IsTrue broken → I.was_raised interrupt.new ≡ true) }
-        ensures same { checkpoints.new ≡ checkpoints.old }
+        ensures raised { IfOk result (λ interrupted. IsTrue interrupted → I.was_raised interrupt.new ≡ true) }
+        ensures run_unchanged { checkpoints.new ≡ checkpoints.old }
     {
         if !is_slice_end(self.at.step) {
             return Ok(false);

@@ -99,9 +99,9 @@ impl History {
         interrupt: &mut I,
     ) -> Result<MoveResult, AllocError>
         ensures stop { IfOk result (IsNextStop stops.now bounds self.old.budget self.old.start self.old.step self.new.step) }
-        ensures interrupted { IfOk result (λ outcome. outcome ≡ MoveResult.Interrupted → I.was_raised interrupt.new ≡ true) }
-        ensures run { self.new ≡ record self.old { step = self.new.step } }
-        ensures same { OnErr result (self.new ≡ self.old) }
+        ensures interrupted { IfOk result (λ move_result. move_result ≡ MoveResult.Interrupted → I.was_raised interrupt.new ≡ true) }
+        ensures only_moved { self.new ≡ record self.old { step = self.new.step } }
+        ensures unchanged { OnErr result (self.new ≡ self.old) }
     {
         let machine = self.machine.try_clone(alloc)?;
         let forward_move = ForwardMove {
@@ -113,18 +113,18 @@ impl History {
                 machine,
             },
         };
-        let arrived = next_stop(alloc, &mut self.checkpoints, forward_move, stops, interrupt)?;
-        self.step = arrived.at.step;
-        self.machine = arrived.at.machine;
-        Ok(arrived.outcome)
+        let end = next_stop(alloc, &mut self.checkpoints, forward_move, stops, interrupt)?;
+        self.step = end.at.step;
+        self.machine = end.at.machine;
+        Ok(end.outcome)
     }
 
     /// Moves one step forwards, and returns why the move ended. Does not move at the end of the run, or if the step would trigger a
     /// watchpoint.
     pub fn step_forward(&mut self, alloc: Global, stops: &Stops) -> Result<MoveResult, AllocError>
         ensures step { IfOk result (IsNextStep stops.now self.old.budget self.old.start self.old.step self.new.step) }
-        ensures run { self.new ≡ record self.old { step = self.new.step } }
-        ensures same { OnErr result (self.new ≡ self.old) }
+        ensures only_moved { self.new ≡ record self.old { step = self.new.step } }
+        ensures unchanged { OnErr result (self.new ≡ self.old) }
     {
         if self.step == self.budget {
             return Ok(MoveResult::End(Ending::Budget));
@@ -150,9 +150,9 @@ impl History {
         interrupt: &mut I,
     ) -> Result<MoveResult, AllocError>
         ensures stop { IfOk result (IsStopBefore stops.now self.old.budget self.old.start self.old.step self.new.step) }
-        ensures interrupted { IfOk result (λ outcome. outcome ≡ MoveResult.Interrupted → I.was_raised interrupt.new ≡ true) }
-        ensures run { self.new ≡ record self.old { step = self.new.step } }
-        ensures same { OnErr result (self.new ≡ self.old) }
+        ensures interrupted { IfOk result (λ move_result. move_result ≡ MoveResult.Interrupted → I.was_raised interrupt.new ≡ true) }
+        ensures only_moved { self.new ≡ record self.old { step = self.new.step } }
+        ensures unchanged { OnErr result (self.new ≡ self.old) }
     {
         if stops.is_empty() {
             let begin = SearchEnd {
@@ -163,31 +163,31 @@ impl History {
         }
         // From now on there are stored states near the current step, and the parts of the search are short.
         let _ = self.checkpoints.reach(alloc, self.step)?;
-        let arrival = stop_before(alloc, &self.checkpoints, self.step, stops, interrupt)?;
-        if let MoveResult::Interrupted = arrival.outcome {
-            return Ok(arrival.outcome);
+        let search_end = stop_before(alloc, &self.checkpoints, self.step, stops, interrupt)?;
+        if let MoveResult::Interrupted = search_end.outcome {
+            return Ok(search_end.outcome);
         }
-        self.finish_search(alloc, arrival)
+        self.finish_search(alloc, search_end)
     }
 
     /// Moves one step back, and returns why the move ended. Does not move at the start of the run, or after a step that triggers a
     /// watchpoint.
     pub fn step_back(&mut self, alloc: Global, stops: &Stops) -> Result<MoveResult, AllocError>
         ensures step { IfOk result (IsStepBack stops.now self.old.budget self.old.start self.old.step self.new.step) }
-        ensures run { self.new ≡ record self.old { step = self.new.step } }
-        ensures same { OnErr result (self.new ≡ self.old) }
+        ensures only_moved { self.new ≡ record self.old { step = self.new.step } }
+        ensures unchanged { OnErr result (self.new ≡ self.old) }
     {
-        let arrival = step_before(alloc, &self.checkpoints, self.step, stops)?;
-        self.finish_search(alloc, arrival)
+        let search_end = step_before(alloc, &self.checkpoints, self.step, stops)?;
+        self.finish_search(alloc, search_end)
     }
 
     /// Moves to the step `step` if the run reaches it, and returns whether it does.
     pub fn seek(&mut self, alloc: Global, step: u32) -> Result<bool, AllocError>
-        ensures granted { IfOk result
-            (λ granted. IsTrue granted ↔ (step ≤ last_step self.old.budget self.old.start)) }
+        ensures is_reached { IfOk result
+            (λ reached. IsTrue reached ↔ (step ≤ last_step self.old.budget self.old.start)) }
         ensures moved { IfOk result
-            (λ granted. self.new ≡ (if granted then record self.old { step = step } else self.old)) }
-        ensures same { OnErr result (self.new ≡ self.old) }
+            (λ reached. self.new ≡ (if reached then record self.old { step = step } else self.old)) }
+        ensures unchanged { OnErr result (self.new ≡ self.old) }
     {
         if step > self.budget {
             return Ok(false);
@@ -208,11 +208,11 @@ impl History {
         count: Count,
         value: u32,
     ) -> Result<bool, AllocError>
-        ensures granted { IfOk result (λ granted. MatchBool granted
+        ensures is_reached { IfOk result (λ reached. MatchBool reached
             (IsFirstStepWith count value self.old.budget self.old.start self.new.step)
             (IsFirstStepIfAny count value self.old.budget self.old.start None × (self.new ≡ self.old))) }
-        ensures run { self.new ≡ record self.old { step = self.new.step } }
-        ensures same { OnErr result (self.new ≡ self.old) }
+        ensures only_moved { self.new ≡ record self.old { step = self.new.step } }
+        ensures unchanged { OnErr result (self.new ≡ self.old) }
     {
         match first_step_with(alloc, self.checkpoints.start(), self.budget, count, value)? {
             Some(step) => {
@@ -232,7 +232,7 @@ impl History {
         stops: &Stops,
     ) -> Result<Option<WatchHit>, AllocError>
         ensures { self.now.step < last_step self.now.budget self.now.start → IfOk result
-            (λ outcome. outcome ≡ first_triggered stops.now (state_after self.now.step self.now.start)
+            (λ found. found ≡ first_triggered stops.now (state_after self.now.step self.now.start)
             (state_after (self.now.step + 1) self.now.start)) }
     {
         let steps = self.budget.min(self.step.saturating_add(1));
@@ -247,7 +247,7 @@ impl History {
         stops: &Stops,
     ) -> Result<Option<WatchHit>, AllocError>
         ensures { IfOk result
-            (λ outcome. outcome ≡ first_triggered stops.now (state_after (self.now.step - 1) self.now.start)
+            (λ found. found ≡ first_triggered stops.now (state_after (self.now.step - 1) self.now.start)
             (state_after self.now.step self.now.start)) }
     {
         let behind = self
@@ -257,15 +257,19 @@ impl History {
     }
 
     // Moves to the step where a search ended, and returns the result of the search.
-    fn finish_search(&mut self, alloc: Global, arrival: SearchEnd) -> Result<MoveResult, AllocError>
-        requires { arrival.step ≤ last_step self.old.budget self.old.start }
-        ensures outcome { IfOk result (λ outcome. outcome ≡ arrival.outcome) }
-        ensures moved { IfOk result (λ outcome. self.new ≡ record self.old { step = arrival.step }) }
-        ensures same { OnErr result (self.new ≡ self.old) }
+    fn finish_search(
+        &mut self,
+        alloc: Global,
+        search_end: SearchEnd,
+    ) -> Result<MoveResult, AllocError>
+        requires { search_end.step ≤ last_step self.old.budget self.old.start }
+        ensures outcome { IfOk result (λ move_result. move_result ≡ search_end.outcome) }
+        ensures moved { IfOk result (λ move_result. self.new ≡ record self.old { step = search_end.step }) }
+        ensures unchanged { OnErr result (self.new ≡ self.old) }
     {
-        let at = self.checkpoints.machine_at_step(alloc, arrival.step)?;
+        let at = self.checkpoints.machine_at_step(alloc, search_end.step)?;
         self.machine = at.machine;
-        self.step = arrival.step;
-        Ok(arrival.outcome)
+        self.step = search_end.step;
+        Ok(search_end.outcome)
     }
 }

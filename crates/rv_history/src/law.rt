@@ -14,16 +14,16 @@ ghost use Rattle.rv_trace.specs.Trace.{state_after};
 /// Proves that the result of a move that is not interrupted, and the step where it ends, depend only on the run, the step where it begins,
 /// and the breakpoints and watchpoints.
 pub fn moves_are_determined()
-    ensures ahead { (stops : Stops) (bounds : Bounds) (budget from p q : ℕ) (start : State) (one other : MoveResult)
-        → IsNextStop stops bounds budget start from p one → IsNextStop stops bounds budget start from q other
-        → IsUninterrupted one → IsUninterrupted other → (p ≡ q) × (one ≡ other) }
-    ensures step { (stops : Stops) (budget from p q : ℕ) (start : State) (one other : MoveResult)
-        → IsNextStep stops budget start from p one → IsNextStep stops budget start from q other → (p ≡ q) × (one ≡ other) }
-    ensures back { (stops : Stops) (budget from p q : ℕ) (start : State) (one other : MoveResult)
-        → IsStopBefore stops budget start from p one → IsStopBefore stops budget start from q other
-        → IsUninterrupted one → IsUninterrupted other → (p ≡ q) × (one ≡ other) }
-    ensures step_back { (stops : Stops) (budget from p q : ℕ) (start : State) (one other : MoveResult)
-        → IsStepBack stops budget start from p one → IsStepBack stops budget start from q other → (p ≡ q) × (one ≡ other) }
+    ensures ahead { (stops : Stops) (bounds : Bounds) (budget from p q : ℕ) (start : State) (first second : MoveResult)
+        → IsNextStop stops bounds budget start from p first → IsNextStop stops bounds budget start from q second
+        → IsUninterrupted first → IsUninterrupted second → (p ≡ q) × (first ≡ second) }
+    ensures step { (stops : Stops) (budget from p q : ℕ) (start : State) (first second : MoveResult)
+        → IsNextStep stops budget start from p first → IsNextStep stops budget start from q second → (p ≡ q) × (first ≡ second) }
+    ensures back { (stops : Stops) (budget from p q : ℕ) (start : State) (first second : MoveResult)
+        → IsStopBefore stops budget start from p first → IsStopBefore stops budget start from q second
+        → IsUninterrupted first → IsUninterrupted second → (p ≡ q) × (first ≡ second) }
+    ensures step_back { (stops : Stops) (budget from p q : ℕ) (start : State) (first second : MoveResult)
+        → IsStepBack stops budget start from p first → IsStepBack stops budget start from q second → (p ≡ q) × (first ≡ second) }
     ensures count { (count : Count) (value budget p q : ℕ) (start : State) → IsFirstStepWith count value budget start p
         → IsFirstStepWith count value budget start q → p ≡ q }
 {}

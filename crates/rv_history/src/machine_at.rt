@@ -32,9 +32,9 @@ impl MachineAt {
     /// Runs the machine to the step `step`, or to the end of the run if that comes first. Returns how this run ended.
     pub(crate) fn run_to_step(&mut self, step: u32) -> Ending
         requires { self.old.step ≤ step }
-        ensures ran { (start : State) → IsAt start self.old → run_of step start
+        ensures run { (start : State) → IsAt start self.old → run_of step start
             ≡ record { ending = result; steps = self.new.step; state = state_of self.new.machine } }
-        ensures not_back { self.old.step ≤ self.new.step }
+        ensures step_not_smaller { self.old.step ≤ self.new.step }
     {
         let ran = self.machine.run(step - self.step);
         self.step += ran.steps;

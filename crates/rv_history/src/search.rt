@@ -29,8 +29,8 @@ pub(crate) fn next_stop<I: Interrupt>(
 ) -> Result<MoveEnd, AllocError>
     requires { IsMoveInProgress stops.now checkpoints.old forward_move }
     ensures stop { IfOk result (IsForwardMoveEnd stops.now checkpoints.old forward_move) }
-    ensures interrupted { IfOk result (λ arrived. arrived.outcome ≡ Interrupted → I.was_raised interrupt.new ≡ true) }
-    ensures same { checkpoints.new ≡ checkpoints.old }
+    ensures interrupted { IfOk result (λ end. end.outcome ≡ Interrupted → I.was_raised interrupt.new ≡ true) }
+    ensures run_unchanged { checkpoints.new ≡ checkpoints.old }
 {
     if !forward_move.bounds.is_unbounded() {
         return next_stop_by_steps(alloc, checkpoints, forward_move, stops, interrupt);
@@ -55,8 +55,8 @@ fn next_stop_by_steps<I: Interrupt>(
 ) -> Result<MoveEnd, AllocError>
     requires { IsMoveInProgress stops.now checkpoints.old forward_move }
     ensures stop { IfOk result (IsForwardMoveEnd stops.now checkpoints.old forward_move) }
-    ensures interrupted { IfOk result (λ arrived. arrived.outcome ≡ Interrupted → I.was_raised interrupt.new ≡ true) }
-    ensures same { checkpoints.new ≡ checkpoints.old }
+    ensures interrupted { IfOk result (λ end. end.outcome ≡ Interrupted → I.was_raised interrupt.new ≡ true) }
+    ensures run_unchanged { checkpoints.new ≡ checkpoints.old }
 {
     let mut watched = stops.watched_bytes(alloc, forward_move.at.machine.bus())?;
     'places: while forward_move.at.step < forward_move.budget {
@@ -90,13 +90,13 @@ fn run_to_end<I: Interrupt>(
     forward_move: ForwardMove,
     interrupt: &mut I,
 ) -> Result<MoveEnd, AllocError>
-    requires there { IsAt checkpoints.old forward_move.at }
+    requires is_at { IsAt checkpoints.old forward_move.at }
     requires order { forward_move.from ≤ forward_move.at.step }
     requires within { forward_move.at.step ≤ forward_move.budget }
     requires unbounded { forward_move.bounds ≡ AllAddresses }
-    ensures stop { IfOk result (λ arrived. (stops : Stops) → AreEmpty stops → IsForwardMoveEnd stops checkpoints.old forward_move arrived) }
-    ensures interrupted { IfOk result (λ arrived. arrived.outcome ≡ Interrupted → I.was_raised interrupt.new ≡ true) }
-    ensures same { checkpoints.new ≡ checkpoints.old }
+    ensures stop { IfOk result (λ end. (stops : Stops) → AreEmpty stops → IsForwardMoveEnd stops checkpoints.old forward_move end) }
+    ensures interrupted { IfOk result (λ end. end.outcome ≡ Interrupted → I.was_raised interrupt.new ≡ true) }
+    ensures run_unchanged { checkpoints.new ≡ checkpoints.old }
 {
     let at = checkpoints.later_of(alloc, forward_move.at, forward_move.budget)?;
     let mut way = ForwardMove {

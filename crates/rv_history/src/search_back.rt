@@ -34,9 +34,9 @@ pub(crate) fn stop_before<I: Interrupt>(
     interrupt: &mut I,
 ) -> Result<SearchEnd, AllocError>
     requires { (run_of from checkpoints.now).steps ≡ from }
-    ensures stop { IfOk result (λ arrival. (budget : ℕ) → from ≤ budget
-        → IsStopBefore stops.now budget checkpoints.now from arrival.step arrival.outcome) }
-    ensures interrupted { IfOk result (λ arrival. arrival.outcome ≡ Interrupted → I.was_raised interrupt.new ≡ true) }
+    ensures stop { IfOk result (λ found. (budget : ℕ) → from ≤ budget
+        → IsStopBefore stops.now budget checkpoints.now from found.step found.outcome) }
+    ensures interrupted { IfOk result (λ found. found.outcome ≡ Interrupted → I.was_raised interrupt.new ≡ true) }
 {
     let interrupted = SearchEnd {
         step: from,
@@ -70,8 +70,8 @@ fn search_part<I: Interrupt>(
     stops: &Stops,
     interrupt: &mut I,
 ) -> Result<Option<SearchedPart>, AllocError>
-    requires some { 0 < end }
-    requires comes { (run_of end checkpoints.now).steps ≡ end }
+    requires not_empty { 0 < end }
+    requires reached { (run_of end checkpoints.now).steps ≡ end }
     ensures part { IfOk result (λ searched. IfSome searched (IsSearchedPart stops.now checkpoints.now end)) }
     ensures interrupted { IfOk result (λ searched. IfNone searched (I.was_raised interrupt.new ≡ true)) }
 {
@@ -130,8 +130,8 @@ pub(crate) fn step_before(
     stops: &Stops,
 ) -> Result<SearchEnd, AllocError>
     requires { (run_of from checkpoints.now).steps ≡ from }
-    ensures { IfOk result (λ arrival. (budget : ℕ) → from ≤ budget
-        → IsStepBack stops.now budget checkpoints.now from arrival.step arrival.outcome) }
+    ensures { IfOk result (λ found. (budget : ℕ) → from ≤ budget
+        → IsStepBack stops.now budget checkpoints.now from found.step found.outcome) }
 {
     if from == 0 {
         return Ok(SearchEnd {

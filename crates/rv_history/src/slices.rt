@@ -5,12 +5,12 @@ ghost use Rattle.std.specs.Prelude.{◌≤◌, ◌<◌};
 // The number of steps in a slice. A slice ends at a multiple of it, so that states can be stored there.
 const SLICE: u32 = 1 << 16;
 
-/// Whether a slice ends at the step `step`.
+/// Whether the step `step` is the end of a slice.
 pub(crate) fn is_slice_end(step: u32) -> bool {
     step % SLICE == 0
 }
 
-/// Whether these are at least as many steps as a slice has.
+/// Whether this number of steps is at least that of a slice.
 pub(crate) fn is_at_least_a_slice(steps: u32) -> bool {
     SLICE <= steps
 }

@@ -113,16 +113,16 @@ impl Stops {
     pub(crate) fn differing_watch(
         &self,
         alloc: Global,
-        one: &Bus,
-        other: &Bus,
+        first: &Bus,
+        second: &Bus,
     ) -> Result<Option<u32>, AllocError>
-        ensures { IfOk result (λ outcome. outcome ≡ first_differing self.now.watches one.now other.now) }
+        ensures { IfOk result (λ found. found ≡ first_differing self.now.watches first.now second.now) }
     {
         for watch in self.watches.as_slice() {
             let mut here = Vec::new(alloc);
-            watch.push_bytes(&mut here, one)?;
+            watch.push_bytes(&mut here, first)?;
             let mut there = Vec::new(alloc);
-            watch.push_bytes(&mut there, other)?;
+            watch.push_bytes(&mut there, second)?;
             if here.as_slice() != there.as_slice() {
                 return Ok(Some(watch.address));
             }

@@ -29,19 +29,19 @@ impl Stops {
         Some(WatchHit::Access(address))
     }
 
-    /// Returns the first watchpoint that the step from the machine `one` to the machine `other` triggers, or `None`: watchpoints for
-    /// changes come first, then for reads, then for accesses.
+    /// Returns the first watchpoint that a step triggers, given the machine before it and the machine after it, or `None` if it triggers
+    /// none: watchpoints for changes come first, then for reads, then for accesses.
     pub(crate) fn first_triggered(
         &self,
         alloc: Global,
-        one: &Machine,
-        other: &Machine,
+        before: &Machine,
+        after: &Machine,
     ) -> Result<Option<WatchHit>, AllocError>
-        ensures { IfOk result (λ outcome. outcome ≡ first_triggered self.now (state_of one.now) (state_of other.now)) }
+        ensures { IfOk result (λ found. found ≡ first_triggered self.now (state_of before.now) (state_of after.now)) }
     {
-        match self.differing_watch(alloc, one.bus(), other.bus())? {
+        match self.differing_watch(alloc, before.bus(), after.bus())? {
             Some(address) => Ok(Some(WatchHit::Change(address))),
-            None => Ok(self.access_hit(one)),
+            None => Ok(self.access_hit(before)),
         }
     }
 }

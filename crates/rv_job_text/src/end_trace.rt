@@ -67,7 +67,7 @@ impl<'a> JobRow<'a> {
         };
         let job = JobImage {
             plan: self.plan,
-            place: self.index,
+            index: self.index,
             image: elf.image,
         };
         match trace_job(alloc, &job, self.row.steps, last)? {
@@ -88,7 +88,7 @@ impl<'a> JobRow<'a> {
         };
         let job = JobImage {
             plan: self.plan,
-            place: self.index,
+            index: self.index,
             image: elf.image,
         };
         match calls_at_end(alloc, &job)? {
@@ -107,7 +107,7 @@ impl<'a> JobRow<'a> {
         };
         let job = JobImage {
             plan: self.plan,
-            place: self.index,
+            index: self.index,
             image: elf.image,
         };
         budget_use_of(alloc, &job, self.row.steps)

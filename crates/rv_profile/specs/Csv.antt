@@ -12,13 +12,13 @@ csv_header = codes "image,function,address,self,inclusive,calls\n"
 
 -- the rest of a CSV row after the function's name: its address and its counts, each after a comma, and a line feed
 unfoldable pub csv_numbers : FunctionCounts → List ℕ
-csv_numbers p = codes "," ++ word_digits p.function ++ codes "," ++ decimal p.own ++ codes "," ++ decimal p.inclusive
-    ++ codes "," ++ decimal p.calls ++ codes "\n"
+csv_numbers counts = codes "," ++ word_digits counts.function ++ codes "," ++ decimal counts.own ++ codes "," ++ decimal counts.inclusive
+    ++ codes "," ++ decimal counts.calls ++ codes "\n"
 
 -- the CSV row of a function of the image with this path
 unfoldable pub csv_row : List ℕ → FunctionCounts → List ℕ
-csv_row path p = csv_field path ++ codes "," ++ csv_field p.name ++ csv_numbers p
+csv_row path counts = csv_field path ++ codes "," ++ csv_field counts.name ++ csv_numbers counts
 
 -- the CSV rows of these functions of the image with this path
 abbrev pub csv_rows : List ℕ → List FunctionCounts → List ℕ
-csv_rows path ps = flat_map (csv_row path) ps
+csv_rows path functions = flat_map (csv_row path) functions

@@ -37,7 +37,7 @@ sums_of nodes = record { steps = all_steps nodes; calls = all_calls nodes }
 
 -- the sums, to which the steps and the calls of one more node are added
 abbrev pub with_node : Sums → CallNode → Sums
-with_node sums s = record { steps = sums.steps + s.steps; calls = sums.calls + s.calls }
+with_node sums node = record { steps = sums.steps + node.steps; calls = sums.calls + node.calls }
 
 -- whether both sums fit in 64 bits
 abbrev pub fit_in_64_bits : Sums → Bool

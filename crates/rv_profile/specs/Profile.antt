@@ -29,9 +29,9 @@ function_counts nodes named = record {
   calls = calls_of_function named.function nodes;
 }
 
--- whether `p` comes before `q` in a profile: it has more own steps, or equally many and a lower address
+-- whether `a` comes before `b` in a profile: it has more own steps, or equally many and a lower address
 abbrev pub precedes : FunctionCounts → FunctionCounts → Bool
-precedes p q = nat_lt q.own p.own || ((p.own == q.own) && nat_lt p.function q.function)
+precedes a b = nat_lt b.own a.own || ((a.own == b.own) && nat_lt a.function b.function)
 
 -- `profile` has the counts of each named function in the call tree, once, in the order that `precedes` defines
 pub record IsProfileOf (nodes : List CallNode) (names : List FunctionName) (profile : List FunctionCounts) : Type 0 where
@@ -44,11 +44,11 @@ total_own_steps profile = sum_by (λ p. p.own) profile
 
 -- neither the own nor the inclusive steps of the function exceed `steps`, the steps of all nodes
 abbrev pub IsWithin : ℕ → FunctionCounts → Type 0
-IsWithin steps p = (p.own ≤ steps) × (p.inclusive ≤ steps)
+IsWithin steps counts = (counts.own ≤ steps) × (counts.inclusive ≤ steps)
 
 -- neither the own nor the inclusive steps of any of the functions exceed `steps`, the steps of all nodes
 abbrev pub AreWithin : ℕ → List FunctionCounts → Type 0
-AreWithin steps ps = All (IsWithin steps) ps
+AreWithin steps functions = All (IsWithin steps) functions
 
 -- ---- profiles as the code has them
 

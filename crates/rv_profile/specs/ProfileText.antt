@@ -11,7 +11,7 @@ use Rattle.rv_profile.specs.declared.sums.Sums.{Sums}
 
 -- the profile of the image with this path: CSV rows, or lines for people, as the format says
 abbrev pub image_text : ProfileFormat → List ℕ → Sums → List FunctionCounts → List ℕ
-image_text format path sums ps = if format.csv then csv_rows path (first_or_all format.top ps) else image_lines format.top path sums ps
+image_text format path sums functions = if format.csv then csv_rows path (first_or_all format.top functions) else image_lines format.top path sums functions
 
 -- the header of the report: the column names if the format is CSV, and otherwise empty
 abbrev pub header_text : ProfileFormat → List ℕ

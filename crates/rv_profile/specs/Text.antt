@@ -3,7 +3,7 @@ use Rattle.std.specs.Prelude.{◌==◌, ◌+◌, ◌-◌, ◌*◌, ◌/◌, ◌%
 use Rattle.std.specs.Prelude.{Option, Some, None}
 use Rattle.std.specs.Fmt.{decimal}
 use Rattle.std.specs.List.{flat_map}
-use Rattle.rv_cover_view.specs.Text.{right}
+use Rattle.rv_cover_view.specs.Text.{right_aligned}
 use Rattle.rv_count_tables.specs.Printable.{printable_name, printable_text}
 use Rattle.rv_profile.specs.Profile.{FunctionCounts}
 use Rattle.rv_profile.specs.declared.columns.Columns.{Columns}
@@ -33,8 +33,8 @@ share_header width word = right_aligned_word width word ++ codes "       %"
 
 -- the header with the names of the columns
 unfoldable pub column_header : Columns → List ℕ
-column_header c = share_header c.own (codes "self") ++ share_header c.inclusive (codes "inclusive")
-    ++ right_aligned_word c.calls (codes "calls") ++ codes "  function\n"
+column_header columns = share_header columns.own (codes "self") ++ share_header columns.inclusive (codes "inclusive")
+    ++ right_aligned_word columns.calls (codes "calls") ++ codes "  function\n"
 
 -- ---- shares
 
@@ -44,30 +44,30 @@ hundredths part whole = if whole == 0 then 0 else (20_000 * part + whole) / (2 *
 
 -- a ratio, given in hundredths of a percent, as a percentage with two decimals, eight characters wide
 unfoldable pub percent : ℕ → List ℕ
-percent count = right 4 (count / 100) ++ codes "." ++ decimal (count / 10 % 10) ++ decimal (count % 10) ++ codes "%"
+percent count = right_aligned 4 (count / 100) ++ codes "." ++ decimal (count / 10 % 10) ++ decimal (count % 10) ++ codes "%"
 
 -- the number `part`, right-aligned in a column of this width, and its percentage of `whole`
 unfoldable pub share : ℕ → ℕ → ℕ → List ℕ
-share width part whole = right width part ++ percent (hundredths part whole)
+share width part whole = right_aligned width part ++ percent (hundredths part whole)
 
 -- ---- lines
 
 -- " step" if the count is 1, and otherwise " steps", followed by a line feed
-abbrev pub steps_word : ℕ → List ℕ
-steps_word count = if count == 1 then codes " step\n" else codes " steps\n"
+abbrev pub steps_text : ℕ → List ℕ
+steps_text count = if count == 1 then codes " step\n" else codes " steps\n"
 
 -- the line of the image with this path: the path and the number of steps
 unfoldable pub steps_line : List ℕ → ℕ → List ℕ
-steps_line path steps = printable_text path ++ codes ": " ++ decimal steps ++ steps_word steps
+steps_line path steps = printable_text path ++ codes ": " ++ decimal steps ++ steps_text steps
 
 -- the line of a function, given the widths of the columns and the steps of its image
 unfoldable pub function_line : Columns → ℕ → FunctionCounts → List ℕ
-function_line c steps p = share c.own p.own steps ++ share c.inclusive p.inclusive steps ++ right c.calls p.calls
-    ++ codes "  " ++ printable_name p.name ++ codes "\n"
+function_line columns steps counts = share columns.own counts.own steps ++ share columns.inclusive counts.inclusive steps ++ right_aligned columns.calls counts.calls
+    ++ codes "  " ++ printable_name counts.name ++ codes "\n"
 
 -- the lines of functions, given the widths of the columns and the steps of their image
 abbrev pub function_lines : Columns → ℕ → List FunctionCounts → List ℕ
-function_lines c steps ps = flat_map (function_line c steps) ps
+function_lines columns steps functions = flat_map (function_line columns steps) functions
 
 -- " more function" if the count is 1, and otherwise " more functions", followed by a line feed
 abbrev pub more_functions_text : ℕ → List ℕ
@@ -93,4 +93,4 @@ functions_text top sums (p ∷ ps) = column_header (columns_of sums) ++ function
 
 -- the lines of the image with this path: its number of steps, and then its functions, only the first `top` of them if a number is given
 abbrev pub image_lines : Option ℕ → List ℕ → Sums → List FunctionCounts → List ℕ
-image_lines top path sums ps = steps_line path sums.steps ++ functions_text top sums ps
+image_lines top path sums functions = steps_line path sums.steps ++ functions_text top sums functions

@@ -18,7 +18,7 @@ pub(crate) fn functions_by_own_steps<'t>(
 ) -> Result<Vec<FunctionProfile<'t>>, AllocError>
     requires tree { IsTree stacks.nodes.now }
     requires fits { fit_in_64_bits (sums_of stacks.nodes.now) ≡ true }
-    ensures { IfOk result (λ found. IsProfileOf stacks.entry.nodes.now stacks.entry.names.now (profiles_of found.items)) }
+    ensures { IfOk result (λ profiles. IsProfileOf stacks.entry.nodes.now stacks.entry.names.now (profiles_of profiles.items)) }
 {
     let mut functions = functions_of_stacks(alloc, stacks)?;
     functions.sort_by_key(|function| u64::MAX - function.steps.own)?;
@@ -32,7 +32,7 @@ fn functions_of_stacks<'t>(
 ) -> Result<Vec<FunctionProfile<'t>>, AllocError>
     requires tree { IsTree stacks.nodes.now }
     requires fits { fit_in_64_bits (sums_of stacks.nodes.now) ≡ true }
-    ensures { IfOk result (λ found. profiles_of found.items ≡ map (function_counts stacks.entry.nodes.now) stacks.entry.names.now) }
+    ensures { IfOk result (λ profiles. profiles_of profiles.items ≡ map (function_counts stacks.entry.nodes.now) stacks.entry.names.now) }
 {
     let index = CallTreeIndex::new(alloc, stacks.nodes)?;
     let mut functions = Vec::new(alloc);

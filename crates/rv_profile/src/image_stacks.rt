@@ -63,11 +63,11 @@ fn no_stacks<'t>() -> ImageStacks<'t>
 pub fn has_stacks(table: &CountTable) -> bool
     ensures { result ≡ has_stacks table.now }
 {
-    table.images.as_slice().iter().any(has_spots)
+    table.images.as_slice().iter().any(has_nodes)
 }
 
 // Whether an image of a table has a call tree.
-fn has_spots(entry: &ImageCounts) -> bool
+fn has_nodes(entry: &ImageCounts) -> bool
     ensures { result ≡ has_nodes entry.now.nodes }
 {
     !entry.nodes.as_slice().is_empty()

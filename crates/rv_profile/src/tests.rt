@@ -232,7 +232,7 @@ fn profile_in(alloc: Global, table: &CountTable) -> Result<ImageProfile<'_>, Fai
 }
 
 // Checks that the lines of the image `FILE`, computed from a table, are the expected ones.
-fn lines_are(
+fn check_lines(
     alloc: Global,
     table: &str,
     top: Option<u32>,
@@ -250,7 +250,7 @@ fn lines_are(
 }
 
 // Checks that the CSV rows of the image `FILE`, computed from a table, are the expected ones.
-fn rows_are(
+fn check_rows(
     alloc: Global,
     table: &str,
     top: Option<u32>,
@@ -260,11 +260,11 @@ fn rows_are(
     let table = read_table(alloc, table.as_bytes())?;
     let profile = profile_in(alloc, &table)?;
     let mut text = Vec::new(alloc);
-    push_csv_head(&mut text)?;
+    push_csv_header(&mut text)?;
     push_csv_rows(
         &mut text,
         path.as_bytes(),
-        first_of(top, profile.functions.as_slice()),
+        first_or_all(top, profile.functions.as_slice()),
     )?;
     if text.as_slice() != expected.as_bytes() {
         return Err(expected.into());
@@ -276,20 +276,20 @@ fn rows_are(
 #[test]
 fn functions_stand_by_own_steps(rt: HostRuntime) -> Result<(), Fail> {
     let alloc = rt.alloc();
-    lines_are(alloc, TAIL, None, "build/tail.elf", TAIL_LINES)?;
-    lines_are(alloc, TAIL, Some(30), "build/tail.elf", TAIL_LINES)?;
-    lines_are(alloc, HAND, Some(2), "build/hand.elf", HAND_LINES)?;
-    lines_are(alloc, MUTUAL, None, "a,b.elf", MUTUAL_LINES)
+    check_lines(alloc, TAIL, None, "build/tail.elf", TAIL_LINES)?;
+    check_lines(alloc, TAIL, Some(30), "build/tail.elf", TAIL_LINES)?;
+    check_lines(alloc, HAND, Some(2), "build/hand.elf", HAND_LINES)?;
+    check_lines(alloc, MUTUAL, None, "a,b.elf", MUTUAL_LINES)
 }
 
 // Numbers of any size are aligned in their columns.
 #[test]
 fn columns_line_up(rt: HostRuntime) -> Result<(), Fail> {
     let alloc = rt.alloc();
-    lines_are(alloc, WIDE, None, "a.elf", WIDE_LINES)?;
-    lines_are(alloc, HALF, None, "a.elf", HALF_LINES)?;
+    check_lines(alloc, WIDE, None, "a.elf", WIDE_LINES)?;
+    check_lines(alloc, HALF, None, "a.elf", HALF_LINES)?;
     for (table, expected) in NONE_AND_ONE {
-        lines_are(alloc, table, None, "a.elf", expected)?;
+        check_lines(alloc, table, None, "a.elf", expected)?;
     }
     Ok(())
 }
@@ -298,8 +298,8 @@ fn columns_line_up(rt: HostRuntime) -> Result<(), Fail> {
 #[test]
 fn rows_are_for_tools(rt: HostRuntime) -> Result<(), Fail> {
     let alloc = rt.alloc();
-    rows_are(alloc, HAND, None, "build/hand.elf", HAND_ROWS)?;
-    rows_are(alloc, MUTUAL, Some(1), "a,b.elf", MUTUAL_ROWS)
+    check_rows(alloc, HAND, None, "build/hand.elf", HAND_ROWS)?;
+    check_rows(alloc, MUTUAL, Some(1), "a,b.elf", MUTUAL_ROWS)
 }
 
 // Sums of steps or calls that do not fit in 64 bits are rejected.

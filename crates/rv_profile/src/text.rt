@@ -2,7 +2,7 @@
 
 ghost use Rattle.std.specs.Prelude.{◌≡◌, ◌≤◌, ◌++◌, OnOk};
 ghost use Rattle.rv_profile.specs.Profile.{IsWithin, function_counts_of};
-ghost use Rattle.rv_profile.specs.Text.{column_header, function_line, more_functions_text, hundredths, more_line, percent, right_aligned_word, share, share_header, steps_line, steps_word};
+ghost use Rattle.rv_profile.specs.Text.{column_header, function_line, more_functions_text, hundredths, more_line, percent, right_aligned_word, share, share_header, steps_line, steps_text};
 
 use crate::columns::Columns;
 use crate::function::FunctionProfile;
@@ -25,14 +25,14 @@ pub(crate) fn push_steps_line(
             Span::Printable(path),
             Span::Text(": "),
             Span::Number(steps),
-            Span::Text(steps_word(steps)),
+            Span::Text(steps_text(steps)),
         ],
     )
 }
 
 // Returns " step" if the count is 1, and otherwise " steps", followed by a line feed.
-fn steps_word(count: u64) -> &'static str
-    ensures { result.now ≡ steps_word count }
+fn steps_text(count: u64) -> &'static str
+    ensures { result.now ≡ steps_text count }
 {
     if count == 1 { " step\n" } else { " steps\n" }
 }

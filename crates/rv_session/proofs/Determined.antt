@@ -86,9 +86,9 @@ sought_as_one session one other count value true true first second = (
       one.history.step other.history.step session.history.start first second,
 )
 sought_as_one session one other count value true false first second =
-    absurd (second.0 one.history.step first.within first.there)
+    absurd (second.0 one.history.step first.within first.value_is)
 sought_as_one session one other count value false true first second =
-    absurd (first.0 other.history.step second.within second.there)
+    absurd (first.0 other.history.step second.within second.value_is)
 sought_as_one session one other count value false false first second =
     (refl, ap (λ (s : Session). s.history.step) (first.1 ∙ sym second.1))
 

@@ -28,7 +28,7 @@ pub stands : (session : Session) (start : State) (step : ℕ) (s : State) → st
 stands session start step s starts is within same =
     subst (λ (t : State). IsReached t step s) (sym starts) (record {
       completed = completes session.history.budget step session.history.start within;
-      same = same ∙ ap (λ (k : ℕ). state_after k session.history.start) (sym is);
+      state_is = same ∙ ap (λ (k : ℕ). state_after k session.history.start) (sym is);
     })
 
 changes_within : (stops : Stops) (limits : Bounds) (budget from step : ℕ) (start : State) (what : MoveResult)
@@ -49,11 +49,11 @@ gone_within : (requested : Move) (stops : Stops) (budget from step : ℕ) (start
     → IsMoveResult requested stops budget start from step what → what ≡ outcome.WatchTriggered → is_forward requested ≡ true
     → step < last_step budget start
 gone_within move.Continue stops budget from step start what gone is forward =
-    changes_within stops bounds.All budget from step start what gone.meets is
+    changes_within stops bounds.All budget from step start what gone.is_stop is
 gone_within move.Step stops budget from step start what gone is forward =
     step_changes_within stops budget from step start what gone is
 gone_within (move.StepWithin low high) stops budget from step start what gone is forward =
-    changes_within stops (bounds.Within low high) budget from step start what gone.meets is
+    changes_within stops (bounds.Within low high) budget from step start what gone.is_stop is
 gone_within move.ContinueBack stops budget from step start what gone is forward = absurd (false≢true forward)
 gone_within move.StepBack stops budget from step start what gone is forward = absurd (false≢true forward)
 

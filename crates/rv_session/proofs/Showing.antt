@@ -91,7 +91,7 @@ shows_on session requested step outcome console_sent true forward gone before =
     let within = went_within requested session.stops session.history.budget session.history.step step session.history.start outcome
     forward gone in
     let stays = printed_stays step last session.history.start within in
-    rw forward (shows_forward session (state_at session step) (state_at session last) stays.rest console_sent stays.whole_is
+    rw forward (shows_forward session (state_at session step) (state_at session last) stays.rest console_sent stays.text_is
     before.first_bytes before.within)
 shows_on session requested step outcome console_sent false forward gone before =
     rw forward (append-nil console_sent ∙ before.first_bytes, before.within)

@@ -1,7 +1,7 @@
 -- What is reported to gdb about the end of the run.
 use Rattle.std.specs.Prelude.{ℕ, List, []}
 use Rattle.rv_history.specs.declared.outcome.MoveResult.{MoveResult}
-use Rattle.rv_history.specs.declared.outcome.MoveResult.TheVariants as outcome
+use Rattle.rv_history.specs.declared.outcome.MoveResult.TheVariants as move_result
 use Rattle.rv_history.specs.declared_ending.Ending.{Ending}
 use Rattle.rv_history.specs.declared_ending.Ending.TheVariants as ending
 use Rattle.rv_gdb_protocol.specs.Stops.{Aborted, BadCall, BusError, Exited, FileTooLarge, IllegalInstruction, NoEnding, SegmentFault, EndKind, UsedUp, end_kind_of_fault}
@@ -14,12 +14,12 @@ end_kind_of_ending ending.Budget = UsedUp
 
 -- the kind of end that a move with this result reports; `NoEnding` if it did not reach the end of the run
 abbrev pub end_kind_of_move_result : MoveResult → EndKind
-end_kind_of_move_result (outcome.End ending) = end_kind_of_ending ending
-end_kind_of_move_result outcome.Done = NoEnding
-end_kind_of_move_result outcome.Breakpoint = NoEnding
-end_kind_of_move_result outcome.WatchTriggered = NoEnding
-end_kind_of_move_result outcome.RunStart = NoEnding
-end_kind_of_move_result outcome.Interrupted = NoEnding
+end_kind_of_move_result (move_result.End ending) = end_kind_of_ending ending
+end_kind_of_move_result move_result.Done = NoEnding
+end_kind_of_move_result move_result.Breakpoint = NoEnding
+end_kind_of_move_result move_result.WatchTriggered = NoEnding
+end_kind_of_move_result move_result.RunStart = NoEnding
+end_kind_of_move_result move_result.Interrupted = NoEnding
 
 -- the text if a stop reports an end of the run, and an empty text for `NoEnding`
 abbrev pub text_at_end : EndKind → List ℕ → List ℕ

@@ -5,9 +5,9 @@ use Rattle.rv_history.specs.Places.{last_step}
 use Rattle.rv_history.specs.Stops.{first_triggered}
 use Rattle.rv_history.specs.declared.bounds.Bounds.TheVariants as bounds
 use Rattle.rv_history.specs.declared.outcome.MoveResult.{MoveResult}
-use Rattle.rv_history.specs.declared.outcome.MoveResult.TheVariants as outcome
+use Rattle.rv_history.specs.declared.outcome.MoveResult.TheVariants as move_result
 use Rattle.rv_history.specs.declared.stops.WatchHit.{WatchHit}
-use Rattle.rv_history.specs.declared.stops.WatchHit.TheVariants as hit
+use Rattle.rv_history.specs.declared.stops.WatchHit.TheVariants as watch_hit
 use Rattle.rv_history.specs.declared.stops.Stops.{Stops}
 use Rattle.rv_history.specs.State.{State}
 use Rattle.rv_history.specs.declared_ending.Ending.{Ending}
@@ -48,9 +48,9 @@ end_stop ending.Budget = stop.Budget
 
 -- the stop that reports this watchpoint hit; a stop without a reason if there is no hit
 abbrev pub stop_of_watch_hit : Option WatchHit → Stop
-stop_of_watch_hit (Some (hit.Change address)) = stop.Watch watch.Writes address
-stop_of_watch_hit (Some (hit.Read address)) = stop.Watch watch.Reads address
-stop_of_watch_hit (Some (hit.Access address)) = stop.Watch watch.Accesses address
+stop_of_watch_hit (Some (watch_hit.Change address)) = stop.Watch watch.Writes address
+stop_of_watch_hit (Some (watch_hit.Read address)) = stop.Watch watch.Reads address
+stop_of_watch_hit (Some (watch_hit.Access address)) = stop.Watch watch.Accesses address
 stop_of_watch_hit None = stop.Trap
 
 -- the first watchpoint that triggers between the states at the steps `first` and `second`; `None` if none does
@@ -66,17 +66,17 @@ watch_stop session requested step = stop_of_watch_hit
 -- if the move found a watchpoint hit and went forwards, the session is before the last step of its run, so that there is a step that
 -- triggered it
 abbrev pub CanReportHit : Session → Move → MoveResult → Type 0
-CanReportHit session requested what = what ≡ outcome.WatchTriggered → is_forward requested ≡ true
+CanReportHit session requested what = what ≡ move_result.WatchTriggered → is_forward requested ≡ true
     → session.history.step < last_step session.history.budget session.history.start
 
 -- the stop that reports the result `outcome` of a move to the step `step`
 abbrev pub stop_of : Session → Move → ℕ → MoveResult → Stop
-stop_of session requested step outcome.Done = stop.Trap
-stop_of session requested step outcome.Breakpoint = stop.Trap
-stop_of session requested step outcome.WatchTriggered = watch_stop session requested step
-stop_of session requested step (outcome.End ending) = end_stop ending
-stop_of session requested step outcome.RunStart = stop.RunStart
-stop_of session requested step outcome.Interrupted = stop.Interrupt
+stop_of session requested step move_result.Done = stop.Trap
+stop_of session requested step move_result.Breakpoint = stop.Trap
+stop_of session requested step move_result.WatchTriggered = watch_stop session requested step
+stop_of session requested step (move_result.End ending) = end_stop ending
+stop_of session requested step move_result.RunStart = stop.RunStart
+stop_of session requested step move_result.Interrupted = stop.Interrupt
 
 -- the console output that is sent before the stop in the state `s`: after a forward move, all output that was not sent before; after a
 -- backward move, nothing
@@ -89,12 +89,12 @@ console_sent_after session requested s = if is_forward requested then max sessio
 
 -- `end_text`, the text about the end of the run, if the move reached the end; otherwise an empty text
 abbrev pub end_text_at : List ℕ → MoveResult → List ℕ
-end_text_at end_text (outcome.End ending) = end_text
-end_text_at end_text outcome.Done = []
-end_text_at end_text outcome.Breakpoint = []
-end_text_at end_text outcome.WatchTriggered = []
-end_text_at end_text outcome.RunStart = []
-end_text_at end_text outcome.Interrupted = []
+end_text_at end_text (move_result.End ending) = end_text
+end_text_at end_text move_result.Done = []
+end_text_at end_text move_result.Breakpoint = []
+end_text_at end_text move_result.WatchTriggered = []
+end_text_at end_text move_result.RunStart = []
+end_text_at end_text move_result.Interrupted = []
 
 -- the session makes the move `requested`: `reply` is the reply, and `next` is the session after it; `end_text` is the text about the end of
 -- the run, and `may_break` says whether the move can be interrupted

@@ -125,7 +125,7 @@ told_of_next plan indices error few h =
     let before = take h.count indices in
     let long = length-take h.count indices in
     let lt = h.within in
-    told (length before) 1 h.first h.next error (omega (arith, few, long, lt)) (small plan before h.first h.node_of_first)
+    told (length before) 1 h.first h.next error (omega (arith, few, long, lt)) (small plan before h.first h.of_first)
     (small plan (get_or indices h.count 0 ∷ []) h.next h.of_next) h.refused
 
 pub no_other_reason : (plan : PlanView) (indices : List ℕ) (error : SumError) → length indices ≤ max_jobs

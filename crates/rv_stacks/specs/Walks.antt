@@ -2,7 +2,7 @@
 use Rattle.std.specs.Prelude.{◌≡◌, ◌+◌, ◌<◌, ◌≤◌, ℕ, List, [], length, take, slice_index_or}
 use Rattle.std.specs.Str.{bytes_eq}
 use Rattle.rv_count_tables.specs.declared_call_node.CallNode.{CallNode}
-use Rattle.rv_count_tables.specs.Trees as spots
+use Rattle.rv_count_tables.specs.Trees as preorder
 use Rattle.rv_count_tables.specs.Trees.{ends_with, last_path, one_if, HasCalls, IsTree}
 use Rattle.rv_stacks.specs.declared.preorder.PreorderBuilder.{PreorderBuilder}
 use Rattle.rv_stacks.specs.declared.node.WalkNode.{WalkNode}
@@ -19,18 +19,18 @@ pub record IsTrail (nodes : List WalkNode) (path trail : List ℕ) : Type 0 wher
 pub record IsWalk (w : Walk) : Type 0 where
   pub trail : IsTrail w.nodes.items w.path.items w.trail.items
 
--- the walk `new` is `old` after it entered the node with the path `there` by a call or a jump
-pub record Enters (there : List ℕ) (old new : Walk) : Type 0 where
+-- the walk `new` is `old` after it entered the node with the path `entered_path` by a call or a jump
+pub record Enters (entered_path : List ℕ) (old new : Walk) : Type 0 where
   pub walk : IsWalk new
-  pub path : new.path.items ≡ there
+  pub path : new.path.items ≡ entered_path
   pub calls : (at : List ℕ) → calls_at at new.nodes.items
-      ≡ calls_at at old.nodes.items + one_if (bytes_eq there at)
+      ≡ calls_at at old.nodes.items + one_if (bytes_eq entered_path at)
   pub steps : (at : List ℕ) → steps_at at new.nodes.items ≡ steps_at at old.nodes.items
   pub own : (function : ℕ) → own_steps_of function new.nodes.items ≡ own_steps_of function old.nodes.items
   pub all_calls : all_calls new.nodes.items ≡ all_calls old.nodes.items + 1
   pub all_steps : all_steps new.nodes.items ≡ all_steps old.nodes.items
 
--- the walk `new` is `old` after it returned to the node whose path is the first `depth` functions of its path
+-- the walk `new` is `old` after it returned to the node whose path is the first `depth` functions of the path of `old`
 pub record ReturnsTo (depth : ℕ) (old new : Walk) : Type 0 where
   pub walk : IsWalk new
   pub path : new.path.items ≡ take depth old.path.items
@@ -47,16 +47,16 @@ pub record CountsSteps (n : ℕ) (old new : Walk) : Type 0 where
   pub all_calls : all_calls new.nodes.items ≡ all_calls old.nodes.items
   pub all_steps : all_steps new.nodes.items ≡ all_steps old.nodes.items + n
 
--- ---- nodes as spots
+-- ---- nodes in preorder
 
 -- the nodes `ss`, which are in preorder, have the counts of `nodes`: for each path, for each function, and in total
 pub record ArePreorderOf (nodes : List WalkNode) (ss : List CallNode) : Type 0 where
   pub tree : IsTree ss
   pub some : HasCalls ss
-  pub calls : (path : List ℕ) → spots.calls_at path ss ≡ calls_at path nodes
-  pub steps : (path : List ℕ) → spots.steps_at path ss ≡ steps_at path nodes
-  pub own : (f : ℕ) → spots.own_steps_of f ss ≡ own_steps_of f nodes
-  pub all_steps : spots.all_steps ss ≡ all_steps nodes
+  pub calls : (path : List ℕ) → preorder.calls_at path ss ≡ calls_at path nodes
+  pub steps : (path : List ℕ) → preorder.steps_at path ss ≡ steps_at path nodes
+  pub own : (f : ℕ) → preorder.own_steps_of f ss ≡ own_steps_of f nodes
+  pub all_steps : preorder.all_steps ss ≡ all_steps nodes
 
 -- the node `number` is a child of the node `parent` that a run entered, and its function is not below `from`
 pub record IsNextChild (parent from number : ℕ) (nodes : List WalkNode) : Type 0 where
@@ -81,12 +81,12 @@ pub record IsPreorderBuilder (nodes : List WalkNode) (builder : PreorderBuilder)
 -- of the nodes `before`
 pub record MovesCounts (before : List WalkNode) (old : PreorderBuilder) (after : List WalkNode) (new : PreorderBuilder) : Type 0 where
   pub is_preorder : IsPreorderBuilder after new
-  pub calls : (path : List ℕ) → spots.calls_at path new.nodes.items + calls_at path after
-      ≡ spots.calls_at path old.nodes.items + calls_at path before
-  pub steps : (path : List ℕ) → spots.steps_at path new.nodes.items + steps_at path after
-      ≡ spots.steps_at path old.nodes.items + steps_at path before
-  pub own : (f : ℕ) → spots.own_steps_of f new.nodes.items + own_steps_of f after ≡ spots.own_steps_of f old.nodes.items + own_steps_of f before
-  pub all_steps : spots.all_steps new.nodes.items + all_steps after ≡ spots.all_steps old.nodes.items + all_steps before
+  pub calls : (path : List ℕ) → preorder.calls_at path new.nodes.items + calls_at path after
+      ≡ preorder.calls_at path old.nodes.items + calls_at path before
+  pub steps : (path : List ℕ) → preorder.steps_at path new.nodes.items + steps_at path after
+      ≡ preorder.steps_at path old.nodes.items + steps_at path before
+  pub own : (f : ℕ) → preorder.own_steps_of f new.nodes.items + own_steps_of f after ≡ preorder.own_steps_of f old.nodes.items + own_steps_of f before
+  pub all_steps : preorder.all_steps new.nodes.items + all_steps after ≡ preorder.all_steps old.nodes.items + all_steps before
 
 -- no counts were moved: `new` has the preorder nodes of `old`, and its path and its trail agree with the nodes
 pub record ReturnsToParent (walked : List WalkNode) (old new : PreorderBuilder) : Type 0 where

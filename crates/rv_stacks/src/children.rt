@@ -58,8 +58,8 @@ impl Children {
         function: u32,
         number: usize,
     ) -> Result<(), AllocError> {
-        let above = self.links_of(parent);
-        if MAX_CHAIN <= above.count {
+        let parent_links = self.links_of(parent);
+        if MAX_CHAIN <= parent_links.count {
             self.links.push(UNLINKED)?;
             self.others
                 .insert(key_of(parent, u64::from(function)), number)?;
@@ -67,14 +67,14 @@ impl Children {
         }
         self.links.push(Links {
             first_child: 0,
-            next_sibling: above.first_child,
+            next_sibling: parent_links.first_child,
             count: 0,
         })?;
         if parent < self.links.len() {
             self.links[parent] = Links {
                 first_child: number,
-                next_sibling: above.next_sibling,
-                count: above.count + 1,
+                next_sibling: parent_links.next_sibling,
+                count: parent_links.count + 1,
             };
         }
         Ok(())
@@ -84,9 +84,9 @@ impl Children {
     pub(crate) fn find(&self, nodes: &[WalkNode], parent: usize, function: u32) -> Option<usize>
         ensures { IfSome result (λ number. IsChild parent function number nodes.now) }
     {
-        let above = self.links_of(parent);
-        let mut number = above.first_child;
-        for _ in 0..above.count {
+        let parent_links = self.links_of(parent);
+        let mut number = parent_links.first_child;
+        for _ in 0..parent_links.count {
             if is_child(nodes, parent, function, number) {
                 return Some(number);
             }
@@ -105,10 +105,10 @@ impl Children {
     pub(crate) fn next_child(&self, nodes: &[WalkNode], parent: usize, from: u64) -> Option<usize>
         ensures { IfSome result (λ number. IsNextChild parent from number nodes.now) }
     {
-        let above = self.links_of(parent);
+        let parent_links = self.links_of(parent);
         let mut next = self.next_unchained_child(nodes, parent, from);
-        let mut number = above.first_child;
-        for _ in 0..above.count {
+        let mut number = parent_links.first_child;
+        for _ in 0..parent_links.count {
             if is_next_child(nodes, parent, from, number) && is_lower(nodes, number, next) {
                 next = Some(number);
             }

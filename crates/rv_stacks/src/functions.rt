@@ -48,9 +48,9 @@ pub(crate) fn look_up_function(
     ensures cache { IsFunctionCache (function_at symbols.now.image.now symbols.now.bytes.now) cache.new.items }
 {
     let index = address as usize / 2 % CACHE_SIZE;
-    let there = cache[index];
-    if there.address == address {
-        return there.function;
+    let cached = cache[index];
+    if cached.address == address {
+        return cached.function;
     }
     let function = function_of(symbols, address);
     cache[index] = CachedFunction { address, function };
@@ -78,8 +78,8 @@ pub(crate) fn steps_in_function(
     }
     let function = look_up_function(cache, symbols, counts[block.index].address);
     for steps in 0..block.steps - 1 {
-        let next = counts[block.index + steps as usize + 1].address;
-        if look_up_function(cache, symbols, next) != function {
+        let next_address = counts[block.index + steps as usize + 1].address;
+        if look_up_function(cache, symbols, next_address) != function {
             return steps;
         }
     }

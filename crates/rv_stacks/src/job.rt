@@ -23,15 +23,15 @@ pub fn count_job_with_stacks(
 ) -> Result<Option<(Addresses, CallNodes)>, AllocError>
     ensures counts_and_stacks { IfOk result (λ both. (d : AJob) → AreCountsAndStacksOfJob
         (function_at symbols.now.image.now symbols.now.bytes.now)
-        (job_at job.now.plan.now job.now.place d).budget
-        (start_state_in job.now.plan.now.results (job_at job.now.plan.now job.now.place d)) both) }
+        (job_at job.now.plan.now job.now.index d).budget
+        (start_state_in job.now.plan.now.results (job_at job.now.plan.now job.now.index d)) both) }
     ensures table { IfOk result (λ both. IfSome both (λ both. AreValidCounts both.0)) }
     ensures budget { (d : AJob) → IfOk result (λ _. RunsWithinABudget job.now.plan.now.results
-        (job_at job.now.plan.now job.now.place d)) }
+        (job_at job.now.plan.now job.now.index d)) }
 {
-    match machine_at(alloc, job.plan, job.place, job.image)? {
+    match machine_at(alloc, job.plan, job.index, job.image)? {
         Ok(machine) => {
-            let budget = job.plan.job(job.place).budget;
+            let budget = job.plan.job(job.index).budget;
             Ok(Some(count_with_stacks(alloc, machine, budget, symbols)?))
         }
         Err(_) => Ok(None),

@@ -4,7 +4,7 @@ ghost use Rattle.std.specs.Prelude.{◌≡◌, ◌<◌, ◌≤◌, ℕ, List, le
 ghost use Rattle.std.specs.List.{flat_map, range_with_len};
 ghost use Rattle.std.specs.List.Sorted.{IsPermutation};
 ghost use Rattle.rv_count_tables.specs.declared.table.AddressCounts.{AddressCounts};
-ghost use Rattle.rv_count_tables.specs.declared.sum.SumError.{SumError as Refused};
+ghost use Rattle.rv_count_tables.specs.declared.sum.SumError.{SumError as ASumError};
 ghost use Rattle.rv_count_tables.specs.declared.table.CountTable.{CountTable};
 ghost use Rattle.rv_count_tables.specs.Sum.{no_counts};
 ghost use Rattle.rv_count_tables.specs.Text.{table_text};
@@ -73,6 +73,6 @@ pub fn table_without_stacks_is_that_of_counts()
 /// For at most `max_jobs` jobs, a table with call trees can be missing for two reasons only: memory ran out, or a function has two names.
 /// No number reaches 2^64.
 pub fn only_names_prevent_a_table_with_stacks()
-    ensures { (plan : PlanView) (indices : List ℕ) (error : Refused) → length indices ≤ max_jobs
+    ensures { (plan : PlanView) (indices : List ℕ) (error : ASumError) → length indices ≤ max_jobs
         → HaveNoTableWithStacks plan indices error → IsOfNamesOrMemory error }
 {}

@@ -53,31 +53,31 @@ fn names_in_order(
     ensures fits { IfOk result (λ _. AllByRecursion FitsFields nodes.now) }
 {
     let mut names = Vec::new(alloc);
-    let mut next = 0;
+    let mut first_unnamed = 0;
     for node in nodes {
-        name_function_of(alloc, symbols, &mut names, next, *node)?;
-        next = node.function as u64 + 1;
+        name_function_of(alloc, symbols, &mut names, first_unnamed, *node)?;
+        first_unnamed = node.function as u64 + 1;
     }
     Ok(FunctionNames::new(names))
 }
 
-// Appends the name of a node's function, unless the function is below `next`, since those functions have been named already.
+// Appends the name of a node's function, unless the function is below `first_unnamed`, since those functions have been named already.
 fn name_function_of(
     alloc: Global,
     symbols: &CodeSymbols<'_>,
     names: &mut Vec<FunctionName>,
-    next: u64,
+    first_unnamed: u64,
     node: CallNode,
 ) -> Result<(), AllocError>
     ensures names { (nodes : List ACallNode)
-        → AreNamedUpTo (name_of_function symbols.now.image.now symbols.now.bytes.now) nodes next names.old.items
-        → next ≤ node.function + 1
+        → AreNamedUpTo (name_of_function symbols.now.image.now symbols.now.bytes.now) nodes first_unnamed names.old.items
+        → first_unnamed ≤ node.function + 1
         → OnOk result (AreNamedUpTo (name_of_function symbols.now.image.now symbols.now.bytes.now) (nodes ++ node ∷ [])
         (node.function + 1) names.new.items) }
     ensures fits { FitsFields node }
 {
-    let known = (node.function as u64) < next;
-    if known {
+    let is_named = (node.function as u64) < first_unnamed;
+    if is_named {
         return Ok(());
     }
     let name = shown_name(alloc, symbols, node.function)?;

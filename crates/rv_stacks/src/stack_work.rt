@@ -36,7 +36,7 @@ impl Work<JobsTable> for StackWork<'_> {
         &self,
         alloc: Global,
         number: usize,
-        _bench: &mut WorkerState,
+        _worker_state: &mut WorkerState,
     ) -> Result<JobsTable, AllocError> {
         let table = stack_table_of_job(alloc, self.batch.plan, self.batch.places[number])?;
         Ok(JobsTable::new(table))

@@ -34,7 +34,7 @@ pub(crate) fn stack_table_of_job(
     let symbols = CodeSymbols::new(alloc, &image, bytes)?;
     let job_image = JobImage {
         plan,
-        place: index,
+        index,
         image: &image,
     };
     match count_job_with_stacks(alloc, &job_image, &symbols)? {

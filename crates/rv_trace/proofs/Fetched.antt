@@ -45,8 +45,8 @@ module _ (s : State) (p : Instr × ℕ) where
       ∙ ap (λ r. option_map (λ above. Word (low + 0x1_0000 * above)) (result_ok r)) h in (
         Word word,
         record {
-          there = there;
-          same = ap (option_and_then instr_of) there ∙ meaning32_wider s.isa word p.0 g.0;
+          encoding = there;
+          instruction = ap (option_and_then instr_of) there ∙ meaning32_wider s.isa word p.0 g.0;
           long = g.1;
         },
       )
@@ -62,8 +62,8 @@ module _ (s : State) (p : Instr × ℕ) where
       (Some (Half low))) short in (
         Half low,
         record {
-          there = there;
-          same = ap (option_and_then instr_of) there ∙ meaning16_wider s.isa low p.0 g.0;
+          encoding = there;
+          instruction = ap (option_and_then instr_of) there ∙ meaning16_wider s.isa low p.0 g.0;
           long = g.1;
         },
       )

@@ -21,7 +21,7 @@ use Rattle.rv_machine.specs.Run.{after_fetch, step_of}
 use Rattle.rv_machine.specs.State.{State, with_pc, with_bus}
 use Rattle.rv_trace.specs.declared.write_targets.Access.{Access}
 use Rattle.rv_trace.specs.declared.write_targets.Access.TheVariants as access
-use Rattle.rv_trace.specs.declared.write_targets.WriteTarget.TheVariants as aim
+use Rattle.rv_trace.specs.declared.write_targets.WriteTarget.TheVariants as target
 use Rattle.rv_trace.specs.declared.step.WriteEffect.TheVariants as write
 use Rattle.rv_trace.specs.Steps.{access_of, instruction_write_target, write_target, traced_step, completed_write}
 use Rattle.rv_trace.proofs.Fetched.{code_is_fetched}
@@ -94,7 +94,7 @@ stores_as op.Sw w i next s e = let same : Word ≡ w = cc in ap (λ x. store x s
 stores_as _ w i next s e = cc
 
 nothing_stored : (b : Bool) (n a : ℕ) (w : Width) (v : ℕ) (t : State) (P : Type 0)
-    → completed_write (cond b aim.Nothing (aim.Register n)) t ≡ write.Stored a w v → P
+    → completed_write (cond b target.Nothing (target.Register n)) t ≡ write.Stored a w v → P
 nothing_stored true n a w v t P e = cc
 nothing_stored false n a w v t P e = cc
 
@@ -131,7 +131,7 @@ module _ (s t : State) (a v : ℕ) (w : Width) (e : (traced_step s t).write ≡ 
   by_fetch : (f : FetchResult) → fetch s.isa s.bus s.pc ≡ f → after_fetch f s ≡ Ok t → value_at t.bus.memory a w ≡ v
   unfolding effect
   by_fetch (Ok p) is done =
-      let same = (code_is_fetched s p.0 p.1 is).1.same in
+      let same = (code_is_fetched s p.0 p.1 is).1.instruction in
       by_access s t p.0 (next_pc s p.1) a v w (access_of p.0.op) refl
       (sym (ap (λ o. completed_write (write_target o s) t) same) ∙ e) done outside
   by_fetch (Err f) is done = cc

@@ -20,8 +20,8 @@ pub record ShowsEndOfRun (trace : Trace) (last : ℕ) (result : RunResult) (s : 
   pub registers : (n : ℕ) → n < 32 → slice_index trace.registers n ≡ register result.state n
   pub count : length trace.steps ≡ min result.steps last
   pub lines : (k : ℕ) (d : TracedStep) → k < min result.steps last
-      → let place = result.steps - min result.steps last + k in
-      slice_index_or trace.steps k d ≡ traced_step (state_after place s) (state_after (place + 1) s)
+      → let index = result.steps - min result.steps last + k in
+      slice_index_or trace.steps k d ≡ traced_step (state_after index s) (state_after (index + 1) s)
 
 -- in the run from the state `s` with the result `result`, all instructions before the end completed, and the one at the end did not, unless
 -- the budget was used up before it
@@ -31,6 +31,6 @@ pub record IsEndOfRun (result : RunResult) (s : State) : Type 0 where
 
 -- `code` is the encoding at the pc of the state `s`, and has the instruction `i` and `size` bytes
 pub record IsCodeOf (s : State) (i : Instr) (size : ℕ) (code : Code) : Type 0 where
-  pub there : code_at s.bus s.pc ≡ Some code
-  pub same : instr_at s ≡ Some i
+  pub encoding : code_at s.bus s.pc ≡ Some code
+  pub instruction : instr_at s ≡ Some i
   pub long : size_of_code code ≡ size

@@ -13,7 +13,7 @@ use Rattle.rv_machine.specs.State.{State, register}
 use Rattle.rv_trace.specs.declared.write_targets.Access.{Access}
 use Rattle.rv_trace.specs.declared.write_targets.Access.TheVariants as access
 use Rattle.rv_trace.specs.declared.write_targets.WriteTarget.{WriteTarget}
-use Rattle.rv_trace.specs.declared.write_targets.WriteTarget.TheVariants as aim
+use Rattle.rv_trace.specs.declared.write_targets.WriteTarget.TheVariants as target
 use Rattle.rv_trace.specs.declared.step.TracedStep.{TracedStep}
 use Rattle.rv_trace.specs.declared.step.WriteEffect.{WriteEffect}
 use Rattle.rv_trace.specs.declared.step.WriteEffect.TheVariants as write
@@ -36,20 +36,20 @@ access_of _ = access.Neither
 -- the target that the instruction `i` writes in the state `s`: a load writes a register, from its address; a store writes the low bytes of
 -- rs2 to its address; any other instruction writes rd, unless it is x0
 abbrev pub instruction_write_target : Access → Instr → State → WriteTarget
-instruction_write_target access.Load i s = aim.Load i.rd (address s i)
+instruction_write_target access.Load i s = target.Load i.rd (address s i)
 instruction_write_target (access.Store width) i s =
-    aim.Store (address s i) width (rs2_value s i % 2 ^ (8 * size_of width))
-instruction_write_target access.Neither i s = if i.rd == 0 then aim.Nothing else aim.Register i.rd
+    target.Store (address s i) width (rs2_value s i % 2 ^ (8 * size_of width))
+instruction_write_target access.Neither i s = if i.rd == 0 then target.Nothing else target.Register i.rd
 
 -- the target that an instruction writes in the state `s`; `Nothing` if there is no instruction
 abbrev pub write_target : Option Instr → State → WriteTarget
-write_target None s = aim.Nothing
+write_target None s = target.Nothing
 write_target (Some i) s = instruction_write_target (access_of i.op) i s
 
 -- the number of the register to be written, if there is one, is below 32
 abbrev pub HasRegister : WriteTarget → Type 0
-HasRegister (aim.Register number) = number < 32
-HasRegister (aim.Load number address) = number < 32
+HasRegister (target.Register number) = number < 32
+HasRegister (target.Load number address) = number < 32
 HasRegister _ = Unit {0}
 
 -- ---- what an instruction wrote
@@ -57,10 +57,10 @@ HasRegister _ = Unit {0}
 -- the effect of a completed write to this target: the new value of a register is read from the state `t` after the instruction, and the
 -- value of a store is in the target
 abbrev pub completed_write : WriteTarget → State → WriteEffect
-completed_write aim.Nothing t = write.Nothing
-completed_write (aim.Register number) t = write.Register number (register t number)
-completed_write (aim.Load number address) t = write.Loaded number (register t number) address
-completed_write (aim.Store address width value) t = write.Stored address width value
+completed_write target.Nothing t = write.Nothing
+completed_write (target.Register number) t = write.Register number (register t number)
+completed_write (target.Load number address) t = write.Loaded number (register t number) address
+completed_write (target.Store address width value) t = write.Stored address width value
 
 -- the instruction at the pc of a state, in RV32IMC; `None` if there is none
 abbrev pub instr_at : State → Option Instr

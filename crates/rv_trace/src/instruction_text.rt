@@ -117,12 +117,12 @@ fn push_address(
 fn push_symbol_and_space(
     alloc: Global,
     bytes: &mut Vec<u8>,
-    place: Option<SymbolAt<'_>>,
+    symbol_or_none: Option<SymbolAt<'_>>,
 ) -> Result<(), AllocError>
     ensures { OnOk result (bytes.new.items ≡ bytes.old.items
-        ++ symbol_and_space (option_map (λ s. (s.name.now, s.offset)) place.entry)) }
+        ++ symbol_and_space (option_map (λ s. (s.name.now, s.offset)) symbol_or_none.entry)) }
 {
-    let Some(symbol) = place else {
+    let Some(symbol) = symbol_or_none else {
         return Ok(());
     };
     push_symbol(alloc, bytes, symbol)?;

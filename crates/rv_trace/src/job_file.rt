@@ -25,7 +25,7 @@ pub fn image_bytes(plan: &Plan, index: usize) -> Option<&[u8]>
 /// Parses bytes as an image for this instruction set, and returns it, or `None` if they are not an image.
 pub fn image_of_bytes(alloc: Global, isa: Isa, bytes: &[u8]) -> Result<Option<Image>, AllocError>
     ensures value { IfOk result (λ image. image ≡ image_if_read isa (Some bytes.now)) }
-    ensures image { IfOk result (λ found. IfSome found (λ image. image_of isa bytes.now ≡ Ok image)) }
+    ensures image { IfOk result (λ parsed. IfSome parsed (λ image. image_of isa bytes.now ≡ Ok image)) }
 {
     match read_image(alloc, bytes, isa) {
         Ok(image) => Ok(Some(image)),

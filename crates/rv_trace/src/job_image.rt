@@ -11,9 +11,9 @@ use rv_rows::{Image, Plan};
 pub struct JobImage<'a> {
     pub plan: &'a Plan,
     /// The job's index, counted from 0.
-    pub place: usize,
+    pub index: usize,
     pub image: &'a Image,
-    pub ghost within: { place < length plan.now.jobs },
-    pub ghost read: { (d : AJob) → image_in plan.now.results (slice_index_or plan.now.jobs place d)
+    pub ghost within: { index < length plan.now.jobs },
+    pub ghost read: { (d : AJob) → image_in plan.now.results (slice_index_or plan.now.jobs index d)
         ≡ Some image.now },
 }

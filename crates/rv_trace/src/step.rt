@@ -44,14 +44,14 @@ pub(crate) fn trace_next_step(machine: &mut Machine) -> Option<TracedStep>
 {
     let pc = machine.pc();
     let code = code_at(machine.bus(), pc);
-    let aim = write_target(machine, code);
+    let target = write_target(machine, code);
     if !execute_step(machine) {
         return None;
     }
     Some(TracedStep {
         pc,
         code,
-        write: aim.completed_write(machine),
+        write: target.completed_write(machine),
     })
 }
 

@@ -59,9 +59,9 @@ pub fn trace_job(
     max_steps: u32,
 ) -> Result<Option<Trace>, AllocError>
     ensures { IfOk result (λ trace. (d : AJob) → trace
-        ≡ trace_in job.now.plan.now (job_at job.now.plan.now job.now.place d) steps max_steps) }
+        ≡ trace_in job.now.plan.now (job_at job.now.plan.now job.now.index d) steps max_steps) }
 {
-    match machine_at(alloc, job.plan, job.place, job.image)? {
+    match machine_at(alloc, job.plan, job.index, job.image)? {
         Ok(machine) => Ok(Some(trace_run(alloc, machine, steps, max_steps)?)),
         Err(_) => Ok(None),
     }

@@ -121,12 +121,12 @@ fn push_symbol_of_value(
 fn push_symbol_after_value(
     alloc: Global,
     bytes: &mut Vec<u8>,
-    place: Option<SymbolAt<'_>>,
+    symbol_or_none: Option<SymbolAt<'_>>,
 ) -> Result<(), AllocError>
     ensures { OnOk result (bytes.new.items ≡ bytes.old.items
-        ++ symbol_after_value (option_map (λ s. (s.name.now, s.offset)) place.entry)) }
+        ++ symbol_after_value (option_map (λ s. (s.name.now, s.offset)) symbol_or_none.entry)) }
 {
-    let Some(symbol) = place else {
+    let Some(symbol) = symbol_or_none else {
         return Ok(());
     };
     push_text(bytes, GAP)?;

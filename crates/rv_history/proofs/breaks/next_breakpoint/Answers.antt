@@ -10,11 +10,11 @@ use Rattle.rv_history.proofs.Ways.{all_addresses, arrives_at_budget, arrives_bro
 use Rattle.rv_history.proofs.breaks.next_breakpoint.Goals as goal
 
 pub places-init : goal.places-init
-places-init g c = record { way = c.requires.way; forward_move = refl; same = refl }
+places-init g c = record { way = c.requires.in_progress; forward_move = refl; same = refl }
 
-pub store_and_poll-requires-clause-there : goal.store_and_poll-requires-clause-there
-store_and_poll-requires-clause-there g c =
-    subst (λ (s : State). IsAt s c.places.forward_move.at) (sym c.places.invariant.same) c.places.invariant.way.there
+pub store_and_poll-requires-clause-is_at : goal.store_and_poll-requires-clause-is_at
+store_and_poll-requires-clause-is_at g c =
+    subst (λ (s : State). IsAt s c.places.forward_move.at) (sym c.places.invariant.same) c.places.invariant.way.is_at
 
 pub store_and_poll-requires-clause-order : goal.store_and_poll-requires-clause-order
 store_and_poll-requires-clause-order g c = c.places.invariant.way.order
@@ -52,18 +52,18 @@ places-preserved g c =
     let within : step + 1 + c.run_between.result ≤ forward_move.budget = omega (arith, few, end, ahead) in
     let all = all_addresses c.args.forward_move forward_move c.places.invariant.forward_move c.requires.unbounded in
     let later = quiet_run stops forward_move.bounds forward_move.budget forward_move.from (step + 1) c.run_between.result start t
-    (state_of c.run_between.new.machine) all c.requires.unwatched (next_place start s t step way.there c.in_default.ensures) within
-    c.run_between.ensures.ran c.run_between.ensures.no_break
-    (quiet_more stops forward_move.bounds forward_move.budget forward_move.from step start s t way.there goes c.in_default.ensures
-    (is_unset stops s t c.requires.unwatched) (sym c.is_stopped.ensures ∙ c.if-is_stopped.false) way.quiet) in record {
+    (state_of c.run_between.new.machine) all c.requires.unwatched (next_place start s t step way.is_at c.in_default.ensures) within
+    c.run_between.ensures.run c.run_between.ensures.no_break
+    (quiet_more stops forward_move.bounds forward_move.budget forward_move.from step start s t way.is_at goes c.in_default.ensures
+    (is_unset stops s t c.requires.unwatched) (sym c.is_stopped.ensures ∙ c.if-is_stopped.false) way.passed_no_stop) in record {
       way = record {
-        there = later.1;
+        is_at = later.1;
         order = omega (arith, order);
         within = within;
-        quiet = later.0;
+        passed_no_stop = later.0;
       };
       forward_move = still_on c.args.forward_move forward_move _ c.places.invariant.forward_move refl;
-      same = c.store_and_poll.ensures.same ∙ c.places.invariant.same;
+      same = c.store_and_poll.ensures.run_unchanged ∙ c.places.invariant.same;
     }
 
 pub returns-clause-stop : goal.returns-clause-stop

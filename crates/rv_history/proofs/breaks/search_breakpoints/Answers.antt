@@ -24,18 +24,18 @@ places-preserved g c =
     let reached = c.places.invariant.reached in
     let none = c.requires.unwatched in
     let few = c.run_between.ensures.within in
-    let goes : step < last_step end start = omega (arith, c.requires.comes, c.places-test.true) in
+    let goes : step < last_step end start = omega (arith, c.requires.reached, c.places-test.true) in
     let e = step_completes c.execute_step.result end step start s t reached goes c.execute_step.ensures in
     let next = next_place start s t step reached e in
     let Later : ℕ → Type 0 = λ budget. IsLastStopIn stops budget start begin (step + 1 + n) c.last_stop_after-last.result
     × IsReached start (step + 1 + n) (state_of c.run_between.new.machine) in
     let later : (budget : ℕ) → end ≤ budget → Later budget = λ budget within.
-    let far : end ≤ last_step budget start = comes_within budget end start c.requires.comes within in
+    let far : end ≤ last_step budget start = comes_within budget end start c.requires.reached within in
     let more = last_more stops budget begin step start s t c.places.last c.has_break-is_break.result stepped.NotTriggered reached
     (omega (arith, far, c.places-test.true)) (c.has_break-is_break.ensures ∙ ap (is_break stops) c.pc.ensures)
     (e, is_unset stops s t none) (omega (arith, within, c.places-test.true)) (c.places.invariant.last budget within) in
     last_run stops budget begin (step + 1) n start t (state_of c.run_between.new.machine) c.last_stop_after-last.result none next
-    (omega (arith, far, few, c.places-test.true)) (within_budget budget start) c.run_between.ensures.ran c.run_between.ensures.no_break
+    (omega (arith, far, few, c.places-test.true)) (within_budget budget start) c.run_between.ensures.run c.run_between.ensures.no_break
     (subst (λ (last : Option SearchEnd). IsLastStopIn stops budget start begin (step + 1) last) (sym c.last_stop_after-last.ensures) more) in
     let order = c.places.invariant.low in
     let here = c.places-test.true in record {
@@ -48,7 +48,7 @@ places-preserved g c =
 pub returns-clause-part : goal.returns-clause-part
 returns-clause-part g c =
     let near = c.in_ok-at.ensures.1 in record {
-      begin = omega (arith, near, c.requires.some);
+      begin = omega (arith, near, c.requires.not_empty);
       last = λ budget within.
           let order = c.places.invariant.within in
           let end : c.places.at.step ≡ c.args.end = omega (arith, order, c.places-test.false) in

@@ -17,9 +17,9 @@ places-init g c = record {
   same = refl;
 }
 
-pub store_and_poll-requires-clause-there : goal.store_and_poll-requires-clause-there
-store_and_poll-requires-clause-there g c =
-    subst (λ (s : State). IsAt s c.places.forward_move.at) (sym c.places.invariant.same) c.places.invariant.way.there
+pub store_and_poll-requires-clause-is_at : goal.store_and_poll-requires-clause-is_at
+store_and_poll-requires-clause-is_at g c =
+    subst (λ (s : State). IsAt s c.places.forward_move.at) (sym c.places.invariant.same) c.places.invariant.way.is_at
 
 pub store_and_poll-requires-clause-order : goal.store_and_poll-requires-clause-order
 store_and_poll-requires-clause-order g c = c.places.invariant.way.order
@@ -27,7 +27,7 @@ store_and_poll-requires-clause-order g c = c.places.invariant.way.order
 pub machine_at_step-requires : goal.machine_at_step-requires
 machine_at_step-requires g c =
     subst (λ (s : State). (run_of c.places.forward_move.at.step s).steps ≡ c.places.forward_move.at.step)
-    (sym (c.store_and_poll.ensures.same ∙ c.places.invariant.same)) c.places.invariant.way.there.completed
+    (sym (c.store_and_poll.ensures.run_unchanged ∙ c.places.invariant.same)) c.places.invariant.way.is_at.completed
 
 pub returns-then-is_stopped-clause-stop : goal.returns-then-is_stopped-clause-stop
 returns-then-is_stopped-clause-stop g c =
@@ -49,9 +49,9 @@ returns-in-Ended-clause-stop g c =
 pub returns-in-WatchTriggered-clause-stop : goal.returns-in-WatchTriggered-clause-stop
 returns-in-WatchTriggered-clause-stop g c =
     let did = rw c.in-WatchTriggered.is at c.in_ok-ending.ensures.step in
-    let same = c.store_and_poll.ensures.same ∙ c.places.invariant.same in
+    let same = c.store_and_poll.ensures.run_unchanged ∙ c.places.invariant.same in
     arrives_changed c.args.stops.now c.args.checkpoints.now c.args.forward_move c.places.forward_move _ c.places.invariant.way c.places.invariant.forward_move
-    c.in_ok-at-in-WatchTriggered.at (state_of c.step_with_watched_bytes.new.machine) refl (subst (λ (s : State). IsAt s c.in_ok-at-in-WatchTriggered.at) same c.in_ok-at-in-WatchTriggered.ensures.there)
+    c.in_ok-at-in-WatchTriggered.at (state_of c.step_with_watched_bytes.new.machine) refl (subst (λ (s : State). IsAt s c.in_ok-at-in-WatchTriggered.at) same c.in_ok-at-in-WatchTriggered.ensures.is_at)
     c.in_ok-at-in-WatchTriggered.ensures.step c.places-test.true did.0 did.1 (sym c.is_stopped.ensures ∙ c.if-is_stopped.false)
 
 pub places-preserved : goal.places-preserved
@@ -66,15 +66,15 @@ places-preserved g c =
     let order = way.order in
     let did = rw c.in-NotTriggered.is at c.in_ok-ending.ensures.step in record {
       way = record {
-        there = next_place start s t forward_move.at.step way.there did.0;
+        is_at = next_place start s t forward_move.at.step way.is_at did.0;
         order = omega (arith, order);
         within = omega (arith, goes);
-        quiet = quiet_more stops forward_move.bounds forward_move.budget forward_move.from forward_move.at.step start s t way.there goes did.0 did.1
-            (sym c.is_stopped.ensures ∙ c.if-is_stopped.false) way.quiet;
+        passed_no_stop = quiet_more stops forward_move.bounds forward_move.budget forward_move.from forward_move.at.step start s t way.is_at goes did.0 did.1
+            (sym c.is_stopped.ensures ∙ c.if-is_stopped.false) way.passed_no_stop;
       };
       forward_move = still_on c.args.forward_move forward_move _ c.places.invariant.forward_move refl;
       watched = c.in_ok-ending.ensures.same_bytes;
-      same = c.store_and_poll.ensures.same ∙ c.places.invariant.same;
+      same = c.store_and_poll.ensures.run_unchanged ∙ c.places.invariant.same;
     }
 
 pub returns-clause-stop : goal.returns-clause-stop

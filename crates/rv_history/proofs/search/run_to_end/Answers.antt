@@ -12,15 +12,15 @@ pub places-init : goal.places-init
 places-init g c =
     let order = c.in_ok-at.ensures.order in
     let begun = c.requires.order in record {
-      there = c.in_ok-at.ensures.there;
+      there = c.in_ok-at.ensures.is_at;
       order = omega (arith, order, begun);
       within = order.1;
       way = refl;
       same = refl;
     }
 
-pub store_and_poll-requires-clause-there : goal.store_and_poll-requires-clause-there
-store_and_poll-requires-clause-there g c =
+pub store_and_poll-requires-clause-is_at : goal.store_and_poll-requires-clause-is_at
+store_and_poll-requires-clause-is_at g c =
     subst (λ (s : State). IsAt s c.places.way.at) (sym c.places.invariant.same) c.places.invariant.there
 
 pub returns-then-branch-clause-stop : goal.returns-then-branch-clause-stop
@@ -36,12 +36,12 @@ pub returns-then-way-end-clause-stop : goal.returns-then-way-end-clause-stop
 returns-then-way-end-clause-stop g c = λ stops none.
     let start = c.args.checkpoints.now in
     let at = c.run_to_step-ending.new.self in
-    let ran = c.run_to_step-ending.ensures.ran start c.places.invariant.there in
+    let ran = c.run_to_step-ending.ensures.run start c.places.invariant.there in
     let begun = c.places.invariant.order in
     let from = ap (λ (l : ForwardMove). l.from) c.places.invariant.way in
     let budget = ap (λ (l : ForwardMove). l.budget) c.places.invariant.way in
     let end = c.slice_end-end.ensures.within in
-    let not_back : c.places.way.at.step ≤ at.step = c.run_to_step-ending.ensures.not_back in
+    let not_back : c.places.way.at.step ≤ at.step = c.run_to_step-ending.ensures.step_not_smaller in
     ends_before stops start c.args.forward_move at c.arrived-then-way-end.result c.slice_end-end.result c.run_to_step-ending.result none c.requires.unbounded
     (omega (arith, begun, from, not_back)) c.arrived-then-way-end.ensures ran c.if-way-end.true (omega (arith, budget, end))
 
@@ -50,9 +50,9 @@ places-preserved g c =
     let start = c.args.checkpoints.now in
     let at = c.run_to_step-ending.new.self in
     let end = c.slice_end-end.result in
-    let ran = c.run_to_step-ending.ensures.ran start c.places.invariant.there in
+    let ran = c.run_to_step-ending.ensures.run start c.places.invariant.there in
     let begun = c.places.invariant.order in
-    let not_back = c.run_to_step-ending.ensures.not_back in
+    let not_back = c.run_to_step-ending.ensures.step_not_smaller in
     let count = ap (λ r. r.steps) ran in
     let few = within_budget end start in
     let within = c.slice_end-end.ensures.within in record {
@@ -60,7 +60,7 @@ places-preserved g c =
       order = omega (arith, begun, not_back);
       within = omega (arith, count, few, within);
       way = still_on c.args.forward_move c.places.way _ c.places.invariant.way refl;
-      same = c.store_and_poll.ensures.same ∙ c.places.invariant.same;
+      same = c.store_and_poll.ensures.run_unchanged ∙ c.places.invariant.same;
     }
 
 pub places-smaller : goal.places-smaller

@@ -23,11 +23,11 @@ loop-step-preserved g c =
     let t = state_of c.step_with_watched_bytes.new.machine in
     let step = c.loop-step.step in
     let reached = c.loop-step.invariant.reached in
-    let goes : step < last_step c.args.end start = omega (arith, c.requires.comes) in record {
+    let goes : step < last_step c.args.end start = omega (arith, c.requires.reached) in record {
       reached = stepped_place stops c.args.end step start s t c.in_ok-stepped.stepped reached goes c.in_ok-stepped.ensures.step;
       watched = c.in_ok-stepped.ensures.same_bytes;
       last = λ budget within.
-          let far : c.args.end ≤ last_step budget start = comes_within budget c.args.end start c.requires.comes within in
+          let far : c.args.end ≤ last_step budget start = comes_within budget c.args.end start c.requires.reached within in
           let more = last_more stops budget c.in_ok-at.at.step step start s t c.loop-step.last c.has_break-is_break.result
           c.in_ok-stepped.stepped reached (omega arith) (c.has_break-is_break.ensures ∙ ap (is_break stops) c.pc.ensures)
           c.in_ok-stepped.ensures.step (omega arith) (c.loop-step.invariant.last budget within) in
@@ -38,9 +38,9 @@ loop-step-preserved g c =
 pub returns-clause-part : goal.returns-clause-part
 returns-clause-part g c =
     let near = c.in_ok-at.ensures.1 in record {
-      begin = omega (arith, near, c.requires.some);
+      begin = omega (arith, near, c.requires.not_empty);
       last = λ budget within.
-          let end : c.loop-step.step ≡ c.args.end = omega (arith, near, c.requires.some) in
+          let end : c.loop-step.step ≡ c.args.end = omega (arith, near, c.requires.not_empty) in
           subst (λ (k : ℕ). IsLastStopIn c.args.stops.now budget c.args.checkpoints.now c.in_ok-at.at.step k c.loop-step.last) end
           (c.loop-step.invariant.last budget within);
     }

@@ -18,7 +18,7 @@ returns-in-WatchTriggered c = λ budget within.
     let there = completes c.args.from before start (omega (arith, c.requires)) in
     let reached : IsReached start before (state_of c.in_ok-machine.machine) = record {
       completed = there;
-      same = c.in_ok-machine.ensures;
+      state_is = c.in_ok-machine.ensures;
     } in
     let did = rw c.in-WatchTriggered.is at c.in_ok-step_watched.ensures in
     stays_behind_change c.args.stops.now budget before c.args.from start (state_of c.in_ok-machine.machine)
@@ -33,7 +33,7 @@ returns c = λ budget within.
     let there = completes c.args.from before start (omega (arith, c.requires)) in
     let reached : IsReached start before s = record {
       completed = there;
-      same = c.in_ok-machine.ensures;
+      state_is = c.in_ok-machine.ensures;
     } in
     elim c.in-NotTriggered.is [
       | inl quiet ↦

@@ -4,8 +4,8 @@ use Rattle.rv_history.specs.LastStop.{HaveNoStops}
 use Rattle.rv_history.proofs.Backward.{begins_over, last_before, quiet_joined}
 use Rattle.rv_history.proofs.search_back.stop_before.Goals as goal
 
-pub search_part-requires-clause-comes : goal.search_part-requires-clause-comes
-search_part-requires-clause-comes g c =
+pub search_part-requires-clause-reached : goal.search_part-requires-clause-reached
+search_part-requires-clause-reached g c =
     completes c.args.from c.loop-end.end c.args.checkpoints.now (let order = c.loop-end.invariant.order in omega (arith, c.requires))
 
 pub returns-in-Some-last-clause-stop : goal.returns-in-Some-last-clause-stop

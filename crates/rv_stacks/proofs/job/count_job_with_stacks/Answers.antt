@@ -14,7 +14,7 @@ pub returns-in_ok-count_with_stacks-in-Ok-clause-counts_and_stacks : goal.return
 returns-in_ok-count_with_stacks-in-Ok-clause-counts_and_stacks c d =
     let start = rw c.in-Ok.is at c.in_ok-machine.ensures in
     let jobs = c.args.job.now.plan.now.jobs in
-    let index = c.args.job.now.place in
+    let index = c.args.job.now.index in
     let function = function_at c.args.symbols.now.image.now c.args.symbols.now.bytes.now in
     let same = get_or_read jobs index c.job.result.now c.args.job.now.within c.job.ensures.value d in
     let both = c.in_ok-count_with_stacks-in-Ok.field-0 in
@@ -28,12 +28,12 @@ returns-in_ok-count_with_stacks-in-Ok-clause-table c =
     let plan = c.args.job.now.plan.now in
     let d = c.job.result.now in
     counts_even _ (state_of c.in-Ok.machine) c.in_ok-count_with_stacks-in-Ok.field-0.0 c.in_ok-count_with_stacks-in-Ok.ensures.counts
-    (start_even (get_or plan.jobs c.args.job.now.place d) (state_of c.in-Ok.machine) plan.results (start d))
+    (start_even (get_or plan.jobs c.args.job.now.index d) (state_of c.in-Ok.machine) plan.results (start d))
 
 pub returns-in_ok-count_with_stacks-in-Ok-clause-budget : goal.returns-in_ok-count_with_stacks-in-Ok-clause-budget
 returns-in_ok-count_with_stacks-in-Ok-clause-budget c d = λ s start.
     let jobs = c.args.job.now.plan.now.jobs in
-    let same = get_or_read jobs c.args.job.now.place c.job.result.now c.args.job.now.within c.job.ensures.value d in
+    let same = get_or_read jobs c.args.job.now.index c.job.result.now c.args.job.now.within c.job.ensures.value d in
     let budget = ap (λ (j : Job). j.budget) same in
     omega (arith, budget)
 
@@ -45,6 +45,6 @@ pub returns-in-Err-clause-counts_and_stacks : goal.returns-in-Err-clause-counts_
 returns-in-Err-clause-counts_and_stacks c d =
     let start = rw c.in-Err.is at c.in_ok-machine.ensures in
     let jobs = c.args.job.now.plan.now.jobs in
-    let index = c.args.job.now.place in
+    let index = c.args.job.now.index in
     let function = function_at c.args.symbols.now.image.now c.args.symbols.now.bytes.now in
     subst (λ (r : Result State Refusal). AreCountsAndStacksOfJob function (get_or jobs index d).budget r None) (sym (start d)) tt

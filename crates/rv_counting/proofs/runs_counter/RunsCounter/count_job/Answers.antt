@@ -12,13 +12,13 @@ pub returns-in_default : goal.returns-in_default
 returns-in_default c = λ d.
     let start = rw c.in_default.is at c.in_ok-machine.ensures in
     let plan = c.args.job.now.plan.now in
-    refused_as plan.results (job_at plan c.args.job.now.place d) c.in_default.field-0 c.args.self.now c.requires.ready (start d)
+    refused_as plan.results (job_at plan c.args.job.now.index d) c.in_default.field-0 c.args.self.now c.requires.ready (start d)
 
 pub returns : goal.returns
 returns c = λ d.
     let start = rw c.in-Ok.is at c.in_ok-machine.ensures in
     let plan = c.args.job.now.plan.now in
-    let index = c.args.job.now.place in
+    let index = c.args.job.now.index in
     let same = get_or_read plan.jobs index c.job.result.now c.args.job.now.within c.job.ensures.value d in
     ran_job plan.results (job_at plan index d) (state_of c.in-Ok.machine) c.args.self.now c.count_run.new.self (start d)
     (subst (λ (j : Job). AddsRun j.budget (Some (state_of c.in-Ok.machine)) c.args.self.now c.count_run.new.self) same

@@ -10,17 +10,17 @@ use Rattle.rv_history.proofs.Unstopped.{begins_unstopped}
 use Rattle.rv_history.proofs.history.History.go_back.Goals as goal
 
 pub stop_before-requires : goal.stop_before-requires
-stop_before-requires g c = rw c.reach.ensures.same c.self.invariant.0.completed
+stop_before-requires g c = rw c.reach.ensures.run_unchanged c.self.invariant.0.completed
 
 pub finish_search-requires-2 : goal.finish_search-requires-2
 finish_search-requires-2 g c =
     let here = c.self.inside in
     let start = here.checkpoints in
-    let stop = c.in_ok-arrival.ensures.stop here.budget c.self.invariant.1 in
-    let near : c.in_ok-arrival.arrival.step ≤ here.step = stop.order in
+    let stop = c.in_ok-search_end.ensures.stop here.budget c.self.invariant.1 in
+    let near : c.in_ok-search_end.search_end.step ≤ here.step = stop.order in
     let there : here.step ≤ last_step here.budget start =
     comes_within here.budget here.step start c.self.invariant.0.completed c.self.invariant.1 in
-    rw c.reach.ensures.same (omega (arith, near, there))
+    rw c.reach.ensures.run_unchanged (omega (arith, near, there))
 
 pub returns-then-is_empty-clause-stop : goal.returns-then-is_empty-clause-stop
 returns-then-is_empty-clause-stop g c =
@@ -32,9 +32,9 @@ returns-then-is_empty-clause-stop g c =
 pub returns-clause-stop : goal.returns-clause-stop
 returns-clause-stop g c =
     let here = c.self.inside in
-    let arrival = c.in_ok-arrival.arrival in
+    let arrival = c.in_ok-search_end.search_end in
     let before : Position = record { start = c.reach.new.self; budget = here.budget; step = here.step } in
     let stop = subst (λ (s : State). IsStopBefore c.args.stops.now here.budget s here.step arrival.step arrival.outcome)
-    c.reach.ensures.same (c.in_ok-arrival.ensures.stop here.budget c.self.invariant.1) in
+    c.reach.ensures.run_unchanged (c.in_ok-search_end.ensures.stop here.budget c.self.invariant.1) in
     arrived (IsStopBefore c.args.stops.now c.args.self.now.budget c.args.self.now.start c.args.self.now.step) c.finish_search-2.result
     arrival.step arrival.outcome before c.finish_search-2.new.self c.finish_search-2.ensures.outcome c.finish_search-2.ensures.moved (rw (← c.self.view_is) stop)

@@ -18,7 +18,7 @@ returns-in-Ended-clause-step c =
     let s = state_of c.in_ok-machine.machine in
     let reached : IsReached here.checkpoints here.step s = record {
       completed = c.self.invariant.0.completed;
-      same = c.in_ok-machine.ensures ∙ c.self.invariant.0.same;
+      state_is = c.in_ok-machine.ensures ∙ c.self.invariant.0.state_is;
     } in
     let did = rw c.in-Ended.is at c.in_ok-ending.ensures in
     rw (← c.self.view_is) (step_ends c.args.stops.now here.budget here.step here.checkpoints s c.in-Ended.ending reached goes did.0)
@@ -31,7 +31,7 @@ returns-in-WatchTriggered-clause-step c =
     let s = state_of c.in_ok-machine.machine in
     let reached : IsReached here.checkpoints here.step s = record {
       completed = c.self.invariant.0.completed;
-      same = c.in_ok-machine.ensures ∙ c.self.invariant.0.same;
+      state_is = c.in_ok-machine.ensures ∙ c.self.invariant.0.state_is;
     } in
     let did = rw c.in-WatchTriggered.is at c.in_ok-ending.ensures in
     rw (← c.self.view_is) (step_changes c.args.stops.now here.budget here.step here.checkpoints s (state_of c.step_watched.new.machine)
@@ -45,7 +45,7 @@ returns-in-NotTriggered-clause-step c =
     let s = state_of c.in_ok-machine.machine in
     let reached : IsReached here.checkpoints here.step s = record {
       completed = c.self.invariant.0.completed;
-      same = c.in_ok-machine.ensures ∙ c.self.invariant.0.same;
+      state_is = c.in_ok-machine.ensures ∙ c.self.invariant.0.state_is;
     } in
     let did = rw c.in-NotTriggered.is at c.in_ok-ending.ensures in
     rw (← c.self.view_is) (step_done c.args.stops.now here.budget here.step here.checkpoints s (state_of c.step_watched.new.machine)
@@ -58,7 +58,7 @@ invariant_of-self c =
     let s = state_of c.in_ok-machine.machine in
     let reached : IsReached here.checkpoints here.step s = record {
       completed = c.self.invariant.0.completed;
-      same = c.in_ok-machine.ensures ∙ c.self.invariant.0.same;
+      state_is = c.in_ok-machine.ensures ∙ c.self.invariant.0.state_is;
     } in
     let did = rw c.in-NotTriggered.is at c.in_ok-ending.ensures in (
       next_place here.checkpoints s (state_of c.step_watched.new.machine) here.step reached did.0,

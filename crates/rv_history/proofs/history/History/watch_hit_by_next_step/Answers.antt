@@ -12,5 +12,5 @@ returns c = rw (← c.self.view_is) (λ before.
     let few = within_budget c.self.inside.budget start in
     let one_more : c.min-steps.result ≡ step + 1 = omega arith in
     set_off_in c.first_triggered.result c.args.stops.now (state_of c.self.inside.machine) (state_of c.in_ok-ahead.ahead)
-    (state_after step start) (state_after (step + 1) start) c.self.invariant.0.same
+    (state_after step start) (state_after (step + 1) start) c.self.invariant.0.state_is
     (c.in_ok-ahead.ensures ∙ ap (λ (k : ℕ). state_after k start) one_more) c.first_triggered.ensures)

@@ -9,7 +9,7 @@ overflow_add-self c =
     let steps = ap (λ r. r.steps) c.run-ran.ensures in
     omega (arith, few, steps, c.requires, c.ranges.step)
 
-pub returns-clause-ran : goal.returns-clause-ran
-returns-clause-ran c = λ start at.
+pub returns-clause-run : goal.returns-clause-run
+returns-clause-run c = λ start at.
     run_from start (state_of c.args.self.now.machine) (state_of c.run-ran.new.self) c.args.self.now.step c.args.step
     c.run-ran.result.steps c.run-ran.result.ending at c.requires c.run-ran.ensures

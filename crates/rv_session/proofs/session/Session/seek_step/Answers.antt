@@ -13,8 +13,8 @@ returns c =
     IfOk-weaker c.ok_if.result _ _
     (λ reply is. (
       is ∙ ap (λ (b : Bool). ok_if b refusal.NotReached)
-          (granted_is c.in_ok-is_reached.is_reached c.args.step last c.in_ok-is_reached.ensures.granted),
-      sought_where session c.seek.new.self c.args.step last c.in_ok-is_reached.is_reached c.in_ok-is_reached.ensures.granted
+          (granted_is c.in_ok-is_reached.is_reached c.args.step last c.in_ok-is_reached.ensures.is_reached),
+      sought_where session c.seek.new.self c.args.step last c.in_ok-is_reached.is_reached c.in_ok-is_reached.ensures.is_reached
           c.in_ok-is_reached.ensures.moved,
     ))
     c.ok_if.ensures
