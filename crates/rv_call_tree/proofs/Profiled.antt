@@ -65,7 +65,7 @@ last_decides f front s stands none true is =
     let kept = length-take-le s.depth front stands.within in
     let all = length-append (take s.depth front) (s.function ∷ []) in record {
       within = omega (arith, kept, all);
-      value_is = ap (λ (n : ℕ). get_or (path_after front s) n 0) (sym kept)
+      there = ap (λ (n : ℕ). get_or (path_after front s) n 0) (sym kept)
           ∙ get_or-append_seam (take s.depth front) s.function [] 0 ∙ equal_by s.function f is;
       first = ap (has_function f) (take_at (take s.depth front) (s.function ∷ []) s.depth kept) ∙ none;
     }
@@ -78,7 +78,7 @@ kept_there f front s depth stands h deep =
     let all = length-append (take s.depth front) own in
     let inside : depth < length (take s.depth front) = omega (arith, kept) in record {
       within = omega (arith, kept, all);
-      value_is = get_or_append_left (take s.depth front) own 0 depth inside ∙ get_or-take s.depth front depth 0 deep ∙ h.there;
+      there = get_or_append_left (take s.depth front) own 0 depth inside ∙ get_or-take s.depth front depth 0 deep ∙ h.there;
       first = ap (has_function f) (take-append-le depth (take s.depth front) own (omega (arith, kept))
           ∙ take-take depth s.depth front (omega arith)) ∙ h.first;
     }

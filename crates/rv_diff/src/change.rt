@@ -81,7 +81,8 @@ fn agree_in_fault_pc_and_value(old: RowEnd, new: RowEnd) -> bool
     ensures { result ≡ agree_in_fault_pc_and_value old new }
 {
     match (old, new) {
-        (RowEnd::Fault(_, pc, value), RowEnd::Fault(_, other_pc, other_value)) => pc == other_pc && value == other_value,
+        (RowEnd::Fault(_, pc, value), RowEnd::Fault(_, other_pc, other_value)) => pc == other_pc
+            && value == other_value,
         _ => true,
     }
 }

@@ -146,7 +146,11 @@ fn push_percent(text: &mut Vec<u8>, mode: CompareMode, old: u32, new: u32) -> Re
 // Appends the line for the consoles, if they differ: the bytes from the first difference, or the lengths if one console is a prefix of the
 // other.
 #[tactic(auto, unfolding(crate::specs::Differences::console_change_text))]
-fn push_console_change<'a>(text: &mut Vec<u8>, old_row: &'a Row, new_row: &'a Row) -> Result<(), AllocError>
+fn push_console_change<'a>(
+    text: &mut Vec<u8>,
+    old_row: &'a Row,
+    new_row: &'a Row,
+) -> Result<(), AllocError>
     ensures { OnOk result (text.new.items ≡ text.old.items
         ++ change_line new_row.now.name (have_same_console old_row.now new_row.now)
         (console_change_text old_row.now.console new_row.now.console)) }

@@ -46,7 +46,10 @@ impl<'a> RowsByName<'a> {
             let row = &rows[left];
             first_by_name.insert(row.name.as_str(), row)?;
         }
-        Ok(RowsByName { rows, first_by_name })
+        Ok(RowsByName {
+            rows,
+            first_by_name,
+        })
     }
 
     /// Returns the first row with this name, or `None` if there is none.

@@ -22,7 +22,12 @@ pub(crate) fn push_signature_change(
     if are_same_signatures(&old_row.signature, &new_row.signature) {
         return Ok(());
     }
-    push_signature_line(text, new_row.name.as_str(), &old_row.signature, &new_row.signature)
+    push_signature_line(
+        text,
+        new_row.name.as_str(),
+        &old_row.signature,
+        &new_row.signature,
+    )
 }
 
 // Appends the line for two signatures that differ: the first word that differs, or the sizes if one signature is missing or a prefix of the

@@ -46,7 +46,10 @@ pub(crate) fn program_header_table(
 /// Checks the program headers, and returns the first error that applies. Each condition is checked for all headers before the next
 /// condition.
 #[tactic(auto, unfolding(crate::specs::ImageChecks::program_header_check))]
-pub(crate) fn check_program_headers(headers: &[ProgramHeader], file: &[u8]) -> Result<(), ImageError>
+pub(crate) fn check_program_headers(
+    headers: &[ProgramHeader],
+    file: &[u8],
+) -> Result<(), ImageError>
     requires { headers.now ≡ program_header_table file.now }
     ensures { result ≡ program_header_check file.now }
 {
@@ -129,16 +132,15 @@ fn segment_at(file: &[u8], at: usize) -> Segment
 fn any_dynamic_header(headers: &[ProgramHeader]) -> bool
     ensures { result ≡ list_any is_dynamic headers.now }
 {
-    headers
-        .iter()
-        .any(|header| header.p_type == PT_DYNAMIC || header.p_type == PT_INTERP)
+    headers.iter().any(|header| header.p_type == PT_DYNAMIC || header.p_type == PT_INTERP)
 }
 
 // Whether at least one PT_LOAD program header has more bytes in the file than in memory.
 fn any_bad_segment_sizes(headers: &[ProgramHeader]) -> bool
     ensures { result ≡ list_any has_bad_sizes headers.now }
 {
-    headers.iter().any(|header| header.p_type == PT_LOAD && header.segment.memsz < header.segment.filesz)
+    headers.iter().any(|header| header.p_type == PT_LOAD
+        && header.segment.memsz < header.segment.filesz)
 }
 
 // Whether at least one PT_LOAD program header has file bytes that extend past the end of a file of `size` bytes.

@@ -39,7 +39,10 @@ pub(crate) fn collect_chunks(
 {
     let mut slots = empty_slots(alloc, pieces)?;
     let mut all = None;
-    for WorkerResult { pass, pieces: chunks } in worked {
+    for WorkerResult {
+        pass,
+        pieces: chunks,
+    } in worked {
         store_chunks(&mut slots, pieces, chunks?);
         all = Some(join_passes(claims, all, pass));
     }

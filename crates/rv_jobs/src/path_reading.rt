@@ -193,7 +193,11 @@ pub(crate) fn result_indices(
 
 /// Returns the indices of the results for a job's paths. If `recorded` does not have them, only paths that were read for other jobs have an
 /// index.
-fn result_indices_of_job(results: &PathResults, job: &Job, recorded: Option<ResultIndices>) -> PartialResultIndices
+fn result_indices_of_job(
+    results: &PathResults,
+    job: &Job,
+    recorded: Option<ResultIndices>,
+) -> PartialResultIndices
     requires { IfSome recorded (λ indices. AreResultIndices (paths_of results.now) job.now indices) }
     ensures { ArePartialResultIndices (paths_of results.now) job.now result }
 {

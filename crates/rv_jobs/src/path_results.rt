@@ -45,7 +45,11 @@ impl<'a> PathResults<'a> {
     pub(crate) fn new(alloc: Global, capacity: usize) -> Result<PathResults<'a>, AllocError>
         ensures { IfOk result (λ results. results ≡ []) }
     {
-        let indices = HashMap::with_capacity_and_hasher(alloc, capacity, BuildHasherDefault::new())?;
+        let indices = HashMap::with_capacity_and_hasher(
+            alloc,
+            capacity,
+            BuildHasherDefault::new(),
+        )?;
         Ok(PathResults {
             results: Vec::new(alloc),
             paths: Vec::new(alloc),

@@ -79,9 +79,20 @@ pub fn gather_jobs<S: Store>(
     let mut path_results = none;
     let mut recorded = empty_result_indices(alloc, jobs.as_slice())?;
     for index in indices.as_slice() {
-        path_results = path_results.read_paths_for_row(alloc, store, jobs.as_slice(), *index, &mut recorded)?;
+        path_results = path_results.read_paths_for_row(
+            alloc,
+            store,
+            jobs.as_slice(),
+            *index,
+            &mut recorded,
+        )?;
     }
-    let result_indices_of_jobs = result_indices(alloc, &path_results, jobs.as_slice(), recorded.as_slice())?;
+    let result_indices_of_jobs = result_indices(
+        alloc,
+        &path_results,
+        jobs.as_slice(),
+        recorded.as_slice(),
+    )?;
     let results = path_results.into_results();
     Ok(Plan {
         jobs,

@@ -118,7 +118,12 @@ impl<'a> FaultyJob<'a> {
         };
         let kind = JOB_KEYS[index].1;
         match value_at_key(self.table, key) {
-            Some(value) if is_value_of_type(kind, value) => self.value_fault(kind, key, value, earlier_keys),
+            Some(value) if is_value_of_type(kind, value) => self.value_fault(
+                kind,
+                key,
+                value,
+                earlier_keys,
+            ),
             _ if key == "region" && has_region_with_unknown_key(self.table) => {
                 Some(KeyFault::UnknownInRegion)
             }
@@ -148,7 +153,12 @@ impl<'a> FaultyJob<'a> {
     }
 
     // Returns the error of the text at a key, or `None` if it is valid.
-    fn text_fault(&self, key: &str, text: &str, earlier_keys: &CheckedKeys<'_>) -> Option<KeyFault> {
+    fn text_fault(
+        &self,
+        key: &str,
+        text: &str,
+        earlier_keys: &CheckedKeys<'_>,
+    ) -> Option<KeyFault> {
         match key {
             "name" => self.name_fault(text),
             "same_as" if self.is_earlier_job(text) => None,
@@ -178,7 +188,12 @@ impl<'a> FaultyJob<'a> {
     }
 
     // Returns the explanation of an invalid `input` or `input_hex`, or `None` if it is valid.
-    fn input_fault(&self, key: &str, text: &str, earlier_keys: &CheckedKeys<'_>) -> Option<Explanation> {
+    fn input_fault(
+        &self,
+        key: &str,
+        text: &str,
+        earlier_keys: &CheckedKeys<'_>,
+    ) -> Option<Explanation> {
         if key == "input" {
             if MAX_SCRIPT_LEN < text.len() {
                 Some(Explanation::Expected(&INPUT))

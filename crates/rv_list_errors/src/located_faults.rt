@@ -73,7 +73,10 @@ impl<'a> FaultyJob<'a> {
                 let mut message = Message::new(alloc);
                 push_absent_key(&mut message, self.table, key);
                 let explanation = message.finish()?;
-                faults.push(LocatedFault { offset, explanation })?;
+                faults.push(LocatedFault {
+                    offset,
+                    explanation,
+                })?;
             }
         }
         Ok(())
@@ -113,7 +116,10 @@ impl<'a> FaultyJob<'a> {
         message.push("too many errors: the rest of the keys of this job are not checked");
         let explanation = message.finish()?;
         let offset = self.list.offset_of_suffix(key.text);
-        faults.push(LocatedFault { offset, explanation })?;
+        faults.push(LocatedFault {
+            offset,
+            explanation,
+        })?;
         Ok(())
     }
 
@@ -129,7 +135,10 @@ impl<'a> FaultyJob<'a> {
         if self.push_key_fault(&mut message, key.name.as_str(), earlier_keys) {
             let explanation = message.finish()?;
             let offset = self.list.offset_of_suffix(key.text);
-            faults.push(LocatedFault { offset, explanation })?;
+            faults.push(LocatedFault {
+                offset,
+                explanation,
+            })?;
         }
         Ok(())
     }

@@ -192,7 +192,12 @@ fn push_first_names(message: &mut Message, names: &[Option<&str>], count: usize)
 }
 
 // Appends a name, if it exists and the maximum has not been reached, and returns how many have been appended.
-fn push_next_name(message: &mut Message, name: Option<&str>, listed_count: usize, count: usize) -> usize
+fn push_next_name(
+    message: &mut Message,
+    name: Option<&str>,
+    listed_count: usize,
+    count: usize,
+) -> usize
     requires { listed_count ≤ max_listed_names }
     ensures listed_count { result ≡ min (listed_count + length (present (borrowed_name name.entry ∷ []))) max_listed_names }
     ensures text { Adds message.old message.new
@@ -205,7 +210,12 @@ fn push_next_name(message: &mut Message, name: Option<&str>, listed_count: usize
 }
 
 // Appends a name unless the maximum has been reached, and returns how many have been appended.
-fn push_name_if_listed(message: &mut Message, name: &str, listed_count: usize, count: usize) -> usize
+fn push_name_if_listed(
+    message: &mut Message,
+    name: &str,
+    listed_count: usize,
+    count: usize,
+) -> usize
     requires { listed_count ≤ max_listed_names }
     ensures listed_count { result ≡ min (listed_count + 1) max_listed_names }
     ensures text { Adds message.old message.new (names_from count listed_count (take (max_listed_names - listed_count) (name.now ∷ []))) }

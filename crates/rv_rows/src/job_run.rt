@@ -237,7 +237,11 @@ fn copy_bytes(alloc: Global, bytes: &[u8]) -> Result<Vec<u8>, AllocError>
 }
 
 /// Returns the ended run of this machine, with its ending, its steps and the range of its signature.
-pub(crate) fn ended_run(machine: Machine, run_outcome: Outcome, range: Option<SignatureRange>) -> EndedRun
+pub(crate) fn ended_run(
+    machine: Machine,
+    run_outcome: Outcome,
+    range: Option<SignatureRange>,
+) -> EndedRun
     requires { IfSome range
         (λ range. signature_check range.begin range.end (state_of machine).bus.regions ≡ accepted) }
     ensures outcome { outcome_in_bus result

@@ -22,7 +22,5 @@ pub use printable::{
 pub use slices::{actual_and_expected_from, byte_at, tail_from};
 pub use spans::{Span, push_spans, text_of_spans};
 pub use symbol::{push_symbol, push_symbol_in_brackets};
-pub use text_and_numbers::{
-    push_exit_code, push_count, push_number, push_text, push_word_digits,
-};
+pub use text_and_numbers::{push_count, push_exit_code, push_number, push_text, push_word_digits};
 pub use xml::{XmlContext, push_xml_text};

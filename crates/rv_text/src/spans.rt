@@ -6,7 +6,7 @@ ghost use Rattle.rv_text.specs.Spans.{span_text};
 
 use crate::printable::{push_printable_name, push_printable_text, push_printable_value};
 use crate::text_and_numbers::{
-    push_exit_code, push_count, push_number, push_text, push_word_digits,
+    push_count, push_exit_code, push_number, push_text, push_word_digits,
 };
 use std::alloc::{AllocError, Global};
 
