@@ -76,24 +76,24 @@ number_lacks delimiter none text number told = digits_lack delimiter none (Some 
 pub two_numbers : (text : List ℕ) (first second : ℕ) → AreTwoNumbers text first second → parse_two_numbers comma text ≡ Some (first, second)
 unfolding parse_two_numbers
 two_numbers text first second tells =
-    let index = place_between comma tells.front tells.second_digits (number_lacks comma refl tells.front first tells.front_tells) in
+    let index = place_between comma tells.first_digits tells.second_digits (number_lacks comma refl tells.first_digits first tells.first_is) in
     rw (
       tells.text_is,
       index,
-      before_mark comma tells.front tells.second_digits,
-      behind_mark comma tells.front tells.second_digits,
-      tells.front_tells,
-      tells.behind_tells,
+      before_mark comma tells.first_digits tells.second_digits,
+      behind_mark comma tells.first_digits tells.second_digits,
+      tells.first_is,
+      tells.second_is,
     ) refl
 
 -- a mark that is neither a digit nor a comma does not stand in them
 pub two_lack : (delimiter : ℕ) → hex_digit_value delimiter ≡ None → is_other delimiter comma ≡ true → (text : List ℕ) (first second : ℕ)
     → AreTwoNumbers text first second → list_all (is_other delimiter) text ≡ true
 two_lack delimiter none other text first second tells =
-    let front = number_lacks delimiter none tells.front first tells.front_tells in
-    let behind = number_lacks delimiter none tells.second_digits second tells.behind_tells in
-    rw (tells.text_is, list_all-append (is_other delimiter) tells.front (comma ∷ tells.second_digits))
-    (and_from (list_all (is_other delimiter) tells.front) (list_all (is_other delimiter) (comma ∷ tells.second_digits)) front
+    let front = number_lacks delimiter none tells.first_digits first tells.first_is in
+    let behind = number_lacks delimiter none tells.second_digits second tells.second_is in
+    rw (tells.text_is, list_all-append (is_other delimiter) tells.first_digits (comma ∷ tells.second_digits))
+    (and_from (list_all (is_other delimiter) tells.first_digits) (list_all (is_other delimiter) (comma ∷ tells.second_digits)) front
     (and_from (is_other delimiter comma) (list_all (is_other delimiter) tells.second_digits) other behind))
 
 -- ---- where there is no mark

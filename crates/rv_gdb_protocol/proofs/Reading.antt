@@ -8,8 +8,8 @@ use Rattle.hex.proofs.HexLemmas.{IsDigits-lower_digits}
 use Rattle.rv_gdb_protocol.proofs.Hearing.{incoming_in-append, incoming_in-empty}
 use Rattle.rv_gdb_protocol.specs.Escapes.{packet_start, inverted, data_of, body_end, escape, escaped, escaped_byte, is_special, is_escape}
 use Rattle.rv_gdb_protocol.specs.ReaderStates.{ReaderState, between_packets, state_after_byte, incoming_in, max_body}
-use Rattle.rv_gdb_protocol.specs.Readback.{CanBeSent, IsReceivedAsOnePacket, IsReadBack, incoming_in_pieces, is_plain, joined, packet_with_digits, verdict_of}
-use Rattle.rv_gdb_protocol.specs.Checksums.{packet_of, checksum_verdict, checksum_digits, checksum_of, parse_checksum}
+use Rattle.rv_gdb_protocol.specs.Readback.{CanBeSent, IsReceivedAsOnePacket, IsReadBack, incoming_in_pieces, is_plain, joined, packet_with_digits, check_of_digits}
+use Rattle.rv_gdb_protocol.specs.Checksums.{packet_of, checksum_check, checksum_digits, checksum_of, parse_checksum}
 use Rattle.rv_gdb_protocol.specs.declared.frame.Incoming.TheVariants.{Packet}
 use Rattle.rv_gdb_protocol.specs.declared.frame.PacketPosition.TheVariants as position
 use Rattle.rv_gdb_protocol.specs.declared.frame.Checksum.TheVariants as verdict
@@ -48,7 +48,7 @@ body_behind front (byte ∷ text) rest plain fits =
     ∙ ap (λ (body : List ℕ). fold state_after_byte (in_body body) rest) (append_assoc front (byte ∷ []) text)
 
 sent_heard : (text : List ℕ) (high low : ℕ) → CanBeSent text
-    → incoming_in between_packets (packet_with_digits text high low) ≡ Packet text (verdict_of text high low) ∷ []
+    → incoming_in between_packets (packet_with_digits text high low) ≡ Packet text (check_of_digits text high low) ∷ []
 unfolding incoming_in
 sent_heard text high low can = body_heard [] text (body_end ∷ high ∷ low ∷ []) can.plain (omega arith)
 
@@ -65,7 +65,7 @@ pieces_heard frame (piece ∷ rest) =
     ∙ sym (incoming_in-append frame piece (joined rest))
 
 pub sent_alone : (text : List ℕ) (high low : ℕ) → CanBeSent text
-    → IsReceivedAsOnePacket (packet_with_digits text high low) text (verdict_of text high low)
+    → IsReceivedAsOnePacket (packet_with_digits text high low) text (check_of_digits text high low)
 sent_alone text high low can = record {
   received = λ pieces are. pieces_heard between_packets pieces ∙ ap (incoming_in between_packets) are ∙ sent_heard text high low can;
   state_after = sent_behind text high low can;
@@ -138,16 +138,16 @@ sum_small : (text : List ℕ) → checksum_of text < 256
 unfolding checksum_of
 sum_small text = omega arith
 
-sum_right : (text : List ℕ) → verdict_of text (slice_index lower_digits (checksum_of text / 16)) (slice_index lower_digits (checksum_of text % 16))
+sum_right : (text : List ℕ) → check_of_digits text (slice_index lower_digits (checksum_of text / 16)) (slice_index lower_digits (checksum_of text % 16))
     ≡ verdict.Right
 sum_right text =
     let s : ℕ = checksum_of text in
     let small : s < 256 = sum_small text in
     let high : ℕ = s / 16 in
     let low : ℕ = s % 16 in
-    ap (λ (told : Option ℕ). checksum_verdict s (parse_checksum told (hex_digit_value (slice_index lower_digits low))))
+    ap (λ (told : Option ℕ). checksum_check s (parse_checksum told (hex_digit_value (slice_index lower_digits low))))
     (IsDigits-lower_digits high (omega arith))
-    ∙ ap (λ (told : Option ℕ). checksum_verdict s (parse_checksum (Some high) told)) (IsDigits-lower_digits low (omega arith))
+    ∙ ap (λ (told : Option ℕ). checksum_check s (parse_checksum (Some high) told)) (IsDigits-lower_digits low (omega arith))
     ∙ cond-true (high * 16 + low == s) verdict.Right verdict.Wrong (eq-eqb (high * 16 + low) s (omega arith))
 
 framed_alone : (body : List ℕ) → length (escaped body) ≤ max_body → IsReceivedAsOnePacket (packet_of body) (escaped body) verdict.Right
@@ -161,7 +161,7 @@ framed_alone body fits =
 
 pub framed_read_back : (body : List ℕ) → length (escaped body) ≤ max_body → IsReadBack body
 framed_read_back body fits = record {
-  alone = framed_alone body fits;
+  received = framed_alone body fits;
   data_is = escaped_data body;
-  whole = ap not (escaped_whole body);
+  complete = ap not (escaped_whole body);
 }

@@ -6,7 +6,7 @@ use Rattle.rv_gdb_protocol.specs.Grammar.{IsAction, IsRequest, IsStoppointText, 
 use Rattle.rv_gdb_protocol.specs.Numbers.{text_after}
 use Rattle.rv_gdb_protocol.specs.Packets as packet
 use Rattle.rv_gdb_protocol.specs.Requests as args
-use Rattle.rv_gdb_protocol.specs.Requests.{colon, comma, equals, register_of, semicolon, parse_stoppoint, stoppoint_change, parse_watch_range, watchpoint_if_valid, whole_data, memory_write}
+use Rattle.rv_gdb_protocol.specs.Requests.{colon, comma, equals, register_of, semicolon, parse_stoppoint, stoppoint_change, parse_watch_range, watchpoint_if_valid, data_if_complete, memory_write}
 use Rattle.rv_gdb_protocol.specs.declared.request.Move.{Move}
 use Rattle.rv_gdb_protocol.specs.declared.request.Range.{Range}
 use Rattle.rv_gdb_protocol.specs.declared.request.Request.{Request}

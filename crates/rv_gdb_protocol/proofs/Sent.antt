@@ -5,7 +5,7 @@ use Rattle.std.proofs.lemmas.Bool.{and_from, cond_both, eqb-true, ltb-true, not_
 use Rattle.std.proofs.lemmas.List.Folds.{list_all-append}
 use Rattle.rv_gdb_protocol.specs.Escapes.{packet_start, body_end}
 use Rattle.rv_gdb_protocol.specs.ReaderStates.{ReaderState, state_after_byte_at, between_packets, state_after_byte, incoming_at, item_in_state, longer_body, max_body, at_body_start, in_long_body, single_byte_item}
-use Rattle.rv_gdb_protocol.specs.Readback.{CanBeSent, EndsWithPacket, is_plain, packet_with_digits, verdict_of}
+use Rattle.rv_gdb_protocol.specs.Readback.{CanBeSent, EndsWithPacket, is_plain, packet_with_digits, check_of_digits}
 use Rattle.rv_gdb_protocol.specs.declared.frame.Incoming.TheVariants as heard
 use Rattle.rv_gdb_protocol.specs.declared.frame.PacketPosition.{PacketPosition}
 use Rattle.rv_gdb_protocol.specs.declared.frame.PacketPosition.TheVariants as position
@@ -120,8 +120,8 @@ was_sent (position.SecondDigit high) body bytes text byte sum told is =
       high = high;
       low = byte;
       bytes_are = more.bytes_are ∙ ap (λ (t : List ℕ). more.front ++ packet_with_digits t high byte) same;
-      can = rw (← same) more.can;
-      sum_is = let right : sum ≡ verdict_of body high byte = cc in right ∙ ap (λ (t : List ℕ). verdict_of t high byte) same;
+      can_be_sent = rw (← same) more.can;
+      sum_is = let right : sum ≡ check_of_digits body high byte = cc in right ∙ ap (λ (t : List ℕ). check_of_digits t high byte) same;
     }
 was_sent position.LongBody body bytes text byte sum told is = absurd (cc is)
 was_sent position.LongFirstDigit body bytes text byte sum told is = absurd (cc is)

@@ -3,7 +3,7 @@ use Rattle.std.specs.Prelude.{ℕ, List, [], ◌∷◌, ◌++◌, ◌==◌, ◌+
 use Rattle.hex.specs.Hex.{encode_lower}
 use Rattle.rv_gdb_protocol.specs.Escapes.{packet_start, body_end, escaped}
 use Rattle.rv_gdb_protocol.specs.declared.frame.Checksum.{Checksum}
-use Rattle.rv_gdb_protocol.specs.declared.frame.Checksum.TheVariants as verdict
+use Rattle.rv_gdb_protocol.specs.declared.frame.Checksum.TheVariants as checksum
 
 -- the checksum of a text: the sum of its bytes modulo 256
 unfoldable pub checksum_of : List ℕ → ℕ
@@ -28,6 +28,6 @@ parse_checksum (Some high) None = None
 parse_checksum None low = None
 
 -- `Right` if the received checksum equals the correct one, or else `Wrong`
-abbrev pub checksum_verdict : ℕ → Option ℕ → Checksum
-checksum_verdict right (Some told) = if told == right then verdict.Right else verdict.Wrong
-checksum_verdict right None = verdict.Wrong
+abbrev pub checksum_check : ℕ → Option ℕ → Checksum
+checksum_check correct (Some received) = if received == correct then checksum.Right else checksum.Wrong
+checksum_check correct None = checksum.Wrong

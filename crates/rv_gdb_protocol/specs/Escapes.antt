@@ -44,11 +44,11 @@ abbrev pub data_byte : Bool → ℕ → List ℕ
 data_byte true byte = inverted byte ∷ []
 data_byte false byte = if byte == escape then [] else byte ∷ []
 
--- the data that a text with escapes represents, given whether the byte before it is an escape
+-- the data that a text with escapes represents; `after_escape` says whether the byte before it is an escape
 unfoldable pub data_of : Bool → List ℕ → List ℕ
-data_of behind [] = []
-data_of behind (byte ∷ rest) = data_byte behind byte ++ data_of (is_escape behind byte) rest
+data_of after_escape [] = []
+data_of after_escape (byte ∷ rest) = data_byte after_escape byte ++ data_of (is_escape after_escape byte) rest
 
 -- whether each escape of a text is followed by a byte
-abbrev pub is_whole : List ℕ → Bool
-is_whole text = not (fold is_escape false text)
+abbrev pub has_complete_escapes : List ℕ → Bool
+has_complete_escapes text = not (fold is_escape false text)

@@ -9,7 +9,7 @@ use Rattle.rv_gdb_protocol.specs.declared.request.Move.{Move}
 use Rattle.rv_gdb_protocol.specs.declared.request.Move.TheVariants as move
 use Rattle.rv_gdb_protocol.specs.declared.request.Refusal.TheVariants as refusal
 use Rattle.rv_gdb_protocol.specs.declared.request.Request.{Request}
-use Rattle.rv_gdb_protocol.specs.declared.request.Request.TheVariants as ask
+use Rattle.rv_gdb_protocol.specs.declared.request.Request.TheVariants as gdb_request
 
 -- the first of several that is present
 infixl 5 ◌<|>◌
@@ -26,26 +26,26 @@ request_if_named name request body = option_map request (text_after name body)
 -- the request of a packet without arguments that asks for something or turns off acknowledgements, or `None` for any other packet
 unfoldable pub bare_query : List ℕ → Option Request
 bare_query body =
-    if bytes_eq body (codes "?") then Some ask.LastStop
-    else if bytes_eq body (codes "QStartNoAckMode") then Some ask.NoAcknowledgements
-    else if bytes_eq body (codes "g") then Some ask.Registers
-    else if bytes_eq body (codes "qC") then Some ask.Thread
-    else if bytes_eq body (codes "qfThreadInfo") then Some ask.FirstThreads
-    else if bytes_eq body (codes "qsThreadInfo") then Some ask.MoreThreads
-    else if bytes_eq body (codes "vCont?") then Some ask.Actions
+    if bytes_eq body (codes "?") then Some gdb_request.LastStop
+    else if bytes_eq body (codes "QStartNoAckMode") then Some gdb_request.NoAcknowledgements
+    else if bytes_eq body (codes "g") then Some gdb_request.Registers
+    else if bytes_eq body (codes "qC") then Some gdb_request.Thread
+    else if bytes_eq body (codes "qfThreadInfo") then Some gdb_request.FirstThreads
+    else if bytes_eq body (codes "qsThreadInfo") then Some gdb_request.MoreThreads
+    else if bytes_eq body (codes "vCont?") then Some gdb_request.Actions
     else None
 
 -- the request of a packet without arguments that moves backwards, kills the program, is only accepted, or is a call on the image file, or
 -- `None` for any other packet
 unfoldable pub bare_command : List ℕ → Option Request
 bare_command body =
-    if bytes_eq body (codes "bs") then Some (ask.Move move.StepBack)
-    else if bytes_eq body (codes "bc") then Some (ask.Move move.ContinueBack)
-    else if bytes_eq body (codes "k") then Some ask.Kill
-    else if bytes_eq body (codes "!") then Some ask.Accepted
-    else if bytes_eq body (codes "vFile:setfs:0") then Some ask.FileSystem
-    else if bytes_eq body (codes "vFile:fstat:5") then Some ask.FileSize
-    else if bytes_eq body (codes "vFile:close:5") then Some ask.CloseFile
+    if bytes_eq body (codes "bs") then Some (gdb_request.Move move.StepBack)
+    else if bytes_eq body (codes "bc") then Some (gdb_request.Move move.ContinueBack)
+    else if bytes_eq body (codes "k") then Some gdb_request.Kill
+    else if bytes_eq body (codes "!") then Some gdb_request.Accepted
+    else if bytes_eq body (codes "vFile:setfs:0") then Some gdb_request.FileSystem
+    else if bytes_eq body (codes "vFile:fstat:5") then Some gdb_request.FileSize
+    else if bytes_eq body (codes "vFile:close:5") then Some gdb_request.CloseFile
     else None
 
 -- ---- packets with arguments
@@ -53,8 +53,8 @@ bare_command body =
 -- the request of a `qSupported` or `qAttached` packet, whose arguments are ignored, or `None` for any other packet
 unfoldable pub query_request : List ℕ → Option Request
 query_request body =
-    if starts_with nat_eq body (codes "qSupported") then Some ask.Features
-    else if starts_with nat_eq body (codes "qAttached") then Some ask.Attached else None
+    if starts_with nat_eq body (codes "qSupported") then Some gdb_request.Features
+    else if starts_with nat_eq body (codes "qAttached") then Some gdb_request.Attached else None
 
 -- the request of a packet that reads a part of the target description, or `None` for any other packet
 abbrev pub description_request : List ℕ → Option Request
@@ -73,7 +73,7 @@ register_or_memory_request body =
 
 -- the request of a packet that sets or clears a stoppoint, or `None` for any other packet
 unfoldable pub stoppoint_request : List ℕ → Option Request
-stoppoint_request body = request_if_named (codes "Z") (stoppoint_change ask.Set) body <|> request_if_named (codes "z") (stoppoint_change ask.Clear) body
+stoppoint_request body = request_if_named (codes "Z") (stoppoint_change gdb_request.Set) body <|> request_if_named (codes "z") (stoppoint_change gdb_request.Clear) body
 
 -- the move that the action `c` or `s` of `vCont;` requests, or `None` for any other action
 unfoldable pub move_of_plain_action : List ℕ → Option Move
@@ -96,7 +96,7 @@ action_of text = move_of_plain_action text <|> signal_action (codes "C") move.Co
 
 -- the request of `vCont;` with these arguments, or a refusal if they are malformed; only the first action counts, since there is one thread
 unfoldable pub first_action : List ℕ → Request
-first_action args = or_refusal refusal.Malformed (option_map ask.Move (action_of (text_before colon (text_before semicolon args))))
+first_action args = or_refusal refusal.Malformed (option_map gdb_request.Move (action_of (text_before colon (text_before semicolon args))))
 
 -- the request of a packet that moves forwards in the run, or `None` for any other packet
 unfoldable pub move_request : List ℕ → Option Request
@@ -109,15 +109,15 @@ move_request body =
 
 -- a request to detach if nothing follows `D`, or `;` and any text (gdb sends a process number); otherwise the refusal of an unknown packet
 unfoldable pub detach : List ℕ → Request
-detach args = if length args == 0 || starts_with nat_eq args (codes ";") then ask.Detach else ask.Refused refusal.Unknown
+detach args = if length args == 0 || starts_with nat_eq args (codes ";") then gdb_request.Detach else gdb_request.Refused refusal.Unknown
 
 -- the request of a packet that is accepted whatever follows its name, or `None` for any other packet
 unfoldable pub accepted_request : List ℕ → Option Request
 accepted_request body =
-    if starts_with nat_eq body (codes "H") then Some ask.Accepted
-    else if starts_with nat_eq body (codes "T") then Some ask.Accepted
-    else if starts_with nat_eq body (codes "vKill") then Some ask.Accepted
-    else if starts_with nat_eq body (codes "vRun") then Some ask.Restart else None
+    if starts_with nat_eq body (codes "H") then Some gdb_request.Accepted
+    else if starts_with nat_eq body (codes "T") then Some gdb_request.Accepted
+    else if starts_with nat_eq body (codes "vKill") then Some gdb_request.Accepted
+    else if starts_with nat_eq body (codes "vRun") then Some gdb_request.Restart else None
 
 -- the request of a packet that begins with `D`, or `None` for any other packet
 abbrev pub detach_request : List ℕ → Option Request
@@ -135,11 +135,11 @@ file_reading body = request_if_named (codes "vFile:pread:5,") read_file body
 
 -- the refusal of a call on a file descriptor other than 5, or `None` for any other packet
 abbrev pub other_descriptor_request : List ℕ → Option Request
-other_descriptor_request body = if is_file_call body then Some (ask.Refused refusal.OtherFile) else None
+other_descriptor_request body = if is_file_call body then Some (gdb_request.Refused refusal.OtherFile) else None
 
 -- the request to execute a `monitor` command, which is given in hexadecimal digits, or a refusal for other arguments
 unfoldable pub command : List ℕ → Request
-command args = or_refusal refusal.Failed (option_map ask.Command (parse_bytes args))
+command args = or_refusal refusal.Failed (option_map gdb_request.Command (parse_bytes args))
 
 -- the request of a packet whose arguments contain data bytes, or `None` for any other packet
 unfoldable pub request_with_bytes : List ℕ → Option Request
@@ -158,4 +158,4 @@ request_without_bytes body =
 
 -- the request that the body of a packet makes; a packet that makes none is refused as unknown
 unfoldable pub request_of : List ℕ → Request
-request_of body = unwrap_or (request_without_bytes body <|> request_with_bytes body) (ask.Refused refusal.Unknown)
+request_of body = unwrap_or (request_without_bytes body <|> request_with_bytes body) (gdb_request.Refused refusal.Unknown)

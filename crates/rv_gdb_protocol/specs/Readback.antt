@@ -2,13 +2,13 @@
 use Rattle.std.specs.Prelude.{ℕ, List, [], ◌∷◌, ◌++◌, ◌≡◌, ◌≤◌, ◌==◌, ◌||◌, Bool, true, false, fold, length, not}
 use Rattle.std.specs.List.{flat_map, list_all}
 use Rattle.hex.specs.Hex.{hex_digit_value}
-use Rattle.rv_gdb_protocol.specs.Escapes.{packet_start, data_of, body_end, escaped, is_whole}
+use Rattle.rv_gdb_protocol.specs.Escapes.{packet_start, data_of, body_end, escaped, has_complete_escapes}
 use Rattle.rv_gdb_protocol.specs.ReaderStates.{ReaderState, between_packets, state_after_byte, incoming_in, max_body}
-use Rattle.rv_gdb_protocol.specs.Checksums.{packet_of, checksum_verdict, checksum_of, parse_checksum}
+use Rattle.rv_gdb_protocol.specs.Checksums.{packet_of, checksum_check, checksum_of, parse_checksum}
 use Rattle.rv_gdb_protocol.specs.declared.frame.Incoming.{Incoming}
 use Rattle.rv_gdb_protocol.specs.declared.frame.Incoming.TheVariants.{Packet}
 use Rattle.rv_gdb_protocol.specs.declared.frame.Checksum.{Checksum}
-use Rattle.rv_gdb_protocol.specs.declared.frame.Checksum.TheVariants as verdict
+use Rattle.rv_gdb_protocol.specs.declared.frame.Checksum.TheVariants as checksum
 
 -- whether a byte is neither `$` nor `#`
 abbrev pub is_plain : ℕ → Bool
@@ -24,14 +24,14 @@ abbrev pub packet_with_digits : List ℕ → ℕ → ℕ → List ℕ
 packet_with_digits text high low = packet_start ∷ (text ++ body_end ∷ high ∷ low ∷ [])
 
 -- `Right` if the digits `high` and `low` are the checksum of the text, or else `Wrong`
-abbrev pub verdict_of : List ℕ → ℕ → ℕ → Checksum
-verdict_of text high low = checksum_verdict (checksum_of text) (parse_checksum (hex_digit_value high) (hex_digit_value low))
+abbrev pub check_of_digits : List ℕ → ℕ → ℕ → Checksum
+check_of_digits text high low = checksum_check (checksum_of text) (parse_checksum (hex_digit_value high) (hex_digit_value low))
 
 -- the items that the parser receives, in order, if the bytes arrive in these pieces
 unfoldable pub incoming_in_pieces : ReaderState → List (List ℕ) → List Incoming
-incoming_in_pieces frame [] = []
-incoming_in_pieces frame (piece ∷ rest) =
-    incoming_in frame piece ++ incoming_in_pieces (fold state_after_byte frame piece) rest
+incoming_in_pieces state [] = []
+incoming_in_pieces state (piece ∷ rest) =
+    incoming_in state piece ++ incoming_in_pieces (fold state_after_byte state piece) rest
 
 -- the bytes of all pieces, one piece after another
 abbrev pub joined : List (List ℕ) → List ℕ
@@ -46,9 +46,9 @@ pub record IsReceivedAsOnePacket (bytes text : List ℕ) (sum : Checksum) : Type
 
 -- a framed body is received as one packet with a correct checksum, and its data is the body
 pub record IsReadBack (body : List ℕ) : Type 0 where
-  pub alone : IsReceivedAsOnePacket (packet_of body) (escaped body) verdict.Right
+  pub received : IsReceivedAsOnePacket (packet_of body) (escaped body) checksum.Right
   pub data_is : data_of false (escaped body) ≡ body
-  pub whole : is_whole (escaped body) ≡ true
+  pub complete : has_complete_escapes (escaped body) ≡ true
 
 -- the bytes end with a packet that contains this text; `sum` says whether its checksum is correct
 pub record EndsWithPacket (bytes text : List ℕ) (sum : Checksum) : Type 0 where
@@ -56,5 +56,5 @@ pub record EndsWithPacket (bytes text : List ℕ) (sum : Checksum) : Type 0 wher
   pub high : ℕ
   pub low : ℕ
   pub bytes_are : bytes ≡ front ++ packet_with_digits text high low
-  pub can : CanBeSent text
-  pub sum_is : sum ≡ verdict_of text high low
+  pub can_be_sent : CanBeSent text
+  pub sum_is : sum ≡ check_of_digits text high low

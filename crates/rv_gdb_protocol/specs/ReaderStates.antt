@@ -2,9 +2,9 @@
 use Rattle.std.specs.Prelude.{ℕ, List, [], ◌∷◌, ◌++◌, ◌==◌, Option, Some, None, if◌then◌else◌, length, nat_lt}
 use Rattle.hex.specs.Hex.{hex_digit_value}
 use Rattle.rv_gdb_protocol.specs.Escapes.{packet_start, body_end}
-use Rattle.rv_gdb_protocol.specs.Checksums.{checksum_verdict, checksum_of, parse_checksum}
+use Rattle.rv_gdb_protocol.specs.Checksums.{checksum_check, checksum_of, parse_checksum}
 use Rattle.rv_gdb_protocol.specs.declared.frame.Incoming.{Incoming}
-use Rattle.rv_gdb_protocol.specs.declared.frame.Incoming.TheVariants as heard
+use Rattle.rv_gdb_protocol.specs.declared.frame.Incoming.TheVariants as incoming
 use Rattle.rv_gdb_protocol.specs.declared.frame.PacketPosition.{PacketPosition}
 use Rattle.rv_gdb_protocol.specs.declared.frame.PacketPosition.TheVariants as position
 
@@ -46,29 +46,29 @@ longer_body body byte =
 
 -- the parser after a byte, given its state; between packets, any byte but `$` leaves it unchanged
 abbrev pub state_after_byte_at : PacketPosition → ReaderState → ℕ → ReaderState
-state_after_byte_at position.Between frame byte = if byte == packet_start then at_body_start else frame
-state_after_byte_at position.Body frame byte =
+state_after_byte_at position.Between state byte = if byte == packet_start then at_body_start else state
+state_after_byte_at position.Body state byte =
     if byte == packet_start then at_body_start
-    else if byte == body_end then record { position = position.FirstDigit; body = frame.body }
-    else longer_body frame.body byte
-state_after_byte_at position.FirstDigit frame byte = record { position = position.SecondDigit byte; body = frame.body }
-state_after_byte_at (position.SecondDigit high) frame byte = between_packets
-state_after_byte_at position.LongBody frame byte =
+    else if byte == body_end then record { position = position.FirstDigit; body = state.body }
+    else longer_body state.body byte
+state_after_byte_at position.FirstDigit state byte = record { position = position.SecondDigit byte; body = state.body }
+state_after_byte_at (position.SecondDigit high) state byte = between_packets
+state_after_byte_at position.LongBody state byte =
     if byte == packet_start then at_body_start
-    else if byte == body_end then record { position = position.LongFirstDigit; body = frame.body }
-    else frame
-state_after_byte_at position.LongFirstDigit frame byte = record { position = position.LongSecondDigit; body = frame.body }
-state_after_byte_at position.LongSecondDigit frame byte = record { position = position.Between; body = frame.body }
+    else if byte == body_end then record { position = position.LongFirstDigit; body = state.body }
+    else state
+state_after_byte_at position.LongFirstDigit state byte = record { position = position.LongSecondDigit; body = state.body }
+state_after_byte_at position.LongSecondDigit state byte = record { position = position.Between; body = state.body }
 
 -- the parser after this byte
 abbrev pub state_after_byte : ReaderState → ℕ → ReaderState
-state_after_byte frame byte = state_after_byte_at frame.position frame byte
+state_after_byte state byte = state_after_byte_at state.position state byte
 
 -- the item that a byte between packets completes: 0x03 is Ctrl-C, `+` and `-` acknowledge a packet; `None` for any other byte
 abbrev pub single_byte_item : ℕ → Option Incoming
-single_byte_item byte = if byte == 3 then Some heard.Interrupt
-    else if byte == 43 then Some heard.Acknowledged
-    else if byte == 45 then Some heard.ResendRequested else None
+single_byte_item byte = if byte == 3 then Some incoming.Interrupt
+    else if byte == 43 then Some incoming.Acknowledged
+    else if byte == 45 then Some incoming.ResendRequested else None
 
 -- the item that a byte completes in a state with this body, or `None`: a packet is complete at the second digit of its checksum
 abbrev pub item_in_state : PacketPosition → List ℕ → ℕ → Option Incoming
@@ -76,21 +76,21 @@ item_in_state position.Between body byte = single_byte_item byte
 item_in_state position.Body body byte = None
 item_in_state position.FirstDigit body byte = None
 item_in_state (position.SecondDigit high) body byte =
-    Some (heard.Packet body (checksum_verdict (checksum_of body) (parse_checksum (hex_digit_value high) (hex_digit_value byte))))
+    Some (incoming.Packet body (checksum_check (checksum_of body) (parse_checksum (hex_digit_value high) (hex_digit_value byte))))
 item_in_state position.LongBody body byte = None
 item_in_state position.LongFirstDigit body byte = None
-item_in_state position.LongSecondDigit body byte = Some heard.TooLong
+item_in_state position.LongSecondDigit body byte = Some incoming.TooLong
 
 -- the item that a byte completes, or `None` if it completes none
 abbrev pub incoming_at : ReaderState → ℕ → Option Incoming
-incoming_at frame byte = item_in_state frame.position frame.body byte
+incoming_at state byte = item_in_state state.position state.body byte
 
 -- the item as a list, which is empty if there is none
 abbrev pub option_list : Option Incoming → List Incoming
 option_list None = []
-option_list (Some heard) = heard ∷ []
+option_list (Some item) = item ∷ []
 
 -- the items that the parser receives in these bytes, in order
 unfoldable pub incoming_in : ReaderState → List ℕ → List Incoming
-incoming_in frame [] = []
-incoming_in frame (byte ∷ rest) = option_list (incoming_at frame byte) ++ incoming_in (state_after_byte frame byte) rest
+incoming_in state [] = []
+incoming_in state (byte ∷ rest) = option_list (incoming_at state byte) ++ incoming_in (state_after_byte state byte) rest

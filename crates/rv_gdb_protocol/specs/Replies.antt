@@ -4,7 +4,7 @@ use Rattle.rv_gdb_protocol.specs.declared.request.Part.{Part}
 use Rattle.rv_gdb_protocol.specs.declared.request.Refusal.{Refusal}
 use Rattle.rv_gdb_protocol.specs.declared.request.Refusal.TheVariants as refusal
 use Rattle.rv_gdb_protocol.specs.declared.request.Request.{Request}
-use Rattle.rv_gdb_protocol.specs.declared.request.Request.TheVariants as ask
+use Rattle.rv_gdb_protocol.specs.declared.request.Request.TheVariants as gdb_request
 
 -- the body of the reply that refuses a request
 abbrev pub refusal_text : Refusal → List ℕ
@@ -25,18 +25,18 @@ features =
 
 -- the body of the reply to a request that has an equal reply in every session, or `None` if the reply depends on the session
 abbrev pub fixed_reply : Request → Option (List ℕ)
-fixed_reply ask.Features = Some features
-fixed_reply ask.NoAcknowledgements = Some (codes "OK")
-fixed_reply ask.Accepted = Some (codes "OK")
-fixed_reply ask.Detach = Some (codes "OK")
-fixed_reply ask.FileSystem = Some (codes "F0")
-fixed_reply ask.CloseFile = Some (codes "F0")
-fixed_reply ask.Actions = Some (codes "vCont;c;C;s;S;r")
-fixed_reply ask.Thread = Some (codes "QC1")
-fixed_reply ask.FirstThreads = Some (codes "m1")
-fixed_reply ask.MoreThreads = Some (codes "l")
-fixed_reply ask.Attached = Some (codes "0")
-fixed_reply (ask.Refused refusal) = Some (refusal_text refusal)
+fixed_reply gdb_request.Features = Some features
+fixed_reply gdb_request.NoAcknowledgements = Some (codes "OK")
+fixed_reply gdb_request.Accepted = Some (codes "OK")
+fixed_reply gdb_request.Detach = Some (codes "OK")
+fixed_reply gdb_request.FileSystem = Some (codes "F0")
+fixed_reply gdb_request.CloseFile = Some (codes "F0")
+fixed_reply gdb_request.Actions = Some (codes "vCont;c;C;s;S;r")
+fixed_reply gdb_request.Thread = Some (codes "QC1")
+fixed_reply gdb_request.FirstThreads = Some (codes "m1")
+fixed_reply gdb_request.MoreThreads = Some (codes "l")
+fixed_reply gdb_request.Attached = Some (codes "0")
+fixed_reply (gdb_request.Refused refusal) = Some (refusal_text refusal)
 fixed_reply request = None
 
 -- the maximum number of bytes of a text in one reply

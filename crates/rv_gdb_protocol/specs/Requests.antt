@@ -1,7 +1,7 @@
 -- The arguments of gdb's packets, packet by packet.
 use Rattle.std.specs.Prelude.{ℕ, List, ◌+◌, ◌==◌, ◌&&◌, Bool, false, Option, Some, None, codes, if◌then◌else◌, length, nat_le, take, drop, option_map, unwrap_or, is_some}
 use Rattle.std.specs.Option.{option_or}
-use Rattle.rv_gdb_protocol.specs.Escapes.{data_of, is_whole}
+use Rattle.rv_gdb_protocol.specs.Escapes.{data_of, has_complete_escapes}
 use Rattle.rv_gdb_protocol.specs.Numbers.{text_after, parse_bytes, parse_number, parse_two_numbers, delimiter_index, parse_value, ◌>>=◌}
 use Rattle.rv_gdb_protocol.specs.declared.request.Move.{Move}
 use Rattle.rv_gdb_protocol.specs.declared.request.Move.TheVariants as move
@@ -12,9 +12,9 @@ use Rattle.rv_gdb_protocol.specs.declared.request.Refusal.TheVariants as refusal
 use Rattle.rv_gdb_protocol.specs.declared.request.Register.{Register}
 use Rattle.rv_gdb_protocol.specs.declared.request.Register.TheVariants as register
 use Rattle.rv_gdb_protocol.specs.declared.request.Request.{Request}
-use Rattle.rv_gdb_protocol.specs.declared.request.Request.TheVariants as ask
+use Rattle.rv_gdb_protocol.specs.declared.request.Request.TheVariants as gdb_request
 use Rattle.rv_gdb_protocol.specs.declared.request.Stoppoint.{Stoppoint}
-use Rattle.rv_gdb_protocol.specs.declared.request.Stoppoint.TheVariants as trap
+use Rattle.rv_gdb_protocol.specs.declared.request.Stoppoint.TheVariants as stoppoint_kind
 use Rattle.rv_gdb_protocol.specs.declared.request.WatchKind.{WatchKind}
 use Rattle.rv_gdb_protocol.specs.declared.request.WatchKind.TheVariants as watch
 
@@ -36,7 +36,7 @@ equals = 61
 
 -- the request, or the refusal if there is none
 abbrev pub or_refusal : Refusal → Option Request → Request
-or_refusal refusal asked = unwrap_or asked (ask.Refused refusal)
+or_refusal refusal request = unwrap_or request (gdb_request.Refused refusal)
 
 -- ---- parts of texts, and files
 
@@ -51,8 +51,8 @@ parse_part text = option_map part_of (parse_two_numbers comma text)
 -- the request for a part of the target description, from the arguments `target.xml:OFFSET,COUNT`, or a refusal for other arguments
 unfoldable pub description : List ℕ → Request
 description args = unwrap_or
-    (option_map (λ part. or_refusal refusal.Failed (option_map ask.Description (parse_part part))) (text_after (codes "target.xml:") args))
-    (ask.Refused refusal.OtherAnnex)
+    (option_map (λ part. or_refusal refusal.Failed (option_map gdb_request.Description (parse_part part))) (text_after (codes "target.xml:") args))
+    (gdb_request.Refused refusal.OtherAnnex)
 
 -- the request for a part of the image's path, from the arguments `PROCESS:OFFSET,COUNT`, of which the process is ignored, or a refusal for
 -- other arguments
@@ -60,7 +60,7 @@ unfoldable pub image_path : List ℕ → Request
 image_path args = or_refusal refusal.Failed do
   index ← delimiter_index colon args
   part ← parse_part (drop (index + 1) args)
-  Some (ask.ImagePath part)
+  Some (gdb_request.ImagePath part)
 
 -- the path in the arguments `PATH,FLAGS,MODE`, which is in hexadecimal digits, or `None` if they are malformed or the flags are not 0,
 -- which means reading
@@ -72,13 +72,13 @@ path_to_open args = do
 
 -- the request to open the file that the arguments `PATH,FLAGS,MODE` name; a refusal for other arguments
 abbrev pub open_file : List ℕ → Request
-open_file args = or_refusal refusal.OtherFile (option_map ask.OpenFile (path_to_open args))
+open_file args = or_refusal refusal.OtherFile (option_map gdb_request.OpenFile (path_to_open args))
 
 -- the request to read a part of the image file, from the arguments `COUNT,OFFSET`, or a refusal for other arguments
 unfoldable pub read_file : List ℕ → Request
 read_file args = or_refusal refusal.OtherFile do
   pair ← parse_two_numbers comma args
-  Some (ask.ReadFile (record { offset = pair.1; count = pair.0 }))
+  Some (gdb_request.ReadFile (record { offset = pair.1; count = pair.0 }))
 
 -- ---- registers
 
@@ -98,7 +98,7 @@ parse_register text = do
 
 -- the request to read the register with this number, or a refusal if the arguments are not the number of a register
 abbrev pub read_register : List ℕ → Request
-read_register args = or_refusal refusal.Failed (option_map ask.Register (parse_register args))
+read_register args = or_refusal refusal.Failed (option_map gdb_request.Register (parse_register args))
 
 -- the request to write a register, from the arguments `NUMBER=VALUE`, or `None` for other arguments
 abbrev pub register_write : List ℕ → Option Request
@@ -106,7 +106,7 @@ register_write args = do
   index ← delimiter_index equals args
   register ← parse_register (take index args)
   value ← parse_value (drop (index + 1) args)
-  Some (ask.WriteRegister register value)
+  Some (gdb_request.WriteRegister register value)
 
 -- the request to write a register, from the arguments `NUMBER=VALUE`, or a refusal for other arguments
 unfoldable pub write_register : List ℕ → Request
@@ -114,7 +114,7 @@ write_register args = or_refusal refusal.Malformed (register_write args)
 
 -- the request to write all registers, or `None` if the bytes are not 33 values of four bytes
 abbrev pub all_registers_write : List ℕ → Option Request
-all_registers_write bytes = if length bytes == 132 then Some (ask.WriteRegisters bytes) else None
+all_registers_write bytes = if length bytes == 132 then Some (gdb_request.WriteRegisters bytes) else None
 
 -- the request to write all registers, from 33 values of four bytes, or a refusal for other arguments
 unfoldable pub write_registers : List ℕ → Request
@@ -134,26 +134,27 @@ parse_range text = option_map range_of (parse_two_numbers comma text)
 
 -- the request to read a range of memory, from the arguments `ADDRESS,COUNT`, or a refusal for other arguments
 abbrev pub read_memory : List ℕ → Request
-read_memory args = or_refusal refusal.Failed (option_map ask.ReadMemory (parse_range args))
+read_memory args = or_refusal refusal.Failed (option_map gdb_request.ReadMemory (parse_range args))
 
 -- the request to write these bytes, or `None` if there are not as many as the range has
 abbrev pub memory_write : Range → List ℕ → Option Request
-memory_write range bytes = if length bytes == range.count then Some (ask.WriteMemory range.address bytes) else None
+memory_write range bytes = if length bytes == range.count then Some (gdb_request.WriteMemory range.address bytes) else None
 
 -- the data of a text with escapes, or `None` if the text ends with an escape
-abbrev pub whole_data : List ℕ → Option (List ℕ)
-whole_data text = if is_whole text then Some (data_of false text) else None
+abbrev pub data_if_complete : List ℕ → Option (List ℕ)
+data_if_complete text = if has_complete_escapes text then Some (data_of false text) else None
 
 -- the request to write these bytes, or a refusal if there are none or not as many as the range has
 abbrev pub memory_write_or_refusal : Range → Option (List ℕ) → Request
 memory_write_or_refusal range bytes = or_refusal refusal.Malformed (bytes >>= memory_write range)
 
--- the request to write memory, from the arguments `ADDRESS,COUNT:BYTES`, where `read` parses the bytes, or `None` if the range is malformed
+-- the request to write memory, from the arguments `ADDRESS,COUNT:BYTES`, where `parse` parses the bytes, or `None` if the range is
+-- malformed
 abbrev pub write_memory : (List ℕ → Option (List ℕ)) → List ℕ → Option Request
-write_memory read args = do
+write_memory parse args = do
   index ← delimiter_index colon args
   range ← parse_range (take index args)
-  Some (memory_write_or_refusal range (read (drop (index + 1) args)))
+  Some (memory_write_or_refusal range (parse (drop (index + 1) args)))
 
 -- the request to write memory, from the arguments `ADDRESS,COUNT:BYTES` with the bytes in hexadecimal digits, or a refusal for other
 -- arguments
@@ -163,7 +164,7 @@ write_digits args = or_refusal refusal.Malformed (write_memory parse_bytes args)
 -- the request to write memory, from the arguments `ADDRESS,COUNT:BYTES` with the bytes as data with escapes, or a refusal for other
 -- arguments
 unfoldable pub write_data : List ℕ → Request
-write_data args = or_refusal refusal.Malformed (write_memory whole_data args)
+write_data args = or_refusal refusal.Malformed (write_memory data_if_complete args)
 
 -- ---- breakpoints and watchpoints
 
@@ -176,11 +177,11 @@ stoppoint_range text = do
 -- the watchpoint for a range of 1 to 65,536 bytes within the address space, or `None` for any other range
 abbrev pub watchpoint_if_valid : WatchKind → Range → Option Stoppoint
 watchpoint_if_valid kind range = if (nat_le 1 range.count && nat_le range.count 65536) && nat_le (range.address + range.count) 4294967296
-    then Some (trap.Watch kind range) else None
+    then Some (stoppoint_kind.Watch kind range) else None
 
 -- the breakpoint that the arguments `,ADDRESS,KIND` specify, or `None` for other arguments
 abbrev pub parse_breakpoint : List ℕ → Option Stoppoint
-parse_breakpoint text = option_map (λ (range : Range). trap.Break range.address) (stoppoint_range text)
+parse_breakpoint text = option_map (λ (range : Range). stoppoint_kind.Break range.address) (stoppoint_range text)
 
 -- the watchpoint of this kind that the arguments `,ADDRESS,COUNT` specify, or `None` for other arguments and for an invalid range
 unfoldable pub parse_watch_range : WatchKind → List ℕ → Option Stoppoint
@@ -188,26 +189,26 @@ parse_watch_range kind text = do
   range ← stoppoint_range text
   watchpoint_if_valid kind range
 
--- the watchpoint that the arguments specify, if their kind is 2 (writes), 3 (reads) or 4 (both), or else `None`; the inner option is `None`
--- if they are malformed
+-- the watchpoint that the arguments specify: `None` if their kind is not 2 (writes), 3 (reads) or 4 (both), and `Some None` if the other
+-- arguments are malformed
 abbrev pub parse_watchpoint : List ℕ → Option (Option Stoppoint)
 parse_watchpoint args = option_or (option_map (parse_watch_range watch.Writes) (text_after (codes "2") args))
     (option_or (option_map (parse_watch_range watch.Reads) (text_after (codes "3") args))
     (option_map (parse_watch_range watch.Accesses) (text_after (codes "4") args)))
 
--- the stoppoint that the arguments specify, if their kind is 0 to 4, where 0 and 1 are breakpoints, or else `None`; the inner option is
--- `None` if they are malformed
+-- the stoppoint that the arguments specify, where the kinds 0 and 1 are breakpoints: `None` if their kind is not 0 to 4, and `Some None` if
+-- the other arguments are malformed
 abbrev pub parse_stoppoint : List ℕ → Option (Option Stoppoint)
 parse_stoppoint args = option_or (option_map parse_breakpoint (text_after (codes "0") args))
     (option_or (option_map parse_breakpoint (text_after (codes "1") args)) (parse_watchpoint args))
 
 -- the refusal of arguments that begin with no known kind: malformed if they are empty, and otherwise unknown
 abbrev pub unknown_kind_request : List ℕ → Request
-unknown_kind_request args = if length args == 0 then ask.Refused refusal.Malformed else ask.Refused refusal.Unknown
+unknown_kind_request args = if length args == 0 then gdb_request.Refused refusal.Malformed else gdb_request.Refused refusal.Unknown
 
 -- the request `change` for the stoppoint that the arguments specify, or a refusal for other arguments
 unfoldable pub stoppoint_change : (Stoppoint → Request) → List ℕ → Request
-stoppoint_change change args = unwrap_or (option_map (λ found. or_refusal refusal.Malformed (option_map change found)) (parse_stoppoint args))
+stoppoint_change change args = unwrap_or (option_map (λ stoppoint. or_refusal refusal.Malformed (option_map change stoppoint)) (parse_stoppoint args))
     (unknown_kind_request args)
 
 -- ---- moves
@@ -218,12 +219,12 @@ refusal_of_address is_address = if is_address then refusal.WouldChange else refu
 
 -- the move if the arguments of `c` or `s` are empty, and otherwise a refusal
 unfoldable pub plain_move : Move → List ℕ → Request
-plain_move move args = if length args == 0 then ask.Move move else ask.Refused (refusal_of_address (is_some (parse_number args)))
+plain_move move args = if length args == 0 then gdb_request.Move move else gdb_request.Refused (refusal_of_address (is_some (parse_number args)))
 
 -- the move if the arguments of `C` or `S` are only a signal, which is ignored, and otherwise a refusal
 unfoldable pub signal_move : Move → List ℕ → Request
-signal_move move args = if is_some (parse_number args) then ask.Move move
-    else ask.Refused (refusal_of_address (is_some (parse_two_numbers semicolon args)))
+signal_move move args = if is_some (parse_number args) then gdb_request.Move move
+    else gdb_request.Refused (refusal_of_address (is_some (parse_two_numbers semicolon args)))
 
 -- the move that steps while the pc is in the range `LOW,HIGH` of addresses, or `None` for other arguments
 abbrev pub move_within_range : List ℕ → Option Move

@@ -2,7 +2,7 @@
 
 ghost use Rattle.std.specs.Prelude.{◌≡◌, ◌<◌, IfSome};
 ghost use Rattle.hex.specs.Hex.{hex_digit_value};
-ghost use Rattle.rv_gdb_protocol.specs.Checksums.{checksum_verdict, checksum_of, parse_checksum};
+ghost use Rattle.rv_gdb_protocol.specs.Checksums.{checksum_check, checksum_of, parse_checksum};
 
 use crate::frame::Checksum;
 
@@ -19,8 +19,8 @@ pub(crate) fn checksum_of(text: &[u8]) -> u8
 }
 
 /// Returns `Right` if the digits `high` and `low` are the checksum of a text, and otherwise `Wrong`.
-pub(crate) fn checksum_verdict(text: &[u8], high: u8, low: u8) -> Checksum
-    ensures { result ≡ checksum_verdict (checksum_of text.now) (parse_checksum (hex_digit_value high) (hex_digit_value low)) }
+pub(crate) fn checksum_check(text: &[u8], high: u8, low: u8) -> Checksum
+    ensures { result ≡ checksum_check (checksum_of text.now) (parse_checksum (hex_digit_value high) (hex_digit_value low)) }
 {
     match parse_checksum(high, low) {
         Some(told) if told == checksum_of(text) => Checksum::Right,
@@ -41,7 +41,7 @@ fn parse_checksum(high: u8, low: u8) -> Option<u8>
 /// Returns the value of a hexadecimal digit, in either case, or `None` for any other byte.
 pub(crate) fn digit_value(digit: u8) -> Option<u8>
     ensures value { result ≡ hex_digit_value digit }
-    ensures least { IfSome result (λ value. value < 16) }
+    ensures below_16 { IfSome result (λ value. value < 16) }
 {
     match digit {
         b'A'..=b'F' => Some(digit - 55),

@@ -1,7 +1,7 @@
 //! Escapes: how bytes with a special meaning are written in a frame.
 
 ghost use Rattle.std.specs.Prelude.{◌≡◌, ◌++◌, IfOk, OnOk, false};
-ghost use Rattle.rv_gdb_protocol.specs.Escapes.{data_byte, data_of, escaped, escaped_byte, is_special, is_escape, is_whole};
+ghost use Rattle.rv_gdb_protocol.specs.Escapes.{data_byte, data_of, escaped, escaped_byte, is_special, is_escape, has_complete_escapes};
 
 use std::alloc::AllocError;
 
@@ -43,23 +43,23 @@ fn is_special(byte: u8) -> bool
 
 /// Appends the data that a text with escapes represents. Returns whether the text is complete, that is, does not end with an escape.
 pub fn push_data(out: &mut Vec<u8>, text: &[u8]) -> Result<bool, AllocError>
-    ensures bytes { OnOk result (out.new.items ≡ out.old.items ++ data_of false text.now) }
-    ensures whole { IfOk result (λ whole. whole ≡ is_whole text.now) }
+    ensures appended { OnOk result (out.new.items ≡ out.old.items ++ data_of false text.now) }
+    ensures complete { IfOk result (λ complete. complete ≡ has_complete_escapes text.now) }
 {
-    let mut behind_escape = false;
+    let mut after_escape = false;
     for byte in text {
-        behind_escape = push_data_byte(out, behind_escape, *byte)?;
+        after_escape = push_data_byte(out, after_escape, *byte)?;
     }
-    Ok(!behind_escape)
+    Ok(!after_escape)
 }
 
-// Appends the data that a byte represents, or nothing if it is an escape, and returns whether it is one. `behind_escape` is whether the
-// previous byte is an escape.
-fn push_data_byte(out: &mut Vec<u8>, behind_escape: bool, byte: u8) -> Result<bool, AllocError>
-    ensures bytes { OnOk result (out.new.items ≡ out.old.items ++ data_byte behind_escape byte) }
-    ensures escape { IfOk result (λ is. is ≡ is_escape behind_escape byte) }
+// Appends the data that a byte represents, or nothing if the byte is an escape, and returns whether it is one. `after_escape` says whether
+// the previous byte is an escape.
+fn push_data_byte(out: &mut Vec<u8>, after_escape: bool, byte: u8) -> Result<bool, AllocError>
+    ensures appended { OnOk result (out.new.items ≡ out.old.items ++ data_byte after_escape byte) }
+    ensures escape { IfOk result (λ is. is ≡ is_escape after_escape byte) }
 {
-    if behind_escape {
+    if after_escape {
         out.push(byte ^ INVERTED_BIT)?;
         return Ok(false);
     }

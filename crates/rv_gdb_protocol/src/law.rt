@@ -3,7 +3,7 @@
 ghost use Rattle.std.specs.Prelude.{◌≡◌, ◌≤◌, ◌++◌, ◌∷◌, [], ℕ, List, fold, length};
 ghost use Rattle.rv_gdb_protocol.specs.Escapes.{escaped};
 ghost use Rattle.rv_gdb_protocol.specs.ReaderStates.{ReaderState, between_packets, state_after_byte, incoming_at, incoming_in, max_body};
-ghost use Rattle.rv_gdb_protocol.specs.Readback.{CanBeSent, EndsWithPacket, IsReceivedAsOnePacket, IsReadBack, packet_with_digits, verdict_of};
+ghost use Rattle.rv_gdb_protocol.specs.Readback.{CanBeSent, EndsWithPacket, IsReceivedAsOnePacket, IsReadBack, packet_with_digits, check_of_digits};
 ghost use Rattle.rv_gdb_protocol.specs.Grammar.{IsRequest};
 ghost use Rattle.rv_gdb_protocol.specs.Packets.{request_of};
 ghost use Rattle.rv_gdb_protocol.specs.Replies.{part_text};
@@ -16,8 +16,8 @@ ghost use Rattle.rv_gdb_protocol.specs.declared.frame.Incoming.TheVariants.{Pack
 
 /// Proves that what the parser receives does not depend on how the bytes are split.
 pub fn bytes_can_be_split()
-    ensures { (frame : ReaderState) (front rest : List ℕ) → incoming_in frame (front ++ rest)
-        ≡ incoming_in frame front ++ incoming_in (fold state_after_byte frame front) rest }
+    ensures { (state : ReaderState) (front rest : List ℕ) → incoming_in state (front ++ rest)
+        ≡ incoming_in state front ++ incoming_in (fold state_after_byte state front) rest }
 {}
 
 /// Proves that a framed body is received as one packet with a correct checksum, whose data is the body.
@@ -28,7 +28,7 @@ pub fn framed_bodies_are_read_back()
 /// Proves that a text without `$` and `#`, followed by any two digits as its checksum, is received as one packet.
 pub fn packets_are_received()
     ensures { (text : List ℕ) (high low : ℕ) → CanBeSent text
-        → IsReceivedAsOnePacket (packet_with_digits text high low) text (verdict_of text high low) }
+        → IsReceivedAsOnePacket (packet_with_digits text high low) text (check_of_digits text high low) }
 {}
 
 /// Proves that if the parser receives a packet, the bytes so far end with this packet.
@@ -41,7 +41,7 @@ pub fn received_packets_were_sent()
 /// Proves that the stop reply tells how the run ended: stops with equal replies report equal ends, and a stop before the end and a stop at
 /// the end never have equal replies.
 pub fn stop_replies_show_the_ending()
-    ensures { (one other : Stop) → stop_text one ≡ stop_text other → end_kind_of_stop one ≡ end_kind_of_stop other }
+    ensures { (first second : Stop) → stop_text first ≡ stop_text second → end_kind_of_stop first ≡ end_kind_of_stop second }
 {}
 
 /// Proves that the reply with a part of a text fits in a packet, however many of its bytes must be escaped.
@@ -49,7 +49,7 @@ pub fn parts_fit()
     ensures { (text : List ℕ) (part : Part) → length (escaped (part_text text part)) ≤ max_body }
 {}
 
-/// Proves that each packet of the protocol's grammar is parsed as the request that the grammar gives it.
+/// Proves that each packet in the grammar of the protocol is parsed as the request that the grammar specifies for it.
 pub fn packets_are_parsed()
     ensures { (body : List ℕ) (request : Request) → IsRequest body request → request_of body ≡ request }
 {}

@@ -3,7 +3,7 @@
 ghost use Rattle.std.specs.Prelude.{◌≡◌};
 ghost use Rattle.std.specs.Str.{bytes_eq};
 ghost use Rattle.rv_gdb_protocol.specs.Requests.{stoppoint_change};
-ghost use Rattle.rv_gdb_protocol.specs.declared.request.Request.TheVariants as ask;
+ghost use Rattle.rv_gdb_protocol.specs.declared.request.Request.TheVariants as gdb_request;
 ghost use Rattle.rv_gdb_protocol.specs.Packets.{action_of, move_of_plain_action, bare_command, bare_query, description_request, detach, detach_request, file_reading, first_action, accepted_request, image_path_request, is_file_call, request_without_bytes, move_request, other_descriptor_request, query_request, range_action, register_or_memory_request, signal_action, stoppoint_request};
 
 use crate::arguments::{
@@ -148,7 +148,7 @@ fn stoppoint_request(body: &[u8]) -> Option<Request>
 // Returns the request to set the breakpoint or watchpoint in the arguments of `Z`, or a refusal for other arguments.
 #[tactic(auto, unfolding(crate::specs::Requests::stoppoint_change))]
 fn set_stoppoint(args: &[u8]) -> Request
-    ensures { result ≡ stoppoint_change ask.Set args.now }
+    ensures { result ≡ stoppoint_change gdb_request.Set args.now }
 {
     match parse_stoppoint(args) {
         Some(Some(trap)) => Request::Set(trap),
@@ -160,7 +160,7 @@ fn set_stoppoint(args: &[u8]) -> Request
 // Returns the request to clear the breakpoint or watchpoint in the arguments of `z`, or a refusal for other arguments.
 #[tactic(auto, unfolding(crate::specs::Requests::stoppoint_change))]
 fn clear_stoppoint(args: &[u8]) -> Request
-    ensures { result ≡ stoppoint_change ask.Clear args.now }
+    ensures { result ≡ stoppoint_change gdb_request.Clear args.now }
 {
     match parse_stoppoint(args) {
         Some(Some(trap)) => Request::Clear(trap),

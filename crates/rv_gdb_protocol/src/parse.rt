@@ -3,7 +3,7 @@
 ghost use Rattle.std.specs.Prelude.{◌≡◌, IfOk, option_map};
 ghost use Rattle.rv_gdb_protocol.specs.Numbers.{parse_bytes};
 ghost use Rattle.rv_gdb_protocol.specs.Packets.{request_with_bytes, command, request_of};
-ghost use Rattle.rv_gdb_protocol.specs.Requests.{open_file, path_to_open, whole_data, write_data, write_digits, memory_write_or_refusal, write_registers};
+ghost use Rattle.rv_gdb_protocol.specs.Requests.{open_file, path_to_open, data_if_complete, write_data, write_digits, memory_write_or_refusal, write_registers};
 
 use crate::arguments::{all_registers_write, memory_write, parse_range};
 use crate::escapes::push_data;
@@ -92,7 +92,7 @@ fn write_data(alloc: Global, args: &[u8]) -> Result<Request, AllocError>
     };
     match parse_range(&args[..index]) {
         Some(range) => {
-            let bytes = whole_data(alloc, &args[index + 1..])?;
+            let bytes = data_if_complete(alloc, &args[index + 1..])?;
             Ok(memory_write_or_refusal(range, bytes))
         }
         None => Ok(Request::Refused(Refusal::Malformed)),
@@ -112,8 +112,8 @@ fn memory_write_or_refusal(range: Range, bytes: Option<Vec<u8>>) -> Request
 }
 
 // Returns the data of a text with escapes, or `None` if the text ends with an escape.
-fn whole_data(alloc: Global, text: &[u8]) -> Result<Option<Vec<u8>>, AllocError>
-    ensures { IfOk result (λ bytes. option_map (λ bytes. bytes.items) bytes ≡ whole_data text.now) }
+fn data_if_complete(alloc: Global, text: &[u8]) -> Result<Option<Vec<u8>>, AllocError>
+    ensures { IfOk result (λ bytes. option_map (λ bytes. bytes.items) bytes ≡ data_if_complete text.now) }
 {
     let mut bytes = Vec::new(alloc);
     if push_data(&mut bytes, text)? {

@@ -2,7 +2,7 @@
 
 ghost use Rattle.std.specs.Prelude.{◌≡◌, ◌≤◌, IfOk, OnErr, OnOk, Some, fold, length, take};
 
-use crate::checksum::checksum_verdict;
+use crate::checksum::checksum_check;
 use crate::frame::{Incoming, PacketPosition};
 use rv_base::Bytes;
 use std::alloc::{AllocError, Global};
@@ -51,13 +51,13 @@ impl Reader {
         alloc: Global,
         bytes: &[u8],
     ) -> Result<(usize, Option<Incoming>), AllocError>
-        ensures within { IfOk result (λ heard. heard.0 ≤ length bytes.now) }
-        ensures heard { IfOk result (λ heard. incoming_in self.old (take heard.0 bytes.now) ≡ option_list heard.1) }
-        ensures frame { IfOk result (λ heard. self.new ≡ fold state_after_byte self.old (take heard.0 bytes.now)) }
+        ensures within { IfOk result (λ received. received.0 ≤ length bytes.now) }
+        ensures item { IfOk result (λ received. incoming_in self.old (take received.0 bytes.now) ≡ option_list received.1) }
+        ensures state { IfOk result (λ received. self.new ≡ fold state_after_byte self.old (take received.0 bytes.now)) }
     {
         for (at, byte) in bytes.iter().enumerate() {
-            if let Some(heard) = self.receive_byte(alloc, *byte)? {
-                return Ok((at + 1, Some(heard)));
+            if let Some(item) = self.receive_byte(alloc, *byte)? {
+                return Ok((at + 1, Some(item)));
             }
         }
         Ok((bytes.len(), None))
@@ -65,9 +65,9 @@ impl Reader {
 
     /// Consumes a byte. Returns the item that it completes, or `None` if it completes none.
     pub fn receive_byte(&mut self, alloc: Global, byte: u8) -> Result<Option<Incoming>, AllocError>
-        ensures heard { IfOk result (λ heard. heard ≡ incoming_at self.old byte) }
-        ensures frame { OnOk result (self.new ≡ state_after_byte self.old byte) }
-        ensures same { OnErr result (self.new ≡ self.old) }
+        ensures item { IfOk result (λ received. received ≡ incoming_at self.old byte) }
+        ensures state { OnOk result (self.new ≡ state_after_byte self.old byte) }
+        ensures unchanged_after_error { OnErr result (self.new ≡ self.old) }
     {
         match self.position {
             PacketPosition::Between => Ok(self.receive_between_packets(byte)),
@@ -98,8 +98,8 @@ impl Reader {
     // Consumes a byte between packets. Returns the item that it completes, or `None`; bytes without a meaning are ignored.
     fn receive_between_packets(&mut self, byte: u8) -> Option<Incoming>
         requires { self.old.position ≡ position.Between }
-        ensures heard { result ≡ incoming_at self.old byte }
-        ensures frame { self.new ≡ state_after_byte self.old byte }
+        ensures item { result ≡ incoming_at self.old byte }
+        ensures state { self.new ≡ state_after_byte self.old byte }
     {
         match byte {
             b'$' => {
@@ -116,8 +116,8 @@ impl Reader {
     // Consumes a byte of a body, which becomes too long if the byte does not fit.
     fn receive_body_byte(&mut self, byte: u8) -> Result<(), AllocError>
         requires { self.old.position ≡ position.Body }
-        ensures frame { OnOk result (self.new ≡ state_after_byte self.old byte) }
-        ensures same { OnErr result (self.new ≡ self.old) }
+        ensures state { OnOk result (self.new ≡ state_after_byte self.old byte) }
+        ensures unchanged_after_error { OnErr result (self.new ≡ self.old) }
     {
         match byte {
             b'$' => self.begin_body(),
@@ -154,12 +154,12 @@ impl Reader {
     // Completes a packet with its second checksum digit `low`, and returns the packet. `high` is the first digit.
     fn finish(&mut self, alloc: Global, high: u8, low: u8) -> Incoming
         requires { self.old.position ≡ position.SecondDigit high }
-        ensures heard { Some result ≡ incoming_at self.old low }
-        ensures frame { self.new ≡ state_after_byte self.old low }
+        ensures item { Some result ≡ incoming_at self.old low }
+        ensures state { self.new ≡ state_after_byte self.old low }
     {
         self.position = PacketPosition::Between;
         let body = mem::replace(&mut self.body, Vec::new(alloc));
-        let sum = checksum_verdict(body.as_slice(), high, low);
+        let sum = checksum_check(body.as_slice(), high, low);
         Incoming::Packet(Bytes::new(body), sum)
     }
 }

@@ -9,20 +9,20 @@ pub loop-byte-preserved : goal.loop-byte-preserved
 loop-byte-preserved c =
     let text = c.args.text.now in
     let at = c.loop-byte.byte-index in
-    let behind = c.loop-byte.behind_escape in
+    let behind = c.loop-byte.after_escape in
     let within : at < length text = search rules in
     let byte = get_or text at 0 in
-    let rest = ap (λ next. data_of next (drop (at + 1) text)) c.in_ok-behind_escape.ensures.escape in
+    let rest = ap (λ next. data_of next (drop (at + 1) text)) c.in_ok-after_escape.ensures.escape in
     let next = ap (λ before. is_escape before byte) c.loop-byte.invariant.1 in (
       cc (
         data_of-drop behind text at within,
         c.loop-byte.invariant.0,
-        c.in_ok-behind_escape.ensures.bytes,
+        c.in_ok-after_escape.ensures.appended,
         rest,
         append_assoc c.loop-byte.out.items (data_byte behind byte) (data_of (is_escape behind byte) (drop (at + 1) text)),
       ),
-      cc (fold-take is_escape false text at 0 within, next, c.in_ok-behind_escape.ensures.escape),
+      cc (fold-take is_escape false text at 0 within, next, c.in_ok-after_escape.ensures.escape),
     )
 
-pub returns-clause-bytes : goal.returns-clause-bytes
-returns-clause-bytes c = grind (arith, common_steps, c.loop-byte.invariant.0, data_of-empty c.loop-byte.behind_escape, append-nil c.loop-byte.out.items)
+pub returns-clause-appended : goal.returns-clause-appended
+returns-clause-appended c = grind (arith, common_steps, c.loop-byte.invariant.0, data_of-empty c.loop-byte.after_escape, append-nil c.loop-byte.out.items)

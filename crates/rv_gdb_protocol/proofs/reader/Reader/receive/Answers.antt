@@ -6,19 +6,19 @@ use Rattle.rv_gdb_protocol.proofs.reader.Reader.receive.Goals as goal
 pub loop-at-init : goal.loop-at-init
 loop-at-init c = (incoming_in-empty c.args.self.now, refl)
 
-pub returns-in-Some-clause-heard : goal.returns-in-Some-clause-heard
-returns-in-Some-clause-heard c =
+pub returns-in-Some-clause-item : goal.returns-in-Some-clause-item
+returns-in-Some-clause-item c =
     let within : c.loop-at.at < length c.args.bytes.now = search rules in
-    heard_at_last c.args.self.now c.loop-at.self c.args.bytes.now c.loop-at.at c.in_ok-heard.field-0 within
-    c.loop-at.invariant.0 c.loop-at.invariant.1 c.in_ok-heard.ensures.heard
+    heard_at_last c.args.self.now c.loop-at.self c.args.bytes.now c.loop-at.at c.in_ok-item.field-0 within
+    c.loop-at.invariant.0 c.loop-at.invariant.1 c.in_ok-item.ensures.item
     ∙ ap option_list c.in-Some.is
 
 pub loop-at-preserved : goal.loop-at-preserved
 loop-at-preserved c =
     let within : c.loop-at.at < length c.args.bytes.now = search rules in (
-      heard_at_last c.args.self.now c.loop-at.self c.args.bytes.now c.loop-at.at c.in_ok-heard.field-0 within
-          c.loop-at.invariant.0 c.loop-at.invariant.1 c.in_ok-heard.ensures.heard
+      heard_at_last c.args.self.now c.loop-at.self c.args.bytes.now c.loop-at.at c.in_ok-item.field-0 within
+          c.loop-at.invariant.0 c.loop-at.invariant.1 c.in_ok-item.ensures.item
           ∙ ap option_list c.in_default.is,
       frame_at_last c.args.self.now c.loop-at.self c.receive_byte.new.self c.args.bytes.now c.loop-at.at within
-          c.loop-at.invariant.1 c.in_ok-heard.ensures.frame,
+          c.loop-at.invariant.1 c.in_ok-item.ensures.state,
     )

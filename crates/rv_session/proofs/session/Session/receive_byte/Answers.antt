@@ -7,10 +7,10 @@ pub returns-in-Some : goal.returns-in-Some
 returns-in-Some c = on_ok_weaker c.respond.result
     (named_otherwise _ _ _ _
     (λ out response. byte_heard c.args.self.now c.respond.new.self c.receive_byte.new.self (Some c.in-Some.received) c.args.byte out
-    c.in_ok-received.ensures.frame (sym c.in-Some.is ∙ c.in_ok-received.ensures.heard) response))
+    c.in_ok-received.ensures.state (sym c.in-Some.is ∙ c.in_ok-received.ensures.item) response))
     c.respond.ensures
 
 pub returns-in-None : goal.returns-in-None
 returns-in-None c = nothing_more _ _
-    (byte_heard c.args.self.now _ c.receive_byte.new.self None c.args.byte [] c.in_ok-received.ensures.frame
-    (sym c.in-None.is ∙ c.in_ok-received.ensures.heard) (refl, refl))
+    (byte_heard c.args.self.now _ c.receive_byte.new.self None c.args.byte [] c.in_ok-received.ensures.state
+    (sym c.in-None.is ∙ c.in_ok-received.ensures.item) (refl, refl))
