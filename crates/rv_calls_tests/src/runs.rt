@@ -1,6 +1,6 @@
 //! Frames at the end of runs, by the lines of a table: a program, its budget and its frames.
 use rv_calls::{Bus, Isa, Machine, Map, Misaligned, Region, calls_of_run};
-use samples::{agree, cell_of, has_lines, numbers};
+use samples::{cell_of, check_equal, check_line_count, numbers};
 use std::alloc::{AllocError, Global};
 use std::test::Fail;
 
@@ -93,7 +93,7 @@ fn check(alloc: Global, row: &str) -> Result<(), Fail> {
     };
     let budget = cell_of(row, 2).parse::<u32>()?;
     let machine = machine_of(alloc, isa, cell_of(row, 3))?;
-    agree(
+    check_equal(
         row,
         frames_text(alloc, machine, budget)?.as_str(),
         cell_of(row, 4),
@@ -106,13 +106,13 @@ fn check_depth(alloc: Global, row: &str) -> Result<(), Fail> {
     let calls = calls_of_run(alloc, machine, cell_of(row, 0).parse::<u32>()?)?;
     let mut depth = String::new(alloc);
     write!(depth, "{}", calls.frames.as_slice().len())?;
-    agree(row, depth.as_str(), cell_of(row, 1))
+    check_equal(row, depth.as_str(), cell_of(row, 1))
 }
 
 // The run of each program ends with exactly the frames of the calls that have not returned.
 #[test]
 fn frames_are_left_by_calls_that_have_not_returned(rt: HostRuntime) -> Result<(), Fail> {
-    has_lines(RUNS, 28)?;
+    check_line_count(RUNS, 28)?;
     for row in RUNS.lines() {
         check(rt.alloc(), row)?;
     }
@@ -122,7 +122,7 @@ fn frames_are_left_by_calls_that_have_not_returned(rt: HostRuntime) -> Result<()
 // An endless recursion ends with at most 4,096 frames.
 #[test]
 fn frames_are_bounded(rt: HostRuntime) -> Result<(), Fail> {
-    has_lines(DEPTHS, 5)?;
+    check_line_count(DEPTHS, 5)?;
     for row in DEPTHS.lines() {
         check_depth(rt.alloc(), row)?;
     }

@@ -1,6 +1,6 @@
 //! Counts of runs, by the lines of a table: a program, its budget and its counts.
 use rv_counting::{Bus, Isa, Machine, Map, Misaligned, Region, count_run};
-use samples::{agree, cell_of, has_lines, numbers};
+use samples::{cell_of, check_equal, check_line_count, numbers};
 use std::alloc::{AllocError, Global};
 use std::test::Fail;
 
@@ -86,7 +86,7 @@ fn check(alloc: Global, row: &str) -> Result<(), Fail> {
     };
     let budget = cell_of(row, 2).parse::<u32>()?;
     let machine = machine_of(alloc, isa, cell_of(row, 3))?;
-    agree(
+    check_equal(
         row,
         counts_text(alloc, machine, budget)?.as_str(),
         cell_of(row, 4),
@@ -96,7 +96,7 @@ fn check(alloc: Global, row: &str) -> Result<(), Fail> {
 // Runs have the counts that were found by hand.
 #[test]
 fn runs_are_counted(rt: HostRuntime) -> Result<(), Fail> {
-    has_lines(RUNS, 26)?;
+    check_line_count(RUNS, 26)?;
     for row in RUNS.lines() {
         check(rt.alloc(), row)?;
     }

@@ -5,7 +5,7 @@ ghost use Rattle.rv_counting.specs.JobIndices.{AreJobIndices};
 
 use rv_counting::{Batch, Crew, count_batch, table_text};
 use rv_jobs::{Plan, ReadError, Store, gather, read_jobs, selected_indices};
-use samples::{agree, cell_of, has_lines, sample_file};
+use samples::{cell_of, check_equal, check_line_count, sample_file};
 use std::alloc::{AllocError, Global};
 use std::sync::Wait;
 use std::test::Fail;
@@ -15,13 +15,13 @@ use std::thread::Threads;
 /// image.
 #[derive(Drop)]
 struct Files {
-    faults: u64,
+    unreadable_count: u64,
 }
 
 impl Store for Files {
     ghost contents = { λ _. None };
 
-    ghost fault_count = { λ s. s.faults };
+    ghost fault_count = { λ s. s.unreadable_count };
 
     // Returns the bytes of the file at a path, or an error for a path without a file.
     fn read(&mut self, alloc: Global, path: &str) -> Result<Vec<u8>, ReadError> {
@@ -30,7 +30,7 @@ impl Store for Files {
             "loop" => "code 00300293 fff28293 fe029ee3 X",
             "short" => "one 51",
             _ => {
-                self.faults = self.faults.saturating_add(1);
+                self.unreadable_count = self.unreadable_count.saturating_add(1);
                 return Err(ReadError::Unreadable);
             }
         };
@@ -42,7 +42,7 @@ impl Store for Files {
 
     // Returns how many reads found a file unreadable.
     fn faults(&self) -> u64 {
-        self.faults
+        self.unreadable_count
     }
 }
 
@@ -78,23 +78,23 @@ const TABLE_OF_ONE_IMAGE: &str =
 
 // Returns the selection that `choice` describes with one letter for each job: `x` selects it.
 fn selection_of(alloc: Global, choice: &str) -> Result<Vec<bool>, AllocError> {
-    let mut marks = Vec::new(alloc);
+    let mut selection = Vec::new(alloc);
     for mark in choice.bytes() {
-        marks.push(mark == b'x')?;
+        selection.push(mark == b'x')?;
     }
-    Ok(marks)
+    Ok(selection)
 }
 
 // Returns the indices of the selected jobs of a plan.
 fn selected_indices_of(alloc: Global, plan: &Plan, choice: &str) -> Result<Vec<usize>, Fail>
-    ensures within { IfOk result (λ places. AreJobIndices plan.now places.items) }
-    ensures increasing { IfOk result (λ places. IsStrictlyIncreasing places.items) }
+    ensures within { IfOk result (λ indices. AreJobIndices plan.now indices.items) }
+    ensures increasing { IfOk result (λ indices. IsStrictlyIncreasing indices.items) }
 {
-    let marks = selection_of(alloc, choice)?;
-    if marks.len() != plan.jobs() {
+    let selection = selection_of(alloc, choice)?;
+    if selection.len() != plan.jobs() {
         return Err("a mark for each job".into());
     }
-    Ok(selected_indices(alloc, marks.as_slice())?)
+    Ok(selected_indices(alloc, selection.as_slice())?)
 }
 
 // Returns the text of the table of the selected jobs, computed by `workers` threads, with a slash for each line feed.
@@ -111,11 +111,11 @@ fn counts_text<R: Threads + Wait + Sync>(
     let crew = Crew::new(rt, alloc, workers, 1);
     let table = count_batch(&crew, &Batch::new(plan, places.as_slice()))?;
     let text = table_text(alloc, &table)?;
-    let mut told = String::new(alloc);
+    let mut joined = String::new(alloc);
     for line in text.as_str().lines() {
-        write!(told, "{line}/")?;
+        write!(joined, "{line}/")?;
     }
-    Ok(told)
+    Ok(joined)
 }
 
 // Checks the table of a row, computed by one thread and by three.
@@ -126,8 +126,8 @@ fn check<R: Threads + Wait + Sync>(
     row: &str,
 ) -> Result<(), Fail> {
     for workers in [1, 3] {
-        let told = counts_text(rt, alloc, plan, cell_of(row, 0), workers)?;
-        agree(row, told.as_str(), cell_of(row, 1))?;
+        let actual = counts_text(rt, alloc, plan, cell_of(row, 0), workers)?;
+        check_equal(row, actual.as_str(), cell_of(row, 1))?;
     }
     Ok(())
 }
@@ -139,9 +139,11 @@ fn jobs_are_counted(rt: HostRuntime) -> Result<(), Fail> {
     let plan = gather(
         alloc,
         read_jobs(alloc, LIST.as_bytes())?,
-        &mut Files { faults: 0 },
+        &mut Files {
+            unreadable_count: 0,
+        },
     )?;
-    has_lines(TABLES, 7)?;
+    check_line_count(TABLES, 7)?;
     for row in TABLES.lines() {
         check(&rt, alloc, &plan, row)?;
     }
@@ -168,10 +170,16 @@ fn jobs_of_one_image_are_counted_together(rt: HostRuntime) -> Result<(), Fail> {
     let alloc = rt.alloc();
     let list = list_of_one_image(alloc)?;
     let jobs = read_jobs(alloc, list.as_bytes())?;
-    let plan = gather(alloc, jobs, &mut Files { faults: 0 })?;
+    let plan = gather(
+        alloc,
+        jobs,
+        &mut Files {
+            unreadable_count: 0,
+        },
+    )?;
     for workers in [1, 3] {
-        let told = counts_text(&rt, alloc, &plan, ALL_OF_ONE_IMAGE, workers)?;
-        agree("one image", told.as_str(), TABLE_OF_ONE_IMAGE)?;
+        let actual = counts_text(&rt, alloc, &plan, ALL_OF_ONE_IMAGE, workers)?;
+        check_equal("one image", actual.as_str(), TABLE_OF_ONE_IMAGE)?;
     }
     Ok(())
 }

@@ -1,6 +1,6 @@
 //! Where jobs begin in texts that are not TOML: those before the error are noted. No program requests them.
 use rv_list_locations::job_line_numbers;
-use samples::agree;
+use samples::check_equal;
 use std::alloc::{AllocError, Global};
 use std::test::Fail;
 
@@ -38,7 +38,7 @@ fn jobs_before_an_error_are_found(rt: HostRuntime) -> Result<(), Fail> {
     for case in TEXTS.split("\n|\n") {
         let (text, wanted) = case.rsplit_once(" = ").unwrap_or((case, ""));
         let begins = begin_lines_text(rt.alloc(), text)?;
-        agree(case, begins.as_str(), wanted)?;
+        check_equal(case, begins.as_str(), wanted)?;
     }
     Ok(())
 }

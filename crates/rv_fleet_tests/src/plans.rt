@@ -3,7 +3,7 @@ ghost use Rattle.std.specs.Prelude.{◌<◌, ◌≤◌, None, length};
 
 use rv_fleet::{JobList, Kept, Plan, What, gather, gather_jobs, read_jobs, selected_indices};
 use rv_stream::{ReadError, Store};
-use samples::{agree, cell_of, has_lines};
+use samples::{cell_of, check_equal, check_line_count};
 use std::alloc::{AllocError, Global};
 use std::test::Fail;
 
@@ -15,7 +15,7 @@ const _: () = prove!(What::NotToml as u8 == 1 && What::Misaligned as u8 == 18);
 #[derive(Drop)]
 struct Files {
     log: String,
-    faults: u64,
+    unreadable_count: u64,
 }
 
 // Returns the number of bytes in the file at a path; 0 if it cannot be read.
@@ -34,7 +34,7 @@ fn length_of(path: &str) -> usize
 impl Store for Files {
     ghost contents = { λ _. None };
 
-    ghost fault_count = { λ s. s.faults };
+    ghost fault_count = { λ s. s.unreadable_count };
 
     // Records the path, and returns the bytes of the file at it, or an error for a path without a file.
     fn read(&mut self, alloc: Global, path: &str) -> Result<Vec<u8>, ReadError> {
@@ -46,7 +46,7 @@ impl Store for Files {
         }
         let length = length_of(path);
         if length == 0 {
-            self.faults = self.faults.saturating_add(1);
+            self.unreadable_count = self.unreadable_count.saturating_add(1);
             return Err(ReadError::Unreadable);
         }
         let letter = path.bytes().next().unwrap_or(0);
@@ -55,26 +55,31 @@ impl Store for Files {
 
     // Returns how many reads found a file unreadable.
     fn faults(&self) -> u64 {
-        self.faults
+        self.unreadable_count
     }
 }
 
 // Returns the selection that `choice` describes with one letter for each job: `x` selects it.
 fn selection_of(alloc: Global, choice: &str) -> Result<Vec<bool>, AllocError> {
-    let mut marks = Vec::new(alloc);
+    let mut selection = Vec::new(alloc);
     for mark in choice.bytes() {
-        marks.push(mark == b'x')?;
+        selection.push(mark == b'x')?;
     }
-    Ok(marks)
+    Ok(selection)
 }
 
 // Returns the plan for the selected jobs of a list.
-fn chosen(alloc: Global, jobs: JobList, marks: &[bool], store: &mut Files) -> Result<Plan, Fail> {
-    if marks.len() != jobs.as_slice().len() {
+fn plan_of_selection(
+    alloc: Global,
+    jobs: JobList,
+    selection: &[bool],
+    store: &mut Files,
+) -> Result<Plan, Fail> {
+    if selection.len() != jobs.as_slice().len() {
         return Err("a mark for each job".into());
     }
-    let places = selected_indices(alloc, marks)?;
-    Ok(gather_jobs(alloc, jobs, places, store)?)
+    let indices = selected_indices(alloc, selection)?;
+    Ok(gather_jobs(alloc, jobs, indices, store)?)
 }
 
 // Returns the plan for all jobs of a list (`all`), or for the jobs that `choice` selects with `x`.
@@ -83,13 +88,13 @@ fn plan_of(alloc: Global, list: &str, choice: &str, store: &mut Files) -> Result
     if choice == "all" {
         return Ok(gather(alloc, jobs, store)?);
     }
-    chosen(alloc, jobs, &selection_of(alloc, choice)?, store)
+    plan_of_selection(alloc, jobs, &selection_of(alloc, choice)?, store)
 }
 
 // Appends the result that a plan has for a path: `none`, the reason why there are no bytes, the only byte, or the number of bytes and the
 // last one.
-fn push_contents(text: &mut String, kept: Option<&Kept>) -> Result<(), AllocError> {
-    match kept {
+fn push_contents(text: &mut String, result: Option<&Kept>) -> Result<(), AllocError> {
+    match result {
         Some(Kept::Content(bytes)) => push_bytes(text, bytes.as_slice()),
         Some(Kept::Unreadable) => text.push_str(" unreadable"),
         Some(Kept::TooLong) => text.push_str(" long"),
@@ -108,23 +113,23 @@ fn push_bytes(text: &mut String, bytes: &[u8]) -> Result<(), AllocError> {
 }
 
 // Appends a job's name, and the results that the plan has for its image, its reference and its console.
-fn push_job(text: &mut String, plan: &Plan, place: usize) -> Result<(), AllocError>
-    requires { place < length plan.now.jobs }
+fn push_job(text: &mut String, plan: &Plan, index: usize) -> Result<(), AllocError>
+    requires { index < length plan.now.jobs }
 {
-    let mark = if place == 0 { ':' } else { ',' };
-    let name = plan.job(place).name.as_str();
-    write!(text, "{mark} {name}")?;
-    push_contents(text, Some(plan.image(place)))?;
-    push_contents(text, plan.reference(place))?;
-    push_contents(text, plan.console_reference(place))
+    let separator = if index == 0 { ':' } else { ',' };
+    let name = plan.job(index).name.as_str();
+    write!(text, "{separator} {name}")?;
+    push_contents(text, Some(plan.image(index)))?;
+    push_contents(text, plan.reference(index))?;
+    push_contents(text, plan.console_reference(index))
 }
 
 // Returns the paths that were read, the number of unreadable files, and the results that the plan has for each job.
 fn result_text(alloc: Global, plan: &Plan, store: &Files) -> Result<String, AllocError> {
     let (log, faults) = (store.log.as_str(), store.faults());
     let mut text = format!(in alloc; "'{log}' {faults} faults")?;
-    for place in 0..plan.jobs() {
-        push_job(&mut text, plan, place)?;
+    for index in 0..plan.jobs() {
+        push_job(&mut text, plan, index)?;
     }
     Ok(text)
 }
@@ -133,7 +138,7 @@ fn result_text(alloc: Global, plan: &Plan, store: &Files) -> Result<String, Allo
 fn plan_text(alloc: Global, list: &str, choice: &str) -> Result<String, Fail> {
     let mut store = Files {
         log: String::new(alloc),
-        faults: 5,
+        unreadable_count: 5,
     };
     let plan = plan_of(alloc, list, choice, &mut store)?;
     Ok(result_text(alloc, &plan, &store)?)
@@ -141,10 +146,10 @@ fn plan_text(alloc: Global, list: &str, choice: &str) -> Result<String, Fail> {
 
 // Checks for each line of a table that the plan of a list for the choice in the line is the plan in the line.
 fn check(alloc: Global, list: &str, table: &str, lines: usize) -> Result<(), Fail> {
-    has_lines(table, lines)?;
+    check_line_count(table, lines)?;
     for row in table.lines() {
         let told = plan_text(alloc, list, cell_of(row, 0))?;
-        agree(row, told.as_str(), cell_of(row, 1))?;
+        check_equal(row, told.as_str(), cell_of(row, 1))?;
     }
     Ok(())
 }

@@ -5,7 +5,7 @@ ghost use Rattle.rv_fleet.specs.JobIndices.{AreJobIndices};
 
 use rv_fleet::{Plan, Row, gather, read_jobs, selected_indices};
 use rv_stream::{ReadError, Store};
-use samples::{agree, cell_of, has_lines, sample_file};
+use samples::{cell_of, check_equal, check_line_count, sample_file};
 use std::alloc::{AllocError, Global};
 use std::sync::Wait;
 use std::test::Fail;
@@ -60,10 +60,10 @@ fn plan_in(alloc: Global, list: &str) -> Result<Plan, Fail> {
 // Returns a plan of jobs with these budgets, separated by spaces. Their names are `j0`, `j1` and so on.
 fn plan_of(alloc: Global, budgets: &str) -> Result<Plan, Fail> {
     let mut list = String::new(alloc);
-    for (place, budget) in budgets.split(' ').enumerate() {
+    for (index, budget) in budgets.split(' ').enumerate() {
         write!(
             list,
-            "[[job]]\nname = 'j{place}'\nimage = 'five'\nbudget = {budget}\n"
+            "[[job]]\nname = 'j{index}'\nimage = 'five'\nbudget = {budget}\n"
         )?;
     }
     plan_in(alloc, list.as_str())
@@ -85,20 +85,20 @@ fn last_cell(line: &str) -> &str {
 
 // Returns the selection that `choice` describes with one letter for each job: `x` selects it.
 fn selection_of(alloc: Global, choice: &str) -> Result<Vec<bool>, AllocError> {
-    let mut marks = Vec::new(alloc);
+    let mut selection = Vec::new(alloc);
     for mark in choice.bytes() {
-        marks.push(mark == b'x')?;
+        selection.push(mark == b'x')?;
     }
-    Ok(marks)
+    Ok(selection)
 }
 
-// Returns the number in the cell `place` of a line; 0 if the cell has no number.
-fn number_in(line: &str, place: usize) -> u64 {
-    cell_of(line, place).parse::<u64>().unwrap_or(0)
+// Returns the number in the cell `index` of a line; 0 if the cell has no number.
+fn number_in(line: &str, index: usize) -> u64 {
+    cell_of(line, index).parse::<u64>().unwrap_or(0)
 }
 
 // Returns the number of workers and the number of jobs in a chunk, as given in a line.
-fn crew_of(line: &str) -> (u32, u32)
+fn workers_and_group_of(line: &str) -> (u32, u32)
     ensures workers { (0 < result.0) × (result.0 ≤ 64) }
     ensures group { (0 < result.1) × (result.1 ≤ 4096) }
 {
@@ -108,17 +108,17 @@ fn crew_of(line: &str) -> (u32, u32)
 }
 
 // Returns the plan that a line describes, and the indices of its selected jobs.
-fn chosen(alloc: Global, line: &str) -> Result<(Plan, Vec<usize>), Fail>
-    ensures within { IfOk result (λ chosen. AreJobIndices chosen.0 chosen.1.items) }
-    ensures increasing { IfOk result (λ chosen. IsStrictlyIncreasing chosen.1.items) }
+fn plan_and_indices_of(alloc: Global, line: &str) -> Result<(Plan, Vec<usize>), Fail>
+    ensures within { IfOk result (λ both. AreJobIndices both.0 both.1.items) }
+    ensures increasing { IfOk result (λ both. IsStrictlyIncreasing both.1.items) }
 {
-    let marks = selection_of(alloc, cell_of(line, 2))?;
-    let places = selected_indices(alloc, marks.as_slice())?;
+    let selection = selection_of(alloc, cell_of(line, 2))?;
+    let indices = selected_indices(alloc, selection.as_slice())?;
     let plan = plan_of(alloc, cell_of(line, 1))?;
-    if marks.len() != plan.jobs() {
+    if selection.len() != plan.jobs() {
         return Err("a mark for each job".into());
     }
-    Ok((plan, places))
+    Ok((plan, indices))
 }
 
 /// The table that a line belongs to.
@@ -126,10 +126,10 @@ fn chosen(alloc: Global, line: &str) -> Result<(Plan, Vec<usize>), Fail>
 enum Table {
     Draws,
     FourThreads,
-    Kept,
-    Named,
+    Cached,
+    CachedForComparison,
     Runs,
-    Puts,
+    Writes,
     Workers,
 }
 
@@ -143,26 +143,26 @@ fn result_text<R: Threads + Wait + Sync>(
     match table {
         Table::Draws => draws::result_text(alloc, line),
         Table::FourThreads => draws::four_threads_text(rt, alloc),
-        Table::Kept => recent::result_text(alloc, line),
-        Table::Named => recent::named_text(alloc, line),
+        Table::Cached => recent::result_text(alloc, line),
+        Table::CachedForComparison => recent::comparison_text(alloc, line),
         Table::Runs => fleets::result_text(rt, alloc, line),
-        Table::Puts => streams::stream_text(rt, alloc, line),
+        Table::Writes => streams::stream_text(rt, alloc, line),
         Table::Workers => workers::result_text(rt, alloc, line),
     }
 }
 
 // Checks that a table has `count` lines, and that each has the expected result in its last cell.
-fn hold<R: Threads + Wait + Sync>(
+fn check_table<R: Threads + Wait + Sync>(
     rt: &R,
     alloc: Global,
     table: Table,
     lines: &str,
     count: usize,
 ) -> Result<(), Fail> {
-    has_lines(lines, count)?;
+    check_line_count(lines, count)?;
     for line in lines.lines() {
         let text = result_text(rt, alloc, table, line)?;
-        agree(line, text.as_str().trim(), last_cell(line))?;
+        check_equal(line, text.as_str().trim(), last_cell(line))?;
     }
     Ok(())
 }
@@ -171,11 +171,17 @@ fn hold<R: Threads + Wait + Sync>(
 #[test]
 fn tables_have_the_expected_results(rt: HostRuntime) -> Result<(), Fail> {
     let alloc = rt.alloc();
-    hold(&rt, alloc, Table::Draws, draws::DRAWS, 6)?;
-    hold(&rt, alloc, Table::FourThreads, draws::FOUR_THREADS, 1)?;
-    hold(&rt, alloc, Table::Kept, recent::KEPT, 9)?;
-    hold(&rt, alloc, Table::Named, recent::NAMED, 2)?;
-    hold(&rt, alloc, Table::Runs, fleets::RUNS, 9)?;
-    hold(&rt, alloc, Table::Puts, streams::WRITES, 9)?;
-    hold(&rt, alloc, Table::Workers, workers::WORKERS_RANGE, 2)
+    check_table(&rt, alloc, Table::Draws, draws::DRAWS, 6)?;
+    check_table(&rt, alloc, Table::FourThreads, draws::FOUR_THREADS, 1)?;
+    check_table(&rt, alloc, Table::Cached, recent::CACHED, 9)?;
+    check_table(
+        &rt,
+        alloc,
+        Table::CachedForComparison,
+        recent::CACHED_FOR_COMPARISON,
+        2,
+    )?;
+    check_table(&rt, alloc, Table::Runs, fleets::RUNS, 9)?;
+    check_table(&rt, alloc, Table::Writes, streams::WRITES, 9)?;
+    check_table(&rt, alloc, Table::Workers, workers::WORKERS, 2)
 }

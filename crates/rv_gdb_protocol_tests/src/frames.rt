@@ -1,6 +1,6 @@
 //! Frames: what is received in bytes, at once and byte by byte, and bodies in their frames.
 use rv_gdb_protocol::{Checksum, Incoming, Reader, push_frame};
-use samples::{agree, cell_of, has_lines};
+use samples::{cell_of, check_equal, check_line_count};
 use std::alloc::{AllocError, Global};
 use std::test::Fail;
 
@@ -78,7 +78,7 @@ fn check_received(alloc: Global, line: &str) -> Result<(), Fail> {
         bytes.push(if *byte == b'~' { 3 } else { *byte })?;
     }
     for length in [1, 2, 3, 7, 1000] {
-        agree(
+        check_equal(
             line,
             items_text(alloc, bytes.as_slice(), length)?.as_str(),
             cell_of(line, 2),
@@ -90,7 +90,7 @@ fn check_received(alloc: Global, line: &str) -> Result<(), Fail> {
 // Packets are received as they were sent, however their bytes are divided into pieces; invalid input is recognised.
 #[test]
 fn packets_are_received(rt: HostRuntime) -> Result<(), Fail> {
-    has_lines(HEARD, 13)?;
+    check_line_count(HEARD, 13)?;
     for line in HEARD.lines() {
         check_received(rt.alloc(), line)?;
     }
@@ -100,11 +100,11 @@ fn packets_are_received(rt: HostRuntime) -> Result<(), Fail> {
 // Each body has the recorded frame.
 #[test]
 fn bodies_are_framed(rt: HostRuntime) -> Result<(), Fail> {
-    has_lines(FRAMED, 7)?;
+    check_line_count(FRAMED, 7)?;
     for line in FRAMED.lines() {
         let mut frame = Vec::new(rt.alloc());
         push_frame(rt.alloc(), &mut frame, cell_of(line, 1).as_bytes())?;
-        agree(
+        check_equal(
             line,
             std::str::from_utf8(frame.as_slice())?,
             cell_of(line, 2),

@@ -1,6 +1,6 @@
 //! Requests: how packets of gdb and LLDB are parsed, and the responses to malformed ones.
 use rv_gdb_protocol::{Part, TARGET, fixed_reply, parse_request, push_part};
-use samples::{agree, cell_of, has_lines};
+use samples::{cell_of, check_equal, check_line_count};
 use std::alloc::Global;
 use std::test::Fail;
 
@@ -144,13 +144,13 @@ qSupported | PacketSize=4000;QStartNoAckMode+;ReverseStep+;ReverseContinue+;qXfe
 fn check_request(alloc: Global, line: &str) -> Result<(), Fail> {
     let request = parse_request(alloc, cell_of(line, 0).as_bytes())?;
     let told = format!(in alloc; "{request:?}")?;
-    agree(line, told.as_str(), cell_of(line, 1))
+    check_equal(line, told.as_str(), cell_of(line, 1))
 }
 
 // Checks that the request with the body in a line has the fixed response in the line.
 fn check_reply(alloc: Global, line: &str) -> Result<(), Fail> {
     let request = parse_request(alloc, cell_of(line, 0).as_bytes())?;
-    agree(
+    check_equal(
         line,
         fixed_reply(&request).unwrap_or("none"),
         cell_of(line, 1),
@@ -160,7 +160,7 @@ fn check_reply(alloc: Global, line: &str) -> Result<(), Fail> {
 // Packets of gdb and LLDB are parsed as the expected requests.
 #[test]
 fn packets_are_parsed(rt: HostRuntime) -> Result<(), Fail> {
-    has_lines(ASKED, 55)?;
+    check_line_count(ASKED, 55)?;
     for line in ASKED.lines() {
         check_request(rt.alloc(), line)?;
     }
@@ -170,7 +170,7 @@ fn packets_are_parsed(rt: HostRuntime) -> Result<(), Fail> {
 // Malformed packets and requests that are not supported have the expected responses.
 #[test]
 fn malformed_packets_are_rejected(rt: HostRuntime) -> Result<(), Fail> {
-    has_lines(REFUSED, 59)?;
+    check_line_count(REFUSED, 59)?;
     for line in REFUSED.lines() {
         check_reply(rt.alloc(), line)?;
     }
@@ -180,7 +180,7 @@ fn malformed_packets_are_rejected(rt: HostRuntime) -> Result<(), Fail> {
 // Requests that have the same response in every session have the expected response.
 #[test]
 fn common_replies_are_expected(rt: HostRuntime) -> Result<(), Fail> {
-    has_lines(FIXED, 10)?;
+    check_line_count(FIXED, 10)?;
     for line in FIXED.lines() {
         check_reply(rt.alloc(), line)?;
     }
@@ -204,5 +204,5 @@ fn parts_make_up_the_description(rt: HostRuntime) -> Result<(), Fail> {
         }
     }
     assert!(rt; ended);
-    agree("whole", std::str::from_utf8(whole.as_slice())?, TARGET)
+    check_equal("whole", std::str::from_utf8(whole.as_slice())?, TARGET)
 }

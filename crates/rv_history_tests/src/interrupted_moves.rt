@@ -2,7 +2,7 @@
 use crate::alarm::Alarm;
 use crate::moves::{found_text, history_of, stops_of};
 use rv_history::{Bounds, History, Stops};
-use samples::{agree, cell_of, has_lines};
+use samples::{cell_of, check_equal, check_line_count};
 use std::alloc::Global;
 use std::test::Fail;
 
@@ -68,9 +68,9 @@ fn check_moves_from(
 ) -> Result<(), Fail> {
     let mut alarm = Alarm::at(cell_of(line, 3).parse()?);
     let met = make_move(alloc, history, direction, stops, &mut alarm)?;
-    agree(line, met.as_str(), cell_of(line, 4))?;
+    check_equal(line, met.as_str(), cell_of(line, 4))?;
     let met = make_move(alloc, history, direction, stops, &mut Alarm::never())?;
-    agree(line, met.as_str(), cell_of(line, 5))
+    check_equal(line, met.as_str(), cell_of(line, 5))
 }
 
 // Checks the interrupted move of a line in this direction.
@@ -84,7 +84,7 @@ fn check_interrupted(alloc: Global, direction: Direction, line: &str) -> Result<
 // An interrupt stops a move forward, which can be continued.
 #[test]
 fn forward_moves_are_interrupted(rt: HostRuntime) -> Result<(), Fail> {
-    has_lines(AHEAD, 5)?;
+    check_line_count(AHEAD, 5)?;
     for line in AHEAD.lines() {
         check_interrupted(rt.alloc(), Direction::Ahead, line)?;
     }
@@ -94,7 +94,7 @@ fn forward_moves_are_interrupted(rt: HostRuntime) -> Result<(), Fail> {
 // An interrupt stops a move back where it began; the move can be made again.
 #[test]
 fn backward_moves_are_interrupted(rt: HostRuntime) -> Result<(), Fail> {
-    has_lines(BACK, 2)?;
+    check_line_count(BACK, 2)?;
     for line in BACK.lines() {
         check_interrupted(rt.alloc(), Direction::Back, line)?;
     }
@@ -104,9 +104,9 @@ fn backward_moves_are_interrupted(rt: HostRuntime) -> Result<(), Fail> {
 // Checks that a move of less than 2^16 steps does not poll the interrupt.
 fn check_short_moves(alloc: Global, history: &mut History, stops: &Stops) -> Result<(), Fail> {
     let met = make_move(alloc, history, Direction::Ahead, stops, &mut Alarm::at(1))?;
-    agree("ahead", met.as_str(), "65000 budget")?;
+    check_equal("ahead", met.as_str(), "65000 budget")?;
     let met = make_move(alloc, history, Direction::Back, stops, &mut Alarm::at(1))?;
-    agree("back", met.as_str(), "0 begin")
+    check_equal("back", met.as_str(), "0 begin")
 }
 
 // Moves of less than 2^16 steps do not poll the interrupt.

@@ -4,7 +4,7 @@ use rv_history::{
     Bounds, Bus, Ending, History, Isa, Map, Misaligned, MoveResult, Region, Sequence, Start, Stops,
     Watch,
 };
-use samples::{agree, cell_of, has_lines, hex_of, numbers};
+use samples::{cell_of, check_equal, check_line_count, hex_of, numbers};
 use std::alloc::{AllocError, Global};
 use std::test::Fail;
 
@@ -141,7 +141,7 @@ fn check_move(
 ) -> Result<(), Fail> {
     let (asked, wanted) = part.split_once(" = ").ok_or("a move and an answer")?;
     let met = move_result(alloc, history, stops, asked)?;
-    agree(line, met.as_str(), wanted)
+    check_equal(line, met.as_str(), wanted)
 }
 
 // Makes the moves of a line's dialogue in order, and checks their results.
@@ -157,7 +157,7 @@ fn check_moves(alloc: Global, line: &str) -> Result<(), Fail> {
 // Moves stop at the expected steps, for the expected reasons.
 #[test]
 fn moves_stop(rt: HostRuntime) -> Result<(), Fail> {
-    has_lines(MOVES, 14)?;
+    check_line_count(MOVES, 14)?;
     for line in MOVES.lines() {
         check_moves(rt.alloc(), line)?;
     }

@@ -1,6 +1,6 @@
 //! `rv_machine`: the decode cache, tested with the lines of a table: an image, requests to its machine, and the results.
 use rv_machine::{Bus, Isa, Machine, Map, Misaligned, Region};
-use samples::{agree, cell_of, has_lines, hex_of, numbers};
+use samples::{cell_of, check_equal, check_line_count, hex_of, numbers};
 use std::alloc::{AllocError, Global};
 use std::test::Fail;
 
@@ -9,7 +9,7 @@ use std::test::Fail;
 // address space; steps after the end of a run, which end as well; a run with a budget of 0, which does nothing; and 70,000 rounds of a
 // loop, each of which stores the immediate of the loop's first instruction and executes FENCE.I, after a store over the first instruction
 // of the image.
-const KEPT: &str = "\
+const DIALOGUES: &str = "\
 fallen asleep | 80000000 | 80000000: 00000297 0052a223 0000100f | kept 80000000 = nothing; step = goes on; kept 80000000 = Auipc 5 0 0 0, 4 bytes; kept 80000001 = nothing; kept 80000002 = nothing; kept 80000004 = nothing; kept 80002000 = nothing; clean 80000004 = yes; step = goes on; kept 80000004 = Sw 0 5 5 4, 4 bytes; clean 80000004 = no; step = goes on; kept 80000000 = Auipc 5 0 0 0, 4 bytes; kept 80000004 = nothing; clean 80000004 = yes
 first halfword | 0 | 0: 4515 9002 | run 10 = 1; kept 0 = Addi 10 0 0 5, 2 bytes
 middle of a word | 80000002 | 80000002: 00500513 X | run 10 = 2; kept 80000002 = Addi 10 0 0 5, 4 bytes
@@ -29,7 +29,7 @@ fn region(base: u32, size: u32) -> Region {
 }
 
 // Writes a part `ADDRESS: NUMBERS` of an image to memory.
-fn place(alloc: Global, bus: &mut Bus, part: &str) -> Result<(), Fail> {
+fn load_part(alloc: Global, bus: &mut Bus, part: &str) -> Result<(), Fail> {
     let (addr, code) = part.split_once(": ").ok_or("an address and numbers")?;
     let addr = hex_of(addr)?;
     let bytes = numbers(alloc, code)?;
@@ -43,7 +43,7 @@ fn place(alloc: Global, bus: &mut Bus, part: &str) -> Result<(), Fail> {
 // Writes all parts of an image, separated by semicolons, to memory.
 fn load(alloc: Global, bus: &mut Bus, image: &str) -> Result<(), Fail> {
     for part in image.split("; ") {
-        place(alloc, bus, part)?;
+        load_part(alloc, bus, part)?;
     }
     Ok(())
 }
@@ -64,11 +64,7 @@ fn machine_of(alloc: Global, entry: u32, image: &str) -> Result<Machine, Fail> {
 }
 
 // Returns as text the instruction in the cache for an address and its length, or `nothing`.
-fn cached_or_invalidated_at(
-    alloc: Global,
-    machine: &Machine,
-    addr: u32,
-) -> Result<String, AllocError> {
+fn cached_text(alloc: Global, machine: &Machine, addr: u32) -> Result<String, AllocError> {
     let Some((instr, length)) = machine.kept(addr) else {
         return String::from_str(alloc, "nothing");
     };
@@ -78,7 +74,7 @@ fn cached_or_invalidated_at(
 }
 
 // Executes one step, and returns `goes on` if it completed and `ends` if it ended the run.
-fn step(machine: &mut Machine) -> &'static str {
+fn step_text(machine: &mut Machine) -> &'static str {
     if machine.step().is_none() {
         "goes on"
     } else {
@@ -87,7 +83,7 @@ fn step(machine: &mut Machine) -> &'static str {
 }
 
 // Returns `yes` if the four bytes at an address are clean, and `no` if not.
-fn clean(machine: &Machine, addr: u32) -> &'static str {
+fn clean_text(machine: &Machine, addr: u32) -> &'static str {
     if machine.bus().clean(addr, 4) {
         "yes"
     } else {
@@ -96,52 +92,57 @@ fn clean(machine: &Machine, addr: u32) -> &'static str {
 }
 
 // Runs a machine within a budget, and returns the number of completed steps as text.
-fn run(alloc: Global, machine: &mut Machine, budget: u32) -> Result<String, AllocError> {
+fn run_text(alloc: Global, machine: &mut Machine, budget: u32) -> Result<String, AllocError> {
     let steps = machine.run(budget).steps;
     format!(in alloc; "{steps}")
 }
 
 // Makes a request of a dialogue and checks its result: `run BUDGET`, `step`, `kept ADDRESS` or `clean ADDRESS`, followed by ` = ` and the
 // result.
-fn ask(alloc: Global, machine: &mut Machine, line: &str, exchange: &str) -> Result<(), Fail> {
-    let (ask, wanted) = exchange.split_once(" = ").unwrap_or((exchange, ""));
-    let (verb, number) = ask.split_once(' ').unwrap_or((ask, "0"));
+fn check_exchange(
+    alloc: Global,
+    machine: &mut Machine,
+    line: &str,
+    exchange: &str,
+) -> Result<(), Fail> {
+    let (request, expected) = exchange.split_once(" = ").unwrap_or((exchange, ""));
+    let (verb, number) = request.split_once(' ').unwrap_or((request, "0"));
     match verb {
         "run" => {
             let budget = number.parse::<u32>()?;
-            agree(line, &run(alloc, machine, budget)?, wanted)
+            check_equal(line, &run_text(alloc, machine, budget)?, expected)
         }
-        "step" => agree(line, step(machine), wanted),
-        "kept" => agree(
+        "step" => check_equal(line, step_text(machine), expected),
+        "kept" => check_equal(
             line,
-            &cached_or_invalidated_at(alloc, machine, hex_of(number)?)?,
-            wanted,
+            &cached_text(alloc, machine, hex_of(number)?)?,
+            expected,
         ),
-        "clean" => agree(line, clean(machine, hex_of(number)?), wanted),
+        "clean" => check_equal(line, clean_text(machine, hex_of(number)?), expected),
         _ => Err("a verb".into()),
     }
 }
 
 // Makes the requests of a line's dialogue in order, and checks their results.
-fn dialogue(alloc: Global, machine: &mut Machine, line: &str) -> Result<(), Fail> {
+fn check_dialogue(alloc: Global, machine: &mut Machine, line: &str) -> Result<(), Fail> {
     for exchange in cell_of(line, 3).split("; ") {
-        ask(alloc, machine, line, exchange)?;
+        check_exchange(alloc, machine, line, exchange)?;
     }
     Ok(())
 }
 
 // Checks the dialogue of a line with a new machine.
-fn check(alloc: Global, line: &str) -> Result<(), Fail> {
+fn check_line(alloc: Global, line: &str) -> Result<(), Fail> {
     let mut machine = machine_of(alloc, hex_of(cell_of(line, 1))?, cell_of(line, 2))?;
-    dialogue(alloc, &mut machine, line)
+    check_dialogue(alloc, &mut machine, line)
 }
 
 // A machine caches the instructions that it executes, until FENCE.I after a store over them.
 #[test]
 fn machines_cache_instructions(rt: HostRuntime) -> Result<(), Fail> {
-    has_lines(KEPT, 7)?;
-    for line in KEPT.lines() {
-        check(rt.alloc(), line)?;
+    check_line_count(DIALOGUES, 7)?;
+    for line in DIALOGUES.lines() {
+        check_line(rt.alloc(), line)?;
     }
     Ok(())
 }

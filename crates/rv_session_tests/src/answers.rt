@@ -10,7 +10,7 @@ use rv_session::{
     Bus, Bytes, EndText, Interrupt, Isa, Machine, Map, Misaligned, Program, Region, Session, Start,
     push_frame,
 };
-use samples::{agree, cell_of, has_lines, numbers};
+use samples::{cell_of, check_equal, check_line_count, numbers};
 use std::alloc::{AllocError, Global};
 use std::test::Fail;
 
@@ -236,7 +236,7 @@ fn session_of_line(alloc: Global, line: &str) -> Result<TestSession, Fail> {
     let talk = session_of(alloc, cell_of(line, 1), cell_of(line, 2).parse()?)?;
     let TestSession { mut session, end } = talk;
     let met = response_text(alloc, &mut session, &end, b"+$QStartNoAckMode#b0")?;
-    agree(line, met.as_str(), "+$OK#9a")?;
+    check_equal(line, met.as_str(), "+$OK#9a")?;
     Ok(TestSession { session, end })
 }
 
@@ -268,7 +268,7 @@ fn check_response(
     let (asked, wanted) = part.split_once(" > ").ok_or("a request and an answer")?;
     let met = response_to_body(alloc, session, end, asked)?;
     let wanted = framed(alloc, wanted)?;
-    agree(line, met.as_str(), std::str::from_utf8(wanted.as_slice())?)
+    check_equal(line, met.as_str(), std::str::from_utf8(wanted.as_slice())?)
 }
 
 // Makes the requests of a line's dialogue in order, and checks the responses.
@@ -284,7 +284,7 @@ fn check_dialogue(alloc: Global, line: &str) -> Result<(), Fail> {
 // Requests about hand-written runs have the expected responses.
 #[test]
 fn requests_have_responses(rt: HostRuntime) -> Result<(), Fail> {
-    has_lines(ANSWERS, 40)?;
+    check_line_count(ANSWERS, 40)?;
     for line in ANSWERS.lines() {
         check_dialogue(rt.alloc(), line)?;
     }
@@ -299,7 +299,7 @@ fn check_recording(alloc: Global, session: &mut Session, end: &End, line: &str) 
     let (heard, wanted) = line.split_once(" > ").ok_or("a line of a recording")?;
     let wanted = if wanted == "nothing" { "" } else { wanted };
     let met = response_text(alloc, session, end, heard.as_bytes())?;
-    agree(line, met.as_str(), wanted)
+    check_equal(line, met.as_str(), wanted)
 }
 
 // The packets of a recorded session with LLDB have the recorded responses.

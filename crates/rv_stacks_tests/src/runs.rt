@@ -2,7 +2,7 @@
 use rv_stacks::{
     Bus, CodeSymbols, Isa, Machine, Map, Misaligned, Region, count_with_stacks, read_image,
 };
-use samples::{agree, cell_of, file_bytes, has_lines, hex_of, numbers};
+use samples::{cell_of, check_equal, check_line_count, file_bytes, hex_of, numbers};
 use std::alloc::Global;
 use std::test::Fail;
 
@@ -105,9 +105,9 @@ fn nodes_text(alloc: Global, row: &str) -> Result<String, Fail> {
 // Runs have the call-tree nodes that were found by hand.
 #[test]
 fn runs_have_the_expected_nodes(rt: HostRuntime) -> Result<(), Fail> {
-    has_lines(RUNS, 14)?;
+    check_line_count(RUNS, 14)?;
     for row in RUNS.lines() {
-        agree(row, nodes_text(rt.alloc(), row)?.as_str(), cell_of(row, 4))?;
+        check_equal(row, nodes_text(rt.alloc(), row)?.as_str(), cell_of(row, 4))?;
     }
     Ok(())
 }

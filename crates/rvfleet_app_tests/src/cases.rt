@@ -11,7 +11,7 @@
 use crate::forms::{form_text, numbered, part};
 use crate::sample_store::SampleStore;
 use crate::testing::Streams;
-use samples::{agree, cell_of, has_lines, numbers};
+use samples::{cell_of, check_equal, check_line_count, numbers};
 use std::alloc::{AllocError, Global};
 use std::sync::Wait;
 use std::test::Fail;
@@ -103,7 +103,7 @@ fn check_row(
 ) -> Result<(), Fail> {
     let wanted = form_text(alloc, wanted, row)?;
     let answer = actual_output(rt, alloc, ask, row)?;
-    agree(row, answer.as_str(), wanted.as_str())
+    check_equal(row, answer.as_str(), wanted.as_str())
 }
 
 // Checks the output for a row with a number in place of each `%`.
@@ -142,7 +142,7 @@ fn check_parts(
     wanted: &str,
     rows: &str,
 ) -> Result<(), Fail> {
-    has_lines(rows, part(ask, 0).parse::<usize>()?)?;
+    check_line_count(rows, part(ask, 0).parse::<usize>()?)?;
     for line in rows.lines() {
         check_line(rt, alloc, ask, wanted, line)?;
     }

@@ -2,7 +2,7 @@
 
 use crate::testing::output_with_store;
 use rvfleet_app::{FileStore, ReadError, Store};
-use samples::{agree, cell_of, numbers, sample_file};
+use samples::{cell_of, check_equal, numbers, sample_file};
 use std::fs;
 use std::test::Fail;
 
@@ -24,7 +24,7 @@ fn runs_a_file(rt: HostRuntime) -> Result<(), Fail> {
     let line = "rvfleet one image.elf --budget 10";
     let told = output_with_store(&rt, rt.alloc(), line, &mut FileStore::new(&rt))?;
     fs::remove_file(&rt, "image.elf")?;
-    agree(line, told.as_str(), IMAGE_REPORT)
+    check_equal(line, told.as_str(), IMAGE_REPORT)
 }
 
 // Reads the file at a path, and returns as text whether it has these bytes, or the reason why it was not read.
@@ -56,9 +56,9 @@ fn check_file_row(rt: &HostRuntime, line: &str) -> Result<(), Fail> {
     let path = line.split('|').next().unwrap_or("");
     let bytes = numbers(rt.alloc(), cell_of(line, 1))?;
     fs::write(rt, path, bytes.as_slice())?;
-    agree(line, actual_output(rt, path, &bytes), cell_of(line, 2))?;
+    check_equal(line, actual_output(rt, path, &bytes), cell_of(line, 2))?;
     fs::remove_file(rt, path)?;
-    agree(line, actual_output(rt, path, &bytes), "unreadable")
+    check_equal(line, actual_output(rt, path, &bytes), "unreadable")
 }
 
 // The store returns the bytes of files, or the reason why they cannot be read.
@@ -67,7 +67,7 @@ fn reads_files(rt: HostRuntime) -> Result<(), Fail> {
     for line in FILES.lines() {
         check_file_row(&rt, line)?;
     }
-    agree(
+    check_equal(
         "no folder",
         actual_output(&rt, "no folder/image", &[]),
         "unreadable",

@@ -4,7 +4,7 @@ ghost use Rattle.std.specs.Prelude.{Some};
 
 use crate::testing::output_with_store;
 use rvfleet_app::{ReadError, Store};
-use samples::{ONE_SEGMENT, agree};
+use samples::{ONE_SEGMENT, check_equal};
 use std::alloc::Global;
 use std::sync::Wait;
 use std::test::Fail;
@@ -68,7 +68,7 @@ fn check_output(
     wanted: &str,
 ) -> Result<(), Fail> {
     let told = output_with_store(rt, alloc, line, &mut KnownStore { bytes })?;
-    agree(line, told.as_str(), wanted)
+    check_equal(line, told.as_str(), wanted)
 }
 
 // The program runs an image and a list from a store whose contents are known.

@@ -39,7 +39,7 @@ impl<'a> SampleStore<'a> {
             return Err(SampleError::OutOfMemory);
         }
         if self.reads == number(faults, "no_file=") {
-            return Err(SampleError::Name);
+            return Err(SampleError::NoSample);
         }
         match sample_at(part(self.case, 4), path) {
             "jobs" => Ok(part(self.case, 3).as_bytes().to_vec(alloc)?),

@@ -9,16 +9,16 @@ use thiserror::Error;
 pub enum SampleError {
     /// There are no digits, or an odd number of them.
     #[error("bad digits")]
-    Digits,
+    BadDigits,
     /// An offset or a count is not a number.
     #[error("bad count")]
-    Count,
+    BadNumber,
     /// A change extends past the end of the file.
     #[error("bad place")]
-    Place,
+    PastEnd,
     /// No sample has the name.
     #[error("bad name")]
-    Name,
+    NoSample,
     /// An allocation failed.
     #[error("out of memory")]
     OutOfMemory,
@@ -36,7 +36,7 @@ impl From<FromHexError> for SampleError {
     fn from(error: FromHexError) -> SampleError {
         match error {
             FromHexError::OutOfMemory => SampleError::OutOfMemory,
-            _ => SampleError::Digits,
+            _ => SampleError::BadDigits,
         }
     }
 }
@@ -62,7 +62,7 @@ pub fn numbers(alloc: Global, text: &str) -> Result<Vec<u8>, SampleError> {
 fn push_number(alloc: Global, bytes: &mut Vec<u8>, number: &str) -> Result<(), SampleError> {
     let (number, count) = number.split_once('*').unwrap_or((number, "1"));
     let Ok(count) = count.parse::<u32>() else {
-        return Err(SampleError::Count);
+        return Err(SampleError::BadNumber);
     };
     let mut digits = hex::decode(alloc, number)?;
     digits.reverse();

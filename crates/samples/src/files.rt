@@ -19,55 +19,55 @@ const MEMORY_SIZE: usize = 72;
 pub fn sample_file(alloc: Global, text: &str) -> Result<Vec<u8>, SampleError> {
     let (name, rest) = text.split_once(' ').unwrap_or((text, ""));
     match name {
-        "one" => changed(alloc, &ONE_SEGMENT, rest),
-        "two" => changed(alloc, &TWO_SEGMENTS, rest),
-        "sign" => changed(alloc, &file_bytes(alloc, SIGNATURE)?, rest),
-        "code" => program(alloc, rest),
-        _ => Err(SampleError::Name),
+        "one" => with_changes(alloc, &ONE_SEGMENT, rest),
+        "two" => with_changes(alloc, &TWO_SEGMENTS, rest),
+        "sign" => with_changes(alloc, &file_bytes(alloc, SIGNATURE)?, rest),
+        "code" => program_file(alloc, rest),
+        _ => Err(SampleError::NoSample),
     }
 }
 
 // Returns the file of an image whose only segment has these numbers as its bytes.
-fn program(alloc: Global, text: &str) -> Result<Vec<u8>, SampleError> {
+fn program_file(alloc: Global, text: &str) -> Result<Vec<u8>, SampleError> {
     let code = numbers(alloc, text)?;
     let Ok(size) = u32::try_from(code.len()) else {
-        return Err(SampleError::Count);
+        return Err(SampleError::BadNumber);
     };
     let mut bytes = ONE_SEGMENT[..CODE].to_vec(alloc)?;
-    set(&mut bytes, FILE_SIZE, &size.to_le_bytes())?;
-    set(&mut bytes, MEMORY_SIZE, &size.to_le_bytes())?;
+    overwrite(&mut bytes, FILE_SIZE, &size.to_le_bytes())?;
+    overwrite(&mut bytes, MEMORY_SIZE, &size.to_le_bytes())?;
     bytes.extend_from_slice(&code)?;
     Ok(bytes)
 }
 
 // Returns a file with these changes, which have the form that `sample_file` describes.
-fn changed(alloc: Global, file: &[u8], changes: &str) -> Result<Vec<u8>, SampleError> {
+fn with_changes(alloc: Global, file: &[u8], changes: &str) -> Result<Vec<u8>, SampleError> {
     let mut bytes = file.to_vec(alloc)?;
     for change in changes.split(' ') {
-        if let Some((at, number)) = change.split_once('=') {
+        if let Some((offset, number)) = change.split_once('=') {
             let field = numbers(alloc, number)?;
-            set(&mut bytes, count(at)?, &field)?;
+            overwrite(&mut bytes, parse_count(offset)?, &field)?;
         } else if !change.is_empty() {
-            bytes.truncate(count(change)?);
+            bytes.truncate(parse_count(change)?);
         }
     }
     Ok(bytes)
 }
 
 // Parses an offset or a count, in decimal digits.
-fn count(text: &str) -> Result<usize, SampleError> {
+fn parse_count(text: &str) -> Result<usize, SampleError> {
     match text.parse::<usize>() {
         Ok(count) => Ok(count),
-        Err(_) => Err(SampleError::Count),
+        Err(_) => Err(SampleError::BadNumber),
     }
 }
 
-// Overwrites the bytes at index `at` with a field; returns an error if the field extends past the end.
-fn set(bytes: &mut Vec<u8>, at: usize, field: &[u8]) -> Result<(), SampleError> {
-    for (place, byte) in field.iter().enumerate() {
-        match bytes.get_mut(at.saturating_add(place)) {
+// Overwrites the bytes from index `start` on with a field; returns an error if the field extends past the end.
+fn overwrite(bytes: &mut Vec<u8>, start: usize, field: &[u8]) -> Result<(), SampleError> {
+    for (index, byte) in field.iter().enumerate() {
+        match bytes.get_mut(start.saturating_add(index)) {
             Some(changed) => *changed = *byte,
-            None => return Err(SampleError::Place),
+            None => return Err(SampleError::PastEnd),
         }
     }
     Ok(())

@@ -9,4 +9,4 @@ mod tables;
 pub use digits::{SampleError, file_bytes, numbers};
 pub use files::sample_file;
 pub use images::{CHECKSUM, ONE_SEGMENT, UPPER, UPPER_STRIPPED};
-pub use tables::{agree, cell_of, has_lines, hex_of};
+pub use tables::{cell_of, check_equal, check_line_count, hex_of};

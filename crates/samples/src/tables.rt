@@ -4,8 +4,8 @@ use std::num::ParseIntError;
 use std::test::Fail;
 
 /// Returns the cell of a line with this index, from 0, without the spaces around it; empty if there are fewer cells.
-pub fn cell_of(line: &str, place: usize) -> &str {
-    line.split('|').nth(place).unwrap_or("").trim()
+pub fn cell_of(line: &str, index: usize) -> &str {
+    line.split('|').nth(index).unwrap_or("").trim()
 }
 
 /// Parses a number of hexadecimal digits.
@@ -13,17 +13,17 @@ pub fn hex_of(text: &str) -> Result<u32, ParseIntError> {
     u32::from_str_radix(text, 16)
 }
 
-/// Returns an error that names the row, the actual result `answer` and the expected one, `wanted`, if the two differ.
-pub fn agree(row: &str, answer: &str, wanted: &str) -> Result<(), Fail> {
-    if answer == wanted {
+/// Returns an error that names the row and both results if the actual result differs from the expected one.
+pub fn check_equal(row: &str, actual: &str, expected: &str) -> Result<(), Fail> {
+    if actual == expected {
         Ok(())
     } else {
-        Err(Fail::new(format_args!("{row}: {answer} in place of {wanted}")))
+        Err(Fail::new(format_args!("{row}: {actual} in place of {expected}")))
     }
 }
 
 /// Returns an error if the table does not have this many lines.
-pub fn has_lines(rows: &str, count: usize) -> Result<(), Fail> {
+pub fn check_line_count(rows: &str, count: usize) -> Result<(), Fail> {
     if rows.lines().count() == count {
         Ok(())
     } else {

@@ -10,7 +10,7 @@ use std::thread;
 use std::thread::Threads;
 
 // Splits a pass in two; `None` if no pass index is free.
-pub(super) fn halves(claims: &Claims, pass: Pass) -> Option<(Pass, Pass)>
+pub(super) fn split_pass(claims: &Claims, pass: Pass) -> Option<(Pass, Pass)>
     requires { pass.draw ≡ claims.now }
     ensures first { IfSome result (λ passes. passes.0.draw ≡ claims.now) }
     ensures second { IfSome result (λ passes. passes.1.draw ≡ claims.now) }
@@ -26,15 +26,15 @@ fn push_response(
     text: &mut String,
     claims: &Claims,
     pass: &mut Pass,
-    ask: &str,
+    request: &str,
 ) -> Result<(), AllocError>
     requires { pass.old.draw ≡ claims.now }
     ensures { pass.new.draw ≡ claims.now }
 {
-    if ask.is_empty() {
+    if request.is_empty() {
         return Ok(());
     }
-    if ask.ends_with('?') {
+    if request.ends_with('?') {
         let ended = pass.ended();
         return write!(text, " {ended}");
     }
@@ -49,13 +49,13 @@ fn push_responses(
     text: &mut String,
     claims: &Claims,
     pass: &mut Pass,
-    asks: &str,
+    requests: &str,
 ) -> Result<(), AllocError>
     requires { pass.old.draw ≡ claims.now }
     ensures { pass.new.draw ≡ claims.now }
 {
-    for ask in asks.split(' ') {
-        push_response(text, claims, pass, ask)?;
+    for request in requests.split(' ') {
+        push_response(text, claims, pass, request)?;
     }
     Ok(())
 }
@@ -66,18 +66,18 @@ fn push_responses_of_both(
     claims: &Claims,
     first: &mut Pass,
     second: &mut Pass,
-    asks: &str,
+    requests: &str,
 ) -> Result<(), AllocError>
     requires first { first.old.draw ≡ claims.now }
     requires second { second.old.draw ≡ claims.now }
     ensures first { first.new.draw ≡ claims.now }
     ensures second { second.new.draw ≡ claims.now }
 {
-    for ask in asks.split(' ') {
-        if ask.starts_with('q') {
-            push_response(text, claims, second, ask)?;
+    for request in requests.split(' ') {
+        if request.starts_with('q') {
+            push_response(text, claims, second, request)?;
         } else {
-            push_response(text, claims, first, ask)?;
+            push_response(text, claims, first, request)?;
         }
     }
     Ok(())
@@ -85,7 +85,7 @@ fn push_responses_of_both(
 
 // Makes one pass of two, as `end` says: joins them (`join`), lets them meet and joins them (`meet, join`), or lets them meet and drops the
 // second.
-fn one_of(claims: &Claims, first: Pass, second: Pass, end: &str) -> Pass
+fn one_pass_of(claims: &Claims, first: Pass, second: Pass, end: &str) -> Pass
     requires first { first.draw ≡ claims.now }
     requires second { second.draw ≡ claims.now }
     ensures { result.draw ≡ claims.now }
@@ -101,21 +101,21 @@ fn one_of(claims: &Claims, first: Pass, second: Pass, end: &str) -> Pass
 }
 
 // Splits a pass in two, appends the responses of both, and makes one pass of them, as `end` says.
-fn split(
+fn split_and_merge(
     text: &mut String,
     claims: &Claims,
     pass: Pass,
-    asks: &str,
+    requests: &str,
     end: &str,
 ) -> Result<Pass, Fail>
     requires { pass.draw ≡ claims.now }
     ensures { IfOk result (λ pass. pass.draw ≡ claims.now) }
 {
-    let Some((mut first, mut second)) = halves(claims, pass) else {
-        return Err("no place is free".into());
+    let Some((mut first, mut second)) = split_pass(claims, pass) else {
+        return Err("no pass index is free".into());
     };
-    push_responses_of_both(text, claims, &mut first, &mut second, asks)?;
-    Ok(one_of(claims, first, second, end))
+    push_responses_of_both(text, claims, &mut first, &mut second, requests)?;
+    Ok(one_pass_of(claims, first, second, end))
 }
 
 // Splits a pass and joins the two until no pass index is free. Appends how often, and returns the pass.
@@ -137,14 +137,14 @@ fn fill(text: &mut String, claims: &Claims, mut pass: Pass) -> Result<Pass, Allo
 
 // Handles a pass as the fifth cell of a line says: `alone` leaves it unchanged, `fill` splits and joins it until no pass index is free, and
 // anything else splits it once.
-fn between(text: &mut String, claims: &Claims, pass: Pass, line: &str) -> Result<Pass, Fail>
+fn handle_pass(text: &mut String, claims: &Claims, pass: Pass, line: &str) -> Result<Pass, Fail>
     requires { pass.draw ≡ claims.now }
     ensures { IfOk result (λ pass. pass.draw ≡ claims.now) }
 {
     match cell_of(line, 4) {
         "alone" => Ok(pass),
         "fill" => Ok(fill(text, claims, pass)?),
-        end => split(text, claims, pass, cell_of(line, 3), end),
+        end => split_and_merge(text, claims, pass, cell_of(line, 3), end),
     }
 }
 
@@ -154,7 +154,7 @@ fn push_all(text: &mut String, claims: &Claims, mut pass: Pass, line: &str) -> R
     ensures { IfOk result (λ pass. pass.draw ≡ claims.now) }
 {
     push_responses(text, claims, &mut pass, cell_of(line, 2))?;
-    let mut pass = between(text, claims, pass, line)?;
+    let mut pass = handle_pass(text, claims, pass, line)?;
     push_responses(text, claims, &mut pass, cell_of(line, 5))?;
     Ok(pass)
 }
@@ -188,7 +188,7 @@ const PIECES: u64 = 1000;
 /// is missing.
 fn draw_all(alloc: Global, claims: &Claims, mut pass: Pass) -> Option<(Pass, Vec<u64>)>
     requires { pass.draw ≡ claims.now }
-    ensures { IfSome result (λ taken. taken.0.draw ≡ claims.now) }
+    ensures { IfSome result (λ both. both.0.draw ≡ claims.now) }
 {
     let mut numbers = Vec::new(alloc);
     for _ in 0..=PIECES {
@@ -208,9 +208,9 @@ fn both_drawn(
     one: Option<(Pass, Vec<u64>)>,
     other: Option<(Pass, Vec<u64>)>,
 ) -> Option<(Pass, Vec<u64>)>
-    requires one { IfSome one (λ taken. taken.0.draw ≡ claims.now) }
-    requires other { IfSome other (λ taken. taken.0.draw ≡ claims.now) }
-    ensures { IfSome result (λ taken. taken.0.draw ≡ claims.now) }
+    requires one { IfSome one (λ both. both.0.draw ≡ claims.now) }
+    requires other { IfSome other (λ both. both.0.draw ≡ claims.now) }
+    ensures { IfSome result (λ both. both.0.draw ≡ claims.now) }
 {
     let (first, mut numbers) = one?;
     let (second, others) = other?;
@@ -228,18 +228,18 @@ fn draw_all_in_two<R: Threads + Sync>(
     pass: Pass,
 ) -> Option<(Pass, Vec<u64>)>
     requires { pass.draw ≡ claims.now }
-    ensures { IfSome result (λ taken. taken.0.draw ≡ claims.now) }
+    ensures { IfSome result (λ both. both.0.draw ≡ claims.now) }
 {
-    let (first, second) = halves(claims, pass)?;
+    let (first, second) = split_pass(claims, pass)?;
     let (one, other) = thread::join(
         rt,
         move || -> Option<(Pass, Vec<u64>)>
             requires { first.draw ≡ claims.now }
-            ensures { IfSome result (λ taken. taken.0.draw ≡ claims.entry.now) }
+            ensures { IfSome result (λ both. both.0.draw ≡ claims.entry.now) }
         { draw_all(alloc, claims, first) },
         move || -> Option<(Pass, Vec<u64>)>
             requires { second.draw ≡ claims.now }
-            ensures { IfSome result (λ taken. taken.0.draw ≡ claims.entry.now) }
+            ensures { IfSome result (λ both. both.0.draw ≡ claims.entry.now) }
         { draw_all(alloc, claims, second) },
     );
     both_drawn(claims, one, other)
@@ -253,18 +253,18 @@ fn draw_all_in_four<R: Threads + Sync>(
     pass: Pass,
 ) -> Option<(Pass, Vec<u64>)>
     requires { pass.draw ≡ claims.now }
-    ensures { IfSome result (λ taken. taken.0.draw ≡ claims.now) }
+    ensures { IfSome result (λ both. both.0.draw ≡ claims.now) }
 {
-    let (first, second) = halves(claims, pass)?;
+    let (first, second) = split_pass(claims, pass)?;
     let (one, other) = thread::join(
         rt,
         move || -> Option<(Pass, Vec<u64>)>
             requires { first.draw ≡ claims.now }
-            ensures { IfSome result (λ taken. taken.0.draw ≡ claims.entry.now) }
+            ensures { IfSome result (λ both. both.0.draw ≡ claims.entry.now) }
         { draw_all_in_two(rt, alloc, claims, first) },
         move || -> Option<(Pass, Vec<u64>)>
             requires { second.draw ≡ claims.now }
-            ensures { IfSome result (λ taken. taken.0.draw ≡ claims.entry.now) }
+            ensures { IfSome result (λ both. both.0.draw ≡ claims.entry.now) }
         { draw_all_in_two(rt, alloc, claims, second) },
     );
     both_drawn(claims, one, other)
@@ -275,8 +275,8 @@ fn are_each_once(mut numbers: Vec<u64>) -> bool {
     if numbers.sort().is_err() {
         return false;
     }
-    for (place, number) in numbers.iter().enumerate() {
-        if *number != place as u64 {
+    for (index, number) in numbers.iter().enumerate() {
+        if *number != index as u64 {
             return false;
         }
     }
@@ -291,7 +291,7 @@ pub(super) const FOUR_THREADS: &str = "four threads | 1000 true true true";
 pub(super) fn four_threads_text<R: Threads + Sync>(rt: &R, alloc: Global) -> Result<String, Fail> {
     let (claims, pass) = Claims::new(alloc, PIECES)?;
     let Some((pass, numbers)) = draw_all_in_four(rt, alloc, &claims, pass) else {
-        return Err("no memory, or no place is free".into());
+        return Err("no memory, or no index is free".into());
     };
     let ended = pass.ended();
     let finished = claims.finish(pass);

@@ -3,7 +3,7 @@ ghost use Rattle.std.specs.List.Sorted.{IsStrictlyIncreasing};
 ghost use Rattle.rv_fleet.specs.JobIndices.{AreJobIndices};
 
 use super::gate::RecordingGate;
-use super::{chosen, crew_of, push_rows};
+use super::{plan_and_indices_of, push_rows, workers_and_group_of};
 use rv_fleet::{Batch, Crew, Plan, Rows, run_batch, run_fleet};
 use samples::cell_of;
 use std::alloc::Global;
@@ -34,20 +34,20 @@ fn rows_of_run<R: Threads + Wait + Sync>(
     rt: &R,
     alloc: Global,
     plan: &Plan,
-    places: &[usize],
+    indices: &[usize],
     line: &str,
     gate: &RecordingGate,
 ) -> Result<Rows, Fail>
-    requires within { AreJobIndices plan.now places.now }
-    requires increasing { IsStrictlyIncreasing places.now }
+    requires within { AreJobIndices plan.now indices.now }
+    requires increasing { IsStrictlyIncreasing indices.now }
 {
-    let (workers, group) = crew_of(line);
+    let (workers, group) = workers_and_group_of(line);
     if cell_of(line, 5) == "fleet" {
         let report = run_fleet(rt, alloc, plan, workers, group, gate)?;
         return Ok(report.rows);
     }
     let crew = Crew::new(rt, alloc, workers, group);
-    Ok(run_batch(&crew, &Batch::new(plan, places))?)
+    Ok(run_batch(&crew, &Batch::new(plan, indices))?)
 }
 
 /// Returns the rows of a line's run, and what its gate recorded.
@@ -56,9 +56,9 @@ pub(super) fn result_text<R: Threads + Wait + Sync>(
     alloc: Global,
     line: &str,
 ) -> Result<String, Fail> {
-    let (plan, places) = chosen(alloc, line)?;
+    let (plan, indices) = plan_and_indices_of(alloc, line)?;
     let gate = RecordingGate::of(line);
-    let rows = rows_of_run(rt, alloc, &plan, places.as_slice(), line, &gate)?;
+    let rows = rows_of_run(rt, alloc, &plan, indices.as_slice(), line, &gate)?;
     let mut text = String::new(alloc);
     push_rows(&mut text, rows.as_slice())?;
     gate.push_notes(&mut text)?;

@@ -31,39 +31,39 @@ fn outcome_of(alloc: Global, size: &str) -> Result<Outcome, Fail> {
 fn cache_outcome(
     alloc: Global,
     recent: &mut RecentOutcomes,
-    place: usize,
+    index: usize,
     size: &str,
 ) -> Result<(), Fail> {
     let outcome = outcome_of(alloc, size)?;
     if recent.make_room(outcome.size()) {
-        recent.keep(place, outcome)?;
+        recent.keep(index, outcome)?;
     }
     Ok(())
 }
 
-// Returns the indices below `places` whose outcomes are cached.
-fn cached_indices(alloc: Global, recent: &RecentOutcomes, places: usize) -> Result<String, Fail> {
-    let mut found = String::new(alloc);
-    for place in 0..places {
-        if recent.find(place).is_some() {
-            write!(found, " {place}")?;
+// Returns the indices below `count` whose outcomes are cached.
+fn cached_indices(alloc: Global, recent: &RecentOutcomes, count: usize) -> Result<String, Fail> {
+    let mut indices = String::new(alloc);
+    for index in 0..count {
+        if recent.find(index).is_some() {
+            write!(indices, " {index}")?;
         }
     }
-    Ok(found)
+    Ok(indices)
 }
 
 // Returns the indices whose outcomes are cached after outcomes of the sizes in a line were added for the indices 0, 1 and so on.
 pub(super) fn result_text(alloc: Global, line: &str) -> Result<String, Fail> {
     let sizes = cell_of(line, 1);
     let mut recent = RecentOutcomes::new(alloc);
-    for (place, size) in sizes.split(' ').enumerate() {
-        cache_outcome(alloc, &mut recent, place, size)?;
+    for (index, size) in sizes.split(' ').enumerate() {
+        cache_outcome(alloc, &mut recent, index, size)?;
     }
     cached_indices(alloc, &recent, sizes.split(' ').count())
 }
 
 // label | the sizes of outcomes | the indices that are cached
-pub(super) const KEPT: &str = "\
+pub(super) const CACHED: &str = "\
 few | 1 2 3 | 0 1 2
 one more than the most | 1 1 1 1 1 1 1 1 1 | 1 2 3 4 5 6 7 8
 no bytes | 0 0 0 0 0 0 0 0 0 0 | 2 3 4 5 6 7 8 9
@@ -75,7 +75,7 @@ a signature of all the room | 1 w16000 | 1
 a signature of a word more | 1 w16001 2 | 0 2";
 
 // Two jobs with a signature, of 16,000 words and of one more, each followed by a job that is compared with it.
-const NAMING: &str = "\
+const COMPARED_JOBS: &str = "\
 [[job]]
 name = 'j0'
 image = 'most-words'
@@ -100,31 +100,31 @@ same_as = 'j2'
 
 // Makes the row of the job at an index, and returns whether the outcome of the preceding job, which is run for the comparison, is then
 // cached.
-fn caches_named(alloc: Global, plan: &Plan, place: usize) -> Result<bool, Fail>
-    requires { place < length plan.now.jobs }
+fn caches_preceding_outcome(alloc: Global, plan: &Plan, index: usize) -> Result<bool, Fail>
+    requires { index < length plan.now.jobs }
 {
     let mut recent = RecentOutcomes::new(alloc);
-    row_at_with_recent(alloc, plan, place, &mut SpareBus::new(), &mut recent)?;
-    Ok(recent.find(place.saturating_sub(1)).is_some())
+    row_at_with_recent(alloc, plan, index, &mut SpareBus::new(), &mut recent)?;
+    Ok(recent.find(index.saturating_sub(1)).is_some())
 }
 
-// Makes the row of the job at this index of `NAMING`, and returns whether the outcome of the preceding job is then cached.
-fn is_named_cached(alloc: Global, place: usize) -> Result<bool, Fail> {
-    let plan = plan_in(alloc, NAMING)?;
-    if plan.jobs() <= place {
-        return Err("a place of a job".into());
+// Makes the row of the job at this index of `COMPARED_JOBS`, and returns whether the outcome of the preceding job is then cached.
+fn is_preceding_outcome_cached(alloc: Global, index: usize) -> Result<bool, Fail> {
+    let plan = plan_in(alloc, COMPARED_JOBS)?;
+    if plan.jobs() <= index {
+        return Err("an index of a job".into());
     }
-    caches_named(alloc, &plan, place)
+    caches_preceding_outcome(alloc, &plan, index)
 }
 
-// label | the index of a job of `NAMING` | whether the outcome of the job that it names is cached: the signature of a run counts before its
-// words are copied
-pub(super) const NAMED: &str = "\
+// label | the index of a job of `COMPARED_JOBS` | whether the outcome of the job that it names is cached: the signature of a run counts
+// before its words are copied
+pub(super) const CACHED_FOR_COMPARISON: &str = "\
 16,000 words | 1 | true
 one more | 3 | false";
 
 /// Returns as text whether the outcome of the job that the job in a line names is cached.
-pub(super) fn named_text(alloc: Global, line: &str) -> Result<String, Fail> {
-    let kept = is_named_cached(alloc, number_in(line, 1) as usize)?;
-    Ok(format!(in alloc; "{kept}")?)
+pub(super) fn comparison_text(alloc: Global, line: &str) -> Result<String, Fail> {
+    let is_cached = is_preceding_outcome_cached(alloc, number_in(line, 1) as usize)?;
+    Ok(format!(in alloc; "{is_cached}")?)
 }

@@ -1,13 +1,13 @@
 //! Streams of small jobs: which jobs, with how many workers, which writes fail, and the output.
 ghost use Rattle.std.specs.Prelude.{None};
 
-use super::{chosen, crew_of, number_in};
+use super::{number_in, plan_and_indices_of, workers_and_group_of};
 use rv_fleet::{Batch, Crew, Flow, Observer, Row, RowReporter, Rows};
 use rv_stream::{
     FailureLimit, Judge, ReportedRow, ReporterOutput, Rule, Sink, SinkFailed, StreamError,
     stream_rows,
 };
-use samples::{agree, cell_of, has_lines};
+use samples::{cell_of, check_equal, check_line_count};
 use std::alloc::{AllocError, Global};
 use std::marker::Brand;
 use std::sync::Wait;
@@ -18,7 +18,7 @@ use std::thread::Threads;
 /// Reports the name of each row of two or more steps, and nothing for others; counts the rows whose text was requested.
 #[derive(Drop)]
 struct Names<'a> {
-    asked: &'a AtomicU64,
+    requested: &'a AtomicU64,
 }
 
 impl<'a> RowReporter for Names<'a> {
@@ -34,7 +34,7 @@ impl<'a> RowReporter for Names<'a> {
         row: &Row,
         text: &mut Vec<u8>,
     ) -> Result<(), AllocError> {
-        self.asked.fetch_add(1, Ordering::SeqCst);
+        self.requested.fetch_add(1, Ordering::SeqCst);
         if row.steps < 2 {
             return Ok(());
         }
@@ -70,24 +70,29 @@ impl Observer<ReportedRow> for Unobserved {
 #[derive(Drop)]
 struct RecordingSink<'a> {
     bytes: Vec<u8>,
-    most: usize,
+    max_bytes: usize,
     fails_at: u64,
     puts: u64,
     failures: u64,
-    asked: &'a AtomicU64,
+    requested: &'a AtomicU64,
     notes: String,
 }
 
 impl<'a> RecordingSink<'a> {
-    // Creates a sink that accepts at most `most` bytes per write; its write number `fails_at` fails, or none if that is 0.
-    fn new(alloc: Global, most: usize, fails_at: u64, asked: &'a AtomicU64) -> RecordingSink<'a> {
+    // Creates a sink that accepts at most `max_bytes` bytes per write; its write number `fails_at` fails, or none if that is 0.
+    fn new(
+        alloc: Global,
+        max_bytes: usize,
+        fails_at: u64,
+        requested: &'a AtomicU64,
+    ) -> RecordingSink<'a> {
         RecordingSink {
             bytes: Vec::new(alloc),
-            most,
+            max_bytes,
             fails_at,
             puts: 0,
             failures: 0,
-            asked,
+            requested,
             notes: String::new(alloc),
         }
     }
@@ -100,10 +105,10 @@ impl<'a> Sink for RecordingSink<'a> {
 
     // Accepts leading bytes and records how many rows were reported before, or fails if it is the write that must fail.
     fn put(&mut self, bytes: &[u8]) -> Result<usize, SinkFailed> {
-        let asked = self.asked.load(Ordering::SeqCst);
-        let _ = write!(self.notes, " {asked}");
+        let requested = self.requested.load(Ordering::SeqCst);
+        let _ = write!(self.notes, " {requested}");
         self.puts = self.puts.saturating_add(1);
-        let count = bytes.len().min(self.most.max(1));
+        let count = bytes.len().min(self.max_bytes.max(1));
         if self.puts != self.fails_at && self.bytes.extend_from_slice(&bytes[..count]).is_ok() {
             return Ok(count);
         }
@@ -147,13 +152,13 @@ the only one | 3 3 | xx | 1 | 2 | 1 | at 2 of 2: write failed";
 // Appends the output, the number of rows that were reported before each write, and the number of all rows.
 fn push_out(text: &mut String, out: &RecordingSink<'_>) -> Result<(), AllocError> {
     let sent = std::str::from_utf8(out.bytes.as_slice()).unwrap_or("no text");
-    let (notes, asked) = (out.notes.as_str(), out.asked.load(Ordering::SeqCst));
-    write!(text, "{sent} at{notes} of {asked}: ")
+    let (notes, requested) = (out.notes.as_str(), out.requested.load(Ordering::SeqCst));
+    write!(text, "{sent} at{notes} of {requested}: ")
 }
 
 // Appends how the call ended: the number of rows, or the error.
-fn push_end(text: &mut String, ran: &Result<Rows, StreamError>) -> Result<(), AllocError> {
-    match ran {
+fn push_end(text: &mut String, outcome: &Result<Rows, StreamError>) -> Result<(), AllocError> {
+    match outcome {
         Ok(rows) => {
             let count = rows.as_slice().len();
             write!(text, "{count} rows")
@@ -166,29 +171,31 @@ fn push_end(text: &mut String, ran: &Result<Rows, StreamError>) -> Result<(), Al
 fn text_of(
     alloc: Global,
     out: &RecordingSink<'_>,
-    ran: &Result<Rows, StreamError>,
+    outcome: &Result<Rows, StreamError>,
 ) -> Result<String, Fail> {
     let mut text = String::new(alloc);
     push_out(&mut text, out)?;
-    push_end(&mut text, ran)?;
+    push_end(&mut text, outcome)?;
     Ok(text)
 }
 
-// Returns the result of streaming the jobs of a line into writes of at most `most` bytes, of which number `fails_at` fails.
+// Returns the result of streaming the jobs of a line into writes of at most `max_bytes` bytes, of which number `fails_at` fails.
 fn result_text<R: Threads + Wait + Sync>(
     rt: &R,
     alloc: Global,
     line: &str,
-    most: usize,
+    max_bytes: usize,
     fails_at: u64,
 ) -> Result<String, Fail> {
-    let (workers, group) = crew_of(line);
-    let (plan, places) = chosen(alloc, line)?;
-    let asked = AtomicU64::new(0);
-    let names = Names { asked: &asked };
-    let out = RecordingSink::new(alloc, most, fails_at, &asked);
+    let (workers, group) = workers_and_group_of(line);
+    let (plan, indices) = plan_and_indices_of(alloc, line)?;
+    let requested = AtomicU64::new(0);
+    let names = Names {
+        requested: &requested,
+    };
+    let out = RecordingSink::new(alloc, max_bytes, fails_at, &requested);
     let crew = Crew::new(rt, alloc, workers, group);
-    let batch = Batch::new(&plan, places.as_slice());
+    let batch = Batch::new(&plan, indices.as_slice());
     let limit = FailureLimit {
         judge: Judge::with_rule(Rule::Strict),
         failures: None,
@@ -197,10 +204,10 @@ fn result_text<R: Threads + Wait + Sync>(
         reporter: &names,
         out,
     };
-    let (out, _, ran) = stream_rows::<Brand, R, Names<'_>, RecordingSink<'_>, Unobserved>(
+    let (out, _, outcome) = stream_rows::<Brand, R, Names<'_>, RecordingSink<'_>, Unobserved>(
         &crew, &batch, &limit, to, Unobserved,
     );
-    text_of(alloc, &out, &ran)
+    text_of(alloc, &out, &outcome)
 }
 
 // Returns the result of streaming the jobs of a line; the line has the number of the write that fails.
@@ -213,8 +220,8 @@ pub(super) fn stream_text<R: Threads + Wait + Sync>(
 }
 
 // Whether exactly the first `sent` bytes of the whole output were written, and the call failed unless these are all bytes.
-fn is_prefix_of_output(told: &str, whole: &str, sent: usize) -> bool {
-    let (out, notes) = told.split_once(" at").unwrap_or(("", ""));
+fn is_prefix_of_output(result: &str, whole: &str, sent: usize) -> bool {
+    let (out, notes) = result.split_once(" at").unwrap_or(("", ""));
     whole.get(..sent) == Some(out) && notes.ends_with("write failed") == (sent < whole.len())
 }
 
@@ -224,7 +231,7 @@ fn check_writes<R: Threads + Wait + Sync>(rt: &R, alloc: Global, line: &str) -> 
     for sent in 0..whole.len() + 1 {
         let text = result_text(rt, alloc, line, 1, (sent as u64).saturating_add(1))?;
         if !is_prefix_of_output(text.as_str(), whole, sent) {
-            return agree(line, text.as_str(), whole);
+            return check_equal(line, text.as_str(), whole);
         }
     }
     Ok(())
@@ -233,7 +240,7 @@ fn check_writes<R: Threads + Wait + Sync>(rt: &R, alloc: Global, line: &str) -> 
 // If a write fails, the output is a prefix of the whole output.
 #[test]
 fn failed_writes_leave_a_prefix(rt: HostRuntime) -> Result<(), Fail> {
-    has_lines(STREAMS, 11)?;
+    check_line_count(STREAMS, 11)?;
     for line in STREAMS.lines() {
         check_writes(&rt, rt.alloc(), line)?;
     }

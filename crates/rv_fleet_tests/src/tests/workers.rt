@@ -2,9 +2,8 @@
 ghost use Rattle.std.specs.Prelude.{◌≡◌, ◌<◌, ◌≤◌, IfOk};
 ghost use Rattle.rv_fleet.specs.Pieces.{piece_count_of_plan};
 
-use super::draws::halves;
 use super::gate::RecordingGate;
-use super::{crew_of, plan_of, push_rows};
+use super::{plan_of, push_rows, split_pass, workers_and_group_of};
 use rv_fleet::{Claims, Pass, Piece, Plan, work};
 use samples::cell_of;
 use std::alloc::{AllocError, Global};
@@ -32,7 +31,7 @@ fn work_alone(
     requires group { (0 < group) × (group ≤ 4096) }
     requires pieces { claims.now.pieces ≡ piece_count_of_plan plan.now group }
     requires pass { pass.draw ≡ claims.now }
-    ensures { IfOk result (λ worked. worked.0.draw ≡ claims.now) }
+    ensures { IfOk result (λ both. both.0.draw ≡ claims.now) }
 {
     let pieces = work(alloc, claims, &mut pass, plan, group, gate)?;
     Ok((pass, pieces))
@@ -51,22 +50,22 @@ fn work_in_two<R: Threads>(
     requires group { (0 < group) × (group ≤ 4096) }
     requires pieces { claims.now.pieces ≡ piece_count_of_plan plan.now group }
     requires pass { pass.draw ≡ claims.now }
-    ensures { IfOk result (λ worked. worked.0.draw ≡ claims.now) }
+    ensures { IfOk result (λ both. both.0.draw ≡ claims.now) }
 {
-    let Some((first, second)) = halves(claims, pass) else {
-        return Err("no place is free".into());
+    let Some((first, second)) = split_pass(claims, pass) else {
+        return Err("no index is free".into());
     };
     let (first, second) = thread::join(
         rt,
         move || -> Result<(Pass, Vec<Piece>), AllocError>
             requires { (0 < group) × (group ≤ 4096)
                 × (claims.now.pieces ≡ piece_count_of_plan plan.now group) × (first.draw ≡ claims.now) }
-            ensures { IfOk result (λ worked. worked.0.draw ≡ claims.entry.now) }
+            ensures { IfOk result (λ both. both.0.draw ≡ claims.entry.now) }
         { work_alone(alloc, claims, first, plan, group, gate) },
         move || -> Result<(Pass, Vec<Piece>), AllocError>
             requires { (0 < group) × (group ≤ 4096)
                 × (claims.now.pieces ≡ piece_count_of_plan plan.now group) × (second.draw ≡ claims.now) }
-            ensures { IfOk result (λ worked. worked.0.draw ≡ claims.entry.now) }
+            ensures { IfOk result (λ both. both.0.draw ≡ claims.entry.now) }
         { work_alone(alloc, claims, second, plan, group, gate) },
     );
     let (first, mut pieces) = first?;
@@ -89,7 +88,7 @@ fn pieces_of_workers<R: Threads>(
     requires group { (0 < group) × (group ≤ 4096) }
     requires pieces { claims.now.pieces ≡ piece_count_of_plan plan.now group }
     requires pass { pass.draw ≡ claims.now }
-    ensures { IfOk result (λ worked. worked.0.draw ≡ claims.now) }
+    ensures { IfOk result (λ both. both.0.draw ≡ claims.now) }
 {
     if workers == 1 {
         return Ok(work_alone(alloc, claims, pass, plan, group, gate)?);
@@ -113,7 +112,7 @@ fn computed_pieces<R: Threads>(
     line: &str,
     gate: &RecordingGate,
 ) -> Result<ComputedPieces, Fail> {
-    let (workers, group) = crew_of(line);
+    let (workers, group) = workers_and_group_of(line);
     let count = piece_count(plan, group);
     if count > 4096 {
         return Err("at most 4,096 pieces".into());
@@ -129,17 +128,17 @@ fn computed_pieces<R: Threads>(
     })
 }
 
-// Appends the number and the rows of a chunk: if one worker drew all chunks, of the chunk at the index `wanted`, and otherwise of the chunk
-// with this number.
+// Appends the number and the rows of a chunk: if one worker drew all chunks, of the chunk at the index `wanted_index`, and otherwise of the
+// chunk with this number.
 fn push_piece(
     text: &mut String,
     pieces: &[Piece],
-    wanted: u64,
+    wanted_index: u64,
     alone: bool,
 ) -> Result<(), AllocError> {
-    for (place, piece) in pieces.iter().enumerate() {
+    for (index, piece) in pieces.iter().enumerate() {
         let number = piece.number;
-        if wanted == if alone { place as u64 } else { number } {
+        if wanted_index == if alone { index as u64 } else { number } {
             write!(text, " {number}:")?;
             push_rows(text, piece.rows.as_slice())?;
         }
@@ -148,11 +147,11 @@ fn push_piece(
 }
 
 // Appends the number of chunks, and the rows of each.
-fn push_xml_pieces(text: &mut String, pieces: &[Piece], alone: bool) -> Result<(), AllocError> {
+fn push_pieces(text: &mut String, pieces: &[Piece], alone: bool) -> Result<(), AllocError> {
     let count = pieces.len();
     write!(text, "{count} pieces")?;
-    for place in 0..count as u64 {
-        push_piece(text, pieces, place, alone)?;
+    for index in 0..count as u64 {
+        push_piece(text, pieces, index, alone)?;
     }
     Ok(())
 }
@@ -161,13 +160,13 @@ fn push_xml_pieces(text: &mut String, pieces: &[Piece], alone: bool) -> Result<(
 // gate recorded.
 fn text_of(
     alloc: Global,
-    made: &ComputedPieces,
+    computed: &ComputedPieces,
     alone: bool,
     gate: &RecordingGate,
 ) -> Result<String, Fail> {
     let mut text = String::new(alloc);
-    push_xml_pieces(&mut text, made.pieces.as_slice(), alone)?;
-    let (ended, finished) = (made.ended, made.finished);
+    push_pieces(&mut text, computed.pieces.as_slice(), alone)?;
+    let (ended, finished) = (computed.ended, computed.finished);
     let order = if alone { gate.order() } else { 0 };
     write!(text, " {ended} {finished} {order}")?;
     gate.push_notes(&mut text)?;
@@ -178,13 +177,13 @@ fn text_of(
 pub(super) fn result_text<R: Threads>(rt: &R, alloc: Global, line: &str) -> Result<String, Fail> {
     let plan = plan_of(alloc, cell_of(line, 1))?;
     let gate = RecordingGate::of(line);
-    let made = computed_pieces(rt, alloc, &plan, line, &gate)?;
-    text_of(alloc, &made, crew_of(line).0 == 1, &gate)
+    let computed = computed_pieces(rt, alloc, &plan, line, &gate)?;
+    text_of(alloc, &computed, workers_and_group_of(line).0 == 1, &gate)
 }
 
 // label | budgets | | workers, one or two | group | | how many of the first chunks wait at the gate | for how many chunks to enter | the
 // chunks, whether the joined pass ended and holds every pass index, in which order one worker's chunks entered, and what the gate recorded
-pub(super) const WORKERS_RANGE: &str = "\
+pub(super) const WORKERS: &str = "\
 two workers | 3 3 3 3 | | 2 | 1 | | 1 | 2 | 4 pieces 0: j0 Exit(5) 2, 1: j1 Exit(5) 2, \
     2: j2 Exit(5) 2, 3: j3 Exit(5) 2, true true 0 entered 1111, late false
 two jobs a piece, and one in the last | 3 3 3 3 3 | | 1 | 2 | | | | 3 pieces 0: j0 Exit(5) 2, j1 Exit(5) 2, \

@@ -1,5 +1,5 @@
 use Rattle.std.proofs.Common.{◌≡◌}
 use Rattle.rv_fleet_tests.proofs.tests.draws.push_responses.Given as goal
 
-abbrev pub invariant-loop-ask : goal.invariant-loop-ask
-invariant-loop-ask l = l.pass.draw ≡ l.claims
+abbrev pub invariant-loop-request : goal.invariant-loop-request
+invariant-loop-request l = l.pass.draw ≡ l.claims
