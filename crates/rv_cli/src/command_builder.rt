@@ -10,13 +10,13 @@ use std::alloc::AllocError;
 /// A command being built. It is passed through all calls as a result, because each `?` on a command costs the prover ten seconds.
 pub type Built<'a> = Result<Command<'a>, AllocError>;
 
-/// Returns the command with the subcommand `below` added, or the error of either of them.
-pub fn with_subcommand<'a>(command: Built<'a>, below: Built<'a>) -> Built<'a>
-    ensures { (app : App) → (under : App) → HasApp app command.entry → IsBuilt under below.entry
-        → HasApp (with_subcommand app under.top) result }
+/// Returns the command with the subcommand added, or the error of either of them.
+pub fn with_subcommand<'a>(command: Built<'a>, subcommand: Built<'a>) -> Built<'a>
+    ensures { (app : App) → (sub_app : App) → HasApp app command.entry → IsBuilt sub_app subcommand.entry
+        → HasApp (with_subcommand app sub_app.top) result }
 {
     let command = command?;
-    command.subcommand(below?)
+    command.subcommand(subcommand?)
 }
 
 /// Returns the command with an argument added, or the error of the command.

@@ -46,12 +46,12 @@ pub enum Request<'a> {
 pub fn read_words<'a, T: AsStr>(alloc: Global, args: &'a [T]) -> Result<Option<Request<'a>>, Error>
     // The result is the request that the arguments make.
     ensures value { IfOk result
-        (λ asked. option_map request asked ≡ request_of (map T.text args.entry.now)) }
+        (λ parsed. option_map request parsed ≡ request_of (map T.text args.entry.now)) }
     // Each number is within the range of its argument.
-    ensures within { IfOk result (λ asked. IfSome asked IsRequestInRange) }
+    ensures within { IfOk result (λ parsed. IfSome parsed IsRequestInRange) }
     // Arguments that the command accepts make a request.
     ensures asked { are_arguments_accepted (map T.text args.entry.now) ≡ true
-        → IfOk result (λ asked. is_some asked ≡ true) }
+        → IfOk result (λ parsed. is_some parsed ≡ true) }
     // Arguments that the command accepts fail only if memory runs out.
     ensures taken { IfErr result (λ error. are_arguments_accepted (map T.text args.entry.now) ≡ true
         → kind_of error ≡ ErrorKind.OutOfMemory) }

@@ -79,6 +79,6 @@ pub differ_first : (actual expected : List ℕ) → actual ≢ expected
     → DifferFirstAt (equal_line_count actual expected) (complete_lines actual) (complete_lines expected)
 differ_first actual expected other = record {
   before = equal_before (complete_lines actual) (complete_lines expected);
-  there = differ_there (complete_lines actual) (complete_lines expected) (are_full actual) (are_full expected)
+  differ = differ_there (complete_lines actual) (complete_lines expected) (are_full actual) (are_full expected)
       (λ same. other (sym (complete_lines-flat actual) ∙ ap (flat_map (λ line. line)) same ∙ complete_lines-flat expected));
 }

@@ -40,11 +40,11 @@ budget_use_line steps None = []
 budget_use_line steps (Some (Repeats r)) = repetition_line r
 budget_use_line steps (Some (NoRepetition within)) = changes_line steps within
 
--- `found` is an analysis of the run if it used up its budget, or `None` for any other end
+-- `budget_use` is an analysis of the run if it used up its budget, or `None` for any other end
 abbrev pub IsBudgetUseAfter : RowEnd → PlanView → Job → ℕ → Option BudgetUse → Type 0
-IsBudgetUseAfter Budget plan job steps found = IsBudgetUseIn plan job steps found
-IsBudgetUseAfter _ plan job steps found = found ≡ None
+IsBudgetUseAfter Budget plan job steps budget_use = IsBudgetUseIn plan job steps budget_use
+IsBudgetUseAfter _ plan job steps budget_use = budget_use ≡ None
 
--- `found` is an analysis of the run that the row describes if it used up its budget, or `None` for any other end
+-- `budget_use` is an analysis of the run that the row describes if it used up its budget, or `None` for any other end
 abbrev pub IsBudgetUseOfRow : PlanView → Job → Row → Option BudgetUse → Type 0
-IsBudgetUseOfRow plan job row found = IsBudgetUseAfter row.ending plan job row.steps found
+IsBudgetUseOfRow plan job row budget_use = IsBudgetUseAfter row.ending plan job row.steps budget_use

@@ -37,14 +37,14 @@ equal_line_count actual expected = common_prefix_len bytes_eq (complete_lines ac
 -- the number of leading lines that differ, each from the line with its number in the other text; at most the given number
 unfoldable pub differing_line_count : ℕ → List (List ℕ) → List (List ℕ) → ℕ
 differing_line_count zero actual expected = 0
-differing_line_count (suc most) actual expected =
+differing_line_count (suc max) actual expected =
     if bytes_eq (first_or_empty actual) (first_or_empty expected) then 0
-    else 1 + differing_line_count most (drop 1 actual) (drop 1 expected)
+    else 1 + differing_line_count max (drop 1 actual) (drop 1 expected)
 
 -- the lines before the index `index` are equal in both texts; at this index they differ, or one text has no line
 pub record DifferFirstAt (index : ℕ) (actual expected : List (List ℕ)) : Type 0 where
   pub before : take index actual ≡ take index expected
-  pub there : first_or_empty (drop index actual) ≢ first_or_empty (drop index expected)
+  pub differ : first_or_empty (drop index actual) ≢ first_or_empty (drop index expected)
 
 -- ---- a shown line
 
@@ -52,12 +52,12 @@ pub record DifferFirstAt (index : ℕ) (actual expected : List (List ℕ)) : Typ
 abbrev pub begins_character : ℕ → Bool
 begins_character byte = nat_lt byte 0x80 || nat_le 0xC0 byte
 
--- the number of bytes in the first `most` characters of a text
+-- the number of bytes in the first `max` characters of a text
 unfoldable pub characters_len : ℕ → List ℕ → ℕ
-characters_len most [] = 0
+characters_len max [] = 0
 characters_len zero (byte ∷ rest) = if begins_character byte then 0 else 1 + characters_len zero rest
-characters_len (suc most) (byte ∷ rest) =
-    1 + characters_len (if begins_character byte then most else suc most) rest
+characters_len (suc max) (byte ∷ rest) =
+    1 + characters_len (if begins_character byte then max else suc max) rest
 
 -- the maximum number of characters that are shown of a line
 abbrev pub max_line_characters : ℕ
@@ -86,8 +86,8 @@ shown_line offset text = text_shown_from (shown_offset offset text) text
 
 -- the note that a line has no line feed; empty if it has one
 abbrev pub missing_newline_note : List ℕ → List ℕ
-missing_newline_note whole =
-    if position_or_len is_line_feed whole == length whole then codes "     \\ no newline at end\n" else []
+missing_newline_note text =
+    if position_or_len is_line_feed text == length text then codes "     \\ no newline at end\n" else []
 
 -- the line `own` of one text after a margin, shown around its first difference from the line `other` of the other text
 unfoldable pub diff_line : List ℕ → List ℕ → List ℕ → List ℕ
@@ -135,7 +135,7 @@ differing_lines actual expected = let count = differing_line_count max_differing
 abbrev pub lines_around : ℕ → List (List ℕ) → List (List ℕ) → List ℕ
 lines_around equal actual expected = equal_lines equal actual ++ differing_lines (drop equal actual) (drop equal expected)
 
--- the difference between the console `actual` and the expected text `expected`, line by line; `source` names the expected text
+-- the difference between the console `actual` and the expected text `expected`, line by line; `source` is the name of the expected text
 unfoldable pub console_lines : List ℕ → List ℕ → List ℕ → List ℕ
 console_lines source actual expected = let equal = equal_line_count actual expected in
     difference_heading source (equal + 1) (larger (length (complete_lines actual)) (length (complete_lines expected)))

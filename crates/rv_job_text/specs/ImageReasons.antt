@@ -5,7 +5,7 @@ use Rattle.std.specs.Prelude.{option_map, Result, Ok, Err, Bool, true, false, if
 use Rattle.std.specs.List.{find, flat_map}
 use Rattle.std.specs.Option.{option_or}
 use Rattle.rv_rows.specs.declared_elf_error.ImageError.{ImageError}
-use Rattle.rv_rows.specs.declared_elf_error.ImageError.TheVariants as image
+use Rattle.rv_rows.specs.declared_elf_error.ImageError.TheVariants as image_error
 use Rattle.rv_rows.specs.declared_image.Image.{Image}
 use Rattle.rv_rows.specs.declared_image.Segment.{Segment}
 use Rattle.rv_rows.specs.declared_loading.LoadAt.{LoadAt}
@@ -31,11 +31,11 @@ last_address_text from count =
 abbrev pub address_range_text : ℕ → ℕ → List ℕ
 address_range_text from count = word_digits from ++ codes " to " ++ last_address_text from count
 
--- the addresses of a region, in brackets
+-- the address range of a region, in brackets
 abbrev pub region_text : Region → List ℕ
 region_text region = codes " [" ++ address_range_text region.base region.size ++ codes "]"
 
--- the addresses of the regions, each in brackets
+-- the address range of each region, in brackets
 unfoldable pub regions_text : List Region → List ℕ
 regions_text regions = flat_map region_text regions
 
@@ -60,15 +60,15 @@ unfit_segment_text job (Some segment) =
 -- the first segment that overlaps a later one, and the first later one that it overlaps, or `None` if there is no overlap
 abbrev pub overlapping_segments : LoadAt → List Segment → Option (Segment × Segment)
 overlapping_segments at [] = None
-overlapping_segments at (one ∷ others) =
-    option_or (option_map (λ other. (one, other)) (find (segments_overlap at one) others))
-    (overlapping_segments at others)
+overlapping_segments at (segment ∷ rest) =
+    option_or (option_map (λ later. (segment, later)) (find (segments_overlap at segment) rest))
+    (overlapping_segments at rest)
 
 -- the addresses to which the file bytes of two segments are loaded
 unfoldable pub segment_pair_text : LoadAt → Segment → Segment → List ℕ
-segment_pair_text at one other =
-    address_range_text (load_address at one) one.filesz ++ codes " and "
-    ++ address_range_text (load_address at other) other.filesz
+segment_pair_text at first second =
+    address_range_text (load_address at first) first.filesz ++ codes " and "
+    ++ address_range_text (load_address at second) second.filesz
 
 -- the reason that the file bytes of two segments overlap, with their addresses, if the segments are known
 unfoldable pub segment_overlap_text : LoadAt → Option (Segment × Segment) → List ℕ
@@ -108,49 +108,49 @@ signature_range_text regions file (Some names) =
 
 -- the reason why an image is refused, without details
 unfoldable pub image_error_sentence : ImageError → List ℕ
-image_error_sentence image.ShortHeader = codes "the file is shorter than an ELF header"
-image_error_sentence image.BadMagic = codes "not an ELF file"
-image_error_sentence image.Not32Bit = codes "not a 32-bit ELF file"
-image_error_sentence image.NotLittleEndian = codes "not a little-endian ELF file"
-image_error_sentence image.BadVersion = codes "the ELF version is not 1"
-image_error_sentence image.NotExecutable = codes "not linked as an executable"
-image_error_sentence image.NotRiscv = codes "not a RISC-V file"
-image_error_sentence image.ProgramTable = codes "the program header table is invalid or truncated"
-image_error_sentence image.Dynamic = codes "the file is dynamically linked"
-image_error_sentence image.SegmentSizes = codes "a segment has more bytes in the file than in memory"
-image_error_sentence image.SegmentFile = codes "a segment extends past the end of the file"
-image_error_sentence image.NoSegment = codes "no loadable segment"
-image_error_sentence image.EntryOdd = codes "the entry point is odd"
-image_error_sentence image.EntryAlign = codes "the entry point is not a multiple of 4"
-image_error_sentence image.SegmentMap = codes "a segment does not fit in one region"
-image_error_sentence image.SegmentOverlap = codes "the file contents of two segments overlap"
-image_error_sentence image.SectionTable = codes "the section header table is invalid or truncated"
-image_error_sentence image.NoSymbols = codes "no symbol table"
-image_error_sentence image.SymbolTable = codes "the symbol table is invalid or truncated"
-image_error_sentence image.StringTable = codes "the symbol names are missing or truncated"
-image_error_sentence image.NoBegin = codes "a symbol of the signature is undefined"
-image_error_sentence image.NoEnd = codes "a symbol of the signature is undefined"
-image_error_sentence image.SignatureRange = codes "the signature is not a sequence of words in one region"
-image_error_sentence image.OutOfMemory = codes "out of memory"
+image_error_sentence image_error.ShortHeader = codes "the file is shorter than an ELF header"
+image_error_sentence image_error.BadMagic = codes "not an ELF file"
+image_error_sentence image_error.Not32Bit = codes "not a 32-bit ELF file"
+image_error_sentence image_error.NotLittleEndian = codes "not a little-endian ELF file"
+image_error_sentence image_error.BadVersion = codes "the ELF version is not 1"
+image_error_sentence image_error.NotExecutable = codes "not linked as an executable"
+image_error_sentence image_error.NotRiscv = codes "not a RISC-V file"
+image_error_sentence image_error.ProgramTable = codes "the program header table is invalid or truncated"
+image_error_sentence image_error.Dynamic = codes "the file is dynamically linked"
+image_error_sentence image_error.SegmentSizes = codes "a segment has more bytes in the file than in memory"
+image_error_sentence image_error.SegmentFile = codes "a segment extends past the end of the file"
+image_error_sentence image_error.NoSegment = codes "no loadable segment"
+image_error_sentence image_error.EntryOdd = codes "the entry point is odd"
+image_error_sentence image_error.EntryAlign = codes "the entry point is not a multiple of 4"
+image_error_sentence image_error.SegmentMap = codes "a segment does not fit in one region"
+image_error_sentence image_error.SegmentOverlap = codes "the file contents of two segments overlap"
+image_error_sentence image_error.SectionTable = codes "the section header table is invalid or truncated"
+image_error_sentence image_error.NoSymbols = codes "no symbol table"
+image_error_sentence image_error.SymbolTable = codes "the symbol table is invalid or truncated"
+image_error_sentence image_error.StringTable = codes "the symbol names are missing or truncated"
+image_error_sentence image_error.NoBegin = codes "a symbol of the signature is undefined"
+image_error_sentence image_error.NoEnd = codes "a symbol of the signature is undefined"
+image_error_sentence image_error.SignatureRange = codes "the signature is not a sequence of words in one region"
+image_error_sentence image_error.OutOfMemory = codes "out of memory"
 
 -- the reason why an image that can be parsed is refused, with details about its segments or symbols
 unfoldable pub image_details_text : Job → List ℕ → Image → ImageError → List ℕ
-image_details_text job file there image.SegmentMap =
-    unfit_segment_text job (unfit_segment job.regions job.load there.segments)
-image_details_text job file there image.SegmentOverlap =
-    segment_overlap_text job.load (overlapping_segments job.load there.segments)
-image_details_text job file there image.SignatureRange =
+image_details_text job file image image_error.SegmentMap =
+    unfit_segment_text job (unfit_segment job.regions job.load image.segments)
+image_details_text job file image image_error.SegmentOverlap =
+    segment_overlap_text job.load (overlapping_segments job.load image.segments)
+image_details_text job file image image_error.SignatureRange =
     signature_range_text job.regions file job.signature
-image_details_text job file there image.NoBegin =
+image_details_text job file image image_error.NoBegin =
     missing_symbol_text (option_map (λ names. names.begin) job.signature)
-image_details_text job file there image.NoEnd =
+image_details_text job file image image_error.NoEnd =
     missing_symbol_text (option_map (λ names. names.end) job.signature)
-image_details_text job file there error = image_error_sentence error
+image_details_text job file image error = image_error_sentence error
 
 -- the reason why an image is refused, with details only if it can be parsed
 abbrev pub image_reason_text : Job → List ℕ → Result Image ImageError → ImageError → List ℕ
-image_reason_text job file (Ok there) error = image_details_text job file there error
-image_reason_text job file (Err other) error = image_error_sentence error
+image_reason_text job file (Ok image) error = image_details_text job file image error
+image_reason_text job file (Err parse_error) error = image_error_sentence error
 
 -- the reason why the image of the job, with the contents `file`, is refused
 unfoldable pub image_reason : Job → List ℕ → ImageError → List ℕ

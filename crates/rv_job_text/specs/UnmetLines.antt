@@ -8,9 +8,9 @@ use Rattle.std.specs.List.{flat_map}
 use Rattle.rv_expect.specs.declared.difference.Difference.{Difference}
 use Rattle.rv_expect.specs.declared.difference.Difference.TheVariants as difference
 use Rattle.rv_expect.specs.declared.difference.SameAsDifference.{SameAsDifference}
-use Rattle.rv_expect.specs.declared.difference.SameAsDifference.TheVariants as same
+use Rattle.rv_expect.specs.declared.difference.SameAsDifference.TheVariants as same_as
 use Rattle.rv_expect.specs.declared.difference.SignatureDifference.{SignatureDifference}
-use Rattle.rv_expect.specs.declared.difference.SignatureDifference.TheVariants as signature
+use Rattle.rv_expect.specs.declared.difference.SignatureDifference.TheVariants as signature_difference
 use Rattle.rv_expect.specs.declared.unmet.UnmetExpectation.{UnmetExpectation}
 use Rattle.rv_expect.specs.declared.unmet.UnmetExpectation.TheVariants as unmet
 use Rattle.rv_expect.specs.Comparisons.{ComparisonView}
@@ -112,12 +112,12 @@ bad_reference_line_text number =
 
 -- where the words of a signature first differ from the text of a signature file
 unfoldable pub reference_difference_text : Option ℕ → List ℕ → List ℕ → SignatureDifference → List ℕ
-reference_difference_text first words text (signature.Line number) = bad_reference_line_text number
-reference_difference_text first words text (signature.Word index) =
+reference_difference_text first words text (signature_difference.Line number) = bad_reference_line_text number
+reference_difference_text first words text (signature_difference.Word index) =
     word_difference_text first index (signature_word_digits words index) (printable_text (reference_digits_at text index))
-reference_difference_text first words text signature.Count =
+reference_difference_text first words text signature_difference.Count =
     count_difference_text (length words) (codes "word") (length text / 9)
-reference_difference_text first words text signature.Missing = codes ", which was not read"
+reference_difference_text first words text signature_difference.Missing = codes ", which was not read"
 
 -- the message that a signature differs from the expected one, and where; `bytes` are the contents of the signature file, if it was read
 unfoldable pub signature_difference_text : Option ℕ → Option (List ℕ) → Option (List ℕ) → Option (List ℕ)
@@ -152,14 +152,14 @@ signatures_difference_text first words others difference.Missing = missing_signa
 
 -- the first difference between the row of a job and the row `other` of the job that its `same_as` names
 unfoldable pub rows_difference_text : Option ℕ → Row → Row → SameAsDifference → List ℕ
-rows_difference_text first row other same.Ending =
+rows_difference_text first row other same_as.Ending =
     codes ", which " ++ row_end_text other.ending ++ codes "; this job "
     ++ row_end_text row.ending
-rows_difference_text first row other (same.Console difference) =
+rows_difference_text first row other (same_as.Console difference) =
     codes ": console differs" ++ bytes_difference_text difference row.console other.console
-rows_difference_text first row other (same.Signature difference) =
+rows_difference_text first row other (same_as.Signature difference) =
     codes ": signature differs" ++ signatures_difference_text first row.signature other.signature difference
-rows_difference_text first row other same.Missing = codes ", which was not run"
+rows_difference_text first row other same_as.Missing = codes ", which was not run"
 
 -- the message that the result of a job differs from the result of the job that its `same_as` names
 unfoldable pub same_difference_text : Option ℕ → Row → Option Row → SameAsDifference → List ℕ

@@ -26,7 +26,7 @@ stored_contents contents before after = record { contents = contents; before = b
 pub record IsPossiblePlan (store : Stored) (list : List Job) (plan : PlanView) : Type 0 where
   pub jobs : plan.jobs ≡ list
   pub paths : paths_of plan.results ≡ paths_used list
-  pub kept : AgreeWithContents store.contents plan.results
+  pub results_agree : AgreeWithContents store.contents plan.results
   pub faults : store.after ≡ after_increments store.before (unreadable_count plan.results)
 
 -- `rows` are the rows of a plan of these jobs, with results that the store may return for their paths

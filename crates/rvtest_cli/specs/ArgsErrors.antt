@@ -21,16 +21,16 @@ abbrev pub IsErrorOfKind : ErrorKind → ArgsError → Type 0
 IsErrorOfKind error_kind error.OutOfMemory = Unit {0}
 IsErrorOfKind error_kind (error.Message fault text) = (fault ≡ error_kind) × (error_kind ≡ kind.OutOfMemory → ⊥)
 
--- the text of an error: the message `what`, the usage of a command, and the hint to try `--help`
+-- the text of an error: the message `message`, the usage of a command, and the hint to try `--help`
 abbrev pub usage_error_text : Text → Text → Text
-usage_error_text what usage =
-    codes "error: " ++ (what ++ (codes "\n\n" ++ (usage ++ codes "\n\nFor more information, try '--help'.\n")))
+usage_error_text message usage =
+    codes "error: " ++ (message ++ (codes "\n\n" ++ (usage ++ codes "\n\nFor more information, try '--help'.\n")))
 
--- `text` is the text of an error with the message `what` and some usage
+-- `text` is the text of an error with the message `message` and some usage
 abbrev pub IsUsageText : Text → Text → Type 0
-IsUsageText what text = (usage : Text) × (text ≡ usage_error_text what usage)
+IsUsageText message text = (usage : Text) × (text ≡ usage_error_text message usage)
 
--- the error says that memory ran out, or it has the kind `error_kind` and a text with the message `what` and some usage
+-- the error says that memory ran out, or it has the kind `error_kind` and a text with the message `message` and some usage
 abbrev pub IsUsageError : ErrorKind → Text → ArgsError → Type 0
-IsUsageError error_kind what error.OutOfMemory = Unit {0}
-IsUsageError error_kind what (error.Message fault text) = (fault ≡ error_kind) × IsUsageText what (string_bytes text)
+IsUsageError error_kind message error.OutOfMemory = Unit {0}
+IsUsageError error_kind message (error.Message actual_kind text) = (actual_kind ≡ error_kind) × IsUsageText message (string_bytes text)

@@ -44,40 +44,40 @@ impl From<AllocError> for ArgsError {
     }
 }
 
-/// Returns an error that `clap` does not find, with a text in the form that `clap` uses: `error: ` and `what`, the usage of the command,
-/// and the hint to try `--help`. `what` does not end with a line feed.
+/// Returns an error that `clap` itself does not detect, with a text in the form that `clap` uses: `error: ` and `message`, the usage of the
+/// command, and the hint to try `--help`. `message` does not end with a line feed.
 pub fn usage_error(
     alloc: Global,
     command: Result<Command<'_>, AllocError>,
     kind: ErrorKind,
-    what: &str,
+    message: &str,
 ) -> ArgsError
-    ensures { IsUsageError kind what.now result }
+    ensures { IsUsageError kind message.now result }
 {
-    match text_with_usage(alloc, command, what) {
+    match text_with_usage(alloc, command, message) {
         Ok(text) => ArgsError::Message(kind, text),
         Err(error) => ArgsError::from(error),
     }
 }
 
-// Returns the text of an error: the message `what`, the usage of the command, and the hint to try `--help`.
+// Returns the text of an error: the message `message`, the usage of the command, and the hint to try `--help`.
 fn text_with_usage(
     alloc: Global,
     command: Result<Command<'_>, AllocError>,
-    what: &str,
+    message: &str,
 ) -> Result<String, AllocError>
-    ensures { IfOk result (λ text. IsUsageText what.now (string_bytes text)) }
+    ensures { IfOk result (λ text. IsUsageText message.now (string_bytes text)) }
 {
     let usage = usage_of(command)?;
-    usage_error_text(alloc, what, usage.as_str())
+    usage_error_text(alloc, message, usage.as_str())
 }
 
-// Returns the text of an error: the message `what`, the usage of a command, and the hint to try `--help`.
-fn usage_error_text(alloc: Global, what: &str, usage: &str) -> Result<String, AllocError>
-    ensures { IfOk result (λ text. string_bytes text ≡ usage_error_text what.now usage.now) }
+// Returns the text of an error: the message `message`, the usage of a command, and the hint to try `--help`.
+fn usage_error_text(alloc: Global, message: &str, usage: &str) -> Result<String, AllocError>
+    ensures { IfOk result (λ text. string_bytes text ≡ usage_error_text message.now usage.now) }
 {
     let mut text = String::from_str(alloc, "error: ")?;
-    text.push_str(what)?;
+    text.push_str(message)?;
     text.push_str("\n\n")?;
     text.push_str(usage)?;
     text.push_str("\n\nFor more information, try '--help'.\n")?;

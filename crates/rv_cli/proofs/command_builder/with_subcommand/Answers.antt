@@ -7,4 +7,4 @@ pub returns : goal.returns
 returns c =
     λ app under has built.
     with_subcommand_lem _ _ app under c.subcommand.result c.subcommand.ensures (subst (HasApp app) c.in_ok-command.was has)
-    (subst (IsBuilt under) c.in_ok-below.was built)
+    (subst (IsBuilt under) c.in_ok-subcommand.was built)
