@@ -12,6 +12,6 @@ returns-clause-reported g c =
     c.in_ok-report.report.rows _ _ (record {
       jobs = plan.ensures.jobs ∙ list;
       paths = plan.ensures.paths ∙ ap paths_used list;
-      results_agree = plan.ensures.kept;
+      results_agree = plan.ensures.agree;
       faults = plan.ensures.faults;
     }) (search rules) c.send_report.ensures.reported

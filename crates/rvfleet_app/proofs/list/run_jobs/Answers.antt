@@ -8,6 +8,6 @@ returns-clause-reported g c =
     jobs_reported c.send_report.result _ _ plan.plan c.in_ok-report.report.rows _ _ (record {
       jobs = plan.ensures.jobs;
       paths = plan.ensures.paths;
-      results_agree = plan.ensures.kept;
+      results_agree = plan.ensures.agree;
       faults = plan.ensures.faults;
     }) (search rules) c.send_report.ensures.reported
