@@ -189,7 +189,7 @@ fn push_skipped_line(
     job: &Job,
     run: &JobRun,
 ) -> Result<(), AllocError>
-    ensures { OnOk result (out.new.items ≡ out.old.items ++ skipped_line_of list.now job.now run.now.row run.now.skipped) }
+    ensures { OnOk result (out.new.items ≡ out.old.items ++ skipped_line_of list.now job.now run.now.row run.now.skip_reason) }
 {
     let Some(reason) = run.skip_reason else {
         return Ok(());
