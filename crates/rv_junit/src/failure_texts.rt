@@ -24,16 +24,16 @@ pub struct FailureTexts<'k, J: StreamSpec> {
     // Whether nothing is kept: texts are not needed, or an allocation failed.
     is_closed: bool,
     of: PhantomData<J>,
-    ghost judging: { judge_view judge ≡ J.judging },
-    ghost needed: { is_closed ≡ false → J.keeps ≡ true },
+    ghost judging: { judge_view judge ≡ J.judge },
+    ghost needed: { is_closed ≡ false → J.keeps_failure_texts ≡ true },
 }
 
 impl<'k, J: StreamSpec> FailureTexts<'k, J> {
     /// Returns an observer that has seen no rows. It keeps texts only if `is_needed` is true. Allocates nothing.
     pub fn new(alloc: Global, judge: Judge<'k>, is_needed: bool) -> FailureTexts<'k, J>
-        requires judging { judge_view judge ≡ J.judging }
-        requires needed { is_needed ≡ J.keeps }
-        ensures { AreFailureTexts J.judging result.is_closed result.texts.items [] }
+        requires judging { judge_view judge ≡ J.judge }
+        requires needed { is_needed ≡ J.keeps_failure_texts }
+        ensures { AreFailureTexts J.judge result.is_closed result.texts.items [] }
     {
         FailureTexts {
             alloc,
@@ -48,14 +48,14 @@ impl<'k, J: StreamSpec> FailureTexts<'k, J> {
     /// Returns the kept texts, each at the number of its row. There are none unless texts were needed.
     pub fn into_texts(self) -> Vec<Option<Vec<u8>>>
         ensures items { result.items ≡ self.entry.texts.items }
-        ensures needed { self.entry.is_closed ≡ false → J.keeps ≡ true }
+        ensures needed { self.entry.is_closed ≡ false → J.keeps_failure_texts ≡ true }
     {
         self.texts
     }
 
     // Returns a copy of a row's text, or `None` if the row is not a failure, or there is no room or memory for the text.
     fn text_if_kept(&self, made: &ReportedRow) -> Option<Vec<u8>>
-        ensures { IfSome result (λ text. IsFailureText J.judging made.now text.items) }
+        ensures { IfSome result (λ text. IsFailureText J.judge made.now text.items) }
     {
         if !self.judge.fails(&made.row) || made.text.len() > self.free_bytes {
             return None;
@@ -67,7 +67,7 @@ impl<'k, J: StreamSpec> FailureTexts<'k, J> {
 impl<J: StreamSpec> Observer<ReportedRow> for FailureTexts<'_, J> {
     ghost use Rattle.rv_junit.specs.KnownLines.{AreFailureTexts};
 
-    ghost has_seen = { λ s reported. AreFailureTexts J.judging s.is_closed s.texts.items reported };
+    ghost has_seen = { λ s reported. AreFailureTexts J.judge s.is_closed s.texts.items reported };
 
     ghost stops = { λ _. ⊥ };
 
