@@ -260,11 +260,11 @@ fn rows_are(
     let table = read_table(alloc, table.as_bytes())?;
     let profile = profile_in(alloc, &table)?;
     let mut text = Vec::new(alloc);
-    push_csv_head(&mut text)?;
+    push_csv_header(&mut text)?;
     push_csv_rows(
         &mut text,
         path.as_bytes(),
-        first_of(top, profile.functions.as_slice()),
+        first_or_all(top, profile.functions.as_slice()),
     )?;
     if text.as_slice() != expected.as_bytes() {
         return Err(expected.into());

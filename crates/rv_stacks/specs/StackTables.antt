@@ -104,7 +104,7 @@ name_of_job answers job = name_in_image (image_in answers job) (image_bytes answ
 abbrev pub calls_from : (ℕ → ℕ) → List ℕ → ℕ → Option State → ℕ
 calls_from function path n None = 0
 calls_from function path n (Some s) =
-    address_if (bytes_eq (function s.pc ∷ []) path) + run.calls_in_image function path n [] s
+    address_if (bytes_eq (function s.pc ∷ []) path) + run.calls_in function path n [] s
 
 -- how many instructions a run of at most `n` steps from this state executes on a path; 0 without a state
 abbrev pub steps_from : (ℕ → ℕ) → List ℕ → ℕ → Option State → ℕ
