@@ -41,7 +41,7 @@ use Rattle.rv_rows.specs.declared_job.Job.{Job}
 use Rattle.rv_rows.specs.declared_row.Row.{Row}
 use Rattle.rv_rows.specs.Rows.{outcome_in, row_of}
 use Rattle.rv_rows.specs.Verdict.{did_run, lines_of_signature}
-use Rattle.rv_rows.specs.declared.golden_outcome.Outcome.{Outcome}
+use Rattle.rv_rows.specs.declared.outcome.Outcome.{Outcome}
 use Rattle.rvtest_app.proofs.CurrentVerdicts.{ended_well, stands_at}
 use Rattle.rvtest_app.proofs.StoreAfter.{any_elim, golden_files_there, image_stays, list_is_there, list_stays, stood}
 use Rattle.rvtest_app.specs.AcceptLaw.{AreFilesRead, HaveOneTextPerFile, IsRowOfRun, IsStoreAfter, IsFullyAccepted, is_read}
