@@ -65,7 +65,7 @@ lines_known : (has_seen : List ReportedRow → Type 0) (line lines : ℕ → Row
     → AreFailureTexts judging is_closed texts seen.reported → AreLinesOf lines indices rows texts
 lines_known has_seen line lines judging is_closed texts indices rows seen same are = λ k any lt.
     let count = length-map seen.reported (λ (r : ReportedRow). r.row) in
-    let long = ap length seen.rows_are in
+    let long = ap length seen.same_rows in
     let low : k < length seen.reported = omega (arith, lt, count, long) in
     of seen.reported refl k any low lt
   where
@@ -75,7 +75,7 @@ lines_known has_seen line lines judging is_closed texts indices rows seen same a
     of (first ∷ reported) is k any low lt =
         lines_at line lines judging (get_or indices k 0) (get_or rows k any) (get_or seen.reported k first) (get_or texts k None) same
         (seen.each k first low)
-        (ap (λ (all : List Row). get_or all k any) (sym seen.rows_are) ∙ get_or-map (λ (r : ReportedRow). r.row) seen.reported k first any low)
+        (ap (λ (all : List Row). get_or all k any) (sym seen.same_rows) ∙ get_or-map (λ (r : ReportedRow). r.row) seen.reported k first any low)
         (are.each k first low)
 
 -- nothing is known

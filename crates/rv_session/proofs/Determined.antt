@@ -170,7 +170,7 @@ set_one session one other (Err refusal) reply again first second = (first.0 ∙ 
 trap_one : (session one other : Session) (stoppoint : Stoppoint) (reply again : Reply) → IsStoppointSet session stoppoint reply one
     → IsStoppointSet session stoppoint again other → (reply ≡ again) × (one ≡ other)
 trap_one session one other stoppoint reply again first second =
-    let same = trapped_one session.stops (state_at session session.history.stoppoint).bus stoppoint first.outcome second.outcome
+    let same = trapped_one session.stops (state_at session session.history.step).bus stoppoint first.outcome second.outcome
     first.added_is second.added_is in
     set_one session one other second.outcome reply again
     (subst (λ (o : Result Stops Refusal). IsSetReply session o reply one) same first.set_reply) second.set_reply

@@ -111,7 +111,7 @@ module _ (nodes : List WalkNode) (old new : PreorderBuilder) (number : ℕ) (nod
       omega (arith, there, own)
 
   is_preorder : IsPreorderBuilder (set nodes (number - 1) emptied) new
-  builder =
+  is_preorder =
       let last = ap length of_last in record {
         tree = subst (λ (ss : List CallNode). IsTree ss) (sym spot_is) (stand_of_parts [] old.nodes.items (spot ∷ []) h.tree (stands, tt));
         some = subst (λ (ss : List CallNode). HasCalls ss) (sym spot_is) (some_more old.nodes.items spot h.some arrives);

@@ -24,12 +24,12 @@ pub found_child : (parent function number : ℕ) (nodes : List WalkNode) → IsC
     → HasChild parent function nodes number nodes
 found_child parent function number nodes h =
     let after_parent = h.after_parent in
-    let some : 0 < number = omega (arith, behind) in
+    let some : 0 < number = omega (arith, after_parent) in
     let one : number - 1 + 1 ≡ number = omega (arith, some) in record {
       some = some;
       within = h.within;
       longer = omega arith;
-      path = path_with nodes number some h.within parent nothing (h.has_parent (number - 1) nothing one) behind
+      path = path_with nodes number some h.within parent nothing (h.has_parent (number - 1) nothing one) after_parent
           ∙ ap (λ (f : ℕ). path_of parent nodes ++ f ∷ []) (h.own (number - 1) nothing one);
       paths = λ k less. refl;
       calls = λ path. refl;

@@ -19,7 +19,7 @@ use Rattle.rv_accept.specs.Sharing.{is_same_path, jobs_to_run, names_golden_file
 use Rattle.rv_accept.specs.Targets.{is_accepted_entry, has_target, with_target}
 use Rattle.rv_accept.specs.declared.golden_texts.GoldenText.{GoldenText}
 use Rattle.rv_accept.specs.declared.golden_outcomes.GoldenFileOutcome.{GoldenFileOutcome}
-use Rattle.rv_accept.specs.declared.golden_outcomes.GoldenFileOutcome.TheVariants as outcome
+use Rattle.rv_accept.specs.declared.golden_outcomes.GoldenFileOutcome.TheVariants as golden_outcome
 use Rattle.rv_accept.specs.declared.runs.JobRun.{JobRun}
 use Rattle.rv_accept.specs.declared.targets.Target.{Target}
 use Rattle.rv_accept_text.proofs.Public.{accepted_from_the_first, list_is_no_image}
@@ -141,12 +141,12 @@ is_told before root path (target ∷ targets) (file ∷ files) are is =
 
 -- the fate of a file that is not left, and that a job names
 agreed_fate : (text : List ℕ) (what : GoldenFileOutcome) (kept : Bool) → is_skipped_with kept what ≡ false
-    → (what ≡ outcome.Unclaimed → what ≡ outcome.Agreed text)
-    → ((other : List ℕ) → what ≡ outcome.Agreed other → other ≡ text) → what ≡ outcome.Agreed text
-agreed_fate text outcome.Unclaimed kept left none same = none refl
-agreed_fate text (outcome.Agreed other) kept left none same = ap outcome.Agreed (same other refl)
-agreed_fate text (outcome.SkippedBy job) kept left none same = cc
-agreed_fate text (outcome.Disagree job other) kept left none same = cc
+    → (what ≡ golden_outcome.Unclaimed → what ≡ golden_outcome.Agreed text)
+    → ((other : List ℕ) → what ≡ golden_outcome.Agreed other → other ≡ text) → what ≡ golden_outcome.Agreed text
+agreed_fate text golden_outcome.Unclaimed kept left none same = none refl
+agreed_fate text (golden_outcome.Agreed other) kept left none same = ap golden_outcome.Agreed (same other refl)
+agreed_fate text (golden_outcome.SkippedBy job) kept left none same = cc
+agreed_fate text (golden_outcome.Disagree job other) kept left none same = cc
 
 same_bytes : (bytes : List ℕ) → bytes_eq bytes bytes ≡ true
 same_bytes bytes = (bytes_eq-Decides bytes bytes).1 refl
@@ -232,8 +232,8 @@ module _ (args : AcceptArgs) (before after : FileContents) (bytes : List ℕ) (j
 
   -- a golden file that an accepted job names, and that is not left, holds what the job gives it
   golden_text : (job : Job) (path text : List ℕ) → names_golden_file path job ≡ true → has_target path targets ≡ true
-      → (outcome_of_golden_file path golden_texts ≡ outcome.Unclaimed → outcome_of_golden_file path golden_texts ≡ outcome.Agreed text)
-      → ((other : List ℕ) → outcome_of_golden_file path golden_texts ≡ outcome.Agreed other → other ≡ text)
+      → (outcome_of_golden_file path golden_texts ≡ golden_outcome.Unclaimed → outcome_of_golden_file path golden_texts ≡ golden_outcome.Agreed text)
+      → ((other : List ℕ) → outcome_of_golden_file path golden_texts ≡ golden_outcome.Agreed other → other ≡ text)
       → All (λ (file : GoldenFile). names_golden_file file.target.path job ≡ true → is_skipped told.list file ≡ false)
       told.files.now → after (resolved_path root path) ≡ Some text
   golden_text job path text names target unclaimed_is agreed_is left =
@@ -252,7 +252,7 @@ module _ (args : AcceptArgs) (before after : FileContents) (bytes : List ℕ) (j
           let kept = left k d below (rw same at names) in
           let fate_is : outcome_of_golden_file path golden_texts ≡ file.target.outcome =
           ap (λ path. outcome_of_golden_file path golden_texts) same ∙ sym of.1 in
-          let agrees : file.target.outcome ≡ outcome.Agreed text = sym fate_is ∙ agreed_fate text (outcome_of_golden_file path golden_texts)
+          let agrees : file.target.outcome ≡ golden_outcome.Agreed text = sym fate_is ∙ agreed_fate text (outcome_of_golden_file path golden_texts)
           (is_protected told.list file) (rw fate_is kept) unclaimed_is agreed_is in
           let there = golden_files_there told before after store list_stood files_stood alike k d below text agrees kept in
           rw same (subst (λ index. after index ≡ Some text) of.0 there)
