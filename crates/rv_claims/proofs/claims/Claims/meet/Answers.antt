@@ -19,7 +19,7 @@ unreachable-requires c =
     let second = ap (λ (h : PassView). h.pass_indices) c.second.view_is in
     overlap c.first.inside.seat.me c.second.inside.seat.me _ _ _ _ (omega arith) (omega arith) c.first.invariant
     c.second.invariant c.if-first-second-ne0.true
-    (λ p. subst (λ (l : List ℕ). times p l ≤ 1) (places ∙ (λ i. sym first i ++ sym second i)) (c.load.ensures.2.once p))
+    (λ p. subst (λ (l : List ℕ). times p l ≤ 1) (pass_indices ∙ (λ i. sym first i ++ sym second i)) (c.load.ensures.2.once p))
 
 pub split_seat-note-requires : goal.split_seat-note-requires
 split_seat-note-requires c =
