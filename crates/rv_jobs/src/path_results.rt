@@ -53,7 +53,7 @@ impl<'a> PathResults<'a> {
         Ok(PathResults {
             results: Vec::new(alloc),
             paths: Vec::new(alloc),
-            places: indices,
+            indices,
         })
     }
 
@@ -77,15 +77,15 @@ impl<'a> PathResults<'a> {
         let PathResults {
             mut results,
             mut paths,
-            mut places,
+            mut indices,
         } = self;
         let next = results.len();
-        if let Some(place) = places.insert(path, next)? {
-            places.insert(path, place)?;
+        if let Some(place) = indices.insert(path, next)? {
+            indices.insert(path, place)?;
             let asked = PathResults {
                 results,
                 paths,
-                places,
+                indices,
             };
             return Ok((asked, place));
         }
@@ -95,7 +95,7 @@ impl<'a> PathResults<'a> {
         let asked = PathResults {
             results,
             paths,
-            places,
+            indices,
         };
         Ok((asked, next))
     }

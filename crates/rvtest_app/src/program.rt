@@ -148,8 +148,8 @@ fn outcome_if_written(
     outcome: Result<u8, Stop>,
     finish_result: Result<(), SinkFailed>,
 ) -> Result<u8, Stop>
-    ensures { MatchResult answer
-        (λ status. MatchResult whole (λ _. result ≡ Ok status) (λ _. result ≡ Err Stop.WriteFailed))
+    ensures { MatchResult outcome
+        (λ status. MatchResult finish_result (λ _. result ≡ Ok status) (λ _. result ≡ Err Stop.WriteFailed))
         (λ stop. result ≡ Err stop) }
 {
     match (outcome, finish_result) {
