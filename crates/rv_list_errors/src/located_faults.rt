@@ -42,7 +42,7 @@ pub(crate) fn faults_of_job(
     if let Some(Value::Table(table)) = list.jobs.get(at) {
         let job = FaultyJob {
             list,
-            offset: at,
+            job_index: at,
             table,
             suggestion,
         };
