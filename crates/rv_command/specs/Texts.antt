@@ -21,7 +21,7 @@ pub record IsReportText (bytes : List ℕ) (report : SavedReport) : Type 0 where
   pub text : saved_text report ≡ bytes
 
 -- if the contents of files are known, the file at the path has the text of this report
-pub record IsReportWithExtent (contents : Option FileContents) (path : List ℕ) (report : SavedReport) : Type 0 where
+pub record IsReportAt (contents : Option FileContents) (path : List ℕ) (report : SavedReport) : Type 0 where
   pub bytes : List ℕ
   pub read : IsTextAt contents path bytes
   pub report_text : IsReportText bytes report

@@ -3,7 +3,7 @@
 ghost use Rattle.std.specs.Prelude.{◌≡◌, ◌≤◌, IfErr, IfOk, length};
 ghost use Rattle.rv_files.specs.Limits.{max_jobs};
 ghost use Rattle.rv_command.specs.Stops.{IsLineStop, IsReportFaultStop, IsReportReadStop};
-ghost use Rattle.rv_command.specs.Texts.{IsReportWithExtent, IsReportText};
+ghost use Rattle.rv_command.specs.Texts.{IsReportAt, IsReportText};
 
 use crate::files::read_result_file;
 use crate::invalid_line::{ResultKind, invalid_line_message};
@@ -19,7 +19,7 @@ pub fn read_report_file<D: Inputs>(
     alloc: Global,
     path: &str,
 ) -> Result<SavedReport, Stop>
-    ensures read { IfOk result (IsReportWithExtent (D.contents inputs.now) path.now) }
+    ensures read { IfOk result (IsReportAt (D.contents inputs.now) path.now) }
     ensures at_most_max { IfOk result (λ report. length report.rows ≤ max_jobs) }
     ensures stopped { IfErr result (IsReportReadStop (D.contents inputs.now) path.now) }
 {

@@ -235,8 +235,8 @@ taken_is s t e =
     let found = code_is_fetched s p.0 p.1 f.1 in
     let code = found.0 in
     let shown = found.1 in
-    let instr : instr_of code ≡ Some p.0 = ap (λ (o : Option Code). option_and_then instr_of o) (sym shown.there) ∙ shown.same in
-    ap (λ (o : Option Code). is_taken_code o s.pc t.pc) shown.there
+    let instr : instr_of code ≡ Some p.0 = ap (λ (o : Option Code). option_and_then instr_of o) (sym shown.encoding) ∙ shown.instruction in
+    ap (λ (o : Option Code). is_taken_code o s.pc t.pc) shown.encoding
     ∙ (λ i. is_branch_instr (instr i) && not (t.pc == (s.pc + shown.long i) % 0x1_0000_0000))
     ∙ sym (ap (λ (r : FetchResult). is_taken r s t) f.1)
     ∙ sym (ap (λ (r : Result State Ending). is_taken_step r s) e)

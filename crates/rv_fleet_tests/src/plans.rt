@@ -91,10 +91,10 @@ fn plan_of(alloc: Global, list: &str, choice: &str, store: &mut Files) -> Result
     plan_of_selection(alloc, jobs, &selection_of(alloc, choice)?, store)
 }
 
-// Appends the result that a plan has for a path: `none`, the reason why there are no bytes, the only byte, or the number of bytes and the
+// Appends what a plan has read at a path: `none`, the reason why there are no bytes, the only byte, or the number of bytes and the
 // last one.
-fn push_contents(text: &mut String, result: Option<&Kept>) -> Result<(), AllocError> {
-    match result {
+fn push_contents(text: &mut String, read: Option<&Kept>) -> Result<(), AllocError> {
+    match read {
         Some(Kept::Content(bytes)) => push_bytes(text, bytes.as_slice()),
         Some(Kept::Unreadable) => text.push_str(" unreadable"),
         Some(Kept::TooLong) => text.push_str(" long"),

@@ -158,5 +158,5 @@ step_same s t h e = go (fetch s.isa s.bus s.pc) refl e
 
     go : (r : FetchResult) → fetch s.isa s.bus s.pc ≡ r → after_fetch r s ≡ Ok t → Same s t
     go (Ok p) f same = let code = code_is_fetched s p.0 p.1 f in
-        leaves (effect p.0 p.1 s) (effect_leaves p.0.op p.0 (next_pc s p.1) s (found_quiet s p.0 h code.1.same)) same
+        leaves (effect p.0 p.1 s) (effect_leaves p.0.op p.0 (next_pc s p.1) s (found_quiet s p.0 h code.1.instruction)) same
     go (Err f) fetched same = cc

@@ -18,7 +18,7 @@ module _ (a : Inside) (is : IsValidPlan a) (p : PlanView) (view : plan_view a �
   inside : i < length a.jobs
   inside = subst (λ (q : PlanView). i < length q.jobs) (sym view) within
 
-  pub result_indices : (d : Job) → ArePartialResultIndices (paths_read a) (get_or a.jobs i d) at
+  pub found : (d : Job) → ArePartialResultIndices (paths_read a) (get_or a.jobs i d) at
   found d = subst (λ f. ArePartialResultIndices (paths_read a) (get_or a.jobs i d) f) (sym there) (is.result_indices.each i d at inside)
 
   path_within : (path : List ℕ) (place : Option ℕ) → index_in (paths_read a) path ≡ place

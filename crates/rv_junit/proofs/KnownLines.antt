@@ -7,7 +7,7 @@ use Rattle.std.proofs.lemmas.List.{get_or-map, get_or_append_left, length-append
 use Rattle.std.proofs.Math.Seq.{get_or-append_seam}
 use Rattle.rv_job_text.specs.Judgement.{JudgeView, fails}
 use Rattle.rv_stream.specs.declared_row.Row.{Row}
-use Rattle.rv_stream.specs.SeenRows.{HasSeenRows, IsReportWithExtent}
+use Rattle.rv_stream.specs.SeenRows.{HasSeenRows, IsReportedRowAt}
 use Rattle.rv_stream.specs.declared.reported_row.ReportedRow.{ReportedRow}
 use Rattle.rv_junit.specs.KnownLines.{AreFailureTexts, AreLinesOf, IsFailureText}
 
@@ -50,7 +50,7 @@ one_more judging texts text reported made is are =
     }
 
 lines_at : (line lines : ℕ → Row → List ℕ) (judging : JudgeView) (index : ℕ) (row : Row) (reported : ReportedRow) (text : Option (Vec ℕ Global))
-    → ((index : ℕ) (row : Row) → fails judging row ≡ true → line index row ≡ lines index row) → IsReportWithExtent line index reported
+    → ((index : ℕ) (row : Row) → fails judging row ≡ true → line index row ≡ lines index row) → IsReportedRowAt line index reported
     → row ≡ reported.row → IfSome text (λ text. IsFailureText judging reported text.items)
     → IfSome text (λ text. text.items ≡ lines index row)
 lines_at line lines judging index row reported None same report is kept = tt

@@ -40,7 +40,7 @@ pub fn read_faults(alloc: Global, bytes: &[u8]) -> Result<Vec<JobError>, AllocEr
 
 /// Returns a list with only this error, which is an error of the whole list.
 fn single_list_fault(alloc: Global, kind: What) -> Result<Vec<JobError>, AllocError>
-    ensures { IfOk result (λ faults. faults.items ≡ record { job = 0; kind = kind } ∷ []) }
+    ensures { IfOk result (λ faults. faults.items ≡ record { job = 0; what = kind } ∷ []) }
 {
     let mut faults = Vec::new(alloc);
     faults.push(list_error(kind))?;

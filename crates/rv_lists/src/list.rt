@@ -39,7 +39,7 @@ pub fn read_jobs(alloc: Global, bytes: &[u8]) -> Result<JobList, JobError>
 
 /// Returns this error as an error of the whole list, with job 0.
 pub(crate) fn list_error(kind: What) -> JobError
-    ensures { result ≡ record { job = 0; kind = kind } }
+    ensures { result ≡ record { job = 0; what = kind } }
 {
     JobError { job: 0, what: kind }
 }

@@ -20,7 +20,7 @@ use Rattle.rv_base.specs.Sinks.{AppendsPrefix}
 use Rattle.rv_stream.specs.declared.reported_row.ReportedRow.{ReportedRow}
 use Rattle.rv_stream.specs.Limits.{rows_up_to}
 use Rattle.rv_stream.specs.Streams.{joined_row_texts, row_texts}
-use Rattle.rv_stream.specs.SeenRows.{text_by_index, HasSeenRows, HasSeenSomeRows, IsReportWithExtent}
+use Rattle.rv_stream.specs.SeenRows.{text_by_index, HasSeenRows, HasSeenSomeRows, IsReportedRowAt}
 use Rattle.rv_stream.specs.ReportedRows.{rows_of_reported, texts_of_reported, AreRowsUpToFailure, IsReportedRow}
 use Rattle.rv_stream.proofs.Limits.{ended_there, first_of}
 use Rattle.rv_stream.proofs.Tellings.{told_append}
@@ -37,7 +37,7 @@ rows_first f (p ∷ ps) (t ∷ ts) few each =
     ∷ rows_first f ps ts (omega (arith, few)) (λ k d lt. each (suc k) d (omega (arith, lt))) i)
 
 texts_first : (line : ℕ → Row → List ℕ) (ps : List ℕ) (told : List ReportedRow) → length told ≤ length ps
-    → ((k : ℕ) (d : ReportedRow) → k < length told → IsReportWithExtent line (get_or ps k 0) (get_or told k d))
+    → ((k : ℕ) (d : ReportedRow) → k < length told → IsReportedRowAt line (get_or ps k 0) (get_or told k d))
     → texts_of_reported told ≡ row_texts line ps (rows_of_reported told)
 texts_first line [] [] few each = refl
 texts_first line (p ∷ ps) [] few each = refl

@@ -10,7 +10,7 @@ abbrev pub text_by_index : (ℕ → Row → List ℕ) → List ReportedRow → L
 text_by_index row_text reported = concat (map (λ (r : ReportedRow). row_text r.index r.row) reported)
 
 -- the reported row has this index, and the text that `row_text` returns for the index and the row
-pub record IsReportWithExtent (row_text : ℕ → Row → List ℕ) (index : ℕ) (reported : ReportedRow) : Type 0 where
+pub record IsReportedRowAt (row_text : ℕ → Row → List ℕ) (index : ℕ) (reported : ReportedRow) : Type 0 where
   pub index_is : reported.index ≡ index
   pub text : reported.text.items ≡ row_text reported.index reported.row
 
@@ -20,7 +20,7 @@ pub record HasSeenRows (has_seen : List ReportedRow → Type 0) (row_text : ℕ 
   pub seen : has_seen reported
   pub same_rows : rows_of_reported reported ≡ rows
   pub few : length reported ≤ length indices
-  pub each : (k : ℕ) (any : ReportedRow) → k < length reported → IsReportWithExtent row_text (slice_index_or indices k 0) (slice_index_or reported k any)
+  pub each : (k : ℕ) (any : ReportedRow) → k < length reported → IsReportedRowAt row_text (slice_index_or indices k 0) (slice_index_or reported k any)
 
 -- the observer has seen a prefix of these rows, in order, with their texts and the indices of their jobs
 pub record HasSeenSomeRows (has_seen : List ReportedRow → Type 0) (row_text : ℕ → Row → List ℕ) (indices : List ℕ) (rows : List Row) : Type 0 where

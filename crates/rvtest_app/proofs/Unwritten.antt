@@ -5,7 +5,7 @@ use Rattle.std.proofs.lemmas.List.Sums.{sum_by-cons}
 use Rattle.std.specs.Prelude.{is_some, option_map}
 use Rattle.std.specs.List.{count_by, flat_map}
 use Rattle.rv_accept_text.specs.GoldenFiles.{new_text}
-use Rattle.rv_accept_text.specs.AcceptLines.{changed_count, is_changed, address_if}
+use Rattle.rv_accept_text.specs.AcceptLines.{changed_count, is_changed, one_if}
 use Rattle.rv_accept_text.specs.declared.accept_summary.AcceptSummary.{AcceptSummary}
 use Rattle.rv_accept_text.specs.declared.golden_file.GoldenFile.{GoldenFile}
 use Rattle.rv_accept_text.specs.declared.golden_file.ListFile.{ListFile}
@@ -27,7 +27,7 @@ no_golden_file list (file ∷ files) none =
     (no_golden_file list files)
 
 no_list : (golden : List CommittedFile) (count : ℕ) (path : List ℕ) (text : Option (Vec ℕ Global))
-    → count + address_if (is_some text) ≡ 0 → (count ≡ 0 → golden ≡ [])
+    → count + one_if (is_some text) ≡ 0 → (count ≡ 0 → golden ≡ [])
     → golden ++ file_if_text path (option_map (λ text. text.items) text) ≡ []
 no_list golden count path None none golden_none = rw (golden_none (omega (arith, none))) refl
 no_list golden count path (Some text) none golden_none = absurd (omega (arith, none))

@@ -3,7 +3,7 @@ use Rattle.std.specs.Prelude.{◌≡◌, ◌||◌, ℕ, Bool, List, [], ◌∷�
 use Rattle.std.specs.Option.{option_or}
 use Rattle.rv_files.specs.Files.{FileContents}
 use Rattle.rvtest_cli.specs.declared.run.RunArgs.{RunArgs}
-use Rattle.rv_command.specs.Texts.{IsReportWithExtent, optional_text}
+use Rattle.rv_command.specs.Texts.{IsReportAt, optional_text}
 use Rattle.rv_rows.specs.declared_job.Job.{Job}
 use Rattle.rv_rows.specs.Report.{report_text, row_text}
 use Rattle.rv_rows.specs.Saved.{row_names}
@@ -28,7 +28,7 @@ pub record IsWholeReport (jobs : List Job) (report : SavedReport) : Type 0 where
 
 -- `rows` are the rows of a report of the whole list, and this report is at the path
 abbrev pub IsWholeReportAt : Option FileContents → List ℕ → List Job → List Row → Type 0
-IsWholeReportAt contents path jobs rows = (report : SavedReport) × (IsReportWithExtent contents path report
+IsWholeReportAt contents path jobs rows = (report : SavedReport) × (IsReportAt contents path report
     × (IsWholeReport jobs report × (rows ≡ report.rows)))
 
 -- `old_rows` are the rows of the report of `--into`, which the run updates; none without `--into`

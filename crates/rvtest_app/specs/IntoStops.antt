@@ -5,7 +5,7 @@ use Rattle.std.specs.Str.{bytes_eq}
 use Rattle.rv_files.specs.Files.{FileContents}
 use Rattle.rvtest_cli.specs.declared.run.RunArgs.{RunArgs}
 use Rattle.rv_command.specs.Stops.{IsReportReadStop, IsStop}
-use Rattle.rv_command.specs.Texts.{IsReportWithExtent}
+use Rattle.rv_command.specs.Texts.{IsReportAt}
 use Rattle.rv_command.specs.declared.stop.Stop.{Stop}
 use Rattle.rv_rows.specs.declared_job.Job.{Job}
 use Rattle.rv_rows.specs.Saved.{row_names}
@@ -78,7 +78,7 @@ IsNotWholeBecause jobs report (reason.Name name) = (report.extent ≡ extent.Who
 -- why a command stopped: the report at `path` could not be read, or it is not a report of all jobs of the list at `list_path`
 abbrev pub IsNotWholeReportStop : Option FileContents → List ℕ → List ℕ → List Job → Stop → Type 0
 IsNotWholeReportStop contents path list_path jobs stop = IsReportReadStop contents path stop
-    ⊎ ((report : SavedReport) × (IsReportWithExtent contents path report
+    ⊎ ((report : SavedReport) × (IsReportAt contents path report
     × ((reason : NotWholeReason) × (IsNotWholeBecause jobs report reason × IsStop 2 (not_whole_message path list_path reason) stop))))
 
 -- why a run with `--into` stopped: the report at its path could not be read, or is not a report of all jobs of the list

@@ -220,8 +220,8 @@ pub(super) fn stream_text<R: Threads + Wait + Sync>(
 }
 
 // Whether exactly the first `sent` bytes of the whole output were written, and the call failed unless these are all bytes.
-fn is_prefix_of_output(result: &str, whole: &str, sent: usize) -> bool {
-    let (out, notes) = result.split_once(" at").unwrap_or(("", ""));
+fn is_prefix_of_output(streamed: &str, whole: &str, sent: usize) -> bool {
+    let (out, notes) = streamed.split_once(" at").unwrap_or(("", ""));
     whole.get(..sent) == Some(out) && notes.ends_with("write failed") == (sent < whole.len())
 }
 

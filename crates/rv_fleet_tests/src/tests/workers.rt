@@ -2,8 +2,9 @@
 ghost use Rattle.std.specs.Prelude.{◌≡◌, ◌<◌, ◌≤◌, IfOk};
 ghost use Rattle.rv_fleet.specs.Pieces.{piece_count_of_plan};
 
+use super::draws::split_pass;
 use super::gate::RecordingGate;
-use super::{plan_of, push_rows, split_pass, workers_and_group_of};
+use super::{plan_of, push_rows, workers_and_group_of};
 use rv_fleet::{Claims, Pass, Piece, Plan, work};
 use samples::cell_of;
 use std::alloc::{AllocError, Global};

@@ -28,7 +28,7 @@ lines-smaller c =
 pub lines-preserved : goal.lines-preserved
 lines-preserved c =
     let text = c.args.text.now in
-    let front = c.lines.front.items in
+    let front = c.lines.path.items in
     let names = c.lines.names in
     let read = c.in-Some.parsed in
     let w = c.whole_line-line.ensures ∙ ap whole_line c.tail_from.ensures in
@@ -54,6 +54,6 @@ lines-preserved c =
 pub returns-in-None : goal.returns-in-None
 returns-in-None c =
     let w = c.whole_line-line.ensures ∙ ap whole_line c.tail_from.ensures in
-    all_spots c.args.text.now c.as_slice.result.now c.lines.front.items c.whole_line-line.result.now c.lines.nodes.items c.lines.names _
+    all_spots c.args.text.now c.as_slice.result.now c.lines.path.items c.whole_line-line.result.now c.lines.nodes.items c.lines.names _
     c.lines.invariant c.new.ensures c.in_ok-into_names-in-None.ensures c.as_slice.ensures.value w
     (rw c.in-None.is at c.in_ok-parsed.ensures.none)

@@ -23,11 +23,11 @@ loop-name-preserved c =
     (elim c.if-not-contains_key.branch [
       | then-not-contains_key+in_ok-fields+in_ok-insert+in-None-1 w ↦
           rw w.index-is
-          (index_more c.loop-name.index w.insert.new.self earlier name w.in_ok-fields.words c.loop-name.invariant
+          (index_more c.loop-name.index w.insert.new.self earlier name w.in_ok-fields.fields c.loop-name.invariant
           (sym c.contains_key.ensures ∙ w.if-not-contains_key.true) w.in_ok-insert.ensures.updates w.in_ok-fields.ensures)
       | then-not-contains_key+in_ok-fields+in_ok-insert+in-Some-1 w ↦
           rw w.index-is
-          (index_more c.loop-name.index w.insert.new.self earlier name w.in_ok-fields.words c.loop-name.invariant
+          (index_more c.loop-name.index w.insert.new.self earlier name w.in_ok-fields.fields c.loop-name.invariant
           (sym c.contains_key.ensures ∙ w.if-not-contains_key.true) w.in_ok-insert.ensures.updates w.in_ok-fields.ensures)
       | else-not-contains_key w ↦
           rw w.index-is
