@@ -10,7 +10,7 @@ returns-in_err-excluded-clause-stopped g c =
 
 pub without_excluded-requires : goal.without_excluded-requires
 without_excluded-requires g c = record {
-  counted = wanted_counts _ _ _ _ c.in_ok-selection.field-0.selection _ c.in_ok-selection.ensures.requested;
+  same_length = wanted_counts _ _ _ _ c.in_ok-selection.field-0.selection _ c.in_ok-selection.ensures.requested;
 }
 
 pub returns-in_err-selection-2-clause-stopped : goal.returns-in_err-selection-2-clause-stopped

@@ -10,6 +10,6 @@ returns-else-branch-clause-stopped g c =
     let of = c.in_ok-pattern.ensures in
     let none = sym c.in_ok-is_found_in_job_names.ensures ∙ c.if-branch.false in
     let unmatched : IsUnmatchedPattern c.in-Some.text.now c.args.jobs.now =
-    (c.in_ok-pattern.pattern, of.source, of.read, none) in
+    (c.in_ok-pattern.pattern, of.source, of.default_options, none) in
     said_of_text Says c.args.self.now.args.now.pattern c.in-Some.text c.in-Some.is
     (inr (inr (unmatched, c.unmatched_pattern_stop.ensures)))
