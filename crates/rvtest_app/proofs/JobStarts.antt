@@ -39,5 +39,5 @@ pub session_starts_there : (plan : PlanView) (index : ℕ) (d : Job) (path : Lis
     → IsSessionOf plan.results (slice_index_or plan.jobs index d) path session
     → job_start_state plan index ≡ session.history.start
 session_starts_there plan index d path session within over =
-    start_is plan index d (start_of over.start) within over.starts
+    start_is plan index d (start_of over.start) within over.start_is
     ∙ sym (ap (λ (s : Session). s.history.start) over.session_is)

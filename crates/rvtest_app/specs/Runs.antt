@@ -220,7 +220,7 @@ IsAbortedRunOfJobs contents args failures jobs indices shard old_rows before aft
 pub record IsRunPartlyCommittedAt (contents : Option FileContents) (args : RunArgs) (before after : Option (List CommittedFile))
     : Type 0 where
   pub jobs_to_run : AreJobsToRun contents args
-  pub partly_committed : IsRunPartlyCommitted contents args jobs_to_run.failures jobs_to_run.jobs (selected_job_indices jobs_to_run.selection) jobs_to_run.shard jobs_to_run.old before after
+  pub partly_committed : IsRunPartlyCommitted contents args jobs_to_run.failures jobs_to_run.jobs (selected_job_indices jobs_to_run.selection) jobs_to_run.shard jobs_to_run.old_rows before after
 
 -- after an error, `run` has committed no file, or only some of the requested output files
 abbrev pub IsAbortedRunAt : Option FileContents → RunArgs → Option (List CommittedFile) → Option (List CommittedFile) → Type 0

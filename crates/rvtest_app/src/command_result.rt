@@ -20,15 +20,15 @@ pub(crate) fn write_command_result<O: Sink>(
     out: &mut O,
     outcome: Result<CommandResult, Stop>,
 ) -> Result<u8, Stop>
-    ensures written { IfOk result (λ status. MatchResult output (λ output. (status ≡ output.status)
+    ensures written { IfOk result (λ status. MatchResult outcome (λ output. (status ≡ output.status)
         × Appends (O.accepted out.old) (O.accepted out.new) output.text.items) (λ stop. ⊥)) }
     ensures no_failed_writes { OnOk result (O.failure_count out.new ≡ O.failure_count out.old) }
-    ensures prefix_written { OnErr result (MatchResult output
+    ensures prefix_written { OnErr result (MatchResult outcome
         (λ output. AppendsPrefix (O.accepted out.old) (O.accepted out.new) output.text.items)
         (λ stop. O.accepted out.new ≡ O.accepted out.old)) }
-    ensures failures_counted { IfErr result (λ _. MatchResult output
+    ensures failures_counted { IfErr result (λ _. MatchResult outcome
         (λ _. O.failure_count out.new ≡ one_more (O.failure_count out.old)) (λ _. O.failure_count out.new ≡ O.failure_count out.old)) }
-    ensures stopped { IfErr result (λ stop. MatchResult output (λ _. stop ≡ Stop.WriteFailed) (λ error. stop ≡ error)) }
+    ensures stopped { IfErr result (λ stop. MatchResult outcome (λ _. stop ≡ Stop.WriteFailed) (λ error. stop ≡ error)) }
 {
     let CommandResult { text, status } = outcome?;
     write_results(out, text.as_slice())?;

@@ -13,6 +13,6 @@ returns-in_err-selection-clause-stopped g c =
 
 pub invariant_of-result : goal.invariant_of-result
 invariant_of-result g c = record {
-  counted = λ selection is. choice_count _ c.args.args.now.run _ c.as_slice-2.result.now selection.items _
+  same_length = λ selection is. choice_count _ c.args.args.now.run _ c.as_slice-2.result.now selection.items _
       (rw is at c.in_ok-selection.ensures.chosen) ∙ ap length c.as_slice-2.ensures.value;
 }

@@ -3,6 +3,6 @@ use Rattle.rvtest_app.proofs.accept.selected_jobs.Goals as goal
 
 pub invariant_of-result : goal.invariant_of-result
 invariant_of-result c = record {
-  counted = bare_count _ _ _ _ _ _ c.requires.listed (rw c.as_slice.ensures.value at c.in_ok-listed.ensures.jobs)
+  same_length = bare_count _ _ _ _ _ _ c.requires.listed (rw c.as_slice.ensures.value at c.in_ok-listed.ensures.jobs)
       c.without_expectations-jobs.ensures c.requires.same_length (rw c.as_slice-2.ensures.value at c.in_ok-selection.ensures);
 }

@@ -12,7 +12,7 @@ row_from-requires-clause-intermediate c =
       first = job_start_state end.plan end.index;
       starts = starts_there end.plan end.index d end.within (end.runs d);
       completed = c.requires.completed;
-      same = c.in_ok-try_clone.ensures ∙ c.requires.same;
+      same = c.in_ok-try_clone.ensures ∙ c.requires.state_is;
       within = subst (λ (one : Job). c.args.steps ≤ one.budget)
           (get_or_read end.plan.jobs end.index c.job.result.now end.within c.job.ensures.value d) (omega (arith));
     }
