@@ -8,7 +8,7 @@ git config user.name "Notturavu maintainers"; git config user.email maintainers@
 for n in rvfleet rvtest; do mkdir -p crates/$n/out; cp -r $gate/crates/$n/out/. crates/$n/out/; done
 bash -c 'source ./launch.bash; cmp <(sources) <(cd '"$gate"' && bash -c "source ./launch.bash; sources") && stamp_programs "$(sources)"'
 programs/update
-git add -A programs; git commit -qm "programs/: built of these sources"; git log --oneline | head -2
+git add -A programs; git commit -qm "programs/: built of these sources"; git log --oneline -2 | cat
 git push -q origin HEAD:$branch-programs
 rm -rf /work/fresh && git clone -q /work/land /work/fresh -b "$branch"
 cd /work/fresh && (time .ci/run) > /work/ci.out 2>&1 || true

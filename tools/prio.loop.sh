@@ -1,26 +1,28 @@
 #!/bin/bash
 while sleep 4; do
-  for p in $(pgrep -x 'rattle|rattle-try|rattle-link|clang|clang-o3|python3|rt'); do
+  for p in $(pgrep -x 'rattle|rattle-try|rattle-link|clang|clang-o3|python3|rt|git|bash|sed|grep|flock'); do
     c=$(readlink /proc/$p/cwd 2>/dev/null)
     case "$c" in
       /work/gt/crates/rvtest_app|/work/gt/crates/rvtest_app/*|/work/gt/crates/rvtest|/work/gt/crates/rvtest/*|/work/gt/crates/rvtest_cli|/work/gt/crates/rv_engine|/work/gt/crates/rv_fleet|/work/gt/crates/rv_stream) n=-19;;
       /work/gt/*|/work/gt) n=-10;;
       /work/gate/crates/rv_rows|/work/gate/crates/rv_rows/*|/work/gate/crates/rvtest_app|/work/gate/crates/rvtest_app/*|/work/gate/crates/rvtest|/work/gate/crates/rvtest/*) n=-19;;
       /work/gate/*|/work/gate) n=-9;;
-      /work/mine/*|/work/s/build|/work/s/build/*) n=-19;;
+      /work/n4|/work/n4/*) n=-12;;
+      /work/n|/work/n/*|/work/mine/*|/work/s/build|/work/s/build/*) n=-19;;
       /work/s/gn|/work/s/gn/*) n=-6;;
       /work/s/edges/*) n=-8;;
       /work/fresh|/work/fresh/*|/work/land|/work/land/*) n=-16;;
       /work/s/sd/*) n=-19;;
       /work/s/sa/*|/work/s/sb/*) n=-13;;
       /work/s/ed2/*) n=-11;;
-      /work/b/*|/work/s/me/*) n=2;;
+      /work/b/*|/work/s/me/*) n=-15;;
       /work/mb*) n=-5;;
       /work/fresh*) n=-8;;
       /work/h1/*) n=0;;
-      /work/h2/*|/work/h3/*) n=-4;;
+      /work/s/L*|/work/L|/work/L/*|/work/h2/*|/work/h3/*) n=-11;;
       /tmp/rattle-native*|/tmp/rt-try*) n=-19;;
       /tmp/rt-edit*) n=-13;;
+      /tmp/tmp*) n=-17;;
       *) n=4;;
     esac
     if [ "$n" = -9 -o "$n" = -10 ] && tr "\0" " " < /proc/$p/cmdline 2>/dev/null | grep -q -- "--test "; then n=-6; fi
