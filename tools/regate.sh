@@ -3,7 +3,7 @@ for p in $(pgrep -f "rt ci"); do c=$(readlink /proc/$p/cwd); case "$c" in /work/
 sleep 1
 for p in $(pgrep -x 'rattle|rattle-try|rattle-link|clang|python3|rt|rattle-test'); do c=$(readlink /proc/$p/cwd); case "$c" in /work/gt*) kill $p;; esac; done
 sleep 1
-cd /work/gt && git fetch -q origin m2 && git checkout -q -B m2 origin/m2 && git log --oneline -1
 cat /work/gt.out >> /work/gt.all
+cd /work/gt && git fetch -q origin m5 && git checkout -q -B m5 origin/m5 && git log --oneline -1
 export RT_JOBS=${1:-4}
 setsid nohup /work/pk/rt ci > /work/gt.out 2>&1 < /dev/null &

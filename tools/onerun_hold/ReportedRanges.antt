@@ -1,0 +1,38 @@
+-- Ranges of a batch with the rows of their jobs, the rows' texts, and the table of the same runs.
+use Rattle.std.specs.Prelude.{◌≡◌, ◌++◌, ◌<◌, ℕ, List, [], length, map, slice_index_or}
+use Rattle.std.specs.List.{concat}
+use Rattle.rv_counting.specs.BatchRanges.{indices_in}
+use Rattle.rv_counting.specs.JobTables.{IsTableOfRange}
+use Rattle.rv_counting.specs.declared.index_ranges.IndexRange.{IndexRange}
+use Rattle.rv_counting.specs.declared_batch.Batch.{Batch}
+use Rattle.rv_counting.specs.declared_row.Row.{Row}
+use Rattle.rv_counting.specs.Rows.{rows_at}
+use Rattle.rv_stream.specs.declared.reported_range.ReportedRange.{ReportedRange}
+use Rattle.rv_stream.specs.declared.reported_row.ReportedRow.{ReportedRow}
+use Rattle.rv_stream.specs.ReportedRows.{rows_of_reported}
+use Rattle.rv_stream.specs.SeenRows.{IsReportAt}
+
+-- `reported` are these rows, in order, each with the index of its job and with the text that `row_text` returns for the index and the row
+pub record AreReportedRows (row_text : ℕ → Row → List ℕ) (indices : List ℕ) (rows : List Row) (reported : List ReportedRow) : Type 0 where
+  pub same_rows : rows_of_reported reported ≡ rows
+  pub count : length reported ≡ length indices
+  pub each : (k : ℕ) (default : ReportedRow) → k < length reported
+      → IsReportAt row_text (slice_index_or indices k 0) (slice_index_or reported k default)
+
+-- `reported` has the rows of the jobs in a range of the batch, with their texts, and the table of these jobs
+pub record IsReportedRange (row_text : ℕ → Row → List ℕ) (batch : Batch) (range : IndexRange) (reported : ReportedRange) : Type 0 where
+  pub rows : AreReportedRows row_text (indices_in batch.places.now range) (rows_at batch.plan.now (indices_in batch.places.now range))
+      reported.rows.items
+  pub table : IsTableOfRange batch.plan.now (indices_in batch.places.now range) reported.table
+
+-- the reported rows of some ranges, one after another
+abbrev pub rows_of_ranges : List ReportedRange → List ReportedRow
+rows_of_ranges ranges = concat (map (λ (r : ReportedRange). r.rows.items) ranges)
+
+-- a listener has received the rows of these ranges, in order; only if it has stopped the run may the last ones be missing
+pub record HasReceivedRows (has_received : List ReportedRow → Type 0) (stops : Type 0) (ranges : List ReportedRange) : Type 0 where
+  pub first : List ReportedRow
+  pub rest : List ReportedRow
+  pub whole : first ++ rest ≡ rows_of_ranges ranges
+  pub received : has_received first
+  pub all : (stops → ⊥) → rest ≡ []
