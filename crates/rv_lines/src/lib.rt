@@ -2,7 +2,7 @@
 //!
 //! [`line_tables`] finds `.debug_line` and the string sections in a file. [`find_lines`] finds the source line of each of a sorted list of
 //! addresses without keeping a table, and returns how many units were rejected and the error of the first. [`source_path`] returns the path of a
-//! line's file. Each result is exactly as defined in `specs/`, which restricts the standard. Nothing here allocates.
+//! line's file. [`table_rows`] returns the rows of the table, one after the other. Each result is exactly as defined in `specs/`, which restricts the standard. Nothing here allocates.
 #![tactic(auto)]
 
 mod entries;
@@ -19,6 +19,7 @@ mod rows;
 mod search;
 mod sections;
 mod span;
+mod table_walk;
 mod tables;
 mod units;
 
@@ -28,9 +29,11 @@ pub use law::{
     path_is_name_after_directory, rows_are_of_operations, rows_depend_on_the_unit,
 };
 pub use path::{SourcePath, source_path};
+pub use rows::Row;
 pub use search::{RejectedUnits, find_lines};
 pub use sections::line_tables;
 pub use span::SourceLine;
+pub use table_walk::{CoveredRange, TableRows, UnitRow, table_rows};
 pub use tables::{LineTables, StringSections};
 
 #[cfg(test)]

@@ -44,8 +44,8 @@ pub(crate) fn note_unit(
     note_program(&program, addresses, found)
 }
 
-// Returns the program of the unit at an offset, if its header can be read.
-fn program_of<'a>(tables: &LineTables<'a>, offset: u32) -> Result<Program<'a>, UnitError>
+/// Returns the program of the unit at an offset, if its header can be read.
+pub(crate) fn program_of<'a>(tables: &LineTables<'a>, offset: u32) -> Result<Program<'a>, UnitError>
     ensures value { MatchResult result
         (λ p. rows_at (view_strings tables.now.strings) (drop offset tables.now.lines.now) ≡ rows_of_program p)
         (λ e. rows_at (view_strings tables.now.strings) (drop offset tables.now.lines.now) ≡ Err e) }
