@@ -6,7 +6,7 @@ use Rattle.rv_lines.specs.declared.program.Program as declared
 use Rattle.rv_lines.specs.declared.rows.Row.{Row}
 use Rattle.rv_lines.specs.declared.rows.State.{State}
 use Rattle.rv_lines.specs.declared.table_walk.CoveredRange.{CoveredRange}
-use Rattle.rv_lines.specs.declared.table_walk.TableRows.{TableRows}
+use Rattle.rv_lines.specs.declared.rows_left.TableRows.{TableRows}
 use Rattle.rv_lines.specs.declared.table_walk.UnitRow.{UnitRow}
 use Rattle.rv_lines.specs.Entries.{Strings}
 use Rattle.rv_lines.specs.EntriesInside.{view_strings}

@@ -16,6 +16,7 @@ mod path;
 mod program;
 mod reading;
 mod rows;
+mod rows_left;
 mod search;
 mod sections;
 mod span;
@@ -33,7 +34,8 @@ pub use rows::Row;
 pub use search::{RejectedUnits, find_lines};
 pub use sections::line_tables;
 pub use span::SourceLine;
-pub use table_walk::{CoveredRange, TableRows, UnitRow, table_rows};
+pub use rows_left::TableRows;
+pub use table_walk::{CoveredRange, UnitRow, table_rows};
 pub use tables::{LineTables, StringSections};
 
 #[cfg(test)]

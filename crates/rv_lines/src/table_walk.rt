@@ -1,5 +1,5 @@
 //! The rows of a whole table, one after the other, and the addresses that a row covers.
-ghost use Rattle.std.specs.Prelude.{◌≡◌, ◌<◌, ◌≤◌, [], ◌∷◌, drop, length, map, IfSome, MatchOption};
+ghost use Rattle.std.specs.Prelude.{◌≡◌, ◌<◌, [], ◌∷◌, drop, length, map, IfSome, MatchOption};
 ghost use Rattle.rv_lines.specs.EntriesInside.{view_strings};
 ghost use Rattle.rv_lines.specs.Lines.{units_of};
 ghost use Rattle.rv_lines.specs.Rows.{initial};
@@ -11,6 +11,7 @@ use crate::operations::operation_at;
 use crate::program::{Program, note_program};
 use crate::reading::bytes_from;
 use crate::rows::{Row, State};
+use crate::rows_left::TableRows;
 use crate::tables::LineTables;
 use crate::units::{program_of, unit_size};
 
@@ -27,20 +28,6 @@ pub struct UnitRow {
 pub struct CoveredRange {
     pub from: u32,
     pub to: u32,
-}
-
-/// The rows of a table that are left, in their order. Rejected units have none.
-#[derive(Clone, Copy)]
-pub struct TableRows<'a> {
-    tables: LineTables<'a>,
-    // The offset of the next unit.
-    next_unit: usize,
-    // The program of the current unit, its state, and the bytes of it that are left.
-    program: Program<'a>,
-    state: State,
-    rest: &'a [u8],
-    ghost divides: { 0 < program.parameters.line_range },
-    ghost within: { next_unit ≤ length tables.lines.now },
 }
 
 // A program without rows, for the time before the first unit.
