@@ -27,11 +27,13 @@ functions_text fs amount = flat_map function_line fs ++ flat_map function_count_
 abbrev pub times : BranchCount → ℕ → List ℕ
 times b count = if b.executed == 0 then codes "-" else decimal count
 
--- `BRDA:LINE,0,WAY,TIMES`, twice: the even way is that the branch is taken, the odd one that it falls through
-unfoldable pub branch_lines : BranchCount → List ℕ
-branch_lines b = codes "BRDA:" ++ decimal b.line ++ codes ",0," ++ decimal (2 * b.number) ++ codes "," ++ times b b.taken
-    ++ codes "\nBRDA:" ++ decimal b.line ++ codes ",0," ++ decimal (2 * b.number + 1) ++ codes "," ++ times b (b.executed - b.taken)
-    ++ codes "\n"
+-- `BRDA:LINE,0,WAY,TIMES`: how often a branch went one of its ways
+unfoldable pub way_line : BranchCount → ℕ → ℕ → List ℕ
+way_line b way count = codes "BRDA:" ++ decimal b.line ++ codes ",0," ++ decimal way ++ codes "," ++ times b count ++ codes "\n"
+
+-- both ways of a branch: the even one is that it is taken, the odd one that it falls through
+abbrev pub branch_lines : BranchCount → List ℕ
+branch_lines b = way_line b (2 * b.number) b.taken ++ way_line b (2 * b.number + 1) (b.executed - b.taken)
 
 -- the branches of a source, and how many ways there are and were gone
 unfoldable pub branches_text : List BranchCount → Amount → List ℕ

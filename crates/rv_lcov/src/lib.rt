@@ -7,6 +7,8 @@ mod cobertura;
 mod join;
 mod place_count;
 mod source;
+#[cfg(test)]
+mod tests;
 mod totals;
 mod tracefile;
 mod uncovered;

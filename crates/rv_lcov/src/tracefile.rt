@@ -2,12 +2,11 @@
 
 ghost use Rattle.std.specs.Prelude.{◌≡◌, ◌++◌, IfOk, OnOk};
 ghost use Rattle.std.specs.List.{flat_map};
-ghost use Rattle.rv_text.specs.Spans.{span_text};
-ghost use Rattle.rv_lcov.specs.Tracefile.{branch_lines, branches_text, count_line, function_count_line, function_line, functions_text, lcov_text, lines_text, source_text, times};
+ghost use Rattle.rv_lcov.specs.Tracefile.{branch_lines, branches_text, count_line, function_count_line, function_line, functions_text, lcov_text, lines_text, source_text, times, way_line};
 
 use crate::source::{BranchCount, FunctionCount, LineCount, SourceCoverage};
 use crate::totals::{Amount, totals_of};
-use rv_text::{Span, push_spans, push_text};
+use rv_text::{Span, push_number, push_spans, push_text};
 use std::alloc::{AllocError, Global};
 
 /// Returns the tracefile of sources, a record for each, in order.
@@ -157,40 +156,51 @@ fn push_branch_lines(text: &mut Vec<u8>, branches: &[BranchCount]) -> Result<(),
 }
 
 // Appends how often a branch was taken, and how often it fell through.
-#[tactic(auto, unfolding(crate::specs::Tracefile::branch_lines))]
 fn push_branch(text: &mut Vec<u8>, branch: &BranchCount) -> Result<(), AllocError>
     ensures { OnOk result (text.new.items ≡ text.old.items ++ branch_lines branch.now) }
 {
-    let line = u64::from(branch.line);
     let number = 2 * u64::from(branch.number);
+    push_way(text, branch, number, branch.taken)?;
+    push_way(
+        text,
+        branch,
+        number + 1,
+        branch.executed.saturating_sub(branch.taken),
+    )
+}
+
+// Appends how often a branch went one of its ways.
+#[tactic(auto, unfolding(crate::specs::Tracefile::way_line))]
+fn push_way(
+    text: &mut Vec<u8>,
+    branch: &BranchCount,
+    number: u64,
+    count: u64,
+) -> Result<(), AllocError>
+    ensures { OnOk result (text.new.items ≡ text.old.items ++ way_line branch.now number count) }
+{
     push_spans(
         text,
         &[
             Span::Text("BRDA:"),
-            Span::Number(line),
+            Span::Number(u64::from(branch.line)),
             Span::Text(",0,"),
             Span::Number(number),
             Span::Text(","),
-            times(branch, branch.taken),
-            Span::Text("\nBRDA:"),
-            Span::Number(line),
-            Span::Text(",0,"),
-            Span::Number(number + 1),
-            Span::Text(","),
-            times(branch, branch.executed.saturating_sub(branch.taken)),
-            Span::Text("\n"),
         ],
-    )
+    )?;
+    push_times(text, branch, count)?;
+    push_text(text, "\n")
 }
 
-// Returns how often a branch went one of its ways, or `-` if it was never executed.
-fn times(branch: &BranchCount, count: u64) -> Span<'static>
-    ensures { span_text result ≡ times branch.now count }
+// Appends how often a branch went one of its ways, or `-` if it was never executed.
+fn push_times(text: &mut Vec<u8>, branch: &BranchCount, count: u64) -> Result<(), AllocError>
+    ensures { OnOk result (text.new.items ≡ text.old.items ++ times branch.now count) }
 {
     if branch.executed == 0 {
-        Span::Text("-")
+        push_text(text, "-")
     } else {
-        Span::Number(count)
+        push_number(text, count)
     }
 }
 

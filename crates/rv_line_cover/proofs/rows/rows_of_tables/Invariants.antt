@@ -1,0 +1,11 @@
+use Rattle.std.proofs.Common.{◌≡◌, ◌++◌, length}
+use Rattle.rv_lines.specs.EntriesInside.{view_strings}
+use Rattle.rv_lines.specs.Lines.{units_of}
+use Rattle.rv_lines.specs.TableRows.{all_rows, rows_left}
+use Rattle.rv_line_cover.proofs.rows.rows_of_tables.Given as goal
+
+abbrev pub invariant-loop-left : goal.invariant-loop-left
+invariant-loop-left l = l.rows.items ++ rows_left l.left ≡ all_rows (units_of (view_strings l.tables.strings) l.tables.lines.now)
+
+abbrev pub decreases-loop-left : goal.decreases-loop-left
+decreases-loop-left l = length (rows_left l.left)

@@ -1,0 +1,18 @@
+//! Coverage by source line: how often each line, each branch and each function of the sources of images was executed.
+#![tactic(auto)]
+
+mod addresses;
+mod branch_facts;
+mod coverage;
+mod facts;
+mod file_sources;
+mod found_lines;
+mod function_facts;
+mod image;
+mod line_facts;
+mod lookup;
+mod rows;
+mod source_table;
+
+pub use coverage::coverage_of_images;
+pub use source_table::source_table;
