@@ -22,7 +22,8 @@ pub(crate) fn lines_of_image(
     let mut facts = own_facts(alloc, image)?;
     let own = join_counts(alloc, Joining::Greatest, facts.as_slice())?;
     push_facts_beside(&mut facts, image, own.as_slice())?;
-    join_counts(alloc, Joining::Greatest, facts.as_slice())
+    let how = Joining::Greatest;
+    join_counts(alloc, how, facts.as_slice())
 }
 
 // Returns what the addresses say of the lines whose rows cover them.
