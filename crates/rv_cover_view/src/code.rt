@@ -31,10 +31,7 @@ pub(crate) fn totals_of_code(address: u32, code: &[u8], counts: &[AddressCounts]
 }
 
 /// Returns the addresses of the conditional branches of a function, in order.
-pub fn branches_of_function(
-    alloc: Global,
-    function: &Function<'_>,
-) -> Result<Vec<u32>, AllocError>
+pub fn branches_of_function(alloc: Global, function: &Function<'_>) -> Result<Vec<u32>, AllocError>
     ensures { IfOk result (λ found. found.items ≡ branch_addresses (view_of_function function.now)) }
 {
     let mut found = Vec::new(alloc);

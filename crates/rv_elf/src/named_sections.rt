@@ -18,7 +18,8 @@ pub fn has_bad_section_headers(file: &[u8]) -> bool
     count != 0
         && (half_field(file, E_SHENTSIZE) != SECTION_HEADER_SIZE
             || file.len()
-                < word_field(file, E_SHOFF) as usize + SECTION_HEADER_SIZE as usize * count as usize)
+                < word_field(file, E_SHOFF) as usize
+                    + SECTION_HEADER_SIZE as usize * count as usize)
 }
 
 /// Returns the number of section headers.

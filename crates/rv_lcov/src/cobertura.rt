@@ -117,11 +117,7 @@ fn push_classes(
 
 // Appends the class of a source.
 #[tactic(auto, unfolding(crate::specs::Cobertura::class_text))]
-fn push_class(
-    alloc: Global,
-    text: &mut Vec<u8>,
-    source: &SourceCoverage,
-) -> Result<(), AllocError>
+fn push_class(alloc: Global, text: &mut Vec<u8>, source: &SourceCoverage) -> Result<(), AllocError>
     ensures { OnOk result (text.new.items ≡ text.old.items ++ class_text source.now) }
 {
     let path = attribute_text(alloc, source.path.as_slice())?;
@@ -137,11 +133,7 @@ fn push_class(
     )?;
     push_rates(text, totals_of(source))?;
     push_text(text, ">\n<methods/>\n<lines>\n")?;
-    push_line_elements(
-        text,
-        source.lines.as_slice(),
-        source.branches.as_slice(),
-    )?;
+    push_line_elements(text, source.lines.as_slice(), source.branches.as_slice())?;
     push_text(text, "</lines>\n</class>\n")
 }
 

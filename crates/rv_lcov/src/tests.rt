@@ -53,7 +53,8 @@ fn tracefile_of_a_source(rt: HostRuntime) -> Result<(), Fail> {
         text.as_slice(),
         b"TN:\nSF:src/a&b.c\nFN:1,main\nFN:6,never\nFNDA:1,main\nFNDA:0,never\nFNF:2\nFNH:1\n\
 BRDA:2,0,0,3\nBRDA:2,0,1,2\nBRDA:2,0,2,5\nBRDA:2,0,3,0\nBRDA:7,0,0,-\nBRDA:7,0,1,-\nBRF:6\nBRH:3\n\
-DA:1,1\nDA:2,5\nDA:4,0\nDA:6,0\nDA:7,0\nLF:5\nLH:2\nend_of_record\n".as_slice()
+DA:1,1\nDA:2,5\nDA:4,0\nDA:6,0\nDA:7,0\nLF:5\nLH:2\nend_of_record\n"
+            .as_slice()
     );
     Ok(())
 }
@@ -78,7 +79,8 @@ branches-covered=\"3\" branches-valid=\"6\" version=\"rvtest\" timestamp=\"0\">\
 <line number=\"4\" hits=\"0\"/>\n\
 <line number=\"6\" hits=\"0\"/>\n\
 <line number=\"7\" hits=\"0\" branch=\"true\" condition-coverage=\"0% (0/2)\"/>\n\
-</lines>\n</class>\n</classes>\n</package>\n</packages>\n</coverage>\n".as_slice()
+</lines>\n</class>\n</classes>\n</package>\n</packages>\n</coverage>\n"
+            .as_slice()
     );
     Ok(())
 }
@@ -88,7 +90,10 @@ fn lines_that_never_ran(rt: HostRuntime) -> Result<(), Fail> {
     let alloc = rt.alloc();
     let source = source(alloc)?;
     let ranges = uncovered_ranges(alloc, source.lines.as_slice())?;
-    assert_eq!(rt; ranges.as_slice(), [LineRange { first: 4, last: 7 }].as_slice());
+    assert_eq!(rt;
+        ranges.as_slice(),
+        [LineRange { first: 4, last: 7 }].as_slice()
+    );
     Ok(())
 }
 
@@ -104,7 +109,10 @@ fn excluded_lines_of_a_source(rt: HostRuntime) -> Result<(), Fail> {
         ("a // LCOV_EXCL_BR_LINE\n", "."),
         ("a\n// LCOV_EXCL_START\nb\n// LCOV_EXCL_STOP\nc\n", ".xx.."),
         ("// GCOVR_EXCL_START\n\nb", "xxx"),
-        ("// GCOVR_EXCL_START\n// LCOV_EXCL_STOP GCOVR_EXCL_LINE\nb", "xx."),
+        (
+            "// GCOVR_EXCL_START\n// LCOV_EXCL_STOP GCOVR_EXCL_LINE\nb",
+            "xx.",
+        ),
         ("// LCOV_EXCL_STOP LCOV_EXCL_START\nb", ".."),
     ] {
         let flags = excluded_lines(alloc, text.as_bytes())?;
@@ -150,8 +158,14 @@ fn counts_of_one_place_are_joined(rt: HostRuntime) -> Result<(), Fail> {
         place(0, 9, 0, 1),
     ];
     for (how, expected) in [
-        (Joining::Sum, [(0, 9, 0, u64::MAX), (0, 9, 1, 4), (1, 2, 0, 8)]),
-        (Joining::Greatest, [(0, 9, 0, u64::MAX), (0, 9, 1, 4), (1, 2, 0, 5)]),
+        (
+            Joining::Sum,
+            [(0, 9, 0, u64::MAX), (0, 9, 1, 4), (1, 2, 0, 8)],
+        ),
+        (
+            Joining::Greatest,
+            [(0, 9, 0, u64::MAX), (0, 9, 1, 4), (1, 2, 0, 5)],
+        ),
         (Joining::Least, [(0, 9, 0, 1), (0, 9, 1, 4), (1, 2, 0, 3)]),
     ] {
         let found = join_counts(alloc, how, &counts)?;

@@ -64,10 +64,7 @@ fn push_functions(
 }
 
 // Appends where each function begins.
-fn push_function_lines(
-    text: &mut Vec<u8>,
-    functions: &[FunctionCount],
-) -> Result<(), AllocError>
+fn push_function_lines(text: &mut Vec<u8>, functions: &[FunctionCount]) -> Result<(), AllocError>
     ensures { OnOk result (text.new.items ≡ text.old.items ++ flat_map function_line functions.now) }
 {
     for function in functions {
@@ -94,10 +91,7 @@ fn push_function_line(text: &mut Vec<u8>, function: &FunctionCount) -> Result<()
 }
 
 // Appends how often each function was called.
-fn push_function_counts(
-    text: &mut Vec<u8>,
-    functions: &[FunctionCount],
-) -> Result<(), AllocError>
+fn push_function_counts(text: &mut Vec<u8>, functions: &[FunctionCount]) -> Result<(), AllocError>
     ensures { OnOk result (text.new.items ≡ text.old.items ++ flat_map function_count_line functions.now) }
 {
     for function in functions {

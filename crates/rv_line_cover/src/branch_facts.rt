@@ -30,16 +30,16 @@ pub(crate) fn code_addresses(
 }
 
 /// Returns the conditional branches of an image, in address order within a function. Those of one line in one function are numbered.
-pub(crate) fn branch_facts(
-    alloc: Global,
-    image: &Lookup<'_>,
-) -> Result<Vec<PlaceCount>, AllocError>
+pub(crate) fn branch_facts(alloc: Global, image: &Lookup<'_>) -> Result<Vec<PlaceCount>, AllocError>
     ensures { IfOk result (λ facts. facts.items
         ≡ flat_map (branch_facts (view_of image.now)) (map view_of_function image.now.image.now.functions.now)) }
 {
     let mut facts = Vec::new(alloc);
     for function in image.image.functions {
-        push_numbered(&mut facts, facts_of_function(alloc, image, function)?.as_slice())?;
+        push_numbered(
+            &mut facts,
+            facts_of_function(alloc, image, function)?.as_slice(),
+        )?;
     }
     Ok(facts)
 }

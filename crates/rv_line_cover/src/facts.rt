@@ -3,8 +3,8 @@
 ghost use Rattle.std.specs.Prelude.{◌≡◌, IfOk, map};
 ghost use Rattle.rv_line_cover.specs.Facts.{AreFunctionCounts, ArePlaceCounts, line_as_count, with_lines, without_line, without_number};
 
-use rv_lcov::{Joining, PlaceCount, PlaceCounts, join_counts};
 use rv_base::Sequence;
+use rv_lcov::{Joining, PlaceCount, PlaceCounts, join_counts};
 use std::alloc::{AllocError, Global};
 
 /// What images say of lines, of branches and of functions.

@@ -36,10 +36,7 @@ pub(crate) fn function_facts(
 }
 
 // Returns the source line of the first row at the address of each function, or `None` if there is no such row.
-fn first_sources(
-    alloc: Global,
-    image: &Lookup<'_>,
-) -> Result<Vec<Option<SourceLine>>, AllocError>
+fn first_sources(alloc: Global, image: &Lookup<'_>) -> Result<Vec<Option<SourceLine>>, AllocError>
     ensures { IfOk result (λ first. first.items
         ≡ map (first_source (view_of image.now) image.now.image.now.rows.now) (map view_of_function image.now.image.now.functions.now)) }
 {

@@ -99,7 +99,10 @@ pub(crate) fn chosen_source(image: &Lookup<'_>, row: &UnitRow) -> Option<SourceL
     ensures { result ≡ chosen_source (view_of image.now) row.now }
 {
     let covering = image.line_at(row.row.address)?;
-    if row.row.ends || row.row.line == 0 || covering.unit != row.unit || covering.low != row.row.low
+    if row.row.ends
+        || row.row.line == 0
+        || covering.unit != row.unit
+        || covering.low != row.row.low
     {
         return None;
     }

@@ -46,8 +46,11 @@ impl<'a> Lookup<'a> {
 
     /// Returns the counts of an address.
     pub(crate) fn counts_at(&self, address: u32) -> AddressCounts
-        ensures { result ≡ record { address = address; executed = (view_of self.now).executed_at address;
-            taken = (view_of self.now).taken_at address } }
+        ensures { result ≡ record {
+          address = address;
+          executed = (view_of self.now).executed_at address;
+          taken = (view_of self.now).taken_at address;
+        } }
     {
         counts_at(self.image.counts, address)
     }

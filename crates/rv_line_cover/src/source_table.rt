@@ -3,12 +3,12 @@
 ghost use Rattle.std.specs.Prelude.{◌≡◌, ◌++◌, IfOk, OnOk};
 ghost use Rattle.rv_line_cover.specs.SourceTable.{amount_columns, source_row, source_rows, source_table, totals_columns, uncovered_line};
 
+use rv_count_tables::{Span, push_spans, push_text};
 use rv_cover_view::push_right_aligned;
 use rv_lcov::{
     Amount, LineCount, SourceCoverage, SourceTotals, push_ranges, totals_of, totals_of_all,
     uncovered_ranges,
 };
-use rv_count_tables::{Span, push_spans, push_text};
 use std::alloc::{AllocError, Global};
 
 /// Returns the table: a heading, a row for each source, and a row with the sums. With `uncovered`, the lines that never ran come after each
@@ -74,11 +74,7 @@ fn push_source_row(
 
 // Appends the columns of totals.
 #[tactic(auto, unfolding(crate::specs::SourceTable::totals_columns))]
-fn push_totals(
-    alloc: Global,
-    text: &mut Vec<u8>,
-    totals: SourceTotals,
-) -> Result<(), AllocError>
+fn push_totals(alloc: Global, text: &mut Vec<u8>, totals: SourceTotals) -> Result<(), AllocError>
     ensures { OnOk result (text.new.items ≡ text.old.items ++ totals_columns totals) }
 {
     push_amount(alloc, text, 8, totals.lines)?;
@@ -101,11 +97,7 @@ fn push_amount(
 }
 
 // Appends the lines that never ran, or nothing if each line ran.
-fn push_uncovered(
-    alloc: Global,
-    text: &mut Vec<u8>,
-    lines: &[LineCount],
-) -> Result<(), AllocError>
+fn push_uncovered(alloc: Global, text: &mut Vec<u8>, lines: &[LineCount]) -> Result<(), AllocError>
     ensures { OnOk result (text.new.items ≡ text.old.items ++ uncovered_line lines.now) }
 {
     let ranges = uncovered_ranges(alloc, lines)?;

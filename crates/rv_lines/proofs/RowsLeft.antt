@@ -39,7 +39,7 @@ module _ (base : ℕ) (lengths : List ℕ) (p : Parameters) (files : FileNumbers
   enough (suc k) (suc m) (suc n) (b ∷ bytes) i j l = read_one p files lengths m b bytes
       ∙ same_case (program m p.opcode_base lengths) (program n p.opcode_base lengths) (operation_at p.opcode_base lengths (b ∷ bytes))
       (λ op rest e. (let w = rest_shorter (length bytes) (operation_at p.opcode_base lengths (b ∷ bytes)) op rest (operation_within p.opcode_base lengths b bytes) e in
-          enough k m n rest (omega arith) (omega arith) (omega arith)))
+      enough k m n rest (omega arith) (omega arith) (omega arith)))
       ∙ sym (read_one p files lengths n b bytes)
 
   pub enough_bytes : (m : ℕ) (bytes : List ℕ) → length bytes ≤ m → program m p.opcode_base lengths bytes ≡ program (length bytes) p.opcode_base lengths bytes
@@ -89,9 +89,11 @@ checked_case files error all rows h = by_lacks (list_any (lacks_file files) all)
   by_open : (b : Bool) → cond {A = Result (List Row) UnitError} b (Err OpenSequence) (Ok all) ≡ Ok rows → all ≡ rows
   by_open true k = absurd cc
   by_open false k = cc
+
   by_error : (e : Option UnitError) → option_map_or Err e (require_closed all) ≡ Ok rows → all ≡ rows
   by_error (Some d) k = absurd cc
   by_error None k = by_open (is_open false all) k
+
   by_lacks : (b : Bool) → cond {A = Result (List Row) UnitError} b (Err FileNumber) (option_map_or Err error (require_closed all)) ≡ Ok rows → all ≡ rows
   by_lacks true k = absurd cc
   by_lacks false k = by_error error k
@@ -164,3 +166,26 @@ module _ (strings : Strings) where
         let sized : 0 < length (drop offset section) = omega (arith, length-drop offset section) in
         let positive = size_positive (drop offset section) sized in
         omega arith
+
+-- ---- the rows that are left
+
+pub nothing_left : (unit : ℕ) (p : Parameters) (files : FileNumbers) (lengths : List ℕ) (s : State) (bytes : List ℕ) (others : List UnitRow) → length bytes ≤ 0
+    → map (unit_row unit) (rows_from p lengths s bytes) ++ others ≡ others
+nothing_left unit p files lengths s bytes others le = ap (λ rows. map (unit_row unit) rows ++ others) (rows_end p files lengths s bytes le)
+
+module _ (strings : Strings) (section : List ℕ) (offset : ℕ) (unit : ℕ) (old : List Row) (none : old ≡ []) where
+  pub none_left : length section ≤ offset → map (unit_row unit) old ++ all_rows (units_after strings section offset) ≡ []
+  none_left le = ap (λ rows. map (unit_row unit) rows ++ all_rows (units_after strings section offset)) none ∙ ap all_rows (units_done strings section offset le)
+
+  pub unit_entered : (here : ℕ) (more : List UnitRow) → offset < length section → here ≡ min (unit_size (drop offset section)) (length (drop offset section))
+      → rows_of_result offset (rows_at strings (drop offset section)) ≡ more
+      → more ++ all_rows (units_after strings section (offset + here)) ≡ map (unit_row unit) old ++ all_rows (units_after strings section offset)
+  unit_entered here more lt h is = ap (λ rows. rows ++ all_rows (units_after strings section (offset + here))) (sym is)
+      ∙ sym (ap (λ rows. map (unit_row unit) rows ++ all_rows (units_after strings section offset)) none ∙ ap all_rows (units_on strings section offset here lt h))
+
+-- an operation that adds a row
+pub rows_added : (p : Parameters) (files : FileNumbers) (lengths : List ℕ) (s changing next : State) (bytes rest : List ℕ) (op : Operation) (added : Option Row) (row : Row) (all : List Row)
+    → 0 < length bytes → operation_at p.opcode_base lengths bytes ≡ Ok (op, rest) → changing ≡ apply p op s → added ≡ row_added op changing → next ≡ next_state p op changing
+    → added ≡ Some row → rows_from p lengths s bytes ≡ all → all ≡ row ∷ rows_from p lengths next rest
+rows_added p files lengths s changing next bytes rest op added row all lt h c a n is e =
+    rows_quiet p files lengths s changing next bytes rest op added all lt h c a n e ∙ ap (λ (x : Option Row). in_front x (rows_from p lengths next rest)) is

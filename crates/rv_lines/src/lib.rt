@@ -31,10 +31,10 @@ pub use law::{
 };
 pub use path::{SourcePath, source_path};
 pub use rows::Row;
+pub use rows_left::TableRows;
 pub use search::{RejectedUnits, find_lines};
 pub use sections::line_tables;
 pub use span::SourceLine;
-pub use rows_left::TableRows;
 pub use table_walk::{CoveredRange, UnitRow, table_rows};
 pub use tables::{LineTables, StringSections};
 

@@ -89,21 +89,21 @@ impl<'a> TableRows<'a> {
     {
         let offset = self.next_unit;
         let next_unit = offset + unit_size(bytes_from(self.tables.lines, offset));
-        match valid_program(&self.tables, offset as u32) {
-            None => TableRows {
+        let Some(program) = valid_program(&self.tables, offset as u32) else {
+            return TableRows {
                 tables: self.tables,
                 next_unit,
                 program: self.program,
                 state: self.state,
                 rest: &[],
-            },
-            Some(program) => TableRows {
-                tables: self.tables,
-                next_unit,
-                program,
-                state: State::initial(&program.parameters),
-                rest: program.bytes,
-            },
+            };
+        };
+        TableRows {
+            tables: self.tables,
+            next_unit,
+            program,
+            state: State::initial(&program.parameters),
+            rest: program.bytes,
         }
     }
 }
@@ -146,18 +146,17 @@ fn next_in_program<'a>(
     let mut state = from;
     let mut rest = bytes;
     while 0 < rest.len() {
-        let Ok((operation, after)) = operation_at(
-            program.parameters.opcode_base,
-            program.lengths,
-            rest,
-        ) else {
-            return None;
-        };
-        let changed = state.apply(&program.parameters, operation);
-        state = changed.next_state(&program.parameters, operation);
-        rest = after;
-        if let Some(row) = changed.row_added(operation) {
-            return Some(ProgramStep { row, state, rest });
+        match operation_at(program.parameters.opcode_base, program.lengths, rest) {
+            Err(_) => return None,
+            Ok((operation, after)) => {
+                let changed = state.apply(&program.parameters, operation);
+                let added = changed.row_added(operation);
+                state = changed.next_state(&program.parameters, operation);
+                rest = after;
+                if let Some(row) = added {
+                    return Some(ProgramStep { row, state, rest });
+                }
+            }
         }
     }
     None
