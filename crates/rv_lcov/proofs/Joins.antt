@@ -1,5 +1,6 @@
 -- The map from the keys of places to their counts, and the list of its values.
-use Rattle.std.proofs.Common.{◌≡◌, ◌∙◌, ◌==◌, ◌<◌, ℕ, suc, Bool, true, false, cond, List, [], ◌∷◌, map, Option, Some, None, refl, sym, ap, subst, eqb, arith}
+use Rattle.std.proofs.Common.{◌≡◌, ◌∙◌, ◌==◌, ◌≤◌, ℕ, cond, List, [], ◌∷◌, length, map, take, Option, Some, None, refl, sym, ap, subst, arith}
+use Rattle.std.proofs.lemmas.List.{take_all}
 use Rattle.std.specs.List.{find}
 use Rattle.std.specs.Map.{lookup}
 use Rattle.std.specs.List.Sorted.{IsStrictlySortedBy, IsStrictlyIncreasing}
@@ -64,3 +65,11 @@ pub keyed_insert : (k : ℕ) (c : PlaceCount) (entries : List (ℕ × PlaceCount
 keyed_insert k c [] h t = ap (λ n. n ∷ []) h
 keyed_insert k c (e ∷ es) h t = let u = head_keyed e.0 e.1 es t in
     insert_cases k c e es (insert_entry nat_cmp es k c) h u.0 u.1 (keyed_insert k c es h u.1)
+
+-- ---- at the end
+
+pub totals_if_ok : (how : Joining) (counts : List PlaceCount) (entries : List (ℕ × PlaceCount)) (index : ℕ) → length counts ≤ index → AreKeyed entries
+    → IsStrictlySortedBy nat_cmp (map (λ e. e.0) entries) → ((q : ℕ) → lookup (is_at (nat_cmp q)) entries ≡ total_of how q (take index counts))
+    → (found : List PlaceCount) → found ≡ values entries → AreTotals how counts found
+totals_if_ok how counts entries index le k o f found h = subst (AreTotals how counts) (sym h)
+    (totals_are how counts entries k o (λ q. f q ∙ ap (total_of how q) (take_all index counts le)))

@@ -71,10 +71,14 @@ line_elements bs ls = flat_map (line_element bs) ls
 
 -- ---- the document
 
+-- the start of the tag of a class, with its name and its file, which are both its path
+unfoldable pub class_names : List ℕ → List ℕ
+class_names path = codes "<class name=\"" ++ xml_text Attribute path ++ codes "\" filename=\"" ++ xml_text Attribute path ++ codes "\""
+
 -- the class of a source
 unfoldable pub class_text : SourceCoverage → List ℕ
-class_text s = codes "<class name=\"" ++ xml_text Attribute s.path ++ codes "\" filename=\"" ++ xml_text Attribute s.path ++ codes "\""
-    ++ rates_text (totals_of s) ++ codes ">\n<methods/>\n<lines>\n" ++ line_elements s.branches s.lines ++ codes "</lines>\n</class>\n"
+class_text s = class_names s.path ++ rates_text (totals_of s) ++ codes ">\n<methods/>\n<lines>\n"
+    ++ line_elements s.branches s.lines ++ codes "</lines>\n</class>\n"
 
 -- the tag that opens the document's element
 unfoldable pub coverage_tag : SourceTotals → List ℕ

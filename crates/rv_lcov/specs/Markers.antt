@@ -1,8 +1,8 @@
 -- The markers in comments that exclude lines from coverage (gcovr, "Exclusion Markers"; geninfo's manual, LCOV_EXCL_LINE, LCOV_EXCL_START,
 -- LCOV_EXCL_STOP).
-use Rattle.std.specs.Prelude.{◌+◌, ◌-◌, ◌==◌, ◌||◌, ◌&&◌, ℕ, Bool, not, false, List, [], ◌∷◌, codes, filter, length, nat_lt, position, slice_index_or, unwrap_or, if◌then◌else◌}
+use Rattle.std.specs.Prelude.{◌+◌, ◌-◌, ◌==◌, ◌||◌, ◌&&◌, ℕ, Bool, not, false, List, [], ◌∷◌, codes, filter, nat_lt, slice_index_or, if◌then◌else◌}
 use Rattle.std.specs.Prelude.{nat_eq}
-use Rattle.std.specs.List.{starts_with}
+use Rattle.std.specs.List.{position_or_len, starts_with}
 use Rattle.rv_lcov.specs.declared.source.SourceCoverage.{SourceCoverage}
 
 -- whether a text occurs in a line
@@ -38,9 +38,9 @@ abbrev pub lines_of_text : List ℕ → List (List ℕ)
 lines_of_text [] = []
 lines_of_text (b ∷ bytes) = if b == 10 then [] ∷ lines_of_text bytes else before_first b (lines_of_text bytes)
 
--- the length of the first line
+-- the length of the first line, without its line feed
 abbrev pub first_line_len : List ℕ → ℕ
-first_line_len text = unwrap_or (position (λ b. b == 10) text) (length text)
+first_line_len text = position_or_len (λ b. b == 10) text
 
 -- whether each line is excluded, given whether the lines before it end in an excluded section: it is in a section, or marked
 abbrev pub flags_from : Bool → List (List ℕ) → List Bool

@@ -30,7 +30,7 @@ joined how c other = record c {
 -- what was found for a place, with one more count of it
 abbrev pub joined_to : Joining → Option PlaceCount → PlaceCount → PlaceCount
 joined_to how None c = c
-joined_to how (Some found) c = joined how found c
+joined_to how (Some found) c = joined how c found
 
 -- what was found for the place with this key, after one more count
 abbrev pub found_after : Joining → ℕ → Option PlaceCount → PlaceCount → Option PlaceCount

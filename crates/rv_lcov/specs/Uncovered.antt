@@ -11,7 +11,7 @@ abbrev pub extended : Option LineRange → ℕ → LineRange
 extended None line = record { first = line; last = line }
 extended (Some range) line = record { first = range.first; last = line }
 
--- the ranges of lines that never ran, if the lines before them end in the range `open`: a line that ran ends it
+-- the ranges of lines that never ran, if the lines before them end in the range `current`: a line that ran ends it
 abbrev pub ranges_from : Option LineRange → List LineCount → List LineRange
 ranges_from None [] = []
 ranges_from (Some range) [] = range ∷ []

@@ -4,7 +4,7 @@ ghost use Rattle.std.specs.Prelude.{◌≡◌, ◌++◌, IfOk, OnOk, string_byte
 ghost use Rattle.std.specs.List.{flat_map};
 ghost use Rattle.rv_text.specs.Xml.{xml_text};
 ghost use Rattle.rv_text.specs.declared.xml.XmlContext.TheVariants.{Attribute};
-ghost use Rattle.rv_lcov.specs.Cobertura.{class_text, cobertura_text, condition_text, coverage_tag, line_element, line_elements, plus, rate_text, rates_text, saturated_sum, ten_thousandths, totals_of_all, ways_of_line};
+ghost use Rattle.rv_lcov.specs.Cobertura.{class_names, class_text, cobertura_text, condition_text, coverage_tag, line_element, line_elements, plus, rate_text, rates_text, saturated_sum, ten_thousandths, totals_of_all, ways_of_line};
 
 use crate::source::{BranchCount, LineCount, SourceCoverage};
 use crate::totals::{Amount, SourceTotals, totals_of};
@@ -120,21 +120,24 @@ fn push_classes(
 fn push_class(alloc: Global, text: &mut Vec<u8>, source: &SourceCoverage) -> Result<(), AllocError>
     ensures { OnOk result (text.new.items ≡ text.old.items ++ class_text source.now) }
 {
-    let path = attribute_text(alloc, source.path.as_slice())?;
-    push_spans(
-        text,
-        &[
-            Span::Text("<class name=\""),
-            Span::Text(path.as_str()),
-            Span::Text("\" filename=\""),
-            Span::Text(path.as_str()),
-            Span::Text("\""),
-        ],
-    )?;
+    push_class_names(alloc, text, source.path.as_slice())?;
     push_rates(text, totals_of(source))?;
     push_text(text, ">\n<methods/>\n<lines>\n")?;
     push_line_elements(text, source.lines.as_slice(), source.branches.as_slice())?;
     push_text(text, "</lines>\n</class>\n")
+}
+
+// Appends the start of the tag of a class, with its name and its file.
+#[tactic(auto, unfolding(crate::specs::Cobertura::class_names))]
+fn push_class_names(alloc: Global, text: &mut Vec<u8>, path: &[u8]) -> Result<(), AllocError>
+    ensures { OnOk result (text.new.items ≡ text.old.items ++ class_names path.now) }
+{
+    let path = attribute_text(alloc, path)?;
+    push_text(text, "<class name=\"")?;
+    push_text(text, path.as_str())?;
+    push_text(text, "\" filename=\"")?;
+    push_text(text, path.as_str())?;
+    push_text(text, "\"")
 }
 
 // Returns a text as the value of an attribute.

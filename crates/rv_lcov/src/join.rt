@@ -39,7 +39,7 @@ fn join_count(
     let key = count.key();
     let joined = match places.get(&key) {
         None => count,
-        Some(found) => how.join(*found, count),
+        Some(found) => how.join(count, *found),
     };
     places.insert(key, joined)?;
     Ok(())

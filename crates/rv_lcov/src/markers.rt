@@ -1,6 +1,6 @@
 //! The lines of a source that its comments exclude from coverage, as gcovr and lcov read them.
 
-ghost use Rattle.std.specs.Prelude.{◌≡◌, ◌+◌, ◌≤◌, IfOk, drop, filter, length, not};
+ghost use Rattle.std.specs.Prelude.{◌≡◌, ◌==◌, ◌||◌, ◌+◌, ◌≤◌, IfOk, drop, filter, length, not, position, take};
 ghost use Rattle.rv_lcov.specs.Markers.{excluded_lines, first_line_len, has_line_marker, included, is_excluded, occurs, section_after};
 
 use crate::source::{BranchCount, FunctionCount, LineCount, SourceCoverage};
@@ -14,14 +14,34 @@ pub fn excluded_lines(alloc: Global, text: &[u8]) -> Result<Vec<bool>, AllocErro
     let mut flags = Vec::new(alloc);
     let mut within = false;
     let mut rest = text;
-    while !rest.is_empty() {
-        let len = first_line_len(rest);
-        let line = &rest[..len];
+    while 0 < rest.len() {
+        let line = first_line(rest);
         within = section_after(line, within);
-        flags.push(within || has_line_marker(line))?;
-        rest = bytes_after(rest, len);
+        flags.push(is_line_excluded(line, within))?;
+        rest = after_first_line(rest);
     }
     Ok(flags)
+}
+
+// Whether a line is excluded, given whether it is in an excluded section.
+fn is_line_excluded(line: &[u8], within: bool) -> bool
+    ensures { result ≡ within || has_line_marker line.now }
+{
+    within || has_line_marker(line)
+}
+
+// Returns the first line, without its line feed.
+fn first_line(text: &[u8]) -> &[u8]
+    ensures { result.now ≡ take (first_line_len text.now) text.now }
+{
+    &text[..first_line_len(text)]
+}
+
+// Returns the bytes after the first line and its line feed.
+fn after_first_line(text: &[u8]) -> &[u8]
+    ensures { result.now ≡ drop (first_line_len text.now + 1) text.now }
+{
+    &text[text.len().min(first_line_len(text) + 1)..]
 }
 
 // Returns the length of the first line, without its line feed.
@@ -29,17 +49,17 @@ fn first_line_len(text: &[u8]) -> usize
     ensures value { result ≡ first_line_len text.now }
     ensures within { result ≤ length text.now }
 {
-    text.iter()
-        .position(|byte| *byte == b'\n')
-        .unwrap_or(text.len())
+    match index_of_line_feed(text) {
+        Some(index) => index,
+        None => text.len(),
+    }
 }
 
-// Returns the bytes after the first line, of this length, and after its line feed.
-fn bytes_after(text: &[u8], len: usize) -> &[u8]
-    requires { len ≤ length text.now }
-    ensures { result.now ≡ drop (len + 1) text.now }
+// Returns the index of the first line feed, or `None` if there is none.
+fn index_of_line_feed(text: &[u8]) -> Option<usize>
+    ensures { result ≡ position (λ b. b == 10) text.now }
 {
-    &text[text.len().min(len + 1)..]
+    text.iter().position(|byte| *byte == b'\n')
 }
 
 // Whether the lines after this one are in an excluded section, given whether those before it are.
@@ -64,7 +84,7 @@ fn occurs(line: &[u8], text: &[u8]) -> bool
     ensures { result ≡ occurs text.now line.now }
 {
     let mut rest = line;
-    while !rest.is_empty() {
+    while 0 < rest.len() {
         if rest.starts_with(text) {
             return true;
         }

@@ -19,24 +19,24 @@ pub fn uncovered_ranges(alloc: Global, lines: &[LineCount]) -> Result<Vec<LineRa
     ensures { IfOk result (λ ranges. ranges.items ≡ uncovered_ranges lines.now) }
 {
     let mut ranges = Vec::new(alloc);
-    let mut open = None;
+    let mut current = None;
     for line in lines {
         if 0 < line.executed {
-            push_range(&mut ranges, open)?;
-            open = None;
+            push_range(&mut ranges, current)?;
+            current = None;
         } else {
-            open = Some(extended(open, line.line));
+            current = Some(extended(current, line.line));
         }
     }
-    push_range(&mut ranges, open)?;
+    push_range(&mut ranges, current)?;
     Ok(ranges)
 }
 
 // Returns a range that goes on to a line, or one of this line alone.
-fn extended(open: Option<LineRange>, line: u32) -> LineRange
-    ensures { result ≡ extended open line }
+fn extended(current: Option<LineRange>, line: u32) -> LineRange
+    ensures { result ≡ extended current line }
 {
-    match open {
+    match current {
         None => LineRange {
             first: line,
             last: line,
@@ -49,10 +49,10 @@ fn extended(open: Option<LineRange>, line: u32) -> LineRange
 }
 
 // Appends a range, if there is one.
-fn push_range(ranges: &mut Vec<LineRange>, open: Option<LineRange>) -> Result<(), AllocError>
-    ensures { OnOk result (ranges.new.items ≡ ranges.old.items ++ ranges_from open []) }
+fn push_range(ranges: &mut Vec<LineRange>, current: Option<LineRange>) -> Result<(), AllocError>
+    ensures { OnOk result (ranges.new.items ≡ ranges.old.items ++ ranges_from current []) }
 {
-    match open {
+    match current {
         None => Ok(()),
         Some(range) => {
             ranges.push(range)?;

@@ -13,6 +13,8 @@ mod line_facts;
 mod lookup;
 mod rows;
 mod source_table;
+#[cfg(test)]
+mod tests;
 
 pub use coverage::coverage_of_images;
 pub use source_table::source_table;
