@@ -1,10 +1,10 @@
 //! The coverage of the code of a function.
 
-ghost use Rattle.std.specs.Prelude.{◌≡◌, ◌≤◌, ◌∷◌, [], IfOk, drop, length, true};
+ghost use Rattle.std.specs.Prelude.{◌≡◌, ◌≤◌, ◌∷◌, ◌++◌, [], IfOk, OnOk, drop, length, true};
 ghost use Rattle.rv_count_tables.specs.Table.{increase_from};
 ghost use Rattle.rv_counting.specs.Code.{size_of_code};
 ghost use Rattle.rv_counting.specs.Coverage.{is_branch_code};
-ghost use Rattle.rv_cover_view.specs.Codes.{branch_addresses, codes_from, first_code, first_half};
+ghost use Rattle.rv_cover_view.specs.Codes.{branch_addresses, branches_among, codes_from, first_code, first_half};
 ghost use Rattle.rv_cover_view.specs.Functions.{view_of_function};
 ghost use Rattle.rv_cover_view.specs.Cover.{totals_of_codes};
 
@@ -38,13 +38,21 @@ pub fn branches_of_function(alloc: Global, function: &Function<'_>) -> Result<Ve
     let mut rest = function.code;
     let mut address = function.address;
     while let Some(code) = first_code(rest) {
-        if is_branch_code(code) {
-            found.push(address)?;
-        }
+        push_branch(&mut found, address, code)?;
         address = address.wrapping_add(code_length(code));
         rest = bytes_after(rest, code);
     }
     Ok(found)
+}
+
+// Appends the address of an encoding if it is a conditional branch.
+fn push_branch(found: &mut Vec<u32>, address: u32, code: Code) -> Result<(), AllocError>
+    ensures { OnOk result (found.new.items ≡ found.old.items ++ branches_among ((address, code) ∷ [])) }
+{
+    if is_branch_code(code) {
+        found.push(address)?;
+    }
+    Ok(())
 }
 
 // Whether an encoding is a conditional branch.
