@@ -10,3 +10,11 @@ then_append xs a b p q h k = k ∙ ap (λ z. z ++ b) h ∙ append_assoc xs a b
 pub on_ok : {T E : Type 0} (r : Result T E) (P Q : Type 0) → (P → Q) → OnOk r P → OnOk r Q
 on_ok (Ok t) P Q f h = f h
 on_ok (Err e) P Q f h = tt
+
+pub append3 : (xs a b c p q r : List ℕ) → p ≡ xs ++ a → q ≡ p ++ b → r ≡ q ++ c → r ≡ xs ++ (a ++ (b ++ c))
+append3 xs a b c p q r h i j = then_append xs a (b ++ c) p r h (then_append p b c q r i j)
+
+pub append5 : (xs a b c d e p q r s t : List ℕ) → p ≡ xs ++ a → q ≡ p ++ b → r ≡ q ++ c → s ≡ r ++ d → t ≡ s ++ e
+    → t ≡ xs ++ (a ++ (b ++ (c ++ (d ++ e))))
+append5 xs a b c d e p q r s t h i j k l =
+    then_append xs a (b ++ (c ++ (d ++ e))) p t h (then_append p b (c ++ (d ++ e)) q t i (append3 q c d e r s t j k l))

@@ -34,7 +34,11 @@ one_line : (b : ℕ) (bytes : List ℕ) (z : Bool)
     → cond z ([] ∷ lines_of_text bytes) (before_first b (lines_of_text bytes))
     ≡ take (cond (not z) (1 + first_line_len bytes) 0) (b ∷ bytes) ∷ lines_of_text (drop (cond (not z) (1 + first_line_len bytes) 0 + 1) (b ∷ bytes))
 one_line b bytes true h = refl
-one_line b bytes false h = h
+one_line b bytes false h =
+    let m = first_line_len bytes in
+    let e : suc m ≡ 1 + m = omega arith in
+    let f : suc (m + 1) ≡ 1 + m + 1 = omega arith in
+    h ∙ ap (λ n. take n (b ∷ bytes) ∷ lines_of_text (drop (m + 1) bytes)) e ∙ ap (λ n. take (1 + m) (b ∷ bytes) ∷ lines_of_text (drop n (b ∷ bytes))) f
 
 pub first_line_of : (text : List ℕ) → 0 < length text → lines_of_text text ≡ take (first_line_len text) text ∷ lines_of_text (drop (first_line_len text + 1) text)
 first_line_of [] lt = absurd (omega arith)

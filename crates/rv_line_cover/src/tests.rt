@@ -108,13 +108,13 @@ DA:5,1\nDA:6,1\nLF:4\nLH:4\nend_of_record\n";
 
 // The table for people.
 const TABLE: &str = "          lines run    functions run       branches run  source\n\
-       2 of       2     1 of       1       0 of       0  ./twice.h\n\
-      10 of      13     2 of       3       3 of       4  a.c\n\
+\x20      2 of       2     1 of       1       0 of       0  ./twice.h\n\
+\x20     10 of      13     2 of       3       3 of       4  a.c\n\
 never ran: 10, 15-16\n\
-       3 of       4     1 of       1       2 of       4  b.c\n\
+\x20      3 of       4     1 of       1       2 of       4  b.c\n\
 never ran: 6\n\
-       4 of       4     0 of       0       0 of       0  start.S\n\
-      19 of      23     4 of       5       5 of       8  total\n";
+\x20      4 of       4     0 of       0       0 of       0  start.S\n\
+\x20     19 of      23     4 of       5       5 of       8  total\n";
 
 // Returns the bytes of hexadecimal digits.
 fn bytes_of(alloc: Global, digits: &str) -> Result<Vec<u8>, Fail> {
