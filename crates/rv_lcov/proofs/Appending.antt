@@ -11,10 +11,10 @@ pub on_ok : {T E : Type 0} (r : Result T E) (P Q : Type 0) → (P → Q) → OnO
 on_ok (Ok t) P Q f h = f h
 on_ok (Err e) P Q f h = tt
 
-pub append3 : (xs a b c p q r : List ℕ) → p ≡ xs ++ a → q ≡ p ++ b → r ≡ q ++ c → r ≡ xs ++ (a ++ (b ++ c))
-append3 xs a b c p q r h i j = then_append xs a (b ++ c) p r h (then_append p b c q r i j)
+pub append3 : (xs a b c p q r : List ℕ) → p ≡ xs ++ a → q ≡ p ++ b → r ≡ q ++ c → r ≡ xs ++ ((a ++ b) ++ c)
+append3 xs a b c p q r h i j = then_append xs (a ++ b) c q r (then_append xs a b p q h i) j
 
 pub append5 : (xs a b c d e p q r s t : List ℕ) → p ≡ xs ++ a → q ≡ p ++ b → r ≡ q ++ c → s ≡ r ++ d → t ≡ s ++ e
-    → t ≡ xs ++ (a ++ (b ++ (c ++ (d ++ e))))
+    → t ≡ xs ++ ((((a ++ b) ++ c) ++ d) ++ e)
 append5 xs a b c d e p q r s t h i j k l =
-    then_append xs a (b ++ (c ++ (d ++ e))) p t h (then_append p b (c ++ (d ++ e)) q t i (append3 q c d e r s t j k l))
+    then_append xs (((a ++ b) ++ c) ++ d) e s t (then_append xs ((a ++ b) ++ c) d r s (append3 xs a b c p q r h i j) k) l

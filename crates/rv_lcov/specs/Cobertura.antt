@@ -61,10 +61,13 @@ condition_text ways = if ways.all == 0 then [] else
     codes " branch=\"true\" condition-coverage=\"" ++ decimal (ten_thousandths ways / 100) ++ codes "% (" ++ decimal ways.run
     ++ codes "/" ++ decimal ways.all ++ codes ")\""
 
+-- the start of the tag of a line, with its number and how often it was executed
+unfoldable pub line_start : LineCount → List ℕ
+line_start l = codes "<line number=\"" ++ decimal l.line ++ codes "\" hits=\"" ++ decimal l.executed ++ codes "\""
+
 -- the element of a line
 unfoldable pub line_element : List BranchCount → LineCount → List ℕ
-line_element bs l = codes "<line number=\"" ++ decimal l.line ++ codes "\" hits=\"" ++ decimal l.executed ++ codes "\""
-    ++ condition_text (ways_of_line bs l.line) ++ codes "/>\n"
+line_element bs l = line_start l ++ condition_text (ways_of_line bs l.line) ++ codes "/>\n"
 
 abbrev pub line_elements : List BranchCount → List LineCount → List ℕ
 line_elements bs ls = flat_map (line_element bs) ls
@@ -80,11 +83,15 @@ unfoldable pub class_text : SourceCoverage → List ℕ
 class_text s = class_names s.path ++ rates_text (totals_of s) ++ codes ">\n<methods/>\n<lines>\n"
     ++ line_elements s.branches s.lines ++ codes "</lines>\n</class>\n"
 
--- the tag that opens the document's element
-unfoldable pub coverage_tag : SourceTotals → List ℕ
-coverage_tag t = codes "<coverage" ++ rates_text t ++ codes " lines-covered=\"" ++ decimal t.lines.run
+-- the attributes with the numbers of lines and branches, and the end of the document's tag
+unfoldable pub amounts_text : SourceTotals → List ℕ
+amounts_text t = codes " lines-covered=\"" ++ decimal t.lines.run
     ++ codes "\" lines-valid=\"" ++ decimal t.lines.all ++ codes "\" branches-covered=\"" ++ decimal t.branches.run
     ++ codes "\" branches-valid=\"" ++ decimal t.branches.all ++ codes "\" version=\"rvtest\" timestamp=\"0\">\n"
+
+-- the tag that opens the document's element
+unfoldable pub coverage_tag : SourceTotals → List ℕ
+coverage_tag t = codes "<coverage" ++ rates_text t ++ amounts_text t
 
 -- the coverage of sources
 unfoldable pub cobertura_text : List SourceCoverage → List ℕ

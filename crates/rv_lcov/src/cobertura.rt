@@ -4,7 +4,7 @@ ghost use Rattle.std.specs.Prelude.{◌≡◌, ◌++◌, IfOk, OnOk, string_byte
 ghost use Rattle.std.specs.List.{flat_map};
 ghost use Rattle.rv_text.specs.Xml.{xml_text};
 ghost use Rattle.rv_text.specs.declared.xml.XmlContext.TheVariants.{Attribute};
-ghost use Rattle.rv_lcov.specs.Cobertura.{class_names, class_text, cobertura_text, condition_text, coverage_tag, line_element, line_elements, plus, rate_text, rates_text, saturated_sum, ten_thousandths, totals_of_all, ways_of_line};
+ghost use Rattle.rv_lcov.specs.Cobertura.{amounts_text, class_names, class_text, cobertura_text, condition_text, coverage_tag, line_element, line_elements, line_start, plus, rate_text, rates_text, saturated_sum, ten_thousandths, totals_of_all, ways_of_line};
 
 use crate::source::{BranchCount, LineCount, SourceCoverage};
 use crate::totals::{Amount, SourceTotals, totals_of};
@@ -44,6 +44,14 @@ fn push_coverage_tag(text: &mut Vec<u8>, totals: SourceTotals) -> Result<(), All
 {
     push_text(text, "<coverage")?;
     push_rates(text, totals)?;
+    push_amounts(text, totals)
+}
+
+// Appends the attributes with the numbers of lines and branches, and the end of the tag.
+#[tactic(auto, unfolding(crate::specs::Cobertura::amounts_text))]
+fn push_amounts(text: &mut Vec<u8>, totals: SourceTotals) -> Result<(), AllocError>
+    ensures { OnOk result (text.new.items ≡ text.old.items ++ amounts_text totals) }
+{
     push_spans(
         text,
         &[
@@ -172,6 +180,16 @@ fn push_line_element(
 ) -> Result<(), AllocError>
     ensures { OnOk result (text.new.items ≡ text.old.items ++ line_element branches.now line.now) }
 {
+    push_line_start(text, line)?;
+    push_condition(text, ways_of_line(branches, line.line))?;
+    push_text(text, "/>\n")
+}
+
+// Appends the start of the tag of a line, with its number and how often it was executed.
+#[tactic(auto, unfolding(crate::specs::Cobertura::line_start))]
+fn push_line_start(text: &mut Vec<u8>, line: &LineCount) -> Result<(), AllocError>
+    ensures { OnOk result (text.new.items ≡ text.old.items ++ line_start line.now) }
+{
     push_spans(
         text,
         &[
@@ -181,9 +199,7 @@ fn push_line_element(
             Span::Number(line.executed),
             Span::Text("\""),
         ],
-    )?;
-    push_condition(text, ways_of_line(branches, line.line))?;
-    push_text(text, "/>\n")
+    )
 }
 
 // Appends the attributes of a line with branches, or nothing if it has none.

@@ -6,3 +6,4 @@ pub mod BranchFacts
 pub mod FunctionFacts
 pub mod Facts
 pub mod SourceTable
+pub mod Coverage

@@ -1,7 +1,9 @@
 //! The coverage of the sources of images.
 
-ghost use Rattle.std.specs.Prelude.{◌≡◌, true};
+ghost use Rattle.std.specs.Prelude.{◌≡◌, IfOk, true};
 ghost use Rattle.rv_count_tables.specs.Table.{IsValidTable, increase_from};
+ghost use Rattle.rv_cover_view.specs.JobImages.{images_of_files};
+ghost use Rattle.rv_line_cover.specs.Coverage.{IsCoverageOf};
 
 use crate::addresses::addresses_of;
 use crate::branch_facts::{branch_facts, code_addresses};
@@ -15,7 +17,7 @@ use crate::rows::rows_of_tables;
 use rv_base::Bytes;
 use rv_count_tables::{AddressCounts, CountTable};
 use rv_cover_view::{ImageFile, entry_of_image, functions_by_address};
-use rv_elf::CodeSymbols;
+use rv_elf::{CodeSymbols, functions};
 use rv_lcov::{SourceCoverage, sources_of};
 use rv_lines::line_tables;
 use std::alloc::{AllocError, Global};
@@ -27,6 +29,7 @@ pub fn coverage_of_images(
     images: &[ImageFile<'_>],
 ) -> Result<Vec<SourceCoverage>, AllocError>
     requires { IsValidTable table.now }
+    ensures { IfOk result (λ sources. IsCoverageOf table.now (images_of_files images.now) sources.items) }
 {
     let mut paths = Vec::new(alloc);
     let mut names = Vec::new(alloc);
@@ -86,7 +89,7 @@ fn push_texts(
     };
     let rows = rows_of_tables(alloc, &tables)?;
     push_paths(alloc, &tables, rows.as_slice(), paths)?;
-    let functions = functions_by_address(alloc, &image.image, image.bytes)?;
+    let functions = functions(alloc, &image.image, image.bytes)?;
     for function in functions.as_slice() {
         names.push(function.name.to_vec(alloc)?)?;
     }

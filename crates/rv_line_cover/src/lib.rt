@@ -12,9 +12,9 @@ mod image;
 mod line_facts;
 mod lookup;
 mod rows;
-mod source_table;
+mod terminal_table;
 #[cfg(test)]
 mod tests;
 
 pub use coverage::coverage_of_images;
-pub use source_table::source_table;
+pub use terminal_table::source_table;
