@@ -1,5 +1,5 @@
 -- How often each line of an image was executed. A line counts, for each symbol whose code has it, the most that an address there was executed.
-use Rattle.std.specs.Prelude.{◌≡◌, ◌==◌, ◌||◌, ◌&&◌, ◌++◌, ℕ, Bool, not, List, Option, Some, None, filter_map, option_and_then, option_map, if◌then◌else◌}
+use Rattle.std.specs.Prelude.{◌==◌, ◌||◌, ◌+◌, ◌*◌, ◌^◌, ◌++◌, ℕ, Bool, not, List, Option, Some, None, filter_map, option_and_then, option_map, if◌then◌else◌}
 use Rattle.std.specs.List.{list_any}
 use Rattle.rv_lcov.specs.declared.place_count.Joining.TheVariants.{Greatest}
 use Rattle.rv_lcov.specs.declared.place_count.PlaceCount.{PlaceCount}
@@ -32,9 +32,13 @@ own_fact i a = option_and_then (λ line. fact_at i line a) (i.line_at a)
 
 -- ---- a line whose only code lies at another line's address
 
--- whether a count is of this line
-abbrev pub is_at_line : ℕ → ℕ → PlaceCount → Bool
-is_at_line source line c = (c.source == source) && (c.line == line)
+-- the key of a count's line
+abbrev pub line_key : PlaceCount → ℕ
+line_key c = c.source * 2 ^ 32 + c.line
+
+-- whether one of the counts is of the line with this key
+abbrev pub has_line : List PlaceCount → ℕ → Bool
+has_line counts q = list_any (λ c. line_key c == q) counts
 
 -- the source line of a row
 abbrev pub source_of_row : UnitRow → SourceLine
@@ -48,20 +52,20 @@ is_passed_over r covering = r.row.ends || ((r.row.line == 0) || (not (covering.u
 abbrev pub chosen_source : ImageView → UnitRow → Option SourceLine
 chosen_source i r = option_and_then (λ covering. if is_passed_over r covering then None else Some (source_of_row r)) (i.line_at r.row.address)
 
--- a count, unless its line has a count among `own`
-abbrev pub unless_own : List PlaceCount → PlaceCount → Option PlaceCount
-unless_own own c = if list_any (is_at_line c.source c.line) own then None else Some c
+-- a count, unless its line has code of its own
+abbrev pub unless_own : (ℕ → Bool) → PlaceCount → Option PlaceCount
+unless_own has_own c = if has_own (line_key c) then None else Some c
 
 -- what the address of a row at which a statement begins says of the row's line, unless that line has code of its own
-abbrev pub fact_beside : ImageView → List PlaceCount → UnitRow → Option PlaceCount
-fact_beside i own r = if not r.row.is_stmt then None
-    else option_and_then (unless_own own) (option_and_then (λ line. fact_at i line r.row.address) (chosen_source i r))
+abbrev pub fact_beside : ImageView → (ℕ → Bool) → UnitRow → Option PlaceCount
+fact_beside i has_own r = if not r.row.is_stmt then None
+    else option_and_then (unless_own has_own) (option_and_then (λ line. fact_at i line r.row.address) (chosen_source i r))
 
 -- ---- all lines
 
 -- what the addresses say of the lines whose rows cover them, and what the addresses of rows say of lines without code of their own
 abbrev pub line_facts : ImageView → List ℕ → List UnitRow → List PlaceCount
-line_facts i addresses rows = let own = filter_map (own_fact i) addresses in own ++ filter_map (fact_beside i own) rows
+line_facts i addresses rows = let own = filter_map (own_fact i) addresses in own ++ filter_map (fact_beside i (has_line own)) rows
 
 -- `found` has each line once for each symbol, with the greatest of its counts there
 abbrev pub AreLinesOf : ImageView → List ℕ → List UnitRow → List PlaceCount → Type 0

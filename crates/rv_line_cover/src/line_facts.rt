@@ -1,16 +1,16 @@
 //! The lines of an image: what each address says of a line.
 
-ghost use Rattle.std.specs.Prelude.{◌≡◌, ◌++◌, IfOk, OnOk, filter_map, map};
-ghost use Rattle.std.specs.List.{list_any};
-ghost use Rattle.std.specs.List.Sorted.{IsStrictlyIncreasing};
-ghost use Rattle.rv_lcov.specs.PlaceCounts.{key};
-ghost use Rattle.rv_line_cover.specs.LineFacts.{AreLinesOf, chosen_source, fact_at, fact_beside, is_at_line, own_fact};
+ghost use Rattle.std.specs.Prelude.{◌≡◌, ◌++◌, ℕ, IfOk, OnOk, filter_map};
+ghost use Rattle.std.specs.BTreeSet.{contains};
+ghost use Rattle.std.specs.Ordering.{nat_cmp};
+ghost use Rattle.rv_line_cover.specs.LineFacts.{AreLinesOf, chosen_source, fact_at, fact_beside, has_line, line_key, own_fact};
 ghost use Rattle.rv_line_cover.specs.Lookup.{view_of};
 
 use crate::lookup::Lookup;
 use rv_lcov::{Joining, PlaceCount, join_counts};
 use rv_lines::{SourceLine, UnitRow};
 use std::alloc::{AllocError, Global};
+use std::collections::BTreeSet;
 
 /// Returns the lines of an image, each once for each symbol whose code has it, with the greatest count of its addresses there.
 pub(crate) fn lines_of_image(
@@ -20,10 +20,28 @@ pub(crate) fn lines_of_image(
     ensures { IfOk result (AreLinesOf (view_of image.now) image.now.lines.now.addresses.items image.now.image.now.rows.now) }
 {
     let mut facts = own_facts(alloc, image)?;
-    let own = join_counts(alloc, Joining::Greatest, facts.as_slice())?;
-    push_facts_beside(&mut facts, image, own.as_slice())?;
+    let own = line_keys(alloc, facts.as_slice())?;
+    push_facts_beside(&mut facts, image, &own)?;
     let how = Joining::Greatest;
     join_counts(alloc, how, facts.as_slice())
+}
+
+// Returns the keys of the lines of counts.
+fn line_keys(alloc: Global, counts: &[PlaceCount]) -> Result<BTreeSet<u64>, AllocError>
+    ensures { IfOk result (λ keys. (q : ℕ) → contains nat_cmp keys q ≡ has_line counts.now q) }
+{
+    let mut keys = BTreeSet::new(alloc);
+    for count in counts {
+        keys.insert(line_key(count))?;
+    }
+    Ok(keys)
+}
+
+// Returns the key of a count's line.
+fn line_key(count: &PlaceCount) -> u64
+    ensures { result ≡ line_key count.now }
+{
+    u64::from(count.source) * 0x1_0000_0000 + u64::from(count.line)
 }
 
 // Returns what the addresses say of the lines whose rows cover them.
@@ -60,15 +78,14 @@ fn fact_at(image: &Lookup<'_>, line: SourceLine, address: u32) -> Option<PlaceCo
     })
 }
 
-// Appends what the addresses of rows say of lines that have no code of their own. `own` are the lines that have.
+// Appends what the addresses of rows say of lines that have no code of their own. `own` has the keys of the lines that have.
 fn push_facts_beside(
     facts: &mut Vec<PlaceCount>,
     image: &Lookup<'_>,
-    own: &[PlaceCount],
+    own: &BTreeSet<u64>,
 ) -> Result<(), AllocError>
-    requires { IsStrictlyIncreasing (map key own.now) }
     ensures { OnOk result (facts.new.items
-        ≡ facts.old.items ++ filter_map (fact_beside (view_of image.now) own.now) image.now.image.now.rows.now) }
+        ≡ facts.old.items ++ filter_map (fact_beside (view_of image.now) (contains nat_cmp own.now)) image.now.image.now.rows.now) }
 {
     for row in image.image.rows {
         if let Some(fact) = fact_beside(image, own, row) {
@@ -79,16 +96,15 @@ fn push_facts_beside(
 }
 
 // Returns what the address of a row at which a statement begins says of the row's line, unless the line has code of its own.
-fn fact_beside(image: &Lookup<'_>, own: &[PlaceCount], row: &UnitRow) -> Option<PlaceCount>
-    requires { IsStrictlyIncreasing (map key own.now) }
-    ensures { result ≡ fact_beside (view_of image.now) own.now row.now }
+fn fact_beside(image: &Lookup<'_>, own: &BTreeSet<u64>, row: &UnitRow) -> Option<PlaceCount>
+    ensures { result ≡ fact_beside (view_of image.now) (contains nat_cmp own.now) row.now }
 {
     if !row.row.is_stmt {
         return None;
     }
     let line = chosen_source(image, row)?;
     let fact = fact_at(image, line, row.row.address)?;
-    if has_line(own, fact.source, fact.line) {
+    if own.contains(&line_key(&fact)) {
         return None;
     }
     Some(fact)
@@ -112,21 +128,4 @@ pub(crate) fn chosen_source(image: &Lookup<'_>, row: &UnitRow) -> Option<SourceL
         line: row.row.line,
         low: row.row.low,
     })
-}
-
-// Whether one of the counts, which are in order, is of this line.
-fn has_line(counts: &[PlaceCount], source: u32, line: u32) -> bool
-    requires { IsStrictlyIncreasing (map key counts.now) }
-    ensures { result ≡ list_any (is_at_line source line) counts.now }
-{
-    let first = PlaceCount {
-        source,
-        line,
-        number: 0,
-        executed: 0,
-        taken: 0,
-    };
-    let key = first.key();
-    let index = counts.partition_point(|count| count.key() < key);
-    index < counts.len() && counts[index].source == source && counts[index].line == line
 }
