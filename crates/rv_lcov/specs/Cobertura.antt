@@ -83,20 +83,31 @@ unfoldable pub class_text : SourceCoverage → List ℕ
 class_text s = class_names s.path ++ rates_text (totals_of s) ++ codes ">\n<methods/>\n<lines>\n"
     ++ line_elements s.branches s.lines ++ codes "</lines>\n</class>\n"
 
+-- the attributes with the numbers of lines
+unfoldable pub line_amounts : Amount → List ℕ
+line_amounts a = codes " lines-covered=\"" ++ decimal a.run ++ codes "\" lines-valid=\"" ++ decimal a.all ++ codes "\""
+
+-- the attributes with the numbers of branches, and the end of the document's tag
+unfoldable pub branch_amounts : Amount → List ℕ
+branch_amounts a = codes " branches-covered=\"" ++ decimal a.run ++ codes "\" branches-valid=\"" ++ decimal a.all
+    ++ codes "\" version=\"rvtest\" timestamp=\"0\">\n"
+
 -- the attributes with the numbers of lines and branches, and the end of the document's tag
-unfoldable pub amounts_text : SourceTotals → List ℕ
-amounts_text t = codes " lines-covered=\"" ++ decimal t.lines.run
-    ++ codes "\" lines-valid=\"" ++ decimal t.lines.all ++ codes "\" branches-covered=\"" ++ decimal t.branches.run
-    ++ codes "\" branches-valid=\"" ++ decimal t.branches.all ++ codes "\" version=\"rvtest\" timestamp=\"0\">\n"
+abbrev pub amounts_text : SourceTotals → List ℕ
+amounts_text t = line_amounts t.lines ++ branch_amounts t.branches
 
 -- the tag that opens the document's element
 unfoldable pub coverage_tag : SourceTotals → List ℕ
 coverage_tag t = codes "<coverage" ++ rates_text t ++ amounts_text t
 
+-- what comes before the classes
+unfoldable pub head_text : SourceTotals → List ℕ
+head_text t =
+    codes "<?xml version=\"1.0\" encoding=\"UTF-8\"?>\n<!DOCTYPE coverage SYSTEM \"http://cobertura.sourceforge.net/xml/coverage-04.dtd\">\n"
+    ++ coverage_tag t ++ codes "<sources><source>.</source></sources>\n<packages>\n<package name=\"\"" ++ rates_text t
+    ++ codes ">\n<classes>\n"
+
 -- the coverage of sources
 unfoldable pub cobertura_text : List SourceCoverage → List ℕ
-cobertura_text sources =
-    codes "<?xml version=\"1.0\" encoding=\"UTF-8\"?>\n<!DOCTYPE coverage SYSTEM \"http://cobertura.sourceforge.net/xml/coverage-04.dtd\">\n"
-    ++ coverage_tag (totals_of_all sources) ++ codes "<sources><source>.</source></sources>\n<packages>\n<package name=\"\""
-    ++ rates_text (totals_of_all sources) ++ codes ">\n<classes>\n" ++ flat_map class_text sources
+cobertura_text sources = head_text (totals_of_all sources) ++ flat_map class_text sources
     ++ codes "</classes>\n</package>\n</packages>\n</coverage>\n"

@@ -4,7 +4,7 @@ ghost use Rattle.std.specs.Prelude.{◌≡◌, ◌++◌, IfOk, OnOk, string_byte
 ghost use Rattle.std.specs.List.{flat_map};
 ghost use Rattle.rv_text.specs.Xml.{xml_text};
 ghost use Rattle.rv_text.specs.declared.xml.XmlContext.TheVariants.{Attribute};
-ghost use Rattle.rv_lcov.specs.Cobertura.{amounts_text, class_names, class_text, cobertura_text, condition_text, coverage_tag, line_element, line_elements, line_start, plus, rate_text, rates_text, saturated_sum, ten_thousandths, totals_of_all, ways_of_line};
+ghost use Rattle.rv_lcov.specs.Cobertura.{amounts_text, branch_amounts, class_names, class_text, cobertura_text, condition_text, coverage_tag, head_text, line_amounts, line_element, line_elements, line_start, plus, rate_text, rates_text, saturated_sum, ten_thousandths, totals_of_all, ways_of_line};
 
 use crate::source::{BranchCount, LineCount, SourceCoverage};
 use crate::totals::{Amount, SourceTotals, totals_of};
@@ -16,25 +16,32 @@ use std::alloc::{AllocError, Global};
 pub fn cobertura_text(alloc: Global, sources: &[SourceCoverage]) -> Result<Vec<u8>, AllocError>
     ensures { IfOk result (λ text. text.items ≡ cobertura_text sources.now) }
 {
-    let totals = totals_of_all(sources);
     let mut text = Vec::new(alloc);
-    push_text(
-        &mut text,
-        "<?xml version=\"1.0\" encoding=\"UTF-8\"?>\n<!DOCTYPE coverage SYSTEM \"http://cobertura.sourceforge.net/xml/coverage-04.dtd\">\n",
-    )?;
-    push_coverage_tag(&mut text, totals)?;
-    push_text(
-        &mut text,
-        "<sources><source>.</source></sources>\n<packages>\n<package name=\"\"",
-    )?;
-    push_rates(&mut text, totals)?;
-    push_text(&mut text, ">\n<classes>\n")?;
+    push_head(&mut text, totals_of_all(sources))?;
     push_classes(alloc, &mut text, sources)?;
     push_text(
         &mut text,
         "</classes>\n</package>\n</packages>\n</coverage>\n",
     )?;
     Ok(text)
+}
+
+// Appends what comes before the classes.
+#[tactic(auto, unfolding(crate::specs::Cobertura::head_text))]
+fn push_head(text: &mut Vec<u8>, totals: SourceTotals) -> Result<(), AllocError>
+    ensures { OnOk result (text.new.items ≡ text.old.items ++ head_text totals) }
+{
+    push_text(
+        text,
+        "<?xml version=\"1.0\" encoding=\"UTF-8\"?>\n<!DOCTYPE coverage SYSTEM \"http://cobertura.sourceforge.net/xml/coverage-04.dtd\">\n",
+    )?;
+    push_coverage_tag(text, totals)?;
+    push_text(
+        text,
+        "<sources><source>.</source></sources>\n<packages>\n<package name=\"\"",
+    )?;
+    push_rates(text, totals)?;
+    push_text(text, ">\n<classes>\n")
 }
 
 // Appends the tag that opens the document's element.
@@ -48,21 +55,42 @@ fn push_coverage_tag(text: &mut Vec<u8>, totals: SourceTotals) -> Result<(), All
 }
 
 // Appends the attributes with the numbers of lines and branches, and the end of the tag.
-#[tactic(auto, unfolding(crate::specs::Cobertura::amounts_text))]
 fn push_amounts(text: &mut Vec<u8>, totals: SourceTotals) -> Result<(), AllocError>
     ensures { OnOk result (text.new.items ≡ text.old.items ++ amounts_text totals) }
+{
+    push_line_amounts(text, totals.lines)?;
+    push_branch_amounts(text, totals.branches)
+}
+
+// Appends the attributes with the numbers of lines.
+#[tactic(auto, unfolding(crate::specs::Cobertura::line_amounts))]
+fn push_line_amounts(text: &mut Vec<u8>, lines: Amount) -> Result<(), AllocError>
+    ensures { OnOk result (text.new.items ≡ text.old.items ++ line_amounts lines) }
 {
     push_spans(
         text,
         &[
             Span::Text(" lines-covered=\""),
-            Span::Number(totals.lines.run),
+            Span::Number(lines.run),
             Span::Text("\" lines-valid=\""),
-            Span::Number(totals.lines.all),
-            Span::Text("\" branches-covered=\""),
-            Span::Number(totals.branches.run),
+            Span::Number(lines.all),
+            Span::Text("\""),
+        ],
+    )
+}
+
+// Appends the attributes with the numbers of branches, and the end of the tag.
+#[tactic(auto, unfolding(crate::specs::Cobertura::branch_amounts))]
+fn push_branch_amounts(text: &mut Vec<u8>, branches: Amount) -> Result<(), AllocError>
+    ensures { OnOk result (text.new.items ≡ text.old.items ++ branch_amounts branches) }
+{
+    push_spans(
+        text,
+        &[
+            Span::Text(" branches-covered=\""),
+            Span::Number(branches.run),
             Span::Text("\" branches-valid=\""),
-            Span::Number(totals.branches.all),
+            Span::Number(branches.all),
             Span::Text("\" version=\"rvtest\" timestamp=\"0\">\n"),
         ],
     )
