@@ -2,7 +2,7 @@
 use Rattle.std.specs.Prelude.{◌++◌, ◌==◌, ℕ, Bool, List, [], codes, length, if◌then◌else◌}
 use Rattle.std.specs.List.{flat_map}
 use Rattle.rv_count_tables.specs.Printable.{printable_text}
-use Rattle.rv_cover_view.specs.Text.{right}
+use Rattle.rv_cover_view.specs.Text.{right_aligned}
 use Rattle.rv_lcov.specs.declared.source.LineCount.{LineCount}
 use Rattle.rv_lcov.specs.declared.source.SourceCoverage.{SourceCoverage}
 use Rattle.rv_lcov.specs.declared.totals.Amount.{Amount}
@@ -13,7 +13,7 @@ use Rattle.rv_lcov.specs.Uncovered.{ranges_text, uncovered_ranges}
 
 -- the columns of an amount: `RUN of ALL`
 abbrev pub amount_columns : ℕ → Amount → List ℕ
-amount_columns width a = right width a.run ++ codes " of " ++ right 7 a.all
+amount_columns width a = right_aligned width a.run ++ codes " of " ++ right_aligned 7 a.all
 
 -- the columns of lines, functions and branches
 unfoldable pub totals_columns : SourceTotals → List ℕ
