@@ -3,7 +3,7 @@
 ghost use Rattle.std.specs.Prelude.{◌≡◌, IfOk, OnOk, option_map, option_and_then};
 ghost use Rattle.std.specs.BTreeMap.{get};
 ghost use Rattle.std.specs.Ordering.{nat_cmp};
-ghost use Rattle.rv_lines.specs.EntriesInside.{view_strings};
+ghost use Rattle.rv_lines.specs.TableViews.{view_strings};
 ghost use Rattle.rv_lines.specs.Paths.{path_of, path_text};
 ghost use Rattle.rv_line_cover.specs.FileSources.{AreSourcesOf, file_key, index_of_text, path_of_file, source_of};
 

@@ -1,7 +1,7 @@
 //! The rows of an image's line tables, as a list.
 
 ghost use Rattle.std.specs.Prelude.{◌≡◌, IfOk};
-ghost use Rattle.rv_lines.specs.EntriesInside.{view_strings};
+ghost use Rattle.rv_lines.specs.TableViews.{view_strings};
 ghost use Rattle.rv_lines.specs.Lines.{units_of};
 ghost use Rattle.rv_lines.specs.TableRows.{all_rows};
 

@@ -14,4 +14,4 @@ pub mod TableRows
 pub mod Paths
 pub mod PathsInside
 pub mod Sections
-pub mod SectionsInside
+pub mod TableViews

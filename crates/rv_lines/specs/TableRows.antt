@@ -9,7 +9,7 @@ use Rattle.rv_lines.specs.declared.table_walk.CoveredRange.{CoveredRange}
 use Rattle.rv_lines.specs.declared.rows_left.TableRows.{TableRows}
 use Rattle.rv_lines.specs.declared.table_walk.UnitRow.{UnitRow}
 use Rattle.rv_lines.specs.Entries.{Strings}
-use Rattle.rv_lines.specs.EntriesInside.{view_strings}
+use Rattle.rv_lines.specs.TableViews.{view_strings}
 use Rattle.rv_lines.specs.Lines.{covers_nothing}
 use Rattle.rv_lines.specs.Operations.{program}
 use Rattle.rv_lines.specs.Rows.{rows_of}

@@ -2,7 +2,7 @@
 ghost use Rattle.std.specs.Prelude.{◌≡◌, ◌<◌, ◌≤◌, ◌^◌, length, MatchResult, IfOk, Ok, Err};
 ghost use Rattle.rv_elf.specs.NamedSections.{HasSectionNames};
 ghost use Rattle.rv_lines.specs.Sections.{readable_bytes, bytes_named, tables_of, has_no_lines, line_tables};
-ghost use Rattle.rv_lines.specs.SectionsInside.{view_tables};
+ghost use Rattle.rv_lines.specs.TableViews.{view_tables};
 
 use crate::error::LinesError;
 use crate::tables::{LineTables, StringSections};

@@ -1,6 +1,6 @@
 //! The rows of a whole table, one after the other, and the addresses that a row covers.
 ghost use Rattle.std.specs.Prelude.{◌≡◌, ◌<◌, [], ◌∷◌, drop, length, map, IfSome, MatchOption};
-ghost use Rattle.rv_lines.specs.EntriesInside.{view_strings};
+ghost use Rattle.rv_lines.specs.TableViews.{view_strings};
 ghost use Rattle.rv_lines.specs.Lines.{units_of};
 ghost use Rattle.rv_lines.specs.Rows.{initial};
 ghost use Rattle.rv_lines.specs.TableRows.{all_rows, covered, rows_after, rows_left, rows_of_result, unit_row};

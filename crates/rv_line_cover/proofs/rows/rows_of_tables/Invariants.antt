@@ -1,5 +1,5 @@
 use Rattle.std.proofs.Common.{◌≡◌, ◌++◌, length}
-use Rattle.rv_lines.specs.EntriesInside.{view_strings}
+use Rattle.rv_lines.specs.TableViews.{view_strings}
 use Rattle.rv_lines.specs.Lines.{units_of}
 use Rattle.rv_lines.specs.TableRows.{all_rows, rows_left}
 use Rattle.rv_line_cover.proofs.rows.rows_of_tables.Given as goal

@@ -1,5 +1,5 @@
 use Rattle.std.proofs.Common.{sym, drop}
-use Rattle.rv_lines.specs.EntriesInside.{view_strings}
+use Rattle.rv_lines.specs.TableViews.{view_strings}
 use Rattle.rv_lines.specs.Units.{rows_at}
 use Rattle.rv_lines.proofs.RowsLeft.{unit_valid}
 use Rattle.rv_lines.proofs.table_walk.valid_program.Goals as goal

@@ -1,5 +1,5 @@
 use Rattle.std.proofs.Common.{◌≡◌, ◌∙◌, ◌<◌, ◌+◌, ◌++◌, [], ap, sym, drop, length, map, min, arith}
-use Rattle.rv_lines.specs.EntriesInside.{view_strings}
+use Rattle.rv_lines.specs.TableViews.{view_strings}
 use Rattle.rv_lines.specs.declared.rows.State.{State}
 use Rattle.rv_lines.specs.TableRows.{all_rows, rows_after, unit_row, units_after}
 use Rattle.rv_lines.specs.Units.{unit_size}

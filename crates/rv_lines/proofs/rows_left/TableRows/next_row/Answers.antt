@@ -1,5 +1,5 @@
 use Rattle.std.proofs.Common.{◌∙◌, sym}
-use Rattle.rv_lines.specs.EntriesInside.{view_strings}
+use Rattle.rv_lines.specs.TableViews.{view_strings}
 use Rattle.rv_lines.specs.TableRows.{rows_after}
 use Rattle.rv_lines.proofs.RowsLeft.{none_left}
 use Rattle.rv_lines.proofs.rows_left.TableRows.next_row.Goals as goal
