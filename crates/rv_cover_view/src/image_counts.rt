@@ -66,7 +66,7 @@ fn has_path(table: &CountTable, path: &[u8]) -> bool
 }
 
 /// Returns a table's counts of the image with these bytes, which the digest identifies, or no counts if it does not have the image.
-pub(crate) fn counts_of<'t>(table: &'t CountTable, bytes: &[u8]) -> &'t [AddressCounts]
+pub fn counts_of<'t>(table: &'t CountTable, bytes: &[u8]) -> &'t [AddressCounts]
     requires { IsValidTable table.now }
     ensures counts { result.now ≡ counts_of table.now bytes.now }
     ensures increasing { increase_from 0 result.now ≡ true }

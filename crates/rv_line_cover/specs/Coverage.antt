@@ -1,12 +1,8 @@
 -- The coverage of the sources of images, by the counts of a table. An image without line tables has none.
-use Rattle.std.specs.Prelude.{◌≡◌, ◌++◌, ℕ, not, List, [], ◌∷◌, Option, Some, None, filter, filter_map, map}
+use Rattle.std.specs.Prelude.{◌≡◌, ℕ, List, [], ◌∷◌, Option, Some, None, filter_map, map}
 use Rattle.std.specs.Result.{result_ok}
-use Rattle.std.specs.List.{flat_map, list_any}
-use Rattle.std.specs.List.Sorted.{IsStrictlySortedBy}
-use Rattle.std.specs.Cmp.Lexicographic.{slice_cmp}
+use Rattle.std.specs.List.{flat_map}
 use Rattle.std.specs.Option.{option_map_or}
-use Rattle.std.specs.Ordering.{nat_cmp}
-use Rattle.std.specs.Str.{bytes_eq}
 use Rattle.rv_count_tables.specs.declared.table.AddressCounts.{AddressCounts}
 use Rattle.rv_count_tables.specs.declared.table.CountTable.{CountTable}
 use Rattle.rv_count_tables.specs.Table.{executed_at, taken_at}
@@ -24,11 +20,12 @@ use Rattle.rv_lines.specs.TableRows.{all_rows}
 use Rattle.rv_line_cover.specs.declared.facts.Facts.{Facts}
 use Rattle.rv_line_cover.specs.Addresses.{IsAddressSet, all_addresses}
 use Rattle.rv_line_cover.specs.BranchFacts.{branch_facts, code_addresses}
-use Rattle.rv_line_cover.specs.Facts.{ArePlaceCounts}
-use Rattle.rv_line_cover.specs.FileSources.{AreSourcesOf, path_of_file}
+use Rattle.rv_line_cover.specs.Facts.{ArePlaceCounts, HasNoFacts, IsJoined}
+use Rattle.rv_line_cover.specs.FileSources.{AreSourcesOf, paths_of_rows}
 use Rattle.rv_line_cover.specs.FunctionFacts.{function_fact}
 use Rattle.rv_line_cover.specs.LineFacts.{AreLinesOf, ImageView}
 use Rattle.rv_line_cover.specs.Lookup.{found_line, symbol_value}
+use Rattle.rv_line_cover.specs.TextSets.{IsTextSet}
 
 -- the line tables of an image, or `None` if they cannot be read
 abbrev pub tables_of : ImageFileView → Option Tables
@@ -40,15 +37,9 @@ rows_of tables = all_rows (units_of tables.strings tables.lines)
 
 -- ---- sources and names
 
--- `found` has each of the texts `all` once, in byte order
-pub record IsTextSet (all found : List (List ℕ)) : Type 0 where
-  pub rising : IsStrictlySortedBy (slice_cmp nat_cmp) found
-  pub each : (text : List ℕ) → list_any (bytes_eq text) found ≡ list_any (bytes_eq text) all
-
--- the paths of the files that the rows of line tables name
+-- the paths of the sources of line tables
 abbrev pub paths_of_tables : Tables → List (List ℕ)
-paths_of_tables tables = filter_map (λ r. path_of_file tables.strings tables.lines r.unit r.row.file)
-    (filter (λ r. not r.row.ends) (rows_of tables))
+paths_of_tables tables = paths_of_rows tables.strings tables.lines (rows_of tables)
 
 -- the paths of the sources of an image
 abbrev pub paths_of_image : ImageFileView → List (List ℕ)
@@ -72,35 +63,23 @@ view_of_image image counts tables addresses sources = record {
 
 -- `facts` are what an image with these line tables says of lines, branches and functions
 pub record AreFactsOf (paths names : List (List ℕ)) (image : ImageFileView) (counts : List AddressCounts) (tables : Tables) (facts : Facts) : Type 0 where
-  pub code : List FunctionView
-  pub once : IsEachOnce (functions image.image image.bytes) code
+  pub found : List FunctionView
+  pub each_once : IsEachOnce (functions image.image image.bytes) found
   pub addresses : List ℕ
-  pub looked_up : IsAddressSet (all_addresses (rows_of tables) counts (flat_map code_addresses code)) addresses
+  pub looked_up : IsAddressSet (all_addresses (rows_of tables) counts (flat_map code_addresses found)) addresses
   pub sources : ℕ → ℕ → Option ℕ
   pub files : AreSourcesOf tables.strings tables.lines (rows_of tables) paths sources
   pub lines : AreLinesOf (view_of_image image counts tables addresses sources) addresses (rows_of tables) facts.lines.items
-  pub branches : facts.branches.items ≡ flat_map (branch_facts (view_of_image image counts tables addresses sources)) code
-  pub functions_are : facts.functions.items
-      ≡ filter_map (function_fact (view_of_image image counts tables addresses sources) (rows_of tables) names) code
-
--- ---- all images
-
--- the facts of a list in front of those of another one
-pub record IsJoined (front back all : Facts) : Type 0 where
-  pub lines : all.lines.items ≡ front.lines.items ++ back.lines.items
-  pub branches : all.branches.items ≡ front.branches.items ++ back.branches.items
-  pub functions : all.functions.items ≡ front.functions.items ++ back.functions.items
-
--- no facts
-pub record HasNoFacts (facts : Facts) : Type 0 where
-  pub lines : facts.lines.items ≡ []
-  pub branches : facts.branches.items ≡ []
-  pub functions : facts.functions.items ≡ []
+  pub branches : facts.branches.items ≡ flat_map (branch_facts (view_of_image image counts tables addresses sources)) found
+  pub called : facts.functions.items
+      ≡ filter_map (function_fact (view_of_image image counts tables addresses sources) (rows_of tables) names) found
 
 -- `facts` are those of an image: none if it has no line tables
 abbrev pub AreFactsIfRead : List (List ℕ) → List (List ℕ) → ImageFileView → List AddressCounts → Option Tables → Facts → Type 0
 AreFactsIfRead paths names image counts None facts = HasNoFacts facts
 AreFactsIfRead paths names image counts (Some tables) facts = AreFactsOf paths names image counts tables facts
+
+-- ---- all images
 
 -- `facts` are those of images, one after the other
 abbrev pub AreFactsOfAll : List (List ℕ) → List (List ℕ) → CountTable → List ImageFileView → Facts → Type 0

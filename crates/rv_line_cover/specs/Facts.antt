@@ -1,10 +1,26 @@
 -- The facts of images, and their sums.
-use Rattle.std.specs.Prelude.{◌≡◌, ◌%◌, ◌^◌, ℕ, List, [], ◌∷◌, map}
+use Rattle.std.specs.Prelude.{◌≡◌, ◌%◌, ◌^◌, ◌++◌, List, [], ◌∷◌, map}
 use Rattle.rv_lcov.specs.declared.by_source.PlaceCounts.{PlaceCounts}
 use Rattle.rv_lcov.specs.declared.place_count.Joining.TheVariants.{Least, Sum}
 use Rattle.rv_lcov.specs.declared.place_count.PlaceCount.{PlaceCount}
 use Rattle.rv_lcov.specs.PlaceCounts.{AreTotals}
 use Rattle.rv_line_cover.specs.declared.facts.Facts.{Facts}
+
+-- ---- facts of several images
+
+-- `all` has the facts `front`, and then the facts `back`
+pub record IsJoined (front back all : Facts) : Type 0 where
+  pub lines : all.lines.items ≡ front.lines.items ++ back.lines.items
+  pub branches : all.branches.items ≡ front.branches.items ++ back.branches.items
+  pub functions : all.functions.items ≡ front.functions.items ++ back.functions.items
+
+-- no facts
+pub record HasNoFacts (facts : Facts) : Type 0 where
+  pub lines : facts.lines.items ≡ []
+  pub branches : facts.branches.items ≡ []
+  pub functions : facts.functions.items ≡ []
+
+-- ---- sums
 
 -- a count without its number, without its line, and with its line in place of how often it was executed
 abbrev pub without_number : PlaceCount → PlaceCount

@@ -1,5 +1,5 @@
 -- The sources of the files that rows name.
-use Rattle.std.specs.Prelude.{◌≡◌, ◌==◌, ◌+◌, ◌*◌, ◌^◌, ℕ, Bool, false, List, Option, Some, None, nat_lt, option_and_then, option_map, position, if◌then◌else◌}
+use Rattle.std.specs.Prelude.{◌≡◌, ◌+◌, ◌*◌, ◌^◌, ℕ, false, not, List, Option, Some, None, filter, filter_map, nat_lt, option_and_then, option_map, position, if◌then◌else◌}
 use Rattle.std.specs.BTreeMap.{get}
 use Rattle.std.specs.List.{AllByRecursion}
 use Rattle.std.specs.Ordering.{nat_cmp}
@@ -21,6 +21,14 @@ source_of files unit file = get nat_cmp files.sources (file_key unit file)
 abbrev pub path_of_file : Strings → List ℕ → ℕ → ℕ → Option (List ℕ)
 path_of_file strings section unit file = option_map path_text (path_of strings section unit file)
 
+-- the path of the file that a row names, or `None` if it has none
+abbrev pub path_of_row : Strings → List ℕ → UnitRow → Option (List ℕ)
+path_of_row strings section row = path_of_file strings section row.unit row.row.file
+
+-- the paths of the files that rows name
+abbrev pub paths_of_rows : Strings → List ℕ → List UnitRow → List (List ℕ)
+paths_of_rows strings section rows = filter_map (path_of_row strings section) (filter (λ row. not row.row.ends) rows)
+
 -- an index below 2^32
 abbrev pub small_index : ℕ → Option ℕ
 small_index index = if nat_lt index (2 ^ 32) then Some index else None
@@ -32,7 +40,7 @@ index_of_text texts text = option_and_then small_index (position (λ other. byte
 -- the file that a row names has the source of its path
 abbrev pub HasSourceOf : Strings → List ℕ → List (List ℕ) → (ℕ → ℕ → Option ℕ) → UnitRow → Type 0
 HasSourceOf strings section paths sources row = row.row.ends ≡ false
-    → sources row.unit row.row.file ≡ option_and_then (index_of_text paths) (path_of_file strings section row.unit row.row.file)
+    → sources row.unit row.row.file ≡ option_and_then (index_of_text paths) (path_of_row strings section row)
 
 -- the files that rows name have the sources of their paths
 abbrev pub AreSourcesOf : Strings → List ℕ → List UnitRow → List (List ℕ) → (ℕ → ℕ → Option ℕ) → Type 0

@@ -1,5 +1,5 @@
 -- How often each function of an image was called, by line.
-use Rattle.std.specs.Prelude.{◌==◌, ◌&&◌, ℕ, Bool, List, [], ◌∷◌, Option, None, option_and_then, option_map, if◌then◌else◌}
+use Rattle.std.specs.Prelude.{◌==◌, ℕ, List, [], ◌∷◌, Option, None, option_and_then, option_map, if◌then◌else◌}
 use Rattle.std.specs.Option.{option_or}
 use Rattle.rv_cover_view.specs.Functions.{address_of}
 use Rattle.rv_elf.specs.Functions.{FunctionView}

@@ -1,5 +1,7 @@
+pub mod TextSets
 pub mod Addresses
 pub mod FileSources
+pub mod FileSourcesInside
 pub mod LineFacts
 pub mod Lookup
 pub mod BranchFacts

@@ -1,7 +1,7 @@
 //! The facts of images, and their sums.
 
-ghost use Rattle.std.specs.Prelude.{◌≡◌, IfOk, map};
-ghost use Rattle.rv_line_cover.specs.Facts.{AreFunctionCounts, ArePlaceCounts, line_as_count, with_lines, without_line, without_number};
+ghost use Rattle.std.specs.Prelude.{◌≡◌, IfOk, OnOk, map};
+ghost use Rattle.rv_line_cover.specs.Facts.{AreFunctionCounts, ArePlaceCounts, HasNoFacts, IsJoined, line_as_count, with_lines, without_line, without_number};
 
 use rv_base::Sequence;
 use rv_lcov::{Joining, PlaceCount, PlaceCounts, join_counts};
@@ -13,6 +13,28 @@ pub struct Facts {
     pub lines: Vec<PlaceCount>,
     pub branches: Vec<PlaceCount>,
     pub functions: Vec<PlaceCount>,
+}
+
+impl Facts {
+    /// Returns no facts. Does not allocate.
+    pub(crate) fn new(alloc: Global) -> Facts
+        ensures { HasNoFacts result }
+    {
+        Facts {
+            lines: Vec::new(alloc),
+            branches: Vec::new(alloc),
+            functions: Vec::new(alloc),
+        }
+    }
+
+    /// Appends other facts.
+    pub(crate) fn append(&mut self, other: &Facts) -> Result<(), AllocError>
+        ensures { OnOk result (IsJoined self.old other.now self.new) }
+    {
+        self.lines.extend_from_slice(&other.lines)?;
+        self.branches.extend_from_slice(&other.branches)?;
+        self.functions.extend_from_slice(&other.functions)
+    }
 }
 
 /// Returns the counts of each place: the sums over symbols and images. A function that begins at several lines begins at the first.

@@ -5,8 +5,11 @@ ghost use Rattle.std.specs.BTreeMap.{get};
 ghost use Rattle.std.specs.Ordering.{nat_cmp};
 ghost use Rattle.rv_lines.specs.TableViews.{view_strings};
 ghost use Rattle.rv_lines.specs.Paths.{path_of, path_text};
-ghost use Rattle.rv_line_cover.specs.FileSources.{AreSourcesOf, file_key, index_of_text, path_of_file, source_of};
+ghost use Rattle.rv_line_cover.specs.FileSources.{AreSourcesOf, file_key, index_of_text, path_of_file, path_of_row, paths_of_rows, source_of};
+ghost use Rattle.rv_line_cover.specs.FileSourcesInside.{is_file_of, option_list};
+ghost use Rattle.rv_line_cover.specs.TextSets.{HasAdded};
 
+use crate::text_set::TextSet;
 use rv_base::Bytes;
 use rv_lines::{LineTables, UnitRow, source_path};
 use std::alloc::{AllocError, Global};
@@ -57,22 +60,48 @@ pub fn sources_of_rows(
     Ok(FileSources { sources })
 }
 
-/// Appends the path of each file that rows name, some of them several times.
-pub fn push_paths(
+/// Adds the path of each file that rows name. The path of a file that the row before names too is not read again.
+pub(crate) fn push_paths(
     alloc: Global,
     tables: &LineTables<'_>,
     rows: &[UnitRow],
-    paths: &mut Vec<Vec<u8>>,
-) -> Result<(), AllocError> {
+    paths: &mut TextSet,
+) -> Result<(), AllocError>
+    ensures { OnOk result (HasAdded paths.old
+        (paths_of_rows (view_strings tables.now.strings) tables.now.lines.now rows.now) paths.new) }
+{
     let mut last = None;
     for row in rows {
-        let file = (row.unit, row.row.file);
-        if !row.row.ends && last != Some(file) {
-            if let Some(path) = path_of_file(alloc, tables, row.unit, row.row.file)? {
-                paths.push(path)?;
-            }
-            last = Some(file);
+        if !row.row.ends && !is_file_of(last, row) {
+            push_path(alloc, tables, row, paths)?;
+            last = Some(*row);
         }
+    }
+    Ok(())
+}
+
+// Whether a row names the file that another one names, if there is another one.
+fn is_file_of(other: Option<UnitRow>, row: &UnitRow) -> bool
+    ensures { result ≡ is_file_of other row.now }
+{
+    match other {
+        Some(other) => other.unit == row.unit && other.row.file == row.row.file,
+        None => false,
+    }
+}
+
+// Adds the path of the file that a row names, if the file has one.
+fn push_path(
+    alloc: Global,
+    tables: &LineTables<'_>,
+    row: &UnitRow,
+    paths: &mut TextSet,
+) -> Result<(), AllocError>
+    ensures { OnOk result (HasAdded paths.old
+        (option_list (path_of_row (view_strings tables.now.strings) tables.now.lines.now row.now)) paths.new) }
+{
+    if let Some(path) = path_of_file(alloc, tables, row.unit, row.row.file)? {
+        paths.insert(path)?;
     }
     Ok(())
 }

@@ -1,8 +1,10 @@
 //! The functions of an image, by line.
 
-ghost use Rattle.std.specs.Prelude.{◌≡◌, IfOk, filter_map, map};
+ghost use Rattle.std.specs.Prelude.{◌≡◌, ℕ, IfOk, filter_map, map};
+ghost use Rattle.std.specs.BTreeMap.{get};
+ghost use Rattle.std.specs.Ordering.{nat_cmp};
 ghost use Rattle.rv_cover_view.specs.Functions.{view_of_function};
-ghost use Rattle.rv_line_cover.specs.FunctionFacts.{first_source, function_fact, function_line};
+ghost use Rattle.rv_line_cover.specs.FunctionFacts.{first_source_at, function_fact, function_line};
 ghost use Rattle.rv_line_cover.specs.Lookup.{view_of};
 
 use crate::file_sources::index_of_text;
@@ -13,6 +15,7 @@ use rv_elf::Function;
 use rv_lcov::PlaceCount;
 use rv_lines::SourceLine;
 use std::alloc::{AllocError, Global};
+use std::collections::BTreeMap;
 
 /// Returns the functions of an image that have a line, each with the index of its name, and counted as its first address is.
 pub(crate) fn function_facts(
@@ -26,33 +29,26 @@ pub(crate) fn function_facts(
 {
     let first = first_sources(alloc, image)?;
     let mut facts = Vec::new(alloc);
-    for index in 0..image.image.functions.len() {
-        let function = &image.image.functions[index];
-        if let Some(fact) = function_fact(image, names, function, first[index]) {
+    for function in image.image.functions {
+        let line = first.get(&function.address).copied();
+        if let Some(fact) = function_fact(image, names, function, line) {
             facts.push(fact)?;
         }
     }
     Ok(facts)
 }
 
-// Returns the source line of the first row at the address of each function, or `None` if there is no such row.
-fn first_sources(alloc: Global, image: &Lookup<'_>) -> Result<Vec<Option<SourceLine>>, AllocError>
-    ensures { IfOk result (λ first. first.items
-        ≡ map (first_source (view_of image.now) image.now.image.now.rows.now) (map view_of_function image.now.image.now.functions.now)) }
+// Returns, for each address that has one, the source line of the first row there that has a line and is of the sequence whose row covers the
+// address.
+fn first_sources(alloc: Global, image: &Lookup<'_>) -> Result<BTreeMap<u32, SourceLine>, AllocError>
+    ensures { IfOk result (λ first. (a : ℕ) → get nat_cmp first a ≡ first_source_at (view_of image.now) image.now.image.now.rows.now a) }
 {
-    let functions = image.image.functions;
-    let mut first = Vec::new(alloc);
-    for _ in 0..functions.len() {
-        first.push(None)?;
-    }
+    let mut first = BTreeMap::new(alloc);
     for row in image.image.rows {
-        let address = row.row.address;
-        let index = functions.partition_point(|function| function.address < address);
-        if index < functions.len()
-            && functions[index].address == address
-            && first[index].is_none()
+        if !first.contains_key(&row.row.address)
+            && let Some(line) = chosen_source(image, row)
         {
-            first[index] = chosen_source(image, row);
+            first.insert(row.row.address, line)?;
         }
     }
     Ok(first)

@@ -9,12 +9,15 @@ mod file_sources;
 mod found_lines;
 mod function_facts;
 mod image;
+mod image_facts;
+mod image_texts;
 mod line_facts;
 mod lookup;
 mod rows;
 mod terminal_table;
 #[cfg(test)]
 mod tests;
+mod text_set;
 
 pub use coverage::coverage_of_images;
 pub use terminal_table::source_table;
