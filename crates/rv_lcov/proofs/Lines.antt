@@ -1,7 +1,7 @@
 -- The lines of a text, and what occurs in them.
-use Rattle.std.proofs.Common.{◌≡◌, ◌∙◌, ◌==◌, ◌||◌, ◌+◌, ◌<◌, ◌≤◌, ◌++◌, ℕ, suc, Bool, not, true, false, cond, List, [], ◌∷◌, length, drop, take, Option, Some, None, refl, sym, ap, arith, append_assoc, nat_lt}
+use Rattle.std.proofs.Common.{◌≡◌, ◌∙◌, ◌==◌, ◌||◌, ◌+◌, ◌<◌, ◌≤◌, ◌++◌, ℕ, suc, Bool, not, true, false, cond, List, [], ◌∷◌, length, drop, take, Some, None, refl, sym, ap, arith, append_assoc, nat_lt}
 use Rattle.std.specs.Prelude.{nat_eq}
-use Rattle.std.specs.List.{position_or_len, starts_with}
+use Rattle.std.specs.List.{starts_with}
 use Rattle.std.proofs.lemmas.List.Sums.{prefix_len-le-length}
 use Rattle.std.proofs.lemmas.Bool.{ltb-false}
 use Rattle.rv_lcov.specs.Markers.{before_first, first_line_len, flags_from, has_line_marker, lines_of_text, occurs, section_after}

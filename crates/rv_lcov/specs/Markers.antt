@@ -1,6 +1,6 @@
 -- The markers in comments that exclude lines from coverage (gcovr, "Exclusion Markers"; geninfo's manual, LCOV_EXCL_LINE, LCOV_EXCL_START,
 -- LCOV_EXCL_STOP).
-use Rattle.std.specs.Prelude.{◌+◌, ◌-◌, ◌==◌, ◌||◌, ◌&&◌, ℕ, Bool, not, false, List, [], ◌∷◌, codes, filter, nat_lt, slice_index_or, if◌then◌else◌}
+use Rattle.std.specs.Prelude.{◌-◌, ◌==◌, ◌||◌, ◌&&◌, ℕ, Bool, not, false, List, [], ◌∷◌, codes, filter, nat_lt, slice_index_or, if◌then◌else◌}
 use Rattle.std.specs.Prelude.{nat_eq}
 use Rattle.std.specs.List.{position_or_len, starts_with}
 use Rattle.rv_lcov.specs.declared.source.SourceCoverage.{SourceCoverage}

@@ -1,5 +1,5 @@
 -- How much of a source there is, and how much of it was executed.
-use Rattle.std.specs.Prelude.{◌+◌, ◌*◌, ℕ, Bool, length, nat_lt}
+use Rattle.std.specs.Prelude.{◌+◌, ◌*◌, Bool, length, nat_lt}
 use Rattle.std.specs.List.{count_by}
 use Rattle.rv_lcov.specs.declared.source.BranchCount.{BranchCount}
 use Rattle.rv_lcov.specs.declared.source.FunctionCount.{FunctionCount}

@@ -1,9 +1,9 @@
-use Rattle.std.proofs.Common.{◌≡◌, ◌∙◌, ◌++◌, ap, sym}
-use Rattle.std.specs.Prelude.{codes, string_bytes}
+use Rattle.std.proofs.Common.{◌∙◌, ◌++◌, ap}
+use Rattle.std.specs.Prelude.{codes}
 use Rattle.rv_lcov.specs.Cobertura.{class_names, class_text, line_elements, rates_text}
 use Rattle.rv_lcov.specs.Totals.{totals_of}
 use Rattle.rv_lcov.specs.declared.totals.SourceTotals.{SourceTotals}
-use Rattle.rv_lcov.proofs.Appending.{append3, append5, on_ok}
+use Rattle.rv_lcov.proofs.Appending.{append5, on_ok}
 use Rattle.rv_lcov.proofs.cobertura.push_class.Goals as goal
 
 pub returns : goal.returns

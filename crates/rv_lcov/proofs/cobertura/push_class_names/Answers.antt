@@ -1,9 +1,9 @@
-use Rattle.std.proofs.Common.{◌≡◌, ◌∙◌, ◌++◌, ap, sym}
-use Rattle.std.specs.Prelude.{codes, string_bytes}
+use Rattle.std.proofs.Common.{◌∙◌, ◌++◌, ap}
+use Rattle.std.specs.Prelude.{codes}
 use Rattle.rv_text.specs.Xml.{xml_text}
 use Rattle.rv_text.specs.declared.xml.XmlContext.TheVariants.{Attribute}
 use Rattle.rv_lcov.specs.Cobertura.{class_names}
-use Rattle.rv_lcov.proofs.Appending.{append3, append5, on_ok}
+use Rattle.rv_lcov.proofs.Appending.{append5, on_ok}
 use Rattle.rv_lcov.proofs.cobertura.push_class_names.Goals as goal
 
 pub returns : goal.returns

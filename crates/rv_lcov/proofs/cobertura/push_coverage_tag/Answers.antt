@@ -1,7 +1,6 @@
-use Rattle.std.proofs.Common.{◌≡◌, ◌∙◌, ◌++◌, ap}
 use Rattle.std.specs.Prelude.{codes}
 use Rattle.rv_lcov.specs.Cobertura.{amounts_text, coverage_tag, rates_text}
-use Rattle.rv_lcov.proofs.Appending.{append3, append5, on_ok}
+use Rattle.rv_lcov.proofs.Appending.{append3, on_ok}
 use Rattle.rv_lcov.proofs.cobertura.push_coverage_tag.Goals as goal
 
 pub returns : goal.returns

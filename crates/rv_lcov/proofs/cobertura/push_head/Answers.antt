@@ -1,4 +1,3 @@
-use Rattle.std.proofs.Common.{◌≡◌, ◌++◌}
 use Rattle.std.specs.Prelude.{codes}
 use Rattle.rv_lcov.specs.Cobertura.{coverage_tag, head_text, rates_text}
 use Rattle.rv_lcov.proofs.Appending.{append5, on_ok}

@@ -1,8 +1,8 @@
-use Rattle.std.proofs.Common.{◌≡◌, ◌∙◌, ◌++◌, ap}
+use Rattle.std.proofs.Common.{◌∙◌, ◌++◌, ap}
 use Rattle.std.specs.Prelude.{codes}
 use Rattle.rv_lcov.specs.Cobertura.{condition_text, line_element, line_start, ways_of_line}
 use Rattle.rv_lcov.specs.declared.totals.Amount.{Amount}
-use Rattle.rv_lcov.proofs.Appending.{append3, append5, on_ok}
+use Rattle.rv_lcov.proofs.Appending.{append3, on_ok}
 use Rattle.rv_lcov.proofs.cobertura.push_line_element.Goals as goal
 
 pub returns : goal.returns

@@ -1,7 +1,6 @@
-use Rattle.std.proofs.Common.{◌≡◌, ◌∙◌, ◌++◌, ap, sym}
-use Rattle.std.specs.Prelude.{codes, string_bytes}
+use Rattle.std.specs.Prelude.{codes}
 use Rattle.rv_lcov.specs.Cobertura.{rate_text, rates_text}
-use Rattle.rv_lcov.proofs.Appending.{append3, append5, on_ok}
+use Rattle.rv_lcov.proofs.Appending.{append5, on_ok}
 use Rattle.rv_lcov.proofs.cobertura.push_rates.Goals as goal
 
 pub returns : goal.returns

@@ -1,4 +1,4 @@
-use Rattle.std.proofs.Common.{◌≡◌, List, Result, Ok, Err, map, arith}
+use Rattle.std.proofs.Common.{Result, Ok, Err, arith}
 use Rattle.std.specs.Prelude.{IfOk}
 use Rattle.rv_lcov.proofs.Joins.{totals_if_ok}
 use Rattle.rv_lcov.proofs.join.join_counts.Goals as goal

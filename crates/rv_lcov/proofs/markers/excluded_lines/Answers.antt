@@ -1,4 +1,4 @@
-use Rattle.std.proofs.Common.{◌≡◌, ◌<◌, length, arith}
+use Rattle.std.proofs.Common.{◌<◌, length, arith}
 use Rattle.rv_lcov.specs.Markers.{excluded_lines}
 use Rattle.rv_lcov.proofs.Lines.{flags_on}
 use Rattle.rv_lcov.proofs.markers.excluded_lines.Goals as goal

@@ -1,4 +1,4 @@
-use Rattle.std.proofs.Common.{◌≡◌, ◌∙◌, sym, arith}
+use Rattle.std.proofs.Common.{◌∙◌, sym, arith}
 use Rattle.rv_lcov.proofs.Lines.{feed_found, line_within, no_feed}
 use Rattle.rv_lcov.proofs.markers.first_line_len.Goals as goal
 

@@ -1,4 +1,4 @@
-use Rattle.std.proofs.Common.{◌≡◌, ◌∙◌, ◌<◌, sym, length, arith}
+use Rattle.std.proofs.Common.{◌∙◌, ◌<◌, sym, length, arith}
 use Rattle.rv_lcov.proofs.Lines.{occurs_here}
 use Rattle.rv_lcov.proofs.markers.occurs.Goals as goal
 
