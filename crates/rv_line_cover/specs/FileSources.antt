@@ -37,10 +37,14 @@ small_index index = if nat_lt index (2 ^ 32) then Some index else None
 abbrev pub index_of_text : List (List ℕ) → List ℕ → Option ℕ
 index_of_text texts text = option_and_then small_index (position (λ other. bytes_eq other text) texts)
 
+-- the source of a file of a unit: the index of its path among the paths
+abbrev pub source_of_file : Strings → List ℕ → List (List ℕ) → ℕ → ℕ → Option ℕ
+source_of_file strings section paths unit file = option_and_then (index_of_text paths) (path_of_file strings section unit file)
+
 -- the file that a row names has the source of its path
 abbrev pub HasSourceOf : Strings → List ℕ → List (List ℕ) → (ℕ → ℕ → Option ℕ) → UnitRow → Type 0
 HasSourceOf strings section paths sources row = row.row.ends ≡ false
-    → sources row.unit row.row.file ≡ option_and_then (index_of_text paths) (path_of_row strings section row)
+    → sources row.unit row.row.file ≡ source_of_file strings section paths row.unit row.row.file
 
 -- the files that rows name have the sources of their paths
 abbrev pub AreSourcesOf : Strings → List ℕ → List UnitRow → List (List ℕ) → (ℕ → ℕ → Option ℕ) → Type 0

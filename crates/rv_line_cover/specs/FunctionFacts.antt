@@ -9,11 +9,14 @@ use Rattle.rv_lines.specs.declared.table_walk.UnitRow.{UnitRow}
 use Rattle.rv_line_cover.specs.FileSources.{index_of_text}
 use Rattle.rv_line_cover.specs.LineFacts.{ImageView, chosen_source}
 
--- the source line of the first row at an address that is of the sequence whose row covers it, and has a line
+-- the source line of a row, if the row is at this address, is of the sequence whose row covers the address, and has a line
+abbrev pub source_at_row : ImageView → UnitRow → ℕ → Option SourceLine
+source_at_row i r a = if r.row.address == a then chosen_source i r else None
+
+-- the source line of the first row at an address that has one
 abbrev pub first_source_at : ImageView → List UnitRow → ℕ → Option SourceLine
 first_source_at i [] a = None
-first_source_at i (r ∷ rows) a =
-    if r.row.address == a then option_or (chosen_source i r) (first_source_at i rows a) else first_source_at i rows a
+first_source_at i (r ∷ rows) a = option_or (source_at_row i r a) (first_source_at i rows a)
 
 abbrev pub first_source : ImageView → List UnitRow → FunctionView → Option SourceLine
 first_source i rows f = first_source_at i rows (address_of f)

@@ -1,12 +1,12 @@
 //! The sources of the files that rows name.
 
-ghost use Rattle.std.specs.Prelude.{◌≡◌, IfOk, OnOk, option_map, option_and_then};
+ghost use Rattle.std.specs.Prelude.{◌≡◌, ◌∷◌, [], IfOk, OnOk, Some, option_map, option_and_then};
 ghost use Rattle.std.specs.BTreeMap.{get};
 ghost use Rattle.std.specs.Ordering.{nat_cmp};
 ghost use Rattle.rv_lines.specs.TableViews.{view_strings};
 ghost use Rattle.rv_lines.specs.Paths.{path_of, path_text};
-ghost use Rattle.rv_line_cover.specs.FileSources.{AreSourcesOf, file_key, index_of_text, path_of_file, path_of_row, paths_of_rows, source_of};
-ghost use Rattle.rv_line_cover.specs.FileSourcesInside.{is_file_of, option_list};
+ghost use Rattle.rv_line_cover.specs.FileSources.{AreSourcesOf, file_key, index_of_text, path_of_file, path_of_row, paths_of_rows, source_of, source_of_file};
+ghost use Rattle.rv_line_cover.specs.FileSourcesInside.{HasInserted, HasPathOf, HasSourceOfRow, is_file_of, option_list};
 ghost use Rattle.rv_line_cover.specs.TextSets.{HasAdded};
 
 use crate::text_set::TextSet;
@@ -28,6 +28,14 @@ impl FileSources {
     {
         self.sources.get(&file_key(unit, file)).copied()
     }
+
+    // Adds the source of a file.
+    fn insert(&mut self, unit: u32, file: u32, source: u32) -> Result<(), AllocError>
+        ensures { OnOk result (HasInserted unit file (Some source) self.old self.new) }
+    {
+        self.sources.insert(file_key(unit, file), source)?;
+        Ok(())
+    }
 }
 
 // Returns the key of a file of a unit.
@@ -38,7 +46,7 @@ fn file_key(unit: u32, file: u32) -> u64
 }
 
 /// Returns the sources of the files that rows name: each is the index of the file's path among the paths.
-pub fn sources_of_rows(
+pub(crate) fn sources_of_rows(
     alloc: Global,
     tables: &LineTables<'_>,
     rows: &[UnitRow],
@@ -46,21 +54,57 @@ pub fn sources_of_rows(
 ) -> Result<FileSources, AllocError>
     ensures { IfOk result (λ files. AreSourcesOf (view_strings tables.now.strings) tables.now.lines.now rows.now paths.now (source_of files)) }
 {
-    let mut sources = BTreeMap::new(alloc);
+    let mut files = FileSources {
+        sources: BTreeMap::new(alloc),
+    };
     for row in rows {
-        let key = file_key(row.unit, row.row.file);
-        if !row.row.ends && !sources.contains_key(&key) {
-            if let Some(path) = path_of_file(alloc, tables, row.unit, row.row.file)?
-                && let Some(index) = index_of_text(paths, path.as_slice())
-            {
-                sources.insert(key, index)?;
-            }
-        }
+        insert_source_of_row(alloc, tables, paths, row, &mut files)?;
     }
-    Ok(FileSources { sources })
+    Ok(files)
 }
 
-/// Adds the path of each file that rows name. The path of a file that the row before names too is not read again.
+// Adds the source of the file that a row names, unless the row ends a sequence or the file has a source already.
+fn insert_source_of_row(
+    alloc: Global,
+    tables: &LineTables<'_>,
+    paths: &[Bytes],
+    row: &UnitRow,
+    files: &mut FileSources,
+) -> Result<(), AllocError>
+    ensures { OnOk result (HasSourceOfRow
+        (source_of_file (view_strings tables.now.strings) tables.now.lines.now paths.now) row.now files.old files.new) }
+{
+    let unit = row.unit;
+    let file = row.row.file;
+    if row.row.ends {
+        return Ok(());
+    }
+    if files.source_of(unit, file).is_some() {
+        return Ok(());
+    }
+    let Some(source) = source_of_file(alloc, tables, paths, unit, file)? else {
+        return Ok(());
+    };
+    files.insert(unit, file, source)
+}
+
+// Returns the source of a file of a unit, or `None` if it has no path or its path is not among the paths.
+fn source_of_file(
+    alloc: Global,
+    tables: &LineTables<'_>,
+    paths: &[Bytes],
+    unit: u32,
+    file: u32,
+) -> Result<Option<u32>, AllocError>
+    ensures { IfOk result (λ source. source ≡ source_of_file (view_strings tables.now.strings) tables.now.lines.now paths.now unit file) }
+{
+    match path_of_file(alloc, tables, unit, file)? {
+        Some(path) => Ok(index_of_text(paths, path.as_slice())),
+        None => Ok(None),
+    }
+}
+
+/// Adds the path of each file that rows name.
 pub(crate) fn push_paths(
     alloc: Global,
     tables: &LineTables<'_>,
@@ -72,12 +116,33 @@ pub(crate) fn push_paths(
 {
     let mut last = None;
     for row in rows {
-        if !row.row.ends && !is_file_of(last, row) {
-            push_path(alloc, tables, row, paths)?;
-            last = Some(*row);
-        }
+        last = push_path_of_row(alloc, tables, last, row, paths)?;
     }
     Ok(())
+}
+
+// Adds the path of the file that a row names, unless the row ends a sequence, or names the file of the last row whose path was added. Returns
+// the last row whose path was added.
+fn push_path_of_row(
+    alloc: Global,
+    tables: &LineTables<'_>,
+    last: Option<UnitRow>,
+    row: &UnitRow,
+    paths: &mut TextSet,
+) -> Result<Option<UnitRow>, AllocError>
+    requires { HasPathOf (view_strings tables.now.strings) tables.now.lines.now last paths.old }
+    ensures added { OnOk result (HasAdded paths.old
+        (paths_of_rows (view_strings tables.now.strings) tables.now.lines.now (row.now ∷ [])) paths.new) }
+    ensures last { IfOk result (λ last. HasPathOf (view_strings tables.now.strings) tables.now.lines.now last paths.new) }
+{
+    if row.row.ends {
+        return Ok(last);
+    }
+    if is_file_of(last, row) {
+        return Ok(last);
+    }
+    push_path(alloc, tables, row, paths)?;
+    Ok(Some(*row))
 }
 
 // Whether a row names the file that another one names, if there is another one.

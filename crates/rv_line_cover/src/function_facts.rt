@@ -1,10 +1,11 @@
 //! The functions of an image, by line.
 
-ghost use Rattle.std.specs.Prelude.{◌≡◌, ℕ, IfOk, filter_map, map};
+ghost use Rattle.std.specs.Prelude.{◌≡◌, ℕ, IfOk, OnOk, filter_map, map};
 ghost use Rattle.std.specs.BTreeMap.{get};
+ghost use Rattle.std.specs.Option.{option_or};
 ghost use Rattle.std.specs.Ordering.{nat_cmp};
 ghost use Rattle.rv_cover_view.specs.Functions.{view_of_function};
-ghost use Rattle.rv_line_cover.specs.FunctionFacts.{first_source_at, function_fact, function_line};
+ghost use Rattle.rv_line_cover.specs.FunctionFacts.{first_source_at, function_fact, function_line, source_at_row};
 ghost use Rattle.rv_line_cover.specs.Lookup.{view_of};
 
 use crate::file_sources::index_of_text;
@@ -13,7 +14,7 @@ use crate::lookup::Lookup;
 use rv_base::Bytes;
 use rv_elf::Function;
 use rv_lcov::PlaceCount;
-use rv_lines::SourceLine;
+use rv_lines::{SourceLine, UnitRow};
 use std::alloc::{AllocError, Global};
 use std::collections::BTreeMap;
 
@@ -45,13 +46,26 @@ fn first_sources(alloc: Global, image: &Lookup<'_>) -> Result<BTreeMap<u32, Sour
 {
     let mut first = BTreeMap::new(alloc);
     for row in image.image.rows {
-        if !first.contains_key(&row.row.address)
-            && let Some(line) = chosen_source(image, row)
-        {
-            first.insert(row.row.address, line)?;
-        }
+        insert_source(&mut first, image, row)?;
     }
     Ok(first)
+}
+
+// Adds the source line of a row, unless its address has one.
+fn insert_source(
+    first: &mut BTreeMap<u32, SourceLine>,
+    image: &Lookup<'_>,
+    row: &UnitRow,
+) -> Result<(), AllocError>
+    ensures { OnOk result ((a : ℕ) → get nat_cmp first.new a ≡ option_or (get nat_cmp first.old a) (source_at_row (view_of image.now) row.now a)) }
+{
+    if first.contains_key(&row.row.address) {
+        return Ok(());
+    }
+    if let Some(line) = chosen_source(image, row) {
+        first.insert(row.row.address, line)?;
+    }
+    Ok(())
 }
 
 // Returns the count of a function, or `None` if it has no line, its line no source, or its name no index.

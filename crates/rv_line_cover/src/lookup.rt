@@ -80,13 +80,9 @@ impl FoundLines {
     pub(crate) fn line_at(&self, address: u32) -> Option<SourceLine>
         ensures { result ≡ found_line self.now.addresses.items self.now.found.items address }
     {
-        let index = self
-            .addresses
-            .as_slice()
-            .partition_point(|other| *other < address);
-        if index < self.addresses.len() && self.addresses[index] == address {
-            return self.found[index];
+        match self.addresses.as_slice().binary_search(&address) {
+            Ok(index) => self.found[index],
+            Err(_) => None,
         }
-        None
     }
 }
