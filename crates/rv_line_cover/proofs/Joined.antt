@@ -5,9 +5,8 @@ use Rattle.rv_count_tables.specs.declared.table.CountTable.{CountTable}
 use Rattle.rv_cover_view.specs.ImageCounts.{counts_of}
 use Rattle.rv_cover_view.specs.JobImages.{ImageFileView}
 use Rattle.rv_lcov.specs.declared.place_count.PlaceCount.{PlaceCount}
-use Rattle.rv_line_cover.specs.declared.facts.Facts.{Facts}
 use Rattle.rv_line_cover.specs.Coverage.{AreFactsIfRead, AreFactsOfAll, tables_of}
-use Rattle.rv_line_cover.specs.Facts.{HasNoFacts, IsJoined, with_lines}
+use Rattle.rv_line_cover.specs.Facts.{FactLists, HasNoFacts, IsJoined, fact_lists, with_lines}
 
 -- ---- counts with lines
 
@@ -32,12 +31,8 @@ no_line_left (c ∷ cs) (l ∷ ls) (suc i) h = no_line_left cs ls i (λ a b. h (
 
 -- ---- the facts of images
 
-abbrev joined : Facts → Facts → Facts
-joined a b = record a {
-  lines = record a.lines { items = a.lines.items ++ b.lines.items };
-  branches = record a.branches { items = a.branches.items ++ b.branches.items };
-  functions = record a.functions { items = a.functions.items ++ b.functions.items };
-}
+abbrev joined : FactLists → FactLists → FactLists
+joined a b = fact_lists (a.lines ++ b.lines) (a.branches ++ b.branches) (a.functions ++ b.functions)
 
 regrouped : {X : Type 0} (all facts more first rest : List X) → all ≡ facts ++ more → facts ≡ first ++ rest → all ≡ first ++ (rest ++ more)
 regrouped all facts more first rest e f = e ∙ ap (λ xs. xs ++ more) f ∙ append_assoc first rest more
@@ -45,7 +40,7 @@ regrouped all facts more first rest e f = e ∙ ap (λ xs. xs ++ more) f ∙ app
 alone : {X : Type 0} (all facts more : List X) → all ≡ facts ++ more → facts ≡ [] → all ≡ more ++ facts
 alone all facts more e f = e ∙ ap (λ xs. xs ++ more) f ∙ sym (append-nil more) ∙ ap (λ xs. more ++ xs) (sym f)
 
-pub one_image_more : (paths names : List (List ℕ)) (table : CountTable) (images : List ImageFileView) (image : ImageFileView) (facts more all : Facts)
+pub one_image_more : (paths names : List (List ℕ)) (table : CountTable) (images : List ImageFileView) (image : ImageFileView) (facts more all : FactLists)
     → AreFactsOfAll paths names table images facts → AreFactsIfRead paths names image (counts_of table image.bytes) (tables_of image) more
     → IsJoined facts more all → AreFactsOfAll paths names table (images ++ image ∷ []) all
 one_image_more paths names table [] image facts more all none read j = (
@@ -56,9 +51,9 @@ one_image_more paths names table [] image facts more all none read j = (
     (
       none,
       record {
-        lines = alone all.lines.items facts.lines.items more.lines.items j.lines none.lines;
-        branches = alone all.branches.items facts.branches.items more.branches.items j.branches none.branches;
-        functions = alone all.functions.items facts.functions.items more.functions.items j.functions none.functions;
+        lines = alone all.lines facts.lines more.lines j.lines none.lines;
+        branches = alone all.branches facts.branches more.branches j.branches none.branches;
+        functions = alone all.functions facts.functions more.functions j.functions none.functions;
       },
     ),
   ),
@@ -72,9 +67,9 @@ one_image_more paths names table (front ∷ images) image facts more all (first,
       one_image_more paths names table images image rest more (joined rest more) behind read
           (record { lines = refl; branches = refl; functions = refl }),
       record {
-        lines = regrouped all.lines.items facts.lines.items more.lines.items first.lines.items rest.lines.items j.lines k.lines;
-        branches = regrouped all.branches.items facts.branches.items more.branches.items first.branches.items rest.branches.items j.branches k.branches;
-        functions = regrouped all.functions.items facts.functions.items more.functions.items first.functions.items rest.functions.items j.functions k.functions;
+        lines = regrouped all.lines facts.lines more.lines first.lines rest.lines j.lines k.lines;
+        branches = regrouped all.branches facts.branches more.branches first.branches rest.branches j.branches k.branches;
+        functions = regrouped all.functions facts.functions more.functions first.functions rest.functions j.functions k.functions;
       },
     ),
   ),

@@ -104,4 +104,4 @@ pub all_sources : (strings : Strings) (section : List ℕ) (rows : List UnitRow)
     → AllByRecursion (HasExpectedSource (source_of_file strings section paths) files) (take i rows) → AreSourcesOf strings section rows paths (source_of files)
 all_sources strings section rows paths i files le each =
     all_then (HasExpectedSource (source_of_file strings section paths) files) (HasSourceOf strings section paths (source_of files)) (λ r h. h.1) rows
-    (subst (AllByRecursion (HasExpectedSource (source_of_file strings section paths) files)) (take_all rows i le) each)
+    (subst (AllByRecursion (HasExpectedSource (source_of_file strings section paths) files)) (take_all i rows le) each)

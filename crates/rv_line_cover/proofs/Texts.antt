@@ -91,7 +91,7 @@ added_join a xs b ys c h k = record {
 again_by : (b : Bool) (t : List ℕ) (xs : List (List ℕ)) (q : List ℕ) → Decides b (q ≡ t) → list_any (bytes_eq t) xs ≡ true
     → list_any (bytes_eq q) xs ≡ (list_any (bytes_eq q) xs || (b || false))
 again_by true t xs q d there =
-    let e : q ≡ t = d in
+    let e : q ≡ t = d.0 refl in
     subst (λ (u : List ℕ). list_any (bytes_eq u) xs ≡ true) (sym e) there ∙ sym (or_true (list_any (bytes_eq q) xs) true refl)
 again_by false t xs q d there = or_false (list_any (bytes_eq q) xs)
 

@@ -15,5 +15,5 @@ all_addresses rows counts code = row_addresses rows ++ (map (λ c. c.address) co
 
 -- `found` has each of the addresses `all` once, in order
 pub record IsAddressSet (all found : List ℕ) : Type 0 where
-  pub rising : IsStrictlyIncreasing found
+  pub increasing : IsStrictlyIncreasing found
   pub each : (a : ℕ) → list_any (nat_eq a) found ≡ list_any (nat_eq a) all

@@ -17,10 +17,9 @@ use Rattle.rv_lines.specs.declared.table_walk.UnitRow.{UnitRow}
 use Rattle.rv_lines.specs.Lines.{line_at, units_of}
 use Rattle.rv_lines.specs.Sections.{Tables, line_tables}
 use Rattle.rv_lines.specs.TableRows.{all_rows}
-use Rattle.rv_line_cover.specs.declared.facts.Facts.{Facts}
 use Rattle.rv_line_cover.specs.Addresses.{IsAddressSet, all_addresses}
 use Rattle.rv_line_cover.specs.BranchFacts.{branch_facts, code_addresses}
-use Rattle.rv_line_cover.specs.Facts.{ArePlaceCounts, HasNoFacts, IsJoined}
+use Rattle.rv_line_cover.specs.Facts.{ArePlaceCounts, FactLists, HasNoFacts, IsJoined}
 use Rattle.rv_line_cover.specs.FileSources.{AreSourcesOf, paths_of_rows}
 use Rattle.rv_line_cover.specs.FunctionFacts.{function_fact}
 use Rattle.rv_line_cover.specs.LineFacts.{AreLinesOf, ImageView}
@@ -61,30 +60,32 @@ view_of_image image counts tables addresses sources = record {
   taken_at = λ a. taken_at a counts;
 }
 
--- `facts` are what an image with these line tables says of lines, branches and functions
-pub record AreFactsOf (paths names : List (List ℕ)) (image : ImageFileView) (counts : List AddressCounts) (tables : Tables) (facts : Facts) : Type 0 where
+-- `facts` are what an image with these line tables says of lines, branches and functions. The functions are those of the image, one for each
+-- address, and `view` is what is known of the addresses of rows, of counts, of functions and of conditional branches.
+pub record AreFactsOf (paths names : List (List ℕ)) (image : ImageFileView) (counts : List AddressCounts) (tables : Tables) (facts : FactLists) : Type 0 where
   pub found : List FunctionView
   pub each_once : IsEachOnce (functions image.image image.bytes) found
   pub addresses : List ℕ
   pub looked_up : IsAddressSet (all_addresses (rows_of tables) counts (flat_map code_addresses found)) addresses
   pub sources : ℕ → ℕ → Option ℕ
   pub files : AreSourcesOf tables.strings tables.lines (rows_of tables) paths sources
-  pub lines : AreLinesOf (view_of_image image counts tables addresses sources) addresses (rows_of tables) facts.lines.items
-  pub branches : facts.branches.items ≡ flat_map (branch_facts (view_of_image image counts tables addresses sources)) found
-  pub called : facts.functions.items
-      ≡ filter_map (function_fact (view_of_image image counts tables addresses sources) (rows_of tables) names) found
+  pub view : ImageView
+  pub known : view ≡ view_of_image image counts tables addresses sources
+  pub lines : AreLinesOf view addresses (rows_of tables) facts.lines
+  pub branches : facts.branches ≡ flat_map (branch_facts view) found
+  pub called : facts.functions ≡ filter_map (function_fact view (rows_of tables) names) found
 
 -- `facts` are those of an image: none if it has no line tables
-abbrev pub AreFactsIfRead : List (List ℕ) → List (List ℕ) → ImageFileView → List AddressCounts → Option Tables → Facts → Type 0
+abbrev pub AreFactsIfRead : List (List ℕ) → List (List ℕ) → ImageFileView → List AddressCounts → Option Tables → FactLists → Type 0
 AreFactsIfRead paths names image counts None facts = HasNoFacts facts
 AreFactsIfRead paths names image counts (Some tables) facts = AreFactsOf paths names image counts tables facts
 
 -- ---- all images
 
 -- `facts` are those of images, one after the other
-abbrev pub AreFactsOfAll : List (List ℕ) → List (List ℕ) → CountTable → List ImageFileView → Facts → Type 0
+abbrev pub AreFactsOfAll : List (List ℕ) → List (List ℕ) → CountTable → List ImageFileView → FactLists → Type 0
 AreFactsOfAll paths names table [] facts = HasNoFacts facts
-AreFactsOfAll paths names table (image ∷ images) facts = (first : Facts) × (rest : Facts)
+AreFactsOfAll paths names table (image ∷ images) facts = (first : FactLists) × (rest : FactLists)
     × (AreFactsIfRead paths names image (counts_of table image.bytes) (tables_of image) first
     × (AreFactsOfAll paths names table images rest × IsJoined first rest facts))
 
@@ -94,7 +95,7 @@ pub record IsCoverageOf (table : CountTable) (images : List ImageFileView) (sour
   pub names : List (List ℕ)
   pub path_set : IsTextSet (flat_map paths_of_image images) paths
   pub name_set : IsTextSet (flat_map names_of_image images) names
-  pub facts : Facts
+  pub facts : FactLists
   pub facts_are : AreFactsOfAll paths names table images facts
   pub counts : PlaceCounts
   pub sums : ArePlaceCounts facts counts

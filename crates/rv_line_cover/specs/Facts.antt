@@ -4,21 +4,29 @@ use Rattle.rv_lcov.specs.declared.by_source.PlaceCounts.{PlaceCounts}
 use Rattle.rv_lcov.specs.declared.place_count.Joining.TheVariants.{Least, Sum}
 use Rattle.rv_lcov.specs.declared.place_count.PlaceCount.{PlaceCount}
 use Rattle.rv_lcov.specs.PlaceCounts.{AreTotals}
-use Rattle.rv_line_cover.specs.declared.facts.Facts.{Facts}
+
+-- what images say of lines, of branches and of functions
+pub record FactLists : Type 0 where
+  pub lines : List PlaceCount
+  pub branches : List PlaceCount
+  pub functions : List PlaceCount
+
+abbrev pub fact_lists : List PlaceCount → List PlaceCount → List PlaceCount → FactLists
+fact_lists lines branches functions = record { lines = lines; branches = branches; functions = functions }
 
 -- ---- facts of several images
 
 -- `all` has the facts `front`, and then the facts `back`
-pub record IsJoined (front back all : Facts) : Type 0 where
-  pub lines : all.lines.items ≡ front.lines.items ++ back.lines.items
-  pub branches : all.branches.items ≡ front.branches.items ++ back.branches.items
-  pub functions : all.functions.items ≡ front.functions.items ++ back.functions.items
+pub record IsJoined (front back all : FactLists) : Type 0 where
+  pub lines : all.lines ≡ front.lines ++ back.lines
+  pub branches : all.branches ≡ front.branches ++ back.branches
+  pub functions : all.functions ≡ front.functions ++ back.functions
 
 -- no facts
-pub record HasNoFacts (facts : Facts) : Type 0 where
-  pub lines : facts.lines.items ≡ []
-  pub branches : facts.branches.items ≡ []
-  pub functions : facts.functions.items ≡ []
+pub record HasNoFacts (facts : FactLists) : Type 0 where
+  pub lines : facts.lines ≡ []
+  pub branches : facts.branches ≡ []
+  pub functions : facts.functions ≡ []
 
 -- ---- sums
 
@@ -47,7 +55,7 @@ pub record AreFunctionCounts (facts found : List PlaceCount) : Type 0 where
   pub both : found ≡ with_lines counts lines
 
 -- `counts` are the sums of facts by place: those of a line over symbols and images, those of a branch over functions and images
-pub record ArePlaceCounts (facts : Facts) (counts : PlaceCounts) : Type 0 where
-  pub lines : AreTotals Sum (map without_number facts.lines.items) counts.lines
-  pub branches : AreTotals Sum facts.branches.items counts.branches
-  pub functions : AreFunctionCounts facts.functions.items counts.functions
+pub record ArePlaceCounts (facts : FactLists) (counts : PlaceCounts) : Type 0 where
+  pub lines : AreTotals Sum (map without_number facts.lines) counts.lines
+  pub branches : AreTotals Sum facts.branches counts.branches
+  pub functions : AreFunctionCounts facts.functions counts.functions

@@ -1,18 +1,27 @@
 //! The facts of images, and their sums.
 
 ghost use Rattle.std.specs.Prelude.{◌≡◌, IfOk, OnOk, map};
-ghost use Rattle.rv_line_cover.specs.Facts.{AreFunctionCounts, ArePlaceCounts, HasNoFacts, IsJoined, line_as_count, with_lines, without_line, without_number};
+ghost use Rattle.rv_line_cover.specs.Facts.{AreFunctionCounts, ArePlaceCounts, HasNoFacts, IsJoined, fact_lists, line_as_count, with_lines, without_line, without_number};
 
 use rv_base::Sequence;
 use rv_lcov::{Joining, PlaceCount, PlaceCounts, join_counts};
 use std::alloc::{AllocError, Global};
+use std::marker::Model;
 
-/// What images say of lines, of branches and of functions.
-#[derive(Debug, Drop)]
-pub struct Facts {
-    pub lines: Vec<PlaceCount>,
-    pub branches: Vec<PlaceCount>,
-    pub functions: Vec<PlaceCount>,
+/// What images say of lines, of branches and of functions, seen by contracts as lists.
+#[derive(Drop)]
+pub(crate) struct Facts {
+    lines: Vec<PlaceCount>,
+    branches: Vec<PlaceCount>,
+    functions: Vec<PlaceCount>,
+}
+
+impl Model for Facts {
+    ghost use Rattle.rv_line_cover.specs.Facts.{FactLists, fact_lists};
+
+    ghost Value = { FactLists };
+
+    ghost view = { λ f. fact_lists f.lines.items f.branches.items f.functions.items };
 }
 
 impl Facts {
@@ -24,6 +33,21 @@ impl Facts {
             lines: Vec::new(alloc),
             branches: Vec::new(alloc),
             functions: Vec::new(alloc),
+        }
+    }
+
+    /// Returns facts of lines, of branches and of functions. Does not allocate.
+    pub(crate) fn of(
+        lines: Vec<PlaceCount>,
+        branches: Vec<PlaceCount>,
+        functions: Vec<PlaceCount>,
+    ) -> Facts
+        ensures { result ≡ fact_lists lines.items branches.items functions.items }
+    {
+        Facts {
+            lines,
+            branches,
+            functions,
         }
     }
 

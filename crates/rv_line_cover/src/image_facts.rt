@@ -57,14 +57,14 @@ fn facts_of_tables(
     ensures { IfOk result (AreFactsOf texts.paths.now texts.names.now (image_of_file image.now) counts.now (view_tables tables.now)) }
 {
     let rows = rows_of_tables(alloc, tables)?;
-    let functions = functions_by_address(alloc, &image.image, image.bytes)?;
+    let found = functions_by_address(alloc, &image.image, image.bytes)?;
     let symbols = CodeSymbols::new(alloc, &image.image, image.bytes)?;
     let files = sources_of_rows(alloc, tables, rows.as_slice(), texts.paths)?;
-    let code = code_addresses(alloc, functions.as_slice())?;
+    let code = code_addresses(alloc, found.as_slice())?;
     let addresses = addresses_of(alloc, rows.as_slice(), counts, code.as_slice())?;
     let lines = lines_of_addresses(alloc, tables, addresses)?;
     let counted = CountedImage {
-        functions: functions.as_slice(),
+        functions: found.as_slice(),
         symbols: &symbols,
         rows: rows.as_slice(),
         counts,
@@ -74,9 +74,8 @@ fn facts_of_tables(
         lines: &lines,
         files: &files,
     };
-    Ok(Facts {
-        lines: lines_of_image(alloc, &lookup)?,
-        branches: branch_facts(alloc, &lookup)?,
-        functions: function_facts(alloc, &lookup, texts.names)?,
-    })
+    let lines = lines_of_image(alloc, &lookup)?;
+    let branches = branch_facts(alloc, &lookup)?;
+    let functions = function_facts(alloc, &lookup, texts.names)?;
+    Ok(Facts::of(lines, branches, functions))
 }
