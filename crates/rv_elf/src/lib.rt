@@ -5,9 +5,8 @@
 //! not, and [`load`] writes the bytes of an image to a new bus. [`find_symbol`] returns the value of a symbol, [`symbol_at`] the symbol
 //! that a code address belongs to, and [`symbol_of_value`] the symbol whose address a value is or into which it points. [`CodeSymbols`]
 //! finds the same symbols as [`symbol_at`], without scanning the symbol table for each address. [`find_section`] finds a section by its
-//! name. Each result is exactly as defined in
-//! `specs/`, which reads the fields at the offsets of the System V ABI and keeps no state between checks. Only [`read_image`],
-//! [`functions`] and [`CodeSymbols::new`] allocate.
+//! name. Each result is exactly as defined in `specs/`, which reads the fields at the offsets of the System V ABI and keeps no state between
+//! checks. Only [`read_image`], [`functions`] and [`CodeSymbols::new`] allocate.
 #![tactic(auto)]
 
 mod code_symbols;

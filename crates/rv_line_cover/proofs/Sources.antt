@@ -90,14 +90,14 @@ sequence_end E row files s is = same_sources E row files s (λ k not. absurd cc)
 
 -- ---- one row more
 
-pub next_source : (E : ℕ → ℕ → Option ℕ) (rows : List UnitRow) (i : ℕ) (row : UnitRow) (old new : FileSources) → i < length rows → row ≡ get_or rows i row
+pub next_source : (E : ℕ → ℕ → Option ℕ) (rows : List UnitRow) (i : ℕ) (row d : UnitRow) (old new : FileSources) → i < length rows → row ≡ get_or rows i d
     → AreExpected E old → AllByRecursion (HasExpectedSource E old) (take i rows) → HasSourceOfRow E row old new
     → AllByRecursion (HasExpectedSource E new) (take (i + 1) rows)
-next_source E rows i row old new lt is k each step =
+next_source E rows i row d old new lt is k each step =
     let kept = all_then (HasExpectedSource E old) (HasExpectedSource E new)
     (λ r h. (h.0, λ e. step.others r.unit r.row.file h.0 (h.1 e))) (take i rows) each in
     let here : HasExpectedSource E new row = (step.small, step.here k) in
-    subst (AllByRecursion (HasExpectedSource E new)) (ap (λ r. take i rows ++ r ∷ []) is ∙ sym (take_more rows i row lt))
+    subst (AllByRecursion (HasExpectedSource E new)) (ap (λ r. take i rows ++ r ∷ []) is ∙ sym (take_more rows i d lt))
     (all_push (HasExpectedSource E new) (take i rows) row kept here)
 
 pub all_sources : (strings : Strings) (section : List ℕ) (rows : List UnitRow) (paths : List (List ℕ)) (i : ℕ) (files : FileSources) → length rows ≤ i

@@ -2,7 +2,8 @@
 //!
 //! [`line_tables`] finds `.debug_line` and the string sections in a file. [`find_lines`] finds the source line of each of a sorted list of
 //! addresses without keeping a table, and returns how many units were rejected and the error of the first. [`source_path`] returns the path of a
-//! line's file. [`table_rows`] returns the rows of the table, one after the other. Each result is exactly as defined in `specs/`, which restricts the standard. Nothing here allocates.
+//! line's file. [`table_rows`] returns the rows of the table, one after the other. Each result is exactly as defined in `specs/`, which
+//! restricts the standard. Nothing here allocates.
 #![tactic(auto)]
 
 mod entries;
