@@ -1,7 +1,10 @@
 -- The sources of the files that rows name, one row more.
 use Rattle.std.proofs.Common.{◌≡◌, ◌∙◌, ◌==◌, ◌+◌, ◌*◌, ◌<◌, ◌≤◌, ◌^◌, ◌++◌, ℕ, Bool, true, false, cond, List, [], ◌∷◌, Option, Some, None, ap, arith, eq-eqb, get_or, length, refl, subst, sym, take}
 use Rattle.std.specs.List.{AllByRecursion}
+use Rattle.std.specs.BTreeMap.{is_at}
+use Rattle.std.specs.Map.{lookup}
 use Rattle.std.specs.Option.{option_or}
+use Rattle.std.specs.Ordering.{nat_cmp}
 use Rattle.std.proofs.lemmas.Bool.{eqb-true}
 use Rattle.std.proofs.lemmas.List.{take_all, take_more}
 use Rattle.rv_line_cover.specs.declared.file_sources.FileSources.{FileSources}
@@ -87,6 +90,11 @@ no_source E row files s is none = same_sources E row files s (λ k _. is ∙ sym
 
 pub sequence_end : (E : ℕ → ℕ → Option ℕ) (row : UnitRow) (files : FileSources) → row.row.file < 2 ^ 32 → row.row.ends ≡ true → HasSourceOfRow E row files files
 sequence_end E row files s is = same_sources E row files s (λ k not. absurd cc)
+
+-- ---- no row
+
+pub none_expected : (E : ℕ → ℕ → Option ℕ) (files : FileSources) → files.sources.entries ≡ [] → AreExpected E files
+none_expected E files none u f s = ap (λ es. option_or (lookup (is_at (nat_cmp (file_key u f))) es) (E u f)) none
 
 -- ---- one row more
 

@@ -28,15 +28,15 @@ pub fn coverage_of_images(
     let mut paths = TextSet::new(alloc);
     let mut names = TextSet::new(alloc);
     push_all_texts(alloc, images, &mut paths, &mut names)?;
-    let paths = paths.into_texts(alloc)?;
-    let names = names.into_texts(alloc)?;
+    let all_paths = paths.into_texts(alloc)?;
+    let all_names = names.into_texts(alloc)?;
     let texts = Texts {
-        paths: paths.as_slice(),
-        names: names.as_slice(),
+        paths: all_paths.as_slice(),
+        names: all_names.as_slice(),
     };
     let facts = facts_of_images(alloc, table, images, texts)?;
     let counts = place_counts(alloc, &facts)?;
-    sources_of(alloc, paths.as_slice(), names.as_slice(), &counts)
+    sources_of(alloc, texts.paths, texts.names, &counts)
 }
 
 // Adds the paths of the sources of images, and the names of their functions.
@@ -63,7 +63,7 @@ fn facts_of_images(
     texts: Texts<'_>,
 ) -> Result<Facts, AllocError>
     requires { IsValidTable table.now }
-    ensures { IfOk result (AreFactsOfAll texts.paths.now texts.names.now table.now (images_of_files images.now)) }
+    ensures { IfOk result (AreFactsOfAll texts.entry.paths.now texts.entry.names.now table.now (images_of_files images.now)) }
 {
     let mut facts = Facts::new(alloc);
     for image in images {

@@ -1,11 +1,12 @@
 //! The sources of the files that rows name.
 
-ghost use Rattle.std.specs.Prelude.{◌≡◌, ◌∷◌, [], IfOk, OnOk, Some, option_map, option_and_then};
+ghost use Rattle.std.specs.Prelude.{◌≡◌, ◌∷◌, [], IfOk, OnOk, Some, option_map, option_and_then, position};
 ghost use Rattle.std.specs.BTreeMap.{get};
 ghost use Rattle.std.specs.Ordering.{nat_cmp};
+ghost use Rattle.std.specs.Str.{bytes_eq};
 ghost use Rattle.rv_lines.specs.TableViews.{view_strings};
 ghost use Rattle.rv_lines.specs.Paths.{path_of, path_text};
-ghost use Rattle.rv_line_cover.specs.FileSources.{AreSourcesOf, file_key, index_of_text, path_of_file, path_of_row, paths_of_rows, source_of, source_of_file};
+ghost use Rattle.rv_line_cover.specs.FileSources.{AreSourcesOf, file_key, index_of_text, path_of_file, path_of_row, paths_of_rows, small_index, source_of, source_of_file};
 ghost use Rattle.rv_line_cover.specs.FileSourcesInside.{HasInserted, HasPathOf, HasSourceOfRow, is_file_of, option_list};
 ghost use Rattle.rv_line_cover.specs.TextSets.{HasAdded};
 
@@ -197,6 +198,25 @@ fn path_of_file(
 pub(crate) fn index_of_text(texts: &[Bytes], text: &[u8]) -> Option<u32>
     ensures { result ≡ index_of_text texts.now text.now }
 {
-    let index = texts.iter().position(|other| other.as_slice() == text)?;
-    u32::try_from(index).ok()
+    match position_of_text(texts, text) {
+        Some(index) => small_index(index),
+        None => None,
+    }
+}
+
+// Returns the position of a text in a list, or `None` if it is not there.
+fn position_of_text(texts: &[Bytes], text: &[u8]) -> Option<usize>
+    ensures { result ≡ position (λ other. bytes_eq other text.now) texts.now }
+{
+    texts.iter().position(|other| other.as_slice() == text)
+}
+
+// Returns an index as 32 bits, or `None` if it does not fit.
+fn small_index(index: usize) -> Option<u32>
+    ensures { result ≡ small_index index }
+{
+    if index < 0x1_0000_0000 {
+        return Some(index as u32);
+    }
+    None
 }

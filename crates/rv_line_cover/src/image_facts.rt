@@ -37,7 +37,7 @@ pub(crate) fn facts_of_image(
     texts: Texts<'_>,
 ) -> Result<Facts, AllocError>
     requires { increase_from 0 counts.now ≡ true }
-    ensures { IfOk result (AreFactsIfRead texts.paths.now texts.names.now (image_of_file image.now) counts.now (tables_of (image_of_file image.now))) }
+    ensures { IfOk result (AreFactsIfRead texts.entry.paths.now texts.entry.names.now (image_of_file image.now) counts.now (tables_of (image_of_file image.now))) }
 {
     match line_tables(image.bytes) {
         Ok(tables) => facts_of_tables(alloc, image, counts, texts, &tables),
@@ -54,28 +54,30 @@ fn facts_of_tables(
     tables: &LineTables<'_>,
 ) -> Result<Facts, AllocError>
     requires { increase_from 0 counts.now ≡ true }
-    ensures { IfOk result (AreFactsOf texts.paths.now texts.names.now (image_of_file image.now) counts.now (view_tables tables.now)) }
+    ensures { IfOk result (AreFactsOf texts.entry.paths.now texts.entry.names.now (image_of_file image.now) counts.now (view_tables tables.now)) }
 {
-    let rows = rows_of_tables(alloc, tables)?;
-    let found = functions_by_address(alloc, &image.image, image.bytes)?;
+    let all_rows = rows_of_tables(alloc, tables)?;
+    let rows = all_rows.as_slice();
+    let all_functions = functions_by_address(alloc, &image.image, image.bytes)?;
+    let functions = all_functions.as_slice();
     let symbols = CodeSymbols::new(alloc, &image.image, image.bytes)?;
-    let files = sources_of_rows(alloc, tables, rows.as_slice(), texts.paths)?;
-    let code = code_addresses(alloc, found.as_slice())?;
-    let addresses = addresses_of(alloc, rows.as_slice(), counts, code.as_slice())?;
-    let lines = lines_of_addresses(alloc, tables, addresses)?;
+    let files = sources_of_rows(alloc, tables, rows, texts.paths)?;
+    let code = code_addresses(alloc, functions)?;
+    let addresses = addresses_of(alloc, rows, counts, code.as_slice())?;
+    let found = lines_of_addresses(alloc, tables, addresses)?;
     let counted = CountedImage {
-        functions: found.as_slice(),
+        functions,
         symbols: &symbols,
-        rows: rows.as_slice(),
+        rows,
         counts,
     };
     let lookup = Lookup {
         image: &counted,
-        lines: &lines,
+        lines: &found,
         files: &files,
     };
     let lines = lines_of_image(alloc, &lookup)?;
     let branches = branch_facts(alloc, &lookup)?;
-    let functions = function_facts(alloc, &lookup, texts.names)?;
-    Ok(Facts::of(lines, branches, functions))
+    let calls = function_facts(alloc, &lookup, texts.names)?;
+    Ok(Facts::of(lines, branches, calls))
 }

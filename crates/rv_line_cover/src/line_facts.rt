@@ -17,7 +17,7 @@ pub(crate) fn lines_of_image(
     alloc: Global,
     image: &Lookup<'_>,
 ) -> Result<Vec<PlaceCount>, AllocError>
-    ensures { IfOk result (AreLinesOf (view_of image.now) image.now.lines.now.addresses.items image.now.image.now.rows.now) }
+    ensures { IfOk result (λ lines. AreLinesOf (view_of image.now) image.now.lines.now.addresses.items image.now.image.now.rows.now lines.items) }
 {
     let mut facts = own_facts(alloc, image)?;
     let own = line_keys(alloc, facts.as_slice())?;

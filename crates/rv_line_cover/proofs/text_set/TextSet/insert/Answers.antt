@@ -7,5 +7,7 @@ use Rattle.rv_line_cover.proofs.text_set.TextSet.insert.Goals as goal
 pub returns : goal.returns
 returns c =
     let bytes = λ (text : Vec ℕ Global). text.items in
-    subst (λ (ks : List (Vec ℕ Global)). HasAdded (map bytes c.args.self.now.texts.keys) (c.args.text.items ∷ []) (map bytes ks))
-    (sym c.in_ok-insert.ensures.keys) (added_text bytes c.args.text c.args.self.now.texts.keys)
+    let keys = c.self.inside.texts.keys in
+    subst (λ (old : List (List ℕ)). HasAdded old (c.args.text.items ∷ []) (map bytes c.insert.new.self.keys)) c.self.view_is
+    (subst (λ (ks : List (Vec ℕ Global)). HasAdded (map bytes keys) (c.args.text.items ∷ []) (map bytes ks))
+    (sym c.in_ok-insert.ensures.keys) (added_text bytes c.args.text keys))
