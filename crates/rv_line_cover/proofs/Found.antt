@@ -1,5 +1,5 @@
 -- What was found for an address, by its index.
-use Rattle.std.proofs.Common.{◌≡◌, ◌∙◌, ◌+◌, ◌<◌, ◌==◌, ℕ, zero, suc, cond, List, [], ◌∷◌, Option, Some, None, ap, arith, eq-eqb, get_or, length, refl, sym}
+use Rattle.std.proofs.Common.{◌≡◌, ◌∙◌, ◌<◌, ℕ, zero, suc, cond, List, [], ◌∷◌, Option, None, ap, arith, eq-eqb, get_or, length, refl, sym}
 use Rattle.std.proofs.lemmas.Bool.{ne_eqb}
 use Rattle.rv_lines.specs.declared.span.SourceLine.{SourceLine}
 use Rattle.rv_line_cover.specs.Lookup.{found_line}

@@ -6,7 +6,7 @@ use Rattle.rv_cover_view.specs.ImageCounts.{counts_of}
 use Rattle.rv_cover_view.specs.JobImages.{ImageFileView}
 use Rattle.rv_lcov.specs.declared.place_count.PlaceCount.{PlaceCount}
 use Rattle.rv_line_cover.specs.Coverage.{AreFactsIfRead, AreFactsOfAll, tables_of}
-use Rattle.rv_line_cover.specs.Facts.{FactLists, HasNoFacts, IsJoined, fact_lists, with_lines}
+use Rattle.rv_line_cover.specs.Facts.{FactLists, IsJoined, fact_lists, with_lines}
 
 -- ---- counts with lines
 

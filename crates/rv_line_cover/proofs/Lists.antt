@@ -1,5 +1,5 @@
 -- Lists of one element more.
-use Rattle.std.proofs.Common.{◌≡◌, ◌∙◌, ◌+◌, ◌<◌, ◌++◌, ℕ, not, List, [], ◌∷◌, Option, ap, get_or, length, map, subst, sym, take}
+use Rattle.std.proofs.Common.{◌≡◌, ◌∙◌, ◌+◌, ◌<◌, ◌++◌, ℕ, not, List, [], ◌∷◌, Option, ap, false, get_or, length, map, subst, sym, take}
 use Rattle.std.specs.List.{flat_map}
 use Rattle.std.specs.Prelude.{filter, filter_map}
 use Rattle.std.proofs.lemmas.Grind.{flat_map-append}
@@ -10,6 +10,10 @@ use Rattle.rv_lines.specs.Entries.{Strings}
 use Rattle.rv_line_cover.specs.FileSources.{path_of_row, paths_of_rows}
 use Rattle.rv_line_cover.specs.TextSets.{HasAdded}
 use Rattle.rv_line_cover.proofs.Texts.{added_join}
+
+-- the value of a row past the end of a list
+abbrev pub no_row : UnitRow
+no_row = record { unit = 0; row = record { address = 0; file = 0; line = 0; is_stmt = false; ends = false; low = 0 } }
 
 pub one_more : {X : Type 0} (xs : List X) (i : ℕ) (x d : X) → i < length xs → x ≡ get_or xs i d → take (i + 1) xs ≡ take i xs ++ x ∷ []
 one_more xs i x d lt is = take_more xs i d lt ∙ ap (λ y. take i xs ++ y ∷ []) (sym is)

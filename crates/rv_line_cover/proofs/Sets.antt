@@ -1,5 +1,5 @@
 -- The addresses that a set has, and what a result that is a success has.
-use Rattle.std.proofs.Common.{◌≡◌, ◌∙◌, ◌==◌, ◌++◌, ◌||◌, ℕ, Bool, List, [], ◌∷◌, Result, Ok, Err, ap, arith, nat_eq, refl, sym}
+use Rattle.std.proofs.Common.{◌≡◌, ◌∙◌, ◌++◌, ◌||◌, ℕ, List, [], ◌∷◌, Result, Ok, Err, ap, arith, nat_eq, refl, sym}
 use Rattle.std.specs.BTreeMap.{is_at}
 use Rattle.std.specs.BTreeSet.{BTreeSet, contains}
 use Rattle.std.specs.List.{list_any}

@@ -68,7 +68,8 @@ fn facts_of_images(
     let mut facts = Facts::new(alloc);
     for image in images {
         let counts = counts_of(table, image.bytes);
-        facts.append(&facts_of_image(alloc, image, counts, texts)?)?;
+        let more = facts_of_image(alloc, image, counts, texts)?;
+        facts.append(&more)?;
     }
     Ok(facts)
 }

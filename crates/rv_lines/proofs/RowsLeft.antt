@@ -1,6 +1,6 @@
 -- The rows that are left of a table, after one operation or one unit more.
-use Rattle.std.proofs.Common.{◌≡◌, ◌∙◌, ◌<◌, ◌≤◌, ◌+◌, ◌-◌, ◌||◌, ℕ, zero, suc, min, Bool, true, false, cond, List, [], ◌∷◌, ◌++◌, length, drop, map, Option, Some, None, Result, Ok, Err, refl, sym, ap, arith, length-drop}
-use Rattle.std.specs.List.{flat_map, list_any}
+use Rattle.std.proofs.Common.{◌≡◌, ◌∙◌, ◌<◌, ◌≤◌, ◌+◌, ◌-◌, ℕ, zero, suc, min, Bool, true, false, cond, List, [], ◌∷◌, ◌++◌, length, drop, map, Option, Some, None, Result, Ok, Err, refl, sym, ap, arith, length-drop}
+use Rattle.std.specs.List.{list_any}
 use Rattle.std.specs.Option.{option_map_or}
 use Rattle.rv_lines.specs.declared.error.UnitError.{UnitError}
 use Rattle.rv_lines.specs.declared.error.UnitError.TheVariants.{FileNumber, OpenSequence}
@@ -16,11 +16,11 @@ use Rattle.rv_lines.specs.Operations.{Program, after_operation, operation_at, pr
 use Rattle.rv_lines.specs.Reading.{Read}
 use Rattle.rv_lines.specs.Rows.{apply, check_rows, in_front, initial, is_open, lacks_file, next_state, program_rows, require_closed, row_added, rows_of}
 use Rattle.rv_lines.specs.TableRows.{all_rows, rows_after, rows_of_result, unit_row, units_after}
-use Rattle.rv_lines.specs.Units.{UnitRead, rows_at, unit_size, units}
+use Rattle.rv_lines.specs.Units.{rows_at, unit_size, units}
 use Rattle.rv_lines.specs.SearchInside.{checked_only, rows_of_program}
 use Rattle.rv_lines.proofs.Folding.{no_more, one_row, read_one, rest_shorter}
-use Rattle.rv_lines.proofs.Shorter.{Within, operation_within}
-use Rattle.rv_lines.proofs.UnitLists.{left_one, predecessor, size_positive, unit_read, units_left, units_none, units_one}
+use Rattle.rv_lines.proofs.Shorter.{operation_within}
+use Rattle.rv_lines.proofs.UnitLists.{left_one, predecessor, size_positive, unit_read, units_none, units_one}
 
 -- ---- a program
 

@@ -1,7 +1,4 @@
 -- The texts of the images so far, and those of one more.
-use Rattle.std.proofs.Common.{◌∙◌, ap, arith, map, subst, take}
-use Rattle.std.proofs.lemmas.List.{take_all}
-use Rattle.std.specs.List.{flat_map}
 use Rattle.rv_cover_view.specs.JobImages.{image_of_file}
 use Rattle.rv_line_cover.specs.Coverage.{names_of_image, paths_of_image}
 use Rattle.rv_line_cover.proofs.Lists.{texts_more}

@@ -1,4 +1,4 @@
-use Rattle.std.proofs.Common.{◌≡◌, ◌∙◌, ◌<◌, sym, ap, length, arith, Option}
+use Rattle.std.proofs.Common.{◌∙◌, ◌<◌, sym, ap, length, arith, Option}
 use Rattle.rv_lines.specs.Rows.{in_front}
 use Rattle.rv_lines.specs.declared.rows.Row.{Row}
 use Rattle.rv_lines.proofs.Folding.{operation_shorter}

@@ -1,7 +1,7 @@
-use Rattle.std.proofs.Common.{◌≡◌, ◌∙◌, ◌<◌, ◌+◌, ◌++◌, [], ap, sym, drop, length, map, min, arith}
+use Rattle.std.proofs.Common.{◌≡◌, ◌∙◌, [], ap, sym, drop, length, map, min, arith}
 use Rattle.rv_lines.specs.TableViews.{view_strings}
 use Rattle.rv_lines.specs.declared.rows.State.{State}
-use Rattle.rv_lines.specs.TableRows.{all_rows, rows_after, unit_row, units_after}
+use Rattle.rv_lines.specs.TableRows.{rows_after, unit_row}
 use Rattle.rv_lines.specs.Units.{unit_size}
 use Rattle.rv_lines.proofs.RowsLeft.{here_positive, nothing_left, unit_entered}
 use Rattle.rv_lines.proofs.rows_left.TableRows.after_unit.Goals as goal
