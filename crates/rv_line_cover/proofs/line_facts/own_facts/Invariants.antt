@@ -5,4 +5,4 @@ use Rattle.rv_line_cover.specs.Lookup.{view_of}
 use Rattle.rv_line_cover.proofs.line_facts.own_facts.Given as goal
 
 abbrev pub invariant-loop-address : goal.invariant-loop-address
-invariant-loop-address l = l.facts.items ≡ filter_map (own_fact (view_of l.image)) (take l.address-index l.image.lines.now.addresses.items)
+invariant-loop-address l = l.facts.items ≡ filter_map (own_fact (view_of l.image)) (take l.address-index l.address-items)
