@@ -4,6 +4,7 @@ pub mod Ends
 pub mod Tallies
 pub mod Counted
 pub mod Runs
+pub mod PartialRuns
 pub mod Learnt
 pub mod Blocks
 pub mod Finding

@@ -1,5 +1,5 @@
 -- Runs that are counted in addition to others.
-use Rattle.std.proofs.Common.{◌≡◌, ◌∙◌, ◌+◌, ◌%◌, ◌^◌, ◌<◌, ◌≤◌, ℕ, List, [], ◌∷◌, ◌++◌, Option, Some, None, Result, Ok, Err, get_or, length, take, refl, sym, ap, subst, arith}
+use Rattle.std.proofs.Common.{◌≡◌, ◌∙◌, ◌+◌, ◌%◌, ◌^◌, ◌<◌, ◌≤◌, ℕ, List, [], ◌∷◌, ◌++◌, Option, Some, None, Result, Ok, Err, get_or, length, map, take, refl, sym, ap, subst, arith}
 use Rattle.std.specs.Prelude.{is_ok, is_some}
 use Rattle.std.proofs.lemmas.List.{map-append, take_more}
 use Rattle.std.proofs.lemmas.List.Sums.{sum_by_push, sum_by-cons}
@@ -13,7 +13,8 @@ use Rattle.rv_trace.specs.Jobs.{single_job}
 use Rattle.rv_trace.specs.Plans.{PlanView}
 use Rattle.rv_trace.specs.State.{State}
 use Rattle.rv_fleet.specs.declared_row.Refusal.{Refusal}
-use Rattle.rv_trace.specs.Rows.{start_state_in}
+use Rattle.rv_fleet.specs.declared_row.Row.{Row}
+use Rattle.rv_trace.specs.Rows.{row_of, rows_at, start_state_in}
 use Rattle.rv_trace.specs.Trace.{job_at}
 use Rattle.rv_counting.proofs.Evens.{few_begin, none_at_odd}
 use Rattle.rv_counting.proofs.OfJobs.{none_if_no_ok}
@@ -112,6 +113,23 @@ module _ (plan : PlanView) (indices : List ℕ) where
       subst (λ ps. HasCountedJobs plan.results (jobs_at plan ps) new) (sym (take_more indices k 0 lt))
       (subst (λ js. HasCountedJobs plan.results js new) (sym (map-append (λ index. job_at plan index no_job) (take k indices) (index ∷ [])))
       (one_job_more plan.results (jobs_at plan (take k indices)) (job_at plan index no_job) old new h (adds no_job)))
+
+-- ---- one row more
+
+pub no_rows : (plan : PlanView) → [] ≡ rows_at plan []
+unfolding rows_at
+no_rows plan = refl
+
+pub next_row : (plan : PlanView) (indices : List ℕ) (k : ℕ) (old new : List Row) (row : Row) → k < length indices
+    → old ≡ rows_at plan (take k indices) → ((d : Job) → row ≡ row_of plan (get_or plan.jobs (get_or indices k 0) d))
+    → new ≡ old ++ row ∷ [] → new ≡ rows_at plan (take (k + 1) indices)
+unfolding rows_at
+next_row plan indices k old new row lt h is push =
+    let no_job = single_job [] 0 [] in
+    let row_at = λ (index : ℕ). row_of plan (get_or plan.jobs index no_job) in
+    let index = get_or indices k 0 in
+    push ∙ ap (λ rs. rs ++ row ∷ []) h ∙ ap (λ r. map row_at (take k indices) ++ r ∷ []) (is no_job)
+    ∙ sym (map-append row_at (take k indices) (index ∷ [])) ∙ ap (map row_at) (sym (take_more indices k 0 lt))
 
 -- there are no more runs than jobs
 at_most_one : (r : Result State Refusal) → address_if (is_ok r) ≤ 1

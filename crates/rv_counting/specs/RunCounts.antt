@@ -6,7 +6,10 @@ use Rattle.rv_count_tables.specs.Table.{executed_at, taken_at}
 use Rattle.rv_trace.specs.declared_answers.PathResult.{PathResult}
 use Rattle.rv_trace.specs.declared_job.Job.{Job}
 use Rattle.rv_trace.specs.State.{State}
+use Rattle.rv_trace.specs.IntermediateState.{IsIntermediateState}
+use Rattle.rv_trace.specs.Machine.{state_of}
 use Rattle.rv_trace.specs.Rows.{start_state_in}
+use Rattle.rv_trace.specs.declared_partial_run.PartialRun.{PartialRun}
 use Rattle.rv_counting.specs.declared.runs_counter.RunsCounter.{RunsCounter}
 use Rattle.rv_counting.specs.Blocks.{HasAllEntries}
 use Rattle.rv_counting.specs.Counters.{counts_of}
@@ -32,6 +35,10 @@ pub record AddsRun (budget : ℕ) (start : Option State) (old new : RunsCounter)
 -- the run of a job was counted in addition to the others, unless the job is refused
 abbrev pub AddsJob : List PathResult → Job → RunsCounter → RunsCounter → Type 0
 AddsJob answers job old new = AddsRun job.budget (result_ok (start_state_in answers job)) old new
+
+-- the machine has completed so many steps of the job's run as `run` says
+abbrev pub IsRunOfJob : List PathResult → Job → PartialRun → Type 0
+IsRunOfJob answers job run = IsIntermediateState (start_state_in answers job) job.budget run.steps (state_of run.machine)
 
 -- how often a job's run executes the instruction at an address; 0 if the job is refused
 abbrev pub executed_of : List PathResult → ℕ → Job → ℕ

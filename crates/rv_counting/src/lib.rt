@@ -11,6 +11,7 @@ mod batch;
 mod block;
 mod count;
 mod count_work;
+mod counted_rows;
 mod counter;
 mod decode_cache;
 mod index_ranges;
@@ -25,6 +26,7 @@ pub use batch::count_batch;
 pub use block::{Block, block_prefix};
 pub use count::count_run;
 pub use count_work::JobsTable;
+pub use counted_rows::{CountedRows, count_rows_at};
 pub use counter::{CountedStep, Counter};
 pub use law::{
     completed_steps_are_executed, counts_have_even_addresses, counts_sum_to_the_steps,

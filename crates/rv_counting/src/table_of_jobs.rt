@@ -1,6 +1,6 @@
 //! The table of jobs of one image.
 
-ghost use Rattle.std.specs.Prelude.{◌≡◌, ◌%◌, ◌<◌, ◌≤◌, ◌∷◌, [], ℕ, IfOk, List, OnOk, true, length};
+ghost use Rattle.std.specs.Prelude.{◌≡◌, ◌%◌, ◌<◌, ◌≤◌, ◌∷◌, [], ℕ, IfOk, IfSome, List, OnOk, true, length};
 ghost use Rattle.std.specs.List.{AllByRecursion};
 ghost use Rattle.std.specs.Str.{IsUtf8};
 ghost use Rattle.sha2.specs.Sha256.{sha256};
@@ -15,8 +15,8 @@ ghost use Rattle.rv_count_tables.specs.Printable.{printable_text};
 ghost use Rattle.rv_trace.specs.Trace.{job_at};
 ghost use Rattle.rv_counting.specs.BatchRanges.{HaveOneImage};
 ghost use Rattle.rv_counting.specs.Counters.{counts_of};
-ghost use Rattle.rv_counting.specs.JobTables.{IsTableOfRange, table_of_runs};
-ghost use Rattle.rv_counting.specs.RunCounts.{AddsJob, CanCountRuns};
+ghost use Rattle.rv_counting.specs.JobTables.{IsTableOfRange, jobs_at, table_of_runs};
+ghost use Rattle.rv_counting.specs.RunCounts.{AddsJob, CanCountRuns, HasCountedJobs, IsRunOfJob};
 ghost use Rattle.rv_counting.specs.Tallies.{IsSorted};
 
 use crate::runs_counter::RunsCounter;
@@ -24,7 +24,7 @@ use rv_count_tables::{
     Bytes, CallNodes, CountTable, FunctionNames, ImageCounts, Images, Text,
     printable_text_is_utf8_without_controls, push_printable_text,
 };
-use rv_trace::{JobImage, Plan, SpareBus, image_bytes, image_of_bytes};
+use rv_trace::{JobImage, PartialRun, Plan, SpareBus, image_bytes, image_of_bytes};
 use sha2::{Digest, Sha256};
 use std::alloc::{AllocError, Global};
 
@@ -42,13 +42,33 @@ pub(crate) fn table_of_jobs_at(
     requires same { HaveOneImage plan.now indices.now }
     ensures { IfOk result (IsTableOfRange plan.now indices.now) }
 {
+    let mut counter = RunsCounter::new(alloc)?;
+    for k in 0..indices.len() {
+        let run = count_job_at(alloc, plan, indices[k], &mut counter, spare)?;
+        if let Some(run) = run {
+            spare.recycle_bus(run.machine.into_bus());
+        }
+    }
+    table_of_counter(alloc, plan, indices, counter)
+}
+
+/// Returns the table of the jobs at some indices, whose images are the same file, from the counts of their runs.
+pub(crate) fn table_of_counter(
+    alloc: Global,
+    plan: &Plan,
+    indices: &[usize],
+    counter: RunsCounter,
+) -> Result<CountTable, AllocError>
+    requires some { 0 < length indices.now }
+    requires few { length indices.now ≤ max_jobs }
+    requires within { AreJobIndices plan.now indices.now }
+    requires same { HaveOneImage plan.now indices.now }
+    requires counted { HasCountedJobs plan.now.results (jobs_at plan.now indices.now) counter }
+    ensures { IfOk result (IsTableOfRange plan.now indices.now) }
+{
     let Some(bytes) = image_bytes(plan, indices[0]) else {
         return Ok(empty_table(alloc));
     };
-    let mut counter = RunsCounter::new(alloc)?;
-    for k in 0..indices.len() {
-        count_job_at(alloc, plan, indices[k], &mut counter, spare)?;
-    }
     if counter.runs == 0 {
         return Ok(empty_table(alloc));
     }
@@ -56,24 +76,25 @@ pub(crate) fn table_of_jobs_at(
     table_of_runs(alloc, path, bytes, counter)
 }
 
-// Counts the run of the job at an index, unless the job is refused.
-fn count_job_at(
+/// Counts the run of the job at an index, and returns the machine after all its steps; `None` if the job is refused.
+pub(crate) fn count_job_at(
     alloc: Global,
     plan: &Plan,
     index: usize,
     counter: &mut RunsCounter,
     spare: &mut SpareBus,
-) -> Result<(), AllocError>
+) -> Result<Option<PartialRun>, AllocError>
     requires within { index < length plan.now.jobs }
     requires ready { CanCountRuns counter.old }
     requires few { counter.old.runs < max_jobs }
-    ensures { OnOk result ((d : AJob) → AddsJob plan.now.results (job_at plan.now index d) counter.old counter.new) }
+    ensures counted { OnOk result ((d : AJob) → AddsJob plan.now.results (job_at plan.now index d) counter.old counter.new) }
+    ensures run { IfOk result (λ run. IfSome run (λ run. (d : AJob) → IsRunOfJob plan.now.results (job_at plan.now index d) run)) }
 {
     let Some(bytes) = image_bytes(plan, index) else {
-        return Ok(());
+        return Ok(None);
     };
     let Some(image) = image_of_bytes(alloc, plan.job(index).isa, bytes)? else {
-        return Ok(());
+        return Ok(None);
     };
     let job_image = JobImage {
         plan,

@@ -1,6 +1,6 @@
 //! The row of a job whose machine has already run some steps.
 
-ghost use Rattle.std.specs.Prelude.{◌≡◌, ◌<◌, ◌≤◌, IfOk, IfSome, Ok, length, slice_index_or};
+ghost use Rattle.std.specs.Prelude.{◌≡◌, ◌<◌, ◌≤◌, IfOk, IfSome, Ok, OnOk, length, slice_index_or};
 ghost use Rattle.rv_elf.specs.Rows.{accepted};
 ghost use Rattle.rv_elf.specs.Symbols.{signature_check};
 ghost use Rattle.rv_jobs.specs.declared_job.Job.{Job as AJob};
@@ -10,11 +10,12 @@ ghost use Rattle.rv_machine.specs.State.{State};
 ghost use Rattle.rv_rows.specs.Attempt.{HasValidRange, HasReadableSignature, outcome_in_bus, outcome_of_attempt};
 ghost use Rattle.rv_rows.specs.IntermediateState.{IsIntermediateState};
 ghost use Rattle.rv_rows.specs.Outcome.{file_outcome_of, loadable_image, outcome_of_run, start_if_loadable};
+ghost use Rattle.rv_rows.specs.RecentOutcomes.{AreOutcomesOfPlan};
 ghost use Rattle.rv_rows.specs.Rows.{outcome_in, row_of, start_state_in};
 
 use crate::job_run::{ended_run, image_file_or_refusal, loadable_image};
 use crate::outcome::{Attempt, EndedRun, SignatureRange};
-use crate::plan_rows::{matches_same_as, row_with_verdict};
+use crate::plan_rows::{cache_outcome_if_named, matches_same_as, row_with_verdict};
 use crate::recent_outcomes::RecentOutcomes;
 use crate::spare_bus::SpareBus;
 use rv_elf::ImageError;
@@ -23,26 +24,60 @@ use rv_machine::Machine;
 use rv_report::{Refusal, Row};
 use std::alloc::{AllocError, Global};
 
-/// Returns the row of the job at an index, counted from 0, whose machine has completed `steps` steps of its run. The row equals that of
-/// [`crate::row_at`], but only the rest of the run is executed. The job that its `same_as` names is run completely.
+/// A machine that has completed the first steps of a job's run.
+#[derive(Drop)]
+pub struct PartialRun {
+    pub machine: Machine,
+    /// The number of completed steps.
+    pub steps: u32,
+}
+
+/// Returns the row of the job at an index, counted from 0, given the first part of its run. The row equals that of [`crate::row_at`], but
+/// only the rest of the run is executed. The job that its `same_as` names is run completely.
 pub fn row_from(
     alloc: Global,
     plan: &Plan,
     i: usize,
-    steps: u32,
-    machine: Machine,
+    run: PartialRun,
 ) -> Result<Row, AllocError>
     requires index { i < length plan.now.jobs }
     requires intermediate { (d : AJob) → let job = slice_index_or plan.now.jobs i d in
-        IsIntermediateState (start_state_in plan.now.results job) job.budget steps (state_of machine) }
+        IsIntermediateState (start_state_in plan.now.results job) job.budget run.steps (state_of run.machine) }
     ensures { IfOk result (λ row. (d : AJob) → row
         ≡ row_of plan.now (slice_index_or plan.now.jobs i d)) }
 {
-    let attempt = complete_run_of_job(alloc, plan, i, steps, machine)?;
+    row_from_with_recent(
+        plan,
+        i,
+        run,
+        &mut SpareBus::new(),
+        &mut RecentOutcomes::new(alloc),
+    )
+}
+
+/// Like [`row_from`], but keeps the memory of the run for the next one, and uses and extends the cached outcomes of the last jobs.
+#[tactic(auto, unfolding(crate::specs::Rows::row_of))]
+pub fn row_from_with_recent(
+    plan: &Plan,
+    i: usize,
+    run: PartialRun,
+    spare: &mut SpareBus,
+    recent: &mut RecentOutcomes,
+) -> Result<Row, AllocError>
+    requires index { i < length plan.now.jobs }
+    requires intermediate { (d : AJob) → let job = slice_index_or plan.now.jobs i d in
+        IsIntermediateState (start_state_in plan.now.results job) job.budget run.steps (state_of run.machine) }
+    requires recent { AreOutcomesOfPlan plan.now recent.old }
+    ensures row { IfOk result (λ row. (d : AJob) → row
+        ≡ row_of plan.now (slice_index_or plan.now.jobs i d)) }
+    ensures recent { OnOk result (AreOutcomesOfPlan plan.now recent.new) }
+{
+    let alloc = recent.alloc();
+    let attempt = complete_run_of_job(alloc, plan, i, run.steps, run.machine)?;
     let outcome = attempt.outcome(alloc)?;
-    let (mut spare, mut recent) = (SpareBus::new(), RecentOutcomes::new(alloc));
     spare.keep(attempt);
-    let is_same = matches_same_as(plan, plan.job(i), &outcome, &mut spare, &mut recent)?;
+    let is_same = matches_same_as(plan, plan.job(i), &outcome, spare, recent)?;
+    cache_outcome_if_named(alloc, plan, i, &outcome, recent)?;
     row_with_verdict(alloc, plan, i, outcome, is_same)
 }
 

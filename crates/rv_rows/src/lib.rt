@@ -18,7 +18,7 @@ mod reporter;
 mod spare_bus;
 mod verdict;
 
-pub use complete_run::row_from;
+pub use complete_run::{PartialRun, row_from, row_from_with_recent};
 pub use flat::flat_row;
 pub use law::{narrower_sets_only_refuse, parts_have_the_rows_of_the_whole};
 pub use outcome::{LoadableImage, Outcome, SignatureRange};

@@ -226,8 +226,8 @@ fn equals_outcome_at(
     Ok(same)
 }
 
-// Caches a copy of the outcome of the job at an index, if it is small enough and one of the next jobs names the job in its `same_as`.
-fn cache_outcome_if_named(
+/// Caches a copy of the outcome of the job at an index, if it is small enough and one of the next jobs names the job in its `same_as`.
+pub(crate) fn cache_outcome_if_named(
     alloc: Global,
     plan: &Plan,
     i: usize,

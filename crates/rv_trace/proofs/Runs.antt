@@ -33,13 +33,13 @@ pub after_none : (s : State) → state_after 0 s ≡ s
 unfolding run_of
 after_none s = refl
 
-steps_first : (n : ℕ) (s t : State) → step_of s ≡ Ok t → (run_of (suc n) s).steps ≡ suc (run_of n t).steps
+pub steps_first : (n : ℕ) (s t : State) → step_of s ≡ Ok t → (run_of (suc n) s).steps ≡ suc (run_of n t).steps
 steps_first n s t e = ap (λ r. r.steps) (run_goes_on n s t e) ∙ add-one (run_of n t).steps
 
 steps_end : (n : ℕ) (s : State) (e : Ending) → step_of s ≡ Err e → (run_of (suc n) s).steps ≡ 0
 steps_end n s e is = ap (λ r. r.steps) (run_ends n s e is)
 
-steps_none : (s : State) → (run_of 0 s).steps ≡ 0
+pub steps_none : (s : State) → (run_of 0 s).steps ≡ 0
 unfolding run_of
 steps_none s = refl
 

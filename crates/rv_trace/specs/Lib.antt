@@ -23,6 +23,7 @@ pub use Rattle.rv_machine.specs.declared_instruction
 pub use Rattle.rv_machine.specs.declared_isa
 pub use Rattle.rv_rows.specs.Counts
 pub use Rattle.rv_rows.specs.Image
+pub use Rattle.rv_rows.specs.IntermediateState
 pub use Rattle.rv_rows.specs.Jobs
 pub use Rattle.rv_rows.specs.Loading
 pub use Rattle.rv_rows.specs.Outcome
@@ -33,6 +34,7 @@ pub use Rattle.rv_rows.specs.Rows
 pub use Rattle.rv_rows.specs.SymbolSearch
 pub use Rattle.rv_rows.specs.SameResults
 pub use Rattle.rv_rows.specs.declared.outcome as declared_outcome
+pub use Rattle.rv_rows.specs.declared.complete_run as declared_partial_run
 pub use Rattle.rv_rows.specs.declared_answers
 pub use Rattle.rv_rows.specs.declared_elf_error
 pub use Rattle.rv_rows.specs.declared_image

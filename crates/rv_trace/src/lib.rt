@@ -33,7 +33,7 @@ pub use rv_machine::{
     is_long,
 };
 pub use rv_rows::{
-    Bytes, CodeSymbols, Image, Plan, Sequence, Sink, SpareBus, SymbolAt, machine_at,
+    Bytes, CodeSymbols, Image, PartialRun, Plan, Sequence, Sink, SpareBus, SymbolAt, machine_at,
     machine_at_reusing, put_all, read_image, symbol_at,
 };
 pub use rv_text::{Span, push_spans, push_symbol, push_text, push_word_digits};

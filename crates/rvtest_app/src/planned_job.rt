@@ -11,7 +11,7 @@ use rv_expect::{Judge, Rule};
 use rv_files::UnreadablePath;
 use rv_gdb::EndText;
 use rv_job_text::{TextReporter, Verbosity};
-use rv_rows::{Machine, Plan, Row, row_at, row_from};
+use rv_rows::{Machine, PartialRun, Plan, Row, row_at, row_from};
 use std::alloc::{AllocError, Global};
 
 /// The job at an index of a plan, which is not refused, and the paths that could not be read.
@@ -67,11 +67,9 @@ fn row_after_steps(
     if job.plan.job(job.index).budget < steps {
         return row_at(alloc, &job.plan, job.index);
     }
-    row_from(
-        alloc,
-        &job.plan,
-        job.index,
+    let run = PartialRun {
+        machine: machine.try_clone(alloc)?,
         steps,
-        machine.try_clone(alloc)?,
-    )
+    };
+    row_from(alloc, &job.plan, job.index, run)
 }

@@ -9,14 +9,14 @@ use Rattle.rv_counting.proofs.RunCounts.{refused_job}
 use Rattle.rv_counting.proofs.Starts.{no_bytes, no_image}
 use Rattle.rv_counting.proofs.table_of_jobs.count_job_at.Goals as goal
 
-pub returns-in_default : goal.returns-in_default
-returns-in_default c = λ d.
+pub returns-in_default-clause-counted : goal.returns-in_default-clause-counted
+returns-in_default-clause-counted c = λ d.
     let plan = c.args.plan.now in
     let job = job_at plan c.args.index d in
     refused_job plan.results job c.args.counter.now c.requires.ready (λ s start. no_bytes job s plan.results (sym (c.in_default.ensures d)) start)
 
-pub returns-in_default-2 : goal.returns-in_default-2
-returns-in_default-2 c = λ d.
+pub returns-in_default-2-clause-counted : goal.returns-in_default-2-clause-counted
+returns-in_default-2-clause-counted c = λ d.
     let plan = c.args.plan.now in
     let job = job_at plan c.args.index d in
     let same = get_or_read plan.jobs c.args.index c.job.result.now c.requires.within c.job.ensures.value d in

@@ -1,4 +1,4 @@
--- The counts of the jobs are those of their image.
+-- Each job is counted in addition to those before it.
 use Rattle.std.proofs.Common.{◌≡◌, ◌∙◌, ◌<◌, ℕ, List, [], take, get_or, length, sym, ap, subst, arith}
 use Rattle.std.proofs.lemmas.List.{get_or_read, length-map, length-take-le, take_all}
 use Rattle.std.proofs.lemmas.List.Elements.{All-get_or}
@@ -22,19 +22,19 @@ pub loop-k-preserved : goal.loop-k-preserved
 loop-k-preserved c =
     let t = c.loop-k-test.true in record {
       within = omega (arith, t);
-      counted = next_job c.args.plan.now c.args.indices.now c.loop-k.k c.loop-k.counter c.count_job_at.new.counter t c.loop-k.invariant.counted
-          c.in_ok-count_job_at.ensures;
+      counted = next_job c.args.plan.now c.args.indices.now c.loop-k.k c.loop-k.counter c.count_job_at-run.new.counter t c.loop-k.invariant.counted
+          c.in_ok-run.ensures.counted;
     }
 
-pub count_job_at-requires-clause-within : goal.count_job_at-requires-clause-within
-count_job_at-requires-clause-within c =
+pub count_job_at-run-requires-clause-within : goal.count_job_at-run-requires-clause-within
+count_job_at-run-requires-clause-within c =
     All-get_or (λ (index : ℕ). index < length c.args.plan.now.jobs) c.args.indices.now c.loop-k.k 0 c.loop-k-test.true c.requires.within
 
-pub count_job_at-requires-clause-ready : goal.count_job_at-requires-clause-ready
-count_job_at-requires-clause-ready c = c.loop-k.invariant.counted.ready
+pub count_job_at-run-requires-clause-ready : goal.count_job_at-run-requires-clause-ready
+count_job_at-run-requires-clause-ready c = c.loop-k.invariant.counted.ready
 
-pub count_job_at-requires-clause-few : goal.count_job_at-requires-clause-few
-count_job_at-requires-clause-few c =
+pub count_job_at-run-requires-clause-few : goal.count_job_at-run-requires-clause-few
+count_job_at-run-requires-clause-few c =
     let plan = c.args.plan.now in
     let indices = c.args.indices.now in
     let first = take c.loop-k.k indices in
@@ -46,58 +46,7 @@ count_job_at-requires-clause-few c =
     let all = c.requires.few in
     omega (arith, runs, few, long, most, t, all)
 
-pub returns-in_default : goal.returns-in_default
-returns-in_default c = no_image_ran c.args.plan.now c.args.indices.now c.requires.same c.empty_table.result c.empty_table.ensures
-    (sym (c.in_default.ensures (single_job [] 0 [])))
-
-pub returns-then-counter-eq0 : goal.returns-then-counter-eq0
-returns-then-counter-eq0 c =
-    let plan = c.args.plan.now in
-    let indices = c.args.indices.now in
-    let all = take_all c.loop-k.k indices c.loop-k-test.false in
-    let whole = subst (λ ps. HasCountedJobs plan.results (jobs_at plan ps) c.loop-k.counter) all c.loop-k.invariant.counted in
-    nothing_ran plan indices c.empty_table-then-counter-eq0.result c.empty_table-then-counter-eq0.ensures
-    (sym whole.runs ∙ c.if-counter-eq0.true)
-
-pub table_of_runs-requires-clause-ready : goal.table_of_runs-requires-clause-ready
-table_of_runs-requires-clause-ready c = c.loop-k.invariant.counted.ready
-
-pub table_of_runs-requires-clause-even : goal.table_of_runs-requires-clause-even
-table_of_runs-requires-clause-even c = λ at odd.
-    let plan = c.args.plan.now in
-    none_counted_at_odd plan.results at odd (jobs_at plan (take c.loop-k.k c.args.indices.now)) c.loop-k.counter c.loop-k.invariant.counted
-
-pub table_of_runs-requires-clause-few : goal.table_of_runs-requires-clause-few
-table_of_runs-requires-clause-few c =
-    let plan = c.args.plan.now in
-    let indices = c.args.indices.now in
-    let first = take c.loop-k.k indices in
-    let runs = c.loop-k.invariant.counted.runs in
-    let few = few_runs plan.results (jobs_at plan first) in
-    let long = length-map first (λ index. job_at plan index (single_job [] 0 [])) in
-    let most = length-take-le c.loop-k.k indices c.loop-k.invariant.within in
-    let within = c.loop-k.invariant.within in
-    let all = c.requires.few in
-    omega (arith, runs, few, long, most, within, all)
-
-pub returns : goal.returns
-returns c =
-    let plan = c.args.plan.now in
-    let indices = c.args.indices.now in
-    let file = c.in-Some.bytes.now in
-    let path = c.as_str-path.result.now in
-    let no_job = single_job [] 0 [] in
-    let first = get_or indices 0 0 in
-    let counter = c.loop-k.counter in
-    let low = All-get_or (λ (index : ℕ). index < length plan.jobs) indices 0 0 c.requires.some c.requires.within in
-    let read = get_or_read plan.jobs first c.job.result.now low c.job.ensures.value no_job in
-    let all = take_all c.loop-k.k indices c.loop-k-test.false in
-    let whole = subst (λ ps. HasCountedJobs plan.results (jobs_at plan ps) counter) all c.loop-k.invariant.counted in
-    let other = c.if-counter-eq0.false in
-    both_ok c.table_of_runs.result
-    (λ table. (addresses : List AddressCounts) × IsSorted (counts_of counter.counter) addresses
-    × (table ≡ table_of_runs counter.runs path file addresses)) IsValidTable (IsTableOfRange plan indices)
-    (λ t value table.
-    image_ran plan indices c.requires.same file path counter value.0 t (sym (c.in-Some.ensures no_job))
-    (sym (c.as_str-path.ensures ∙ ap (λ (j : Job). j.image) read)) whole (omega (arith, other)) value.1 value.2 table)
-    c.table_of_runs.ensures.value c.table_of_runs.ensures.table
+pub table_of_counter-requires-clause-counted : goal.table_of_counter-requires-clause-counted
+table_of_counter-requires-clause-counted c =
+    subst (λ ps. HasCountedJobs c.args.plan.now.results (jobs_at c.args.plan.now ps) c.loop-k.counter)
+    (take_all c.loop-k.k c.args.indices.now c.loop-k-test.false) c.loop-k.invariant.counted

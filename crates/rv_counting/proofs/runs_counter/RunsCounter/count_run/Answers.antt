@@ -8,7 +8,7 @@ use Rattle.rv_counting.proofs.runs_counter.RunsCounter.count_run.Goals as goal
 pub follow_run-requires-clause-valid : goal.follow_run-requires-clause-valid
 follow_run-requires-clause-valid c = c.refetch.ensures.valid (state_of c.args.machine) (sym c.bus.ensures)
 
-pub returns : goal.returns
-returns c =
+pub returns-clause-counted : goal.returns-clause-counted
+returns-clause-counted c =
     adds_run c.args.budget c.refetch.new.self.generation (state_of c.args.machine) (counts_of c.args.self.now.counter) c.args.self.now _
-    c.ranges.budget.fits c.requires.ready refl c.refetch.ensures.generation c.in_ok-machine.ensures refl
+    c.ranges.budget.fits c.requires.ready refl c.refetch.ensures.generation c.in_ok-run.ensures.counted refl
