@@ -34,24 +34,26 @@ sums_so_far : (sum : CountTable) (failed : Option SumError) (ts : List CountTabl
 sums_so_far sum None ts goes h = h
 sums_so_far sum (Some error) ts goes h = absurd (goes refl)
 
-pub one_added : {H : Type 0} (table : H → CountTable) (sum next : CountTable) (failed : Option SumError) (results : List H) (made : H)
-    → (is_some failed ≡ true → ⊥) → AreTablesAdded sum failed (map table results) → IsSumOfTables sum (table made) next
-    → AreTablesAdded next failed (map table (results ++ made ∷ []))
-one_added table sum next None results made goes h is =
-    subst (λ ts. SumsTo no_counts ts next) (sym (map-append table results (made ∷ [])))
-    (sums_more no_counts sum (table made) next (map table results) h is)
-one_added table sum next (Some error) results made goes h is = absurd (goes refl)
+pub one_added : (sum u next : CountTable) (failed : Option SumError) (us : List CountTable) → (is_some failed ≡ true → ⊥)
+    → AreTablesAdded sum failed us → IsSumOfTables sum u next → AreTablesAdded next failed (us ++ u ∷ [])
+one_added sum u next None us goes h is = sums_more no_counts sum u next us h is
+one_added sum u next (Some error) us goes h is = absurd (goes refl)
 
-pub none_more : {H : Type 0} (table : H → CountTable) (sum : CountTable) (failed : Option SumError) (error : SumError) (results : List H)
-    (made : H) → (is_some failed ≡ true → ⊥) → AreTablesAdded sum failed (map table results) → HaveNoSum error sum (table made)
-    → AreTablesAdded sum (Some error) (map table (results ++ made ∷ []))
-none_more table sum failed error results made goes h refused = record {
-  before = map table results;
-  last = table made;
-  tables = map-append table results (made ∷ []);
-  sums = sums_so_far sum failed (map table results) goes h;
+pub none_more : (sum u : CountTable) (failed : Option SumError) (error : SumError) (us : List CountTable) → (is_some failed ≡ true → ⊥)
+    → AreTablesAdded sum failed us → HaveNoSum error sum u → AreTablesAdded sum (Some error) (us ++ u ∷ [])
+none_more sum u failed error us goes h refused = record {
+  before = us;
+  last = u;
+  tables = refl;
+  sums = sums_so_far sum failed us goes h;
   refused = refused;
 }
+
+-- of results: the table of one more
+pub one_result_added : {H : Type 0} (table : H → CountTable) (sum : CountTable) (failed : Option SumError) (results : List H) (made : H)
+    → AreTablesAdded sum failed (map table results ++ table made ∷ []) → AreTablesAdded sum failed (map table (results ++ made ∷ []))
+one_result_added table sum failed results made h =
+    subst (λ ts. AreTablesAdded sum failed ts) (sym (map-append table results (made ∷ []))) h
 
 module _ {H : Type 0} (is_output : ℕ → H → Type 0) (jobs : ℕ) (has_received : List H → Type 0) (stops : Type 0) where
   heard_some : (flow : Flow) → IsRunDelivered is_output jobs has_received stops (Ok flow) → HasReceivedSome is_output jobs has_received
@@ -70,7 +72,7 @@ pub record NextRefused (P One : ℕ → CountTable → Type 0) (total : ℕ) (er
   pub within : count < total
   pub first : CountTable
   pub next : CountTable
-  pub node_of_first : P count first
+  pub of_first : P count first
   pub of_next : One count next
   pub refused : HaveNoSum error first next
 
@@ -114,7 +116,7 @@ module _ (P One : ℕ → CountTable → Type 0) (total : ℕ) (none : P 0 no_co
         within = omega (arith, long, within);
         first = sum;
         next = last;
-        node_of_first = added_first before sum (omega (arith, long, within))
+        of_first = added_first before sum (omega (arith, long, within))
             (λ n d less. subst (λ t. One n t) (get_or_append_left before (last ∷ []) d n less)
             (each n d (omega (arith, long, less)))) sums;
         of_next = subst (λ t. One (length before) t) (get_or-append_seam before last [] last)
@@ -256,7 +258,7 @@ module _ (plan : PlanView) (indices : List ℕ) (pieces : List IndexRange) (are 
         let long = length-append ps qs in
         let same = ap length (joined_places h.count h.within) in
         let most = length-take (range_start pieces (h.count + 1)) indices in
-        wanting (length ps) (length qs) h.first h.next error (omega (arith, long, same, most, few)) h.node_of_first.few h.of_next.few h.refused
+        wanting (length ps) (length qs) h.first h.next error (omega (arith, long, same, most, few)) h.of_first.few h.of_next.few h.refused
 
     pub memory_alone : length indices ≤ max_jobs → IfErr (sum_of_run added ran) (λ error. error ≡ OutOfMemory)
     memory_alone few =

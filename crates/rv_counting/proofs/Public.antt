@@ -1,5 +1,5 @@
 -- The lemmas that proofs of other crates may cite.
-pub use Rattle.rv_counting.proofs.Adding.{run_added, run_ended, NextRefused}
+pub use Rattle.rv_counting.proofs.Adding.{all_counted, run_added, run_ended, NextRefused}
 pub use Rattle.rv_counting.proofs.Blocks.{reaches, Reaches}
 pub use Rattle.rv_counting.proofs.Counters.{counted_all, ready}
 pub use Rattle.rv_counting.proofs.Evens.{counts_even}
@@ -9,4 +9,5 @@ pub use Rattle.rv_counting.proofs.OfJobs.{first_path-append, no_counts_is_table,
 pub use Rattle.rv_counting.proofs.Orders.{first_moved}
 pub use Rattle.rv_counting.proofs.Parted.{all_parts, joined_parts}
 pub use Rattle.rv_counting.proofs.Starts.{no_bytes, no_image, start_even}
+pub use Rattle.rv_fleet.proofs.Public.{rows_count}
 pub use Rattle.rv_trace.proofs.Public.{after_none, code_is_fetched, each_completes}

@@ -6,7 +6,7 @@ ghost use Rattle.rv_counting.specs.BatchRanges.{HaveOneImage};
 ghost use Rattle.rv_counting.specs.JobTables.{IsTableOfRange};
 ghost use Rattle.rv_counting.specs.RunCounts.{AddsJob, CanCountRuns};
 ghost use Rattle.rv_fleet.specs.JobIndices.{AreJobIndices};
-ghost use Rattle.rv_fleet.specs.RecentOutcomes.{AreOutcomesOfPlan};
+ghost use Rattle.rv_trace.specs.RecentOutcomes.{AreOutcomesOfPlan};
 ghost use Rattle.rv_trace.specs.Rows.{row_of, rows_at};
 ghost use Rattle.rv_trace.specs.Trace.{job_at};
 ghost use Rattle.rv_trace.specs.declared_job.Job.{Job as AJob};

@@ -9,9 +9,9 @@ use std::alloc::{AllocError, Global};
 
 /// Consecutive indices of a batch: from the first up to, but not including, the second.
 #[derive(Clone, Copy)]
-pub(crate) struct IndexRange {
-    pub(crate) begin: usize,
-    pub(crate) end: usize,
+pub struct IndexRange {
+    pub begin: usize,
+    pub end: usize,
 }
 
 /// The maximum number of jobs in a piece.
@@ -21,7 +21,7 @@ const MAX_JOBS_IN_RANGE: usize = 64;
 const RANGES_PER_WORKER: usize = 8;
 
 /// Divides jobs into pieces of the same image, each of them as long as it can be without leaving workers idle.
-pub(crate) fn ranges_of_images(
+pub fn ranges_of_images(
     alloc: Global,
     plan: &Plan,
     indices: &[usize],

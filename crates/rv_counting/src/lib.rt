@@ -28,6 +28,7 @@ pub use count::count_run;
 pub use count_work::JobsTable;
 pub use counted_rows::{CountedRows, count_rows_at};
 pub use counter::{CountedStep, Counter};
+pub use index_ranges::{IndexRange, ranges_of_images};
 pub use law::{
     completed_steps_are_executed, counts_have_even_addresses, counts_sum_to_the_steps,
     ending_says_whether_the_last_step_is_executed, jobs_have_one_table,
@@ -39,8 +40,11 @@ pub use table_of_jobs::{digest_of, empty_table, images_of_one, shown_text};
 pub use table_sum::{HasTable, TableSum};
 
 // From the crates below: what this interface names, and what its callers need with it.
-pub use rv_count_tables::table_text;
-pub use rv_fleet::{Batch, Crew, Flow, Work, WorkerState, run_jobs};
+pub use rv_count_tables::{CountTable, table_text};
+pub use rv_fleet::{
+    Batch, Both, Crew, Flow, Listener, Observer, Row, RowReporter, Rows, RunError, Work, WorkerState,
+    WriteError, row_at_with_recent, run_batch, run_jobs,
+};
 pub use rv_trace::{
     Bus, Code, CodeSymbols, Ending, Isa, JobImage, Machine, Map, Misaligned, Plan, Region,
     code_length, image_bytes, image_of_bytes, instr_of, is_long, read_image,

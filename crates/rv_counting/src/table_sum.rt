@@ -1,12 +1,15 @@
 //! The sum of the tables of jobs, as a run delivers them.
 
-ghost use Rattle.std.specs.Prelude.{◌≡◌, None};
+ghost use Rattle.std.specs.Prelude.{◌≡◌, ◌∷◌, ◌++◌, [], List, None, is_some, true};
 ghost use Rattle.rv_count_tables.specs.Sum.{no_counts};
-ghost use Rattle.rv_counting.specs.TableSums.{sum_of_run};
+ghost use Rattle.rv_count_tables.specs.Table.{IsValidTable};
+ghost use Rattle.rv_count_tables.specs.declared.table.CountTable.{CountTable as Counted};
+ghost use Rattle.rv_counting.specs.TableSums.{AreTablesAdded, sum_of_run, sum_or_error};
+ghost use Rattle.rv_fleet.specs.declared_listener.Flow.TheVariants.{Continue, Stop};
 
 use crate::table_of_jobs::empty_table;
 use rv_count_tables::{CountTable, SumError, sum_of_tables};
-use rv_fleet::{Flow, Listener, RunError};
+use rv_fleet::{Flow, Listener, Observer, RunError};
 use std::alloc::Global;
 use std::marker::Model;
 
@@ -55,18 +58,53 @@ impl TableSum {
         }
     }
 
+    /// Returns whether a table could not be added.
+    pub fn has_failed(&self) -> bool
+        ensures { result ≡ is_some self.now.failed }
+    {
+        self.failed.is_some()
+    }
+
+    /// Returns the sum of the tables, or why one of them could not be added.
+    pub fn into_sum(self) -> Result<CountTable, SumError>
+        ensures { result ≡ sum_or_error self.sum self.failed }
+    {
+        match self.failed {
+            None => Ok(self.sum),
+            Some(error) => Err(error),
+        }
+    }
+
     /// Returns the sum of the tables of a run, or why there is none. `ran` is the outcome of the run: it fails if an allocation fails or a
     /// thread cannot be started, and both count as `OutOfMemory`.
     pub fn into_sum_of_run(self, ran: Result<Flow, RunError>) -> Result<CountTable, SumError>
         ensures { result ≡ sum_of_run self ran }
     {
         match ran {
-            Ok(_) => match self.failed {
-                None => Ok(self.sum),
-                Some(error) => Err(error),
-            },
+            Ok(_) => self.into_sum(),
             // Out of memory: a run ends early by that, or by a thread that was not started.
             Err(_) => Err(SumError::OutOfMemory),
+        }
+    }
+
+    // Adds a table to the sum, and returns whether the run continues: not if the two have no sum.
+    fn add(&mut self, table: &CountTable) -> Flow
+        requires goes { is_some self.old.failed ≡ true → ⊥ }
+        requires valid { IsValidTable table.now }
+        ensures added { (tables : List Counted) → AreTablesAdded self.old.sum self.old.failed tables
+            → AreTablesAdded self.new.sum self.new.failed (tables ++ table.now ∷ []) }
+        ensures goes { result ≡ Continue → is_some self.new.failed ≡ true → ⊥ }
+        ensures stops { result ≡ Stop → is_some self.new.failed ≡ true }
+    {
+        match sum_of_tables(self.alloc, &self.sum, table) {
+            Ok(sum) => {
+                self.sum = sum;
+                Flow::Continue
+            }
+            Err(error) => {
+                self.failed = Some(error);
+                Flow::Stop
+            }
         }
     }
 }
@@ -81,16 +119,26 @@ impl<T: HasTable + Drop> Listener<T> for TableSum {
 
     // Adds the table of the next result to the sum. Stops if the two have no sum.
     fn receive(&mut self, item: T) -> Flow {
-        match sum_of_tables(self.alloc, &self.sum, item.table()) {
-            Ok(sum) => {
-                self.sum = sum;
-                Flow::Continue
-            }
-            Err(error) => {
-                self.failed = Some(error);
-                Flow::Stop
-            }
-        }
+        self.add(item.table())
+    }
+
+    // Lets the run continue: the sum has nothing to do in a pause.
+    fn pause(&mut self) -> Flow {
+        Flow::Continue
+    }
+}
+
+impl<T: HasTable + Drop> Observer<T> for TableSum {
+    ghost use Rattle.std.specs.Prelude.{◌≡◌, true, is_some, map};
+    ghost use Rattle.rv_counting.specs.TableSums.{AreTablesAdded};
+
+    ghost has_seen = { λ s results. AreTablesAdded s.sum s.failed (map T.table results) };
+
+    ghost stops = { λ s. is_some s.failed ≡ true };
+
+    // Adds the table of the next result to the sum. Stops if the two have no sum.
+    fn see(&mut self, item: &T) -> Flow {
+        self.add(item.table())
     }
 
     // Lets the run continue: the sum has nothing to do in a pause.

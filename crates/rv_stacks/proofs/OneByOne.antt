@@ -56,7 +56,7 @@ module _ (plan : PlanView) where
       within = h.within;
       first = h.first;
       next = h.next;
-      of_first = h.node_of_first;
+      of_first = h.of_first;
       of_next = h.of_next;
       refused = h.refused;
     }

@@ -3,3 +3,4 @@ mod Tellings
 mod Sending
 mod Limits
 mod Received
+mod Ranges

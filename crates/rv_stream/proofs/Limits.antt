@@ -2,7 +2,7 @@
 use Rattle.std.proofs.Common.{◌≡◌, ◌∙◌, ◌-◌, ℕ, zero, suc, Bool, true, false, List, [], ◌∷◌, ◌++◌, Option, Some, None, append-nil, ap, sym, refl, arith}
 use Rattle.std.specs.Prelude.{if◌then◌else◌, option_map}
 use Rattle.rv_expect.specs.Judgement.{JudgeView, fails}
-use Rattle.rv_fleet.specs.declared_row.Row.{Row}
+use Rattle.rv_counting.specs.declared_row.Row.{Row}
 use Rattle.rv_stream.specs.Limits.{failures_left_after, rows_until, rows_up_to}
 use Rattle.rv_stream.specs.ReportedRows.{AreRowsUpToFailure}
 

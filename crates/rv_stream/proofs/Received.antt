@@ -5,17 +5,17 @@ use Rattle.std.proofs.lemmas.List.{length-map, take_all}
 use Rattle.std.specs.Prelude.{is_ok, IfOk, OnErr, OnOk}
 use Rattle.std.specs.List.{concat}
 use Rattle.rv_base.proofs.Public.{beginning_of_longer}
-use Rattle.rv_fleet.specs.declared_engine.RunError.{RunError}
-use Rattle.rv_fleet.specs.declared_listener.Flow.{Flow}
-use Rattle.rv_fleet.specs.declared_listener.Flow.TheVariants.{Continue, Stop}
-use Rattle.rv_fleet.specs.Results.{IsRunDelivered, HasReceived}
+use Rattle.rv_counting.specs.declared_engine.RunError.{RunError}
+use Rattle.rv_counting.specs.declared_listener.Flow.{Flow}
+use Rattle.rv_counting.specs.declared_listener.Flow.TheVariants.{Continue, Stop}
+use Rattle.rv_counting.specs.Results.{IsRunDelivered, HasReceived}
 use Rattle.rv_expect.specs.Judgement.{JudgeView, fails}
-use Rattle.rv_fleet.proofs.Public.{rows_count}
-use Rattle.rv_fleet.specs.declared.batch.Batch.{Batch}
-use Rattle.rv_fleet.specs.Batches.{batch_rows}
-use Rattle.rv_fleet.specs.Jobs.{single_job}
-use Rattle.rv_fleet.specs.declared_row.Row.{Row}
-use Rattle.rv_fleet.specs.Rows.{row_of, rows_at}
+use Rattle.rv_counting.proofs.Public.{rows_count}
+use Rattle.rv_counting.specs.declared_batch.Batch.{Batch}
+use Rattle.rv_counting.specs.Batches.{batch_rows}
+use Rattle.rv_counting.specs.Jobs.{single_job}
+use Rattle.rv_counting.specs.declared_row.Row.{Row}
+use Rattle.rv_counting.specs.Rows.{row_of, rows_at}
 use Rattle.rv_base.specs.Sinks.{AppendsPrefix}
 use Rattle.rv_stream.specs.declared.reported_row.ReportedRow.{ReportedRow}
 use Rattle.rv_stream.specs.Limits.{rows_up_to}

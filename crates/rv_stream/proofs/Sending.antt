@@ -8,10 +8,10 @@ use Rattle.std.proofs.lemmas.List.{map-append}
 use Rattle.std.proofs.lemmas.List.Folds.{concat-append}
 use Rattle.rv_base.specs.Counts.{one_more}
 use Rattle.rv_base.specs.Sinks.{AppendsPrefix}
-use Rattle.rv_fleet.specs.declared_report.WriteError.{WriteError}
-use Rattle.rv_fleet.specs.declared_report.WriteError.TheVariants.{Failed, OutOfMemory}
+use Rattle.rv_counting.specs.declared_report.WriteError.{WriteError}
+use Rattle.rv_counting.specs.declared_report.WriteError.TheVariants.{Failed, OutOfMemory}
 use Rattle.rv_stream.specs.declared.reported_row.ReportedRow.{ReportedRow}
-use Rattle.rv_fleet.specs.declared_row.Row.{Row}
+use Rattle.rv_counting.specs.declared_row.Row.{Row}
 use Rattle.rv_stream.specs.SeenRows.{text_by_index}
 use Rattle.rv_stream.specs.SentTexts.{IsSent, IsWriteInProgress}
 use Rattle.rv_stream.specs.ReportedRows.{texts_of_reported}

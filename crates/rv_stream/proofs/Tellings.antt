@@ -3,7 +3,7 @@ use Rattle.std.proofs.Common.{◌≡◌, ◌∙◌, ℕ, zero, suc, ◌+◌, ◌
 use Rattle.std.proofs.Common.{get_or, refl, sym, ap, arith, append-nil, append_assoc, take-append-drop}
 use Rattle.std.specs.List.{concat}
 use Rattle.std.proofs.lemmas.List.Folds.{concat-append}
-use Rattle.rv_fleet.specs.declared_row.Row.{Row}
+use Rattle.rv_counting.specs.declared_row.Row.{Row}
 use Rattle.rv_stream.specs.Streams.{row_texts, joined_row_texts}
 
 -- the first texts, and those from there on, are all

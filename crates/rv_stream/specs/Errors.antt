@@ -1,8 +1,8 @@
 -- Errors of a stream.
-use Rattle.rv_fleet.specs.declared_engine.RunError.{RunError}
-use Rattle.rv_fleet.specs.declared_engine.RunError.TheVariants as run
-use Rattle.rv_fleet.specs.declared_report.WriteError.{WriteError}
-use Rattle.rv_fleet.specs.declared_report.WriteError.TheVariants as write
+use Rattle.rv_counting.specs.declared_engine.RunError.{RunError}
+use Rattle.rv_counting.specs.declared_engine.RunError.TheVariants as run
+use Rattle.rv_counting.specs.declared_report.WriteError.{WriteError}
+use Rattle.rv_counting.specs.declared_report.WriteError.TheVariants as write
 use Rattle.rv_stream.specs.declared.error.StreamError.{StreamError}
 use Rattle.rv_stream.specs.declared.error.StreamError.TheVariants as stream
 

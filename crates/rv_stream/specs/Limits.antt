@@ -1,8 +1,8 @@
 -- The rows of a run that stops after some failures.
 use Rattle.std.specs.Prelude.{ℕ, zero, suc, Bool, List, [], ◌∷◌, Option, Some, None, if◌then◌else◌}
 use Rattle.rv_expect.specs.Judgement.{fails, judge_view}
-use Rattle.rv_stream.specs.declared.failure_limit.FailureLimit.{FailureLimit}
-use Rattle.rv_fleet.specs.declared_row.Row.{Row}
+use Rattle.rv_stream.specs.declared.stream_options.StreamOptions.{StreamOptions}
+use Rattle.rv_counting.specs.declared_row.Row.{Row}
 
 -- the rows up to and including the nth failure; all rows if there are fewer failures
 abbrev pub rows_until : (Row → Bool) → ℕ → List Row → List Row
@@ -21,6 +21,6 @@ abbrev pub rows_up_to : Option ℕ → (Row → Bool) → List Row → List Row
 rows_up_to None fails rows = rows
 rows_up_to (Some max_failures) fails rows = rows_until fails max_failures rows
 
--- the rows of a run with this limit, given the rows of the run without a limit
-abbrev pub rows_within : FailureLimit → List Row → List Row
-rows_within limit rows = rows_up_to limit.failures (fails (judge_view limit.judge)) rows
+-- the rows of a run with these options, given the rows of the run to its end
+abbrev pub rows_within : StreamOptions → List Row → List Row
+rows_within options rows = rows_up_to options.max_failures (fails (judge_view options.judge)) rows

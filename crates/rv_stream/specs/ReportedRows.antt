@@ -1,8 +1,8 @@
 -- Rows of a batch with their texts, up to the failure that stops the run.
 use Rattle.std.specs.Prelude.{◌≡◌, ℕ, Bool, false, List, Option, map, option_map}
-use Rattle.rv_fleet.specs.declared.batch.Batch.{Batch}
-use Rattle.rv_fleet.specs.Batches.{index_of_number, row_of_number}
-use Rattle.rv_fleet.specs.declared_row.Row.{Row}
+use Rattle.rv_counting.specs.declared_batch.Batch.{Batch}
+use Rattle.rv_counting.specs.Batches.{index_of_number, row_of_number}
+use Rattle.rv_counting.specs.declared_row.Row.{Row}
 use Rattle.rv_stream.specs.declared.reported_row.ReportedRow.{ReportedRow}
 use Rattle.rv_stream.specs.Limits.{failures_left_after, rows_up_to}
 use Rattle.rv_expect.specs.Judgement.{JudgeView, fails}

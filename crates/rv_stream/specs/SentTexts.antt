@@ -3,8 +3,8 @@ use Rattle.std.specs.Prelude.{◌≡◌, ◌++◌, ℕ, List, Option, Some, None
 use Rattle.std.specs.Io.KnownBytes.{Appends}
 use Rattle.rv_base.specs.Counts.{one_more}
 use Rattle.rv_base.specs.Sinks.{AppendsPrefix}
-use Rattle.rv_fleet.specs.declared_report.WriteError.{WriteError}
-use Rattle.rv_fleet.specs.declared_report.WriteError.TheVariants.{Failed, OutOfMemory}
+use Rattle.rv_counting.specs.declared_report.WriteError.{WriteError}
+use Rattle.rv_counting.specs.declared_report.WriteError.TheVariants.{Failed, OutOfMemory}
 
 -- all of the text except for its end `buffered` was written, and no write failed
 pub record IsWriteInProgress (before now : Option (List ℕ)) (failures_before failures : ℕ) (buffered text : List ℕ) : Type 0 where

@@ -1,7 +1,7 @@
 -- The texts reported for rows, one after another.
 use Rattle.std.specs.Prelude.{ℕ, List, [], ◌∷◌}
 use Rattle.std.specs.List.{concat}
-use Rattle.rv_fleet.specs.declared_row.Row.{Row}
+use Rattle.rv_counting.specs.declared_row.Row.{Row}
 
 -- the texts that `row_text` returns for the rows and the indices of their jobs, as a list
 abbrev pub row_texts : (ℕ → Row → List ℕ) → List ℕ → List Row → List (List ℕ)

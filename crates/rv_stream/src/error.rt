@@ -4,7 +4,7 @@ ghost use Rattle.std.specs.Prelude.{◌≡◌};
 ghost use Rattle.rv_stream.specs.Errors.{stream_error_of_run, stream_error_of_write};
 ghost use Rattle.rv_stream.specs.declared.error.StreamError.TheVariants.{OutOfMemory};
 
-use rv_fleet::{RunError, WriteError};
+use rv_counting::{RunError, WriteError};
 use std::alloc::AllocError;
 use thiserror::Error;
 

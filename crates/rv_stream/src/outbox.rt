@@ -2,14 +2,14 @@
 
 ghost use Rattle.std.specs.Prelude.{◌≡◌, ◌++◌, [], ℕ, List, None, OnErr, OnOk, is_some, true};
 ghost use Rattle.std.specs.Io.KnownBytes.{Appends};
-ghost use Rattle.rv_fleet.specs.declared_listener.Flow.TheVariants.{Continue, Stop};
+ghost use Rattle.rv_counting.specs.declared_listener.Flow.TheVariants.{Continue, Stop};
 ghost use Rattle.rv_base.specs.Sinks.{AppendsPrefix};
 ghost use Rattle.rv_stream.specs.SentTexts.{IsSent};
 
 use crate::reported_row::ReportedRow;
 use crate::stream_spec::StreamSpec;
 use rv_base::{Sink, put_all};
-use rv_fleet::{Flow, RowReporter, WriteError};
+use rv_counting::{Flow, RowReporter, WriteError};
 use std::alloc::Global;
 use std::marker::PhantomData;
 

@@ -2,7 +2,7 @@
 
 ghost use Rattle.std.specs.Prelude.{◌≡◌};
 
-use rv_fleet::{Batch, Row, RowReporter, Work, WorkerState, row_at_with_recent};
+use rv_counting::{Batch, Row, RowReporter, Work, WorkerState, row_at_with_recent};
 use std::alloc::{AllocError, Global};
 
 /// The row of a job, with the text that a reporter returns for it.
@@ -23,7 +23,7 @@ pub(crate) struct ReportedRowWork<'b, 't, T: RowReporter> {
 
 impl<T: RowReporter> Work<ReportedRow> for ReportedRowWork<'_, '_, T> {
     ghost use Rattle.std.specs.Prelude.{length};
-    ghost use Rattle.rv_fleet.specs.RecentOutcomes.{AreOutcomesOfPlan};
+    ghost use Rattle.rv_counting.specs.RecentOutcomes.{AreOutcomesOfPlan};
     ghost use Rattle.rv_stream.specs.ReportedRows.{IsReportedRow};
 
     ghost jobs = { λ s. length s.batch.now.places.now };

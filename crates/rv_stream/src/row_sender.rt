@@ -9,7 +9,7 @@ use crate::outbox::Outbox;
 use crate::reported_row::ReportedRow;
 use crate::stream_spec::StreamSpec;
 use rv_base::Sink;
-use rv_fleet::{Flow, Observer, RowReporter, WriteError};
+use rv_counting::{Flow, Observer, RowReporter, WriteError};
 use std::alloc::Global;
 
 /// Sends to a sink the text that its own reporter returns for each row. Rows that arrive together are written at once. Without a sink it

@@ -4,11 +4,11 @@ ghost use Rattle.std.specs.Prelude.{◌≡◌, ◌-◌, ◌++◌, ◌∷◌, [],
 ghost use Rattle.rv_expect.specs.Judgement.{judge_view};
 ghost use Rattle.rv_stream.specs.ReportedRows.{AreRowsUpToFailure};
 
-use crate::failure_limit::FailureLimit;
+use crate::stream_options::StreamOptions;
 use crate::reported_row::ReportedRow;
 use crate::stream_spec::StreamSpec;
 use rv_expect::Judge;
-use rv_fleet::{Flow, Listener, Row};
+use rv_counting::{Flow, Listener, Row};
 use std::alloc::Global;
 use std::marker::PhantomData;
 
@@ -27,17 +27,17 @@ pub(crate) struct RowsUpToFailure<'k, J: StreamSpec> {
 
 impl<'k, J: StreamSpec> RowsUpToFailure<'k, J> {
     /// Creates a listener that has received no rows.
-    pub(crate) fn new(alloc: Global, limit: &FailureLimit<'k>) -> RowsUpToFailure<'k, J>
-        requires most { J.max_failures ≡ limit.now.failures }
-        requires judging { J.judge ≡ judge_view limit.now.judge }
+    pub(crate) fn new(alloc: Global, options: &StreamOptions<'k>) -> RowsUpToFailure<'k, J>
+        requires most { J.max_failures ≡ options.now.max_failures }
+        requires judging { J.judge ≡ judge_view options.now.judge }
         ensures judging { judge_view result.judge ≡ J.judge }
         ensures first { AreRowsUpToFailure J.max_failures J.judge result.failures_left result.allocation_failed result.rows.items [] }
         ensures failures_left { result.failures_left ≡ J.max_failures }
         ensures allocation_failed { result.allocation_failed ≡ false }
     {
         RowsUpToFailure {
-            judge: limit.judge,
-            failures_left: limit.failures,
+            judge: options.judge,
+            failures_left: options.max_failures,
             rows: Vec::new(alloc),
             allocation_failed: false,
             of: PhantomData,

@@ -6,7 +6,7 @@ use std::marker::Brand;
 pub trait StreamSpec {
     ghost use Rattle.std.specs.Prelude.{ℕ, Bool, List, Option};
     ghost use Rattle.rv_expect.specs.Judgement.{JudgeView};
-    ghost use Rattle.rv_fleet.specs.declared_row.Row.{Row};
+    ghost use Rattle.rv_counting.specs.declared_row.Row.{Row};
 
     // What the sink received before, and how many writes failed: the sink of the stream, or that of a [`crate::RowSender`].
     ghost accepted_before: { Option (List ℕ) };

@@ -7,7 +7,7 @@ use crate::outbox::Outbox;
 use crate::reported_row::ReportedRow;
 use crate::stream_spec::StreamSpec;
 use rv_base::Sink;
-use rv_fleet::{Flow, Observer, WriteError};
+use rv_counting::{Flow, Observer, WriteError};
 use std::alloc::Global;
 
 /// An observer that writes the texts that the workers computed for the rows. Rows that arrive together are written at once.

@@ -30,6 +30,7 @@ pub use Rattle.rv_rows.specs.Outcome
 pub use Rattle.rv_rows.specs.Plans
 pub use Rattle.rv_rows.specs.Parsing
 pub use Rattle.rv_rows.specs.Report
+pub use Rattle.rv_rows.specs.RecentOutcomes
 pub use Rattle.rv_rows.specs.Rows
 pub use Rattle.rv_rows.specs.SymbolSearch
 pub use Rattle.rv_rows.specs.SameResults

@@ -1,5 +1,5 @@
 use Rattle.std.proofs.Common.{◌∙◌, ◌++◌, ℕ, List, ap, subst}
-use Rattle.rv_fleet.specs.declared_row.Row.{Row}
+use Rattle.rv_counting.specs.declared_row.Row.{Row}
 use Rattle.rv_stream.specs.SeenRows.{text_by_index}
 use Rattle.rv_stream.specs.SentTexts.{IsSent}
 use Rattle.rv_stream.proofs.Sending.{reports_more}

@@ -4,7 +4,7 @@ use Rattle.std.specs.Prelude.{if◌then◌else◌, option_map}
 use Rattle.std.proofs.lemmas.Bool.{false_from_ne_true}
 use Rattle.std.proofs.lemmas.List.{map-append}
 use Rattle.rv_expect.specs.Judgement.{JudgeView, fails}
-use Rattle.rv_fleet.specs.declared_row.Row.{Row}
+use Rattle.rv_counting.specs.declared_row.Row.{Row}
 use Rattle.rv_stream.specs.declared.reported_row.ReportedRow.{ReportedRow}
 use Rattle.rv_stream.specs.ReportedRows.{rows_of_reported, AreRowsUpToFailure}
 use Rattle.rv_stream.proofs.Limits.{one_row_more}

@@ -1,7 +1,7 @@
 -- One text more waits.
 use Rattle.std.proofs.Common.{◌∙◌, ◌++◌, ℕ, List, Some, ap, subst}
 use Rattle.std.specs.List.{concat}
-use Rattle.rv_fleet.specs.declared_report.WriteError.TheVariants.{OutOfMemory}
+use Rattle.rv_counting.specs.declared_report.WriteError.TheVariants.{OutOfMemory}
 use Rattle.rv_stream.specs.SentTexts.{IsSent}
 use Rattle.rv_stream.specs.ReportedRows.{texts_of_reported}
 use Rattle.rv_stream.proofs.Sending.{none_failed, one_lacks, one_waits, texts_more}

@@ -1,0 +1,9 @@
+-- One table more is added.
+use Rattle.std.proofs.Common.{◌∷◌, [], ◌++◌, map, subst}
+use Rattle.rv_count_tables.specs.declared.table.CountTable.{CountTable}
+use Rattle.rv_counting.specs.TableSums.{AreTablesAdded}
+use Rattle.rv_counting.proofs.Adding.{one_result_added}
+use Rattle.rv_counting.proofs.table_sum.TableSumObserver.see.Goals as goal
+
+pub returns-clause-seen : goal.returns-clause-seen
+returns-clause-seen g c = λ results seen. ?
