@@ -1,5 +1,5 @@
 -- What is heard of a run: the first rows of a batch, and what is told of them.
-use Rattle.std.proofs.Common.{◌≡◌, ◌∙◌, ◌<◌, ◌≤◌, ℕ, suc, Bool, true, false, List, [], ◌∷◌, ◌++◌, Option, Some, Result, Ok, Err, length, map, take, drop, get_or, take-append-drop, refl, sym, ap, subst, arith}
+use Rattle.std.proofs.Common.{◌≡◌, ◌∙◌, ◌<◌, ◌≤◌, ℕ, suc, Bool, true, false, List, [], ◌∷◌, ◌++◌, Option, Some, None, Result, Ok, Err, length, map, take, drop, get_or, take-append-drop, refl, sym, ap, subst, arith}
 use Rattle.std.proofs.lemmas.Bool.{false≢true}
 use Rattle.std.proofs.lemmas.List.{length-map, take_all}
 use Rattle.std.specs.Prelude.{is_ok, IfOk, OnErr, OnOk}
@@ -21,7 +21,7 @@ use Rattle.rv_stream.specs.declared.reported_row.ReportedRow.{ReportedRow}
 use Rattle.rv_stream.specs.Limits.{rows_up_to}
 use Rattle.rv_stream.specs.Streams.{joined_row_texts, row_texts}
 use Rattle.rv_stream.specs.SeenRows.{text_by_index, HasSeenRows, HasSeenSomeRows, IsReportedRowAt}
-use Rattle.rv_stream.specs.ReportedRows.{rows_of_reported, texts_of_reported, AreRowsUpToFailure, IsReportedRow}
+use Rattle.rv_stream.specs.ReportedRows.{failures_left_after_row, rows_of_reported, texts_of_reported, AreRowsUpToFailure, IsReportedRow}
 use Rattle.rv_stream.proofs.Limits.{ended_there, first_of}
 use Rattle.rv_stream.proofs.Tellings.{told_append}
 
@@ -196,6 +196,20 @@ module _ (line : ℕ → Row → List ℕ) (batch : Batch) (most : Option ℕ) (
       → is_ok ran ≡ true → refused ≡ false → (ran ≡ Ok Stop → left ≡ Some 0) → HasEnded received line batch.places.now (rows_up_to most (fails judging) (batch_rows batch)) kept
   has_ended_well (Ok flow) run ok there ends = has_ended flow run there (λ is. ends (ap Ok is))
   has_ended_well (Err error) run ok there ends = absurd (false≢true ok)
+
+  -- a run without a limit that ended well came to its end
+  pub ran_to_end : (ran : Result Flow RunError) → IsRunDelivered (IsReportedRow line batch) (length batch.places.now) received stops ran
+      → is_ok ran ≡ true → (ran ≡ Ok Stop → left ≡ Some 0) → most ≡ None → ran ≡ Ok Continue
+  ran_to_end (Ok Continue) run ok ends none = refl
+  ran_to_end (Ok Stop) run ok ends none =
+      let hears = run.0.hears in
+      let here = (first hears.results hears.received).failures_left in
+      let some : Some 0 ≡ failures_left_after_row most judging (rows_of_reported hears.results) = sym (ends refl) ∙ here in
+      absurd (some_is_not_none 0 (some ∙ ap (λ m. failures_left_after_row m judging (rows_of_reported hears.results)) none))
+    where
+      some_is_not_none : (n : ℕ) → Some n ≡ None → ⊥
+      some_is_not_none n is = cc
+  ran_to_end (Err error) run ok ends none = absurd (false≢true ok)
 
 -- ---- results
 

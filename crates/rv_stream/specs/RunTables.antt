@@ -1,7 +1,7 @@
 -- The table of a stream's runs.
-use Rattle.std.specs.Prelude.{◌≡◌, ℕ, Bool, false, true, Option, Some, None, Result, Ok, Err, IsSomeAnd}
+use Rattle.std.specs.Prelude.{◌≡◌, ℕ, Bool, false, true, List, Option, Some, None, Result, Ok, Err, IsSomeAnd}
 use Rattle.rv_counting.specs.JobTables.{IsTableOfJobsAt}
-use Rattle.rv_counting.specs.declared_batch.Batch.{Batch}
+use Rattle.rv_counting.specs.Plans.{PlanView}
 use Rattle.rv_counting.specs.declared_engine.RunError.{RunError}
 use Rattle.rv_counting.specs.declared_engine.RunError.TheVariants.{OutOfMemory}
 use Rattle.rv_counting.specs.declared_listener.Flow.{Flow}
@@ -19,11 +19,11 @@ abbrev pub is_counted : Bool → Option ℕ → Bool
 is_counted counts_instructions None = counts_instructions
 is_counted counts_instructions (Some max_failures) = false
 
--- if the run is counted, there is a table and it is that of the batch's jobs; otherwise there is none
-abbrev pub IsTableIf : Bool → Batch → Option CountTable → Type 0
-IsTableIf true batch table = IsSomeAnd table (IsTableOfJobsAt batch.plan.now batch.places.now)
-IsTableIf false batch table = table ≡ None
+-- there is a table if the run was counted, and only then; it is that of the jobs at these indices
+abbrev pub IsTableIf : Bool → PlanView → List ℕ → Option CountTable → Type 0
+IsTableIf true plan indices table = IsSomeAnd table (IsTableOfJobsAt plan indices)
+IsTableIf false plan indices table = table ≡ None
 
--- the table of a batch's run with these options
-abbrev pub IsTableOfRun : StreamOptions → Batch → Option CountTable → Type 0
-IsTableOfRun options batch table = IsTableIf (is_counted options.counts_instructions options.max_failures) batch table
+-- the table of a run of the jobs at these indices with these options
+abbrev pub IsTableOfRun : StreamOptions → PlanView → List ℕ → Option CountTable → Type 0
+IsTableOfRun options plan indices table = IsTableIf (is_counted options.counts_instructions options.max_failures) plan indices table

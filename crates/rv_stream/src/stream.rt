@@ -64,7 +64,7 @@ pub fn stream_rows<
     requires goes { B.stops observer → ⊥ }
     ensures rows { IfOk result.2 (λ run. run.rows ≡ rows_within options.now (batch_rows batch.now)) }
     ensures few { IfOk result.2 (λ run. length run.rows ≤ length batch.now.places.now) }
-    ensures table { IfOk result.2 (λ run. IsTableOfRun options.now batch.now run.table) }
+    ensures table { IfOk result.2 (λ run. IsTableOfRun options.now batch.now.plan.now batch.now.places.now run.table) }
     ensures all { OnOk result.2 (Appends (W.accepted output.entry.out) (W.accepted result.0) (joined_row_texts (T.line output.entry.reporter.now)
         batch.now.places.now (rows_within options.now (batch_rows batch.now)))) }
     ensures counted { OnOk result.2 (W.failure_count result.0 ≡ W.failure_count output.entry.out) }

@@ -1,13 +1,22 @@
 -- The sink of a report that is streamed, and what a run that is shown leaves in it.
 use Rattle.std.proofs.Common.{◌≡◌, ◌∙◌, ◌++◌, ℕ, Bool, true, false, List, [], ◌∷◌, Option, Some, None, IfSome, Result, Ok, Err, IfErr, OnErr, OnOk, ◌⊎◌, ⊎_elim, inl, length, refl, subst, sym, ap, take}
 use Rattle.std.proofs.lemmas.List.{get_or-take}
-use Rattle.std.specs.Prelude.{IfOk, IsSomeAnd, Vec, is_ok, is_some, not, slice_index_or}
+use Rattle.std.specs.Prelude.{◌&&◌, IfOk, IsSomeAnd, Vec, is_ok, is_some, not, slice_index_or}
+use Rattle.std.proofs.Math.Seq.{take-length}
 use Rattle.std.proofs.lemmas.Bool.{false≢true}
 use Rattle.std.specs.Io.KnownBytes.{Appends}
 use Rattle.std.proofs.KnownBytes.{Appends-trans}
 use Rattle.std.specs.declared.alloc.Global.{Global}
 use Rattle.rv_junit.specs.KnownLines.{AreLinesOf}
 use Rattle.rv_rows.specs.declared_row.Row.{Row}
+use Rattle.rv_expect.specs.Judgement.{JudgeView}
+use Rattle.rv_rows.specs.Plans.{PlanView}
+use Rattle.rv_stacks.specs.JobTables.{IsTableOfJobsAt}
+use Rattle.rv_count_tables.specs.declared.table.CountTable.{CountTable}
+use Rattle.rv_stream.proofs.Public.{rows_count}
+use Rattle.rv_stream.specs.RunTables.{IsTableIf, IsTableOfRun, is_counted}
+use Rattle.rv_stream.specs.declared.stream.StreamedRun.{StreamedRun}
+use Rattle.rv_stream.specs.declared.stream_options.StreamOptions.{StreamOptions}
 use Rattle.rv_stream.specs.Streams.{joined_row_texts}
 use Rattle.rv_stream.specs.declared.error.StreamError.{StreamError}
 use Rattle.rv_stream.specs.declared.error.StreamError.TheVariants.{ObserverStopped}
@@ -23,7 +32,7 @@ use Rattle.rvtest_app.specs.Outlets.{IsWrittenToOutlet, has_no_failure, outlet_p
 use Rattle.rvtest_app.specs.OutputWrites.{IsWrittenToErrorsIf}
 use Rattle.rvtest_app.specs.RowSinks.{AreOutletParts, AreRowsWritten, sink_failures, sink_received}
 use Rattle.rvtest_app.specs.RunOutlets.{HaveRunOutletsReceived}
-use Rattle.rvtest_app.specs.Runs.{shown_indices}
+use Rattle.rvtest_app.specs.Runs.{IsCountsTable, run_rows, shown_indices}
 use Rattle.rvtest_app.specs.declared.outlets.Outlet.{Outlet}
 use Rattle.rvtest_app.specs.declared.outlets.Outlet.TheVariants as outlet
 
@@ -105,17 +114,18 @@ module _ {P V : Type 0} (pending_path : P → List ℕ) (taken : V → Option (L
   still_whole (outlet.File before) outlet.Stdout text put none = elim put [ ]
 
   -- the outlet of the report has received the rows that were streamed, the others nothing
-  pub taken_of_run : {G : Type 0} (committed : Option (List CommittedFile)) (args : RunArgs) (old : Option (List Row)) (is_streaming : Bool)
-      (indices : List ℕ) (all : List Row) (ran : Result (List Row) G) (shell : Outlet P (Unit {0})) (before after : Option V)
+  pub taken_of_run : {X G : Type 0} (rows_of : X → List Row) (committed : Option (List CommittedFile)) (args : RunArgs) (old : Option (List Row))
+      (is_streaming : Bool) (indices : List ℕ) (all : List Row) (ran : Result X G) (shell : Outlet P (Unit {0})) (before after : Option V)
       (whole_before whole_after junit counts : Outlet P V)
       → HaveRunOutletsReceived pending_path taken failed committed args [] (record { report = whole_before; junit = junit; counts = counts })
       → AreOutletParts shell before whole_before → AreOutletParts shell after whole_after → is_some old ≡ not is_streaming
-      → IfOk ran (λ rows. rows ≡ all)
+      → IfOk ran (λ run. rows_of run ≡ all)
       → OnOk ran (AreRowsWritten taken failed before after (joined_row_texts (report_row_text is_streaming) indices all))
-      → IfOk ran (λ rows. HaveRunOutletsReceived pending_path taken failed committed args (streamed_rows old (shown_indices indices rows) rows)
+      → IfOk ran (λ run. HaveRunOutletsReceived pending_path taken failed committed args
+      (streamed_rows old (shown_indices indices (rows_of run)) (rows_of run))
       (record { report = whole_after; junit = junit; counts = counts }))
-  taken_of_run committed args old is_streaming indices all (Err stop) shell before after wb wa junit counts has was is streams same written = tt
-  taken_of_run committed args old is_streaming indices all (Ok rows) shell before after wb wa junit counts has was is streams same written =
+  taken_of_run rows_of committed args old is_streaming indices all (Err stop) shell before after wb wa junit counts has was is streams same written = tt
+  taken_of_run rows_of committed args old is_streaming indices all (Ok run) shell before after wb wa junit counts has was is streams same written =
       let text = streamed_rows old (shown_indices indices all) all in
       let put = written_into taken failed shell before after wb wa text was is
       (subst (AreRowsWritten taken failed before after) (streamed old is_streaming indices all (negated (is_some old) is_streaming streams))
@@ -150,18 +160,19 @@ done_on {X = X} {F = F} (Ok rows) before P is holds = subst (λ (r : Result X F)
 done_on (Err stop) before P is holds = tt
 
 -- and so does what follows for the rows from what an observer has seen
-pub known_on : {X E F : Type 0} (after : Result X E) (before : Result X F) (S : Type 0) (P : X → Type 0) (all : X)
-    → IfOk after (λ rows. before ≡ Ok rows) → IfOk after (λ rows. rows ≡ all) → OnOk before S → (S → P all) → IfOk after P
-known_on {X = X} {F = F} (Ok rows) before S P all is same seen f = subst P (sym same) (f (subst (λ (r : Result X F). OnOk r S) is seen))
-known_on (Err stop) before S P all is same seen f = tt
+pub known_on : {X E F : Type 0} (after : Result X E) (before : Result X F) (S : Type 0) (rows_of : X → List Row) (P : List Row → Type 0)
+    (all : List Row) → IfOk after (λ run. before ≡ Ok run) → IfOk after (λ run. rows_of run ≡ all) → OnOk before S → (S → P all)
+    → IfOk after (λ run. P (rows_of run))
+known_on {X = X} {F = F} (Ok run) before S rows_of P all is same seen f = subst P (sym same) (f (subst (λ (r : Result X F). OnOk r S) is seen))
+known_on (Err stop) before S rows_of P all is same seen f = tt
 
 -- the lines of the rows, and then the last line
-pub shown_whole : {E : Type 0} (r : Result (List Row) E) (start middle end : Option (List ℕ)) (texts : List ℕ) (totals : List Row → List ℕ)
-    (all : List Row) → IfOk r (λ rows. rows ≡ all) → OnOk r (Appends start middle texts)
-    → IfOk r (λ rows. Appends middle end (totals rows)) → OnOk r (Appends start end (texts ++ totals all))
-shown_whole (Ok rows) start middle end texts totals all is first next =
+pub shown_whole : {X E : Type 0} (r : Result X E) (rows_of : X → List Row) (start middle end : Option (List ℕ)) (texts : List ℕ)
+    (totals : List Row → List ℕ) (all : List Row) → IfOk r (λ run. rows_of run ≡ all) → OnOk r (Appends start middle texts)
+    → IfOk r (λ run. Appends middle end (totals (rows_of run))) → OnOk r (Appends start end (texts ++ totals all))
+shown_whole (Ok run) rows_of start middle end texts totals all is first next =
     Appends-trans start middle end texts (totals all) first (subst (λ (rows : List Row). Appends middle end (totals rows)) is next)
-shown_whole (Err stop) start middle end texts totals all is first next = tt
+shown_whole (Err stop) rows_of start middle end texts totals all is first next = tt
 
 -- ---- the sender of the report's rows
 
@@ -221,3 +232,38 @@ pub shown_on_out : {X G : Type 0} (ran : Result X G) (to_stderr : Bool) (text : 
     → after.committed ≡ before.committed → OnOk ran (IsWrittenToErrorsIf to_stderr text before after)
 shown_on_out (Err stop) to_stderr text before after is appended errors failures committed = tt
 shown_on_out (Ok rows) to_stderr text before after is appended errors failures committed = rw is (appended, errors, failures, committed)
+
+-- ---- the counts of a run that is shown
+
+-- the table of a run that was counted in it is that of the jobs that are shown
+pub table_shown : {E : Type 0} (ran : Result StreamedRun E) (options : StreamOptions) (is_requested stacks : Bool) (judging : JudgeView)
+    (plan : PlanView) (indices : List ℕ) → options.counts_instructions ≡ is_requested && not stacks
+    → IfOk ran (λ run. run.rows ≡ run_rows options.max_failures judging plan indices)
+    → IfOk ran (λ run. IsTableOfRun options plan indices run.table)
+    → IfOk ran (λ run. IfSome run.table (IsCountsTable stacks plan (shown_indices indices run.rows)))
+table_shown (Err stop) options is_requested stacks judging plan indices counts rows table = tt
+table_shown (Ok run) options is_requested stacks judging plan indices counts rows table =
+    of options.counts_instructions options.max_failures stacks counts rows table
+  where
+    uncounted : (t : Option CountTable) (P : CountTable → Type 0) → t ≡ None → IfSome t P
+    uncounted None P none = tt
+    uncounted (Some table) P none = cc
+
+    counted : (t : Option CountTable) (P : CountTable → Type 0) → IsSomeAnd t P → IfSome t P
+    counted None P some = elim some [ ]
+    counted (Some table) P some = some
+
+    not_both : (is_requested : Bool) → true ≡ is_requested && not true → ⊥
+    not_both true is = false≢true (sym is)
+    not_both false is = false≢true (sym is)
+
+    of : (counts : Bool) (most : Option ℕ) (stacks : Bool) → counts ≡ is_requested && not stacks → run.rows ≡ run_rows most judging plan indices
+        → IsTableIf (is_counted counts most) plan indices run.table
+        → IfSome run.table (IsCountsTable stacks plan (shown_indices indices run.rows))
+    of counts (Some most) stacks is rows table = uncounted run.table _ table
+    of false None stacks is rows table = uncounted run.table _ table
+    of true None true is rows table = absurd (not_both is_requested is)
+    of true None false is rows table =
+        let long = ap length rows ∙ rows_count plan indices in
+        let all : shown_indices indices run.rows ≡ indices = ap (λ n. take n indices) long ∙ take-length indices in
+        subst (λ ps. IfSome run.table (IsTableOfJobsAt plan ps)) (sym all) (counted run.table _ table)

@@ -1,6 +1,6 @@
 //! The counts of a run.
 
-ghost use Rattle.std.specs.Prelude.{◌≡◌, [], ℕ, List, None, Option, IfErr, IfOk, OnErr, OnOk, is_some, string_bytes, true};
+ghost use Rattle.std.specs.Prelude.{◌≡◌, [], ℕ, List, None, Option, IfErr, IfOk, IfSome, OnErr, OnOk, is_some, string_bytes, true};
 ghost use Rattle.std.specs.List.Sorted.{IsStrictlyIncreasing};
 ghost use Rattle.rv_files.specs.CommittedFiles.{CommittedFile};
 ghost use Rattle.rv_stream.specs.JobIndices.{AreJobIndices};
@@ -13,6 +13,7 @@ use crate::counts::sum_error_stop;
 use crate::crew::requested_crew;
 use crate::destinations::Destinations;
 use crate::outlets::{Outlet, abandon_outlet};
+use crate::planned_run::PlannedRun;
 use crate::run::ListRun;
 use crate::written_text::write_to_outlet;
 use rv_command::Stop;
@@ -26,21 +27,21 @@ use std::thread::Threads;
 use std::time::Clock;
 
 impl<'x, R: Threads + Wait + Sync + Clock, D: Inputs> ListRun<'x, R, D> {
-    /// Runs the jobs at these indices once more, and writes their table of counts to the outlet. Does nothing if no table is requested.
+    /// Writes the table of counts of the jobs to the outlet: the table of the run before, if there is one, and otherwise that of another
+    /// run of the jobs. Does nothing if no table is requested.
     pub(crate) fn write_counts<F: Outputs + Drop, O: Sink + Drop, E: Sink + Drop>(
         &self,
-        plan: &Plan,
-        indices: &[usize],
+        planned: &PlannedRun<'_>,
+        table: Option<CountTable>,
         outlet: Outlet<'_, F::Place, F::File>,
         destinations: &mut Destinations<F, O, E>,
     ) -> Result<(), Stop>
-        requires within { AreJobIndices plan.now indices.now }
-        requires rising { IsStrictlyIncreasing indices.now }
+        requires table { IfSome table (IsCountsTable self.now.args.now.stacks planned.now.reporter.now.plan.now planned.now.indices.now) }
         requires open { (path : Option (List ℕ))
             × HasReceived F.pending_path F.File.accepted F.File.failure_count None path [] outlet }
         ensures counts_written { (path : Option (List ℕ)) (earlier : Option (List CommittedFile))
             → HasReceived F.pending_path F.File.accepted F.File.failure_count earlier path [] outlet.entry
-            → OnOk result (AreCountsWritten self.now.args.now.stacks path plan.now indices.now
+            → OnOk result (AreCountsWritten self.now.args.now.stacks path planned.now.reporter.now.plan.now planned.now.indices.now
             (with_committed_if_reported earlier (outputs_of F.committed O.accepted E.accepted E.failure_count destinations.old))
             (outputs_of F.committed O.accepted E.accepted E.failure_count destinations.new)) }
         ensures path_given { (path : Option (List ℕ)) (earlier : Option (List CommittedFile))
@@ -52,7 +53,7 @@ impl<'x, R: Threads + Wait + Sync + Clock, D: Inputs> ListRun<'x, R, D> {
         if let Outlet::Nowhere = outlet {
             return Ok(());
         }
-        match self.counts_text(plan, indices) {
+        match self.counts_text(planned, table) {
             Ok(text) => write_to_outlet(self.host.alloc, destinations, outlet, text.as_bytes()),
             Err(stop) => {
                 abandon_outlet(&mut destinations.files, outlet);
@@ -61,14 +62,17 @@ impl<'x, R: Threads + Wait + Sync + Clock, D: Inputs> ListRun<'x, R, D> {
         }
     }
 
-    // Returns the text of the table of counts of the jobs at these indices, with call stacks if requested.
-    fn counts_text(&self, plan: &Plan, indices: &[usize]) -> Result<String, Stop>
-        requires within { AreJobIndices plan.now indices.now }
-        requires rising { IsStrictlyIncreasing indices.now }
-        ensures text { IfOk result (λ text. IsCountsText self.now.args.now.stacks plan.now indices.now (string_bytes text)) }
+    // Returns the text of the table of counts of the jobs, with call stacks if requested: of this table, if there is one.
+    fn counts_text(&self, planned: &PlannedRun<'_>, table: Option<CountTable>) -> Result<String, Stop>
+        requires { IfSome table (IsCountsTable self.now.args.now.stacks planned.now.reporter.now.plan.now planned.now.indices.now) }
+        ensures text { IfOk result (λ text. IsCountsText self.now.args.now.stacks planned.now.reporter.now.plan.now
+            planned.now.indices.now (string_bytes text)) }
         ensures stopped { IfErr result (IsUncountedRunStop self.now.args.now) }
     {
-        let table = self.table_of_counts(plan, indices)?;
+        let table = match table {
+            Some(table) => table,
+            None => self.table_of_counts(planned.reporter.plan, planned.indices)?,
+        };
         Ok(table_text(self.host.alloc, &table)?)
     }
 

@@ -1,6 +1,6 @@
 //! Running jobs into the requested files.
 
-ghost use Rattle.std.specs.Prelude.{◌≡◌, ◌⊎◌, ◌≤◌, ◌++◌, [], ℕ, List, Option, Some, IfErr, IfOk, OnErr, OnOk, is_some, length, true};
+ghost use Rattle.std.specs.Prelude.{◌≡◌, ◌⊎◌, ◌≤◌, ◌++◌, [], ℕ, List, Option, Some, IfErr, IfOk, IfSome, OnErr, OnOk, is_some, length, true};
 ghost use Rattle.std.specs.Io.KnownBytes.{Appends};
 ghost use Rattle.std.specs.Option.{ForSome};
 ghost use Rattle.rv_expect.specs.Judgement.{judge_view};
@@ -16,7 +16,7 @@ ghost use Rattle.rvtest_app.specs.RunOutlets.{HaveRunOutletsReceived};
 ghost use Rattle.rvtest_app.specs.WriteStops.{IsOutputWriteStop};
 ghost use Rattle.rvtest_app.specs.RunOutput.{rows_status, run_output_text};
 ghost use Rattle.rvtest_app.specs.RunStops.{IsRunWriteStop};
-ghost use Rattle.rvtest_app.specs.Runs.{AreRunFilesPartlyCommitted, IsCountedRunWritten, run_junit, run_rows, shown_indices};
+ghost use Rattle.rvtest_app.specs.Runs.{AreRunFilesPartlyCommitted, IsCountedRunWritten, IsCountsTable, run_junit, run_rows, shown_indices};
 ghost use Rattle.rvtest_app.specs.CommandOutputs.{CommandOutputs, outputs_of};
 ghost use Rattle.rvtest_app.specs.declared.run_output.ShowError.TheVariants.{ReportFailed};
 
@@ -41,6 +41,7 @@ use rv_files::{Inputs, Outputs, Sink};
 use rv_job_text::{TextReporter, Verbosity};
 use rv_junit::Suite;
 use rv_rows::Rows;
+use rv_stream::StreamedRun;
 use std::io::Write;
 use std::marker::Brand;
 use std::sync::Wait;
@@ -136,16 +137,18 @@ impl<'x, R: Threads + Wait + Sync + Clock, D: Inputs> ListRun<'x, R, D> {
         outlets: RunOutlets<'_, F::Place, F::File>,
         destinations: Destinations<F, O, E>,
     ) -> (Destinations<F, O, E>, Result<u8, Stop>)
-        requires rows { IfOk run.ran (λ rows. rows ≡ run_rows self.now.args.now.stop_after (judge_view planned.now.reporter.now.judge)
+        requires rows { IfOk run.ran (λ run. run.rows ≡ run_rows self.now.args.now.stop_after (judge_view planned.now.reporter.now.judge)
             planned.now.reporter.now.plan.now planned.now.indices.now) }
-        requires row_count { IfOk run.ran (λ rows. length rows ≤ length planned.now.indices.now) }
-        requires texts { IfOk run.ran (λ rows. AreLinesOf (failure_lines (reporter_of planned.now.reporter.now))
-            planned.now.indices.now rows run.texts.items) }
+        requires row_count { IfOk run.ran (λ run. length run.rows ≤ length planned.now.indices.now) }
+        requires table { IfOk run.ran (λ run. IfSome run.table (IsCountsTable self.now.args.now.stacks
+            planned.now.reporter.now.plan.now (shown_indices planned.now.indices.now run.rows))) }
+        requires texts { IfOk run.ran (λ ran. AreLinesOf (failure_lines (reporter_of planned.now.reporter.now))
+            planned.now.indices.now ran.rows run.texts.items) }
         requires failed { IfErr run.ran (λ error. error ≡ ReportFailed → is_some (outlet_path outlets.report) ≡ true) }
         requires old_row_per_job { ForSome context.old (λ rows. length rows ≡ length planned.now.reporter.now.plan.now.jobs) }
         requires path { outlet_path outlets.report ≡ file_path_at (run_report_path self.now.args.now) }
-        requires received { IfOk run.ran (λ rows. HaveRunOutletsReceived F.pending_path F.File.accepted F.File.failure_count (F.committed destinations.files)
-            self.now.args.now (streamed_rows context.old (shown_indices planned.now.indices.now rows) rows) outlets) }
+        requires received { IfOk run.ran (λ run. HaveRunOutletsReceived F.pending_path F.File.accepted F.File.failure_count (F.committed destinations.files)
+            self.now.args.now (streamed_rows context.old (shown_indices planned.now.indices.now run.rows) run.rows) outlets) }
         ensures status { IfOk result.1 (λ status. status ≡ rows_status (judge_view planned.now.reporter.now.judge) (run_rows
             self.now.args.now.stop_after (judge_view planned.now.reporter.now.judge) planned.now.reporter.now.plan.now
             planned.now.indices.now)) }
@@ -167,11 +170,11 @@ impl<'x, R: Threads + Wait + Sync + Clock, D: Inputs> ListRun<'x, R, D> {
         let ShownRun { texts, ran } = run;
         let mut destinations = destinations;
         match ran {
-            Ok(rows) => {
+            Ok(run) => {
                 let status = self.write_all_files(
                     planned,
                     context,
-                    rows,
+                    run,
                     texts,
                     outlets,
                     &mut destinations,
@@ -191,28 +194,30 @@ impl<'x, R: Threads + Wait + Sync + Clock, D: Inputs> ListRun<'x, R, D> {
         &self,
         planned: &PlannedRun<'_>,
         context: ReportContext,
-        rows: Rows,
+        run: StreamedRun,
         texts: Vec<Option<Vec<u8>>>,
         outlets: RunOutlets<'_, F::Place, F::File>,
         destinations: &mut Destinations<F, O, E>,
     ) -> Result<u8, Stop>
-        requires rows { rows ≡ run_rows self.now.args.now.stop_after (judge_view planned.now.reporter.now.judge)
+        requires rows { run.rows ≡ run_rows self.now.args.now.stop_after (judge_view planned.now.reporter.now.judge)
             planned.now.reporter.now.plan.now planned.now.indices.now }
-        requires row_count { length rows ≤ length planned.now.indices.now }
-        requires texts { AreLinesOf (failure_lines (reporter_of planned.now.reporter.now)) planned.now.indices.now rows texts.items }
+        requires row_count { length run.rows ≤ length planned.now.indices.now }
+        requires texts { AreLinesOf (failure_lines (reporter_of planned.now.reporter.now)) planned.now.indices.now run.rows texts.items }
+        requires table { IfSome run.table (IsCountsTable self.now.args.now.stacks planned.now.reporter.now.plan.now
+            (shown_indices planned.now.indices.now run.rows)) }
         requires old_row_per_job { ForSome context.old (λ rows. length rows ≡ length planned.now.reporter.now.plan.now.jobs) }
         requires received { HaveRunOutletsReceived F.pending_path F.File.accepted F.File.failure_count (F.committed destinations.old.files) self.now.args.now
-            (streamed_rows context.old (shown_indices planned.now.indices.now rows) rows) outlets }
-        ensures status { IfOk result (λ status. status ≡ rows_status (judge_view planned.now.reporter.now.judge) rows) }
+            (streamed_rows context.old (shown_indices planned.now.indices.now run.rows) run.rows) outlets }
+        ensures status { IfOk result (λ status. status ≡ rows_status (judge_view planned.now.reporter.now.judge) run.rows) }
         ensures written { (before : CommandOutputs) → IsWrittenToErrorsIf (uses_run_stdout self.now.args.now) (run_output_text
             (row_lines_at (reporter_of planned.now.reporter.now)) (judge_view planned.now.reporter.now.judge)
-            planned.now.reporter.now.plan.now planned.now.indices.now rows)
+            planned.now.reporter.now.plan.now planned.now.indices.now run.rows)
             before (outputs_of F.committed O.accepted E.accepted E.failure_count destinations.old)
             → OnOk result (IsCountedRunWritten self.now.args.now (reporter_of planned.now.reporter.now) planned.now.indices.now
-            context.shard context.old rows before (outputs_of F.committed O.accepted E.accepted E.failure_count destinations.new)) }
+            context.shard context.old run.rows before (outputs_of F.committed O.accepted E.accepted E.failure_count destinations.new)) }
         ensures committed_after_error { OnErr result ((F.committed destinations.new.files ≡ F.committed destinations.old.files)
             ⊎ AreRunFilesPartlyCommitted self.now.args.now (reporter_of planned.now.reporter.now) planned.now.indices.now context.shard
-            context.old rows (F.committed destinations.old.files) (F.committed destinations.new.files)) }
+            context.old run.rows (F.committed destinations.old.files) (F.committed destinations.new.files)) }
         ensures stopped { IfErr result (IsRunWriteStop self.now.args.now) }
     {
         let RunOutlets {
@@ -220,11 +225,12 @@ impl<'x, R: Threads + Wait + Sync + Clock, D: Inputs> ListRun<'x, R, D> {
             junit,
             counts,
         } = outlets;
+        let StreamedRun { rows, table } = run;
         let first = planned.first_jobs(rows.as_slice().len());
         let files = Outlets { report, junit };
         match self.write_run_files(&first, context, rows, texts, files, destinations) {
             Ok(status) => {
-                self.write_counts(planned.reporter.plan, first.indices, counts, destinations)?;
+                self.write_counts(&first, table, counts, destinations)?;
                 Ok(status)
             }
             Err(stop) => {

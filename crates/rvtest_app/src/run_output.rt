@@ -14,8 +14,8 @@ use rv_command::Stop;
 use rv_expect::Judge;
 use rv_files::{LastError, Sink, put_all};
 use rv_job_text::{RunRows, push_run_totals_line};
-use rv_rows::{Rows, WriteError};
-use rv_stream::{Batch, StreamError};
+use rv_rows::WriteError;
+use rv_stream::{Batch, StreamError, StreamedRun};
 use std::alloc::{AllocError, Global};
 
 /// Why not all rows of a run were shown and written.
@@ -39,18 +39,18 @@ impl From<AllocError> for ShowError {
     }
 }
 
-/// Returns the rows of a run; an error if the run failed, or if `sent`, the result of writing its rows to the report, is an error.
-pub(crate) fn rows_if_written(
-    ran: Result<Rows, StreamError>,
+/// Returns the result of a run; an error if the run failed, or if `sent`, the result of writing its rows to the report, is an error.
+pub(crate) fn run_if_written(
+    ran: Result<StreamedRun, StreamError>,
     sent: Result<(), WriteError>,
-) -> Result<Rows, ShowError>
+) -> Result<StreamedRun, ShowError>
     requires { ran ≡ Err stream.ObserverStopped → is_ok sent ≡ false }
-    ensures rows { IfOk result (λ rows. ran ≡ Ok rows) }
+    ensures run { IfOk result (λ run. ran ≡ Ok run) }
     ensures sent { OnOk result (is_ok sent ≡ true) }
     ensures report { IfErr result (λ error. error ≡ ReportFailed → is_ok sent ≡ false) }
 {
     match (ran, sent) {
-        (Ok(rows), Ok(())) => Ok(rows),
+        (Ok(run), Ok(())) => Ok(run),
         (Err(StreamError::OutOfMemory), _) => Err(ShowError::OutOfMemory),
         (Err(StreamError::NoWorker), _) => Err(ShowError::NoWorker),
         (Err(StreamError::Failed), _) => Err(ShowError::StreamFailed),
@@ -60,34 +60,34 @@ pub(crate) fn rows_if_written(
     }
 }
 
-/// Writes the summary line of a run, which counts its rows and the jobs that have no row, and returns the rows. After an error of the run,
+/// Writes the summary line of a run, which counts its rows and the jobs that have no row, and returns the run. After an error of the run,
 /// returns this error.
 pub(crate) fn write_totals_line<W: Sink>(
     alloc: Global,
     judge: &Judge<'_>,
     batch: &Batch<'_>,
-    ran: Result<Rows, ShowError>,
+    ran: Result<StreamedRun, ShowError>,
     out: &mut W,
-) -> Result<Rows, ShowError>
-    requires row_count { IfOk ran (λ rows. length rows ≤ length batch.now.places.now) }
-    ensures rows { IfOk result (λ rows. ran ≡ Ok rows) }
-    ensures line { IfOk result (λ rows. Appends (W.accepted out.old) (W.accepted out.new)
-        (run_totals_line (judge_view judge.now) batch.now.plan.now batch.now.places.now rows
-        (length batch.now.places.now - length rows))) }
+) -> Result<StreamedRun, ShowError>
+    requires row_count { IfOk ran (λ run. length run.rows ≤ length batch.now.places.now) }
+    ensures run { IfOk result (λ run. ran ≡ Ok run) }
+    ensures line { IfOk result (λ run. Appends (W.accepted out.old) (W.accepted out.new)
+        (run_totals_line (judge_view judge.now) batch.now.plan.now batch.now.places.now run.rows
+        (length batch.now.places.now - length run.rows))) }
     ensures no_failed_writes { OnOk result (W.failure_count out.new ≡ W.failure_count out.old) }
     ensures report { IfErr result (λ error. error ≡ ReportFailed → ran ≡ Err ReportFailed) }
 {
-    let rows = ran?;
-    let run = RunRows {
+    let run = ran?;
+    let shown = RunRows {
         plan: batch.plan,
         indices: batch.places,
-        rows: rows.as_slice(),
+        rows: run.rows.as_slice(),
     };
-    let hidden = batch.places.len() - run.rows.len();
+    let hidden = batch.places.len() - shown.rows.len();
     let mut line = Vec::new(alloc);
-    push_run_totals_line(&mut line, judge, &run, hidden)?;
+    push_run_totals_line(&mut line, judge, &shown, hidden)?;
     match put_all(out, line.as_slice()) {
-        Ok(()) => Ok(rows),
+        Ok(()) => Ok(run),
         Err(_) => Err(ShowError::StreamFailed),
     }
 }

@@ -1,6 +1,6 @@
 //! A run whose rows are shown and written as they come.
 
-ghost use Rattle.std.specs.Prelude.{◌≡◌, ◌≤◌, [], ℕ, List, IfErr, IfOk, IfSome, None, OnOk, is_some, length, true};
+ghost use Rattle.std.specs.Prelude.{◌≡◌, ◌&&◌, ◌≤◌, [], ℕ, List, IfErr, IfOk, IfSome, None, OnOk, is_some, length, not, true};
 ghost use Rattle.std.specs.Io.KnownBytes.{Appends};
 ghost use Rattle.rv_expect.specs.Judgement.{judge_view};
 ghost use Rattle.rv_job_text.specs.RowReporter.{row_lines_at, reporter_of};
@@ -11,21 +11,23 @@ ghost use Rattle.rvtest_app.specs.FailureLines.{failure_lines, stores_failure_te
 ghost use Rattle.rvtest_app.specs.IntoReports.{report_row_text};
 ghost use Rattle.rvtest_app.specs.RowSinks.{AreRowsWritten};
 ghost use Rattle.rvtest_app.specs.RunOutput.{run_output_text};
-ghost use Rattle.rvtest_app.specs.Runs.{run_rows};
+ghost use Rattle.rvtest_app.specs.Runs.{IsCountsTable, run_rows, shown_indices};
 ghost use Rattle.rvtest_app.specs.declared.run_output.ShowError.TheVariants.{ReportFailed};
 
 use crate::crew::requested_crew;
 use crate::planned_run::PlannedRun;
 use crate::report_row_reporter::ReportRowReporter;
 use crate::run::ListRun;
-use crate::run_output::{ShowError, rows_if_written, write_totals_line};
+use crate::run_output::{ShowError, run_if_written, write_totals_line};
 use crate::terminals::Terminals;
 use rv_files::{Inputs, Sink};
 use rv_job_text::{TextReporter, Verbosity};
 use rv_junit::FailureTexts;
-use rv_rows::Rows;
-use rv_stream::{Batch, Both, FailureLimit, ReporterOutput, RowSender, StreamSpec, stream_rows};
+use rv_stream::{
+    Batch, Both, ReporterOutput, RowSender, StreamOptions, StreamSpec, StreamedRun, stream_rows,
+};
 use rv_terminal::{Progress, ProgressReporter, TerminalSink};
+use rvtest_cli::RunArgs;
 use std::alloc::Global;
 use std::io::Write;
 use std::marker::Brand;
@@ -40,11 +42,12 @@ pub(crate) struct RunDisplay<W: Drop> {
     pub(crate) is_terminal: bool,
 }
 
-/// The result of a run that was shown: the kept texts of failures, and the rows, or why not all were shown and written.
+/// The result of a run that was shown: the kept texts of failures, and the rows with their table if they were counted, or why not all
+/// rows were shown and written.
 #[derive(Drop)]
 pub(crate) struct ShownRun {
     pub(crate) texts: Vec<Option<Vec<u8>>>,
-    pub(crate) ran: Result<Rows, ShowError>,
+    pub(crate) ran: Result<StreamedRun, ShowError>,
 }
 
 impl<'x, R: Threads + Wait + Sync + Clock, D: Inputs> ListRun<'x, R, D> {
@@ -69,9 +72,11 @@ impl<'x, R: Threads + Wait + Sync + Clock, D: Inputs> ListRun<'x, R, D> {
         requires line { report_row_text rows.now.is_streaming ≡ K.row_text }
         requires judging { judge_view planned.now.reporter.now.judge ≡ K.judge }
         requires stores_texts { stores_failure_texts self.now.args.now planned.now.reporter.now.verbosity ≡ K.keeps_failure_texts }
-        ensures rows { IfOk result.2.ran (λ rows. rows ≡ run_rows self.now.args.now.stop_after
+        ensures rows { IfOk result.2.ran (λ run. run.rows ≡ run_rows self.now.args.now.stop_after
             (judge_view planned.now.reporter.now.judge) planned.now.reporter.now.plan.now planned.now.indices.now) }
-        ensures row_count { IfOk result.2.ran (λ rows. length rows ≤ length planned.now.indices.now) }
+        ensures row_count { IfOk result.2.ran (λ run. length run.rows ≤ length planned.now.indices.now) }
+        ensures table { IfOk result.2.ran (λ run. IfSome run.table (IsCountsTable self.now.args.now.stacks
+            planned.now.reporter.now.plan.now (shown_indices planned.now.indices.now run.rows))) }
         ensures shown { OnOk result.2.ran (Appends (W.accepted display.stream) (W.accepted result.0)
             (run_output_text (row_lines_at (reporter_of planned.now.reporter.now))
             (judge_view planned.now.reporter.now.judge) planned.now.reporter.now.plan.now planned.now.indices.now
@@ -83,8 +88,8 @@ impl<'x, R: Threads + Wait + Sync + Clock, D: Inputs> ListRun<'x, R, D> {
             (judge_view planned.now.reporter.now.judge) planned.now.reporter.now.plan.now planned.now.indices.now))) }
         ensures sink { is_some result.1 ≡ is_some sink }
         ensures report_failed { IfErr result.2.ran (λ error. error ≡ ReportFailed → is_some sink ≡ true) }
-        ensures texts { IfOk result.2.ran (λ rows. AreLinesOf (failure_lines (reporter_of planned.now.reporter.now))
-            planned.now.indices.now rows result.2.texts.items) }
+        ensures texts { IfOk result.2.ran (λ run. AreLinesOf (failure_lines (reporter_of planned.now.reporter.now))
+            planned.now.indices.now run.rows result.2.texts.items) }
     {
         let (rt, alloc) = (self.host.rt, self.host.alloc);
         let (reporter, indices) = (planned.reporter, planned.indices);
@@ -106,9 +111,10 @@ impl<'x, R: Threads + Wait + Sync + Clock, D: Inputs> ListRun<'x, R, D> {
         };
         let crew = requested_crew(rt, alloc, self.args);
         let batch = Batch::new(reporter.plan, indices);
-        let limit = FailureLimit {
+        let options = StreamOptions {
             judge: reporter.judge,
-            failures: self.args.stop_after,
+            max_failures: self.args.stop_after,
+            counts_instructions: are_counted_in_run(self.args),
         };
         let (mut stream, observer, ran) = stream_rows::<
             Brand,
@@ -116,14 +122,14 @@ impl<'x, R: Threads + Wait + Sync + Clock, D: Inputs> ListRun<'x, R, D> {
             ProgressReporter<'_, '_, '_, '_, R, TextReporter<'_>, P>,
             TerminalSink<'_, '_, R, W, P>,
             Both<RowSender<'_, K, ReportRowReporter, V>, FailureTexts<'m, K>>,
-        >(&crew, &batch, &limit, output, observer);
+        >(&crew, &batch, &options, output, observer);
         let Both {
             first: sender,
             second: texts,
         } = observer;
         let (sink, sent) = sender.finish();
         let texts = texts.into_texts();
-        let ran = rows_if_written(ran, sent);
+        let ran = run_if_written(ran, sent);
         let ran = write_totals_line(alloc, &reporter.judge, &batch, ran, &mut stream);
         let stream = stream.into_inner();
         progress.finish();
@@ -166,4 +172,11 @@ impl<'x, R: Threads + Wait + Sync + Clock, D: Inputs> ListRun<'x, R, D> {
         };
         FailureTexts::new(self.host.alloc, reporter.judge, is_needed)
     }
+}
+
+// Returns whether the instructions are counted in the run that is shown: counts with call stacks need another run.
+fn are_counted_in_run(args: &RunArgs<'_>) -> bool
+    ensures { result ≡ is_some args.now.counts && not args.now.stacks }
+{
+    args.counts.is_some() && !args.stacks
 }

@@ -2,10 +2,10 @@
 ghost use Rattle.std.specs.Prelude.{None};
 
 use super::{number_in, plan_and_indices_of, workers_and_group_of};
-use rv_fleet::{Batch, Crew, Flow, Observer, Row, RowReporter, Rows};
+use rv_fleet::{Batch, Crew, Flow, Observer, Row, RowReporter};
 use rv_stream::{
-    FailureLimit, Judge, ReportedRow, ReporterOutput, Rule, Sink, SinkFailed, StreamError,
-    stream_rows,
+    Judge, ReportedRow, ReporterOutput, Rule, Sink, SinkFailed, StreamError, StreamOptions,
+    StreamedRun, stream_rows,
 };
 use samples::{cell_of, check_equal, check_line_count};
 use std::alloc::{AllocError, Global};
@@ -157,10 +157,10 @@ fn push_out(text: &mut String, out: &RecordingSink<'_>) -> Result<(), AllocError
 }
 
 // Appends how the call ended: the number of rows, or the error.
-fn push_end(text: &mut String, outcome: &Result<Rows, StreamError>) -> Result<(), AllocError> {
+fn push_end(text: &mut String, outcome: &Result<StreamedRun, StreamError>) -> Result<(), AllocError> {
     match outcome {
-        Ok(rows) => {
-            let count = rows.as_slice().len();
+        Ok(run) => {
+            let count = run.rows.as_slice().len();
             write!(text, "{count} rows")
         }
         Err(error) => write!(text, "{error}"),
@@ -171,7 +171,7 @@ fn push_end(text: &mut String, outcome: &Result<Rows, StreamError>) -> Result<()
 fn text_of(
     alloc: Global,
     out: &RecordingSink<'_>,
-    outcome: &Result<Rows, StreamError>,
+    outcome: &Result<StreamedRun, StreamError>,
 ) -> Result<String, Fail> {
     let mut text = String::new(alloc);
     push_out(&mut text, out)?;
@@ -196,16 +196,17 @@ fn result_text<R: Threads + Wait + Sync>(
     let out = RecordingSink::new(alloc, max_bytes, fails_at, &requested);
     let crew = Crew::new(rt, alloc, workers, group);
     let batch = Batch::new(&plan, indices.as_slice());
-    let limit = FailureLimit {
+    let options = StreamOptions {
         judge: Judge::with_rule(Rule::Strict),
-        failures: None,
+        max_failures: None,
+        counts_instructions: false,
     };
     let to = ReporterOutput {
         reporter: &names,
         out,
     };
     let (out, _, outcome) = stream_rows::<Brand, R, Names<'_>, RecordingSink<'_>, Unobserved>(
-        &crew, &batch, &limit, to, Unobserved,
+        &crew, &batch, &options, to, Unobserved,
     );
     text_of(alloc, &out, &outcome)
 }

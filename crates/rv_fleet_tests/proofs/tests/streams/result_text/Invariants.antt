@@ -8,7 +8,7 @@ ghosts-stream_rows g a = record {
   failure_count = a.output.out.failures;
   has_sink = false;
   keeps_failure_texts = false;
-  max_failures = a.limit.now.failures;
-  judge = judge_view a.limit.now.judge;
+  max_failures = a.options.now.max_failures;
+  judge = judge_view a.options.now.judge;
   row_text = λ _ _. [];
 }

@@ -16,7 +16,7 @@ use Rattle.rv_stream.specs.SeenRows.{HasSeenRows, HasSeenSomeRows}
 use Rattle.rv_stream.specs.Streams.{joined_row_texts}
 use Rattle.rv_stream.specs.SentTexts.{IsSent}
 use Rattle.rv_stream.specs.ReportedRows.{rows_of_reported, texts_of_reported, AreRowsUpToFailure}
-use Rattle.rv_stream.proofs.Received.{begun_of_all, has_begun, has_ended_well, if_each, on_each, on_error, seen_as, seen_some_as, seen_texts, HasEnded}
+use Rattle.rv_stream.proofs.Received.{begun_of_all, has_begun, has_ended_well, if_each, on_each, on_error, ran_to_end, seen_as, seen_some_as, seen_texts, HasEnded}
 use Rattle.rv_stream.proofs.row_stream.RowStream.finish.Goals as goal
 
 some_is_none : (failed : Option WriteError) → failed ≡ None → is_some failed ≡ true → ⊥
@@ -313,3 +313,29 @@ returns-in-Err-clause-seen_some g c =
     let some = subst (HasSeenSomeRows (g.B.Observer.has_seen observer) line places) same
     (seen_some_as received (g.B.Observer.has_seen observer) line places every (λ told h. h.1.0) begun) in
     some
+
+pub returns-in-Ok-clause-ran : goal.returns-in-Ok-clause-ran
+returns-in-Ok-clause-ran g c = λ none.
+    let s = c.args.recipients in
+    let line = g.T.RowReporter.line c.args.self.now.reporter.now in
+    let batch = c.args.self.now.batch.now in
+    let places = batch.places.now in
+    let most = g.J.StreamSpec.max_failures in
+    let judging = g.J.StreamSpec.judge in
+    let box = s.first.outbox in
+    let observer = s.second.first in
+    let kept = s.second.second in
+    let before = g.J.StreamSpec.accepted_before in
+    let taken = g.W.Sink.accepted c.finish-out.result.0 in
+    let received : List ReportedRow → Type 0 = λ told.
+    IsSent before (g.W.Sink.accepted box.out) g.J.StreamSpec.failure_count (g.W.Sink.failure_count box.out) box.failed box.buffered.items
+    (concat (texts_of_reported told))
+    × (g.B.Observer.has_seen observer told
+    × ((judge_view kept.judge ≡ judging)
+    × AreRowsUpToFailure most judging kept.failures_left kept.allocation_failed kept.rows.items (rows_of_reported told))) in
+    let stops : Type 0 = (is_some box.failed ≡ true)
+    ⊎ (g.B.Observer.stops observer ⊎ ((kept.failures_left ≡ Some 0) ⊎ (kept.allocation_failed ≡ true))) in
+    on_each c.rows_of_run.result _ _ _ _
+    (λ rows there ok over.
+    ran_to_end line batch most judging kept.failures_left kept.allocation_failed kept.rows.items received stops (λ told h. h.1.1.1)
+    c.args.ran c.requires.delivered ok over none) c.rows_of_run.ensures.kept c.rows_of_run.ensures.ran c.rows_of_run.ensures.ended

@@ -11,6 +11,9 @@ write_all_files-status-requires-clause-row_count g c κs within = rw c.in-Ok.is 
 pub write_all_files-status-requires-clause-texts : goal.write_all_files-status-requires-clause-texts
 write_all_files-status-requires-clause-texts g c κs within = rw c.in-Ok.is at c.requires.texts
 
+pub write_all_files-status-requires-clause-table : goal.write_all_files-status-requires-clause-table
+write_all_files-status-requires-clause-table g c κs within = rw c.in-Ok.is at c.requires.table
+
 pub write_all_files-status-requires-clause-received : goal.write_all_files-status-requires-clause-received
 write_all_files-status-requires-clause-received g c κs within = rw c.in-Ok.is at c.requires.received
 

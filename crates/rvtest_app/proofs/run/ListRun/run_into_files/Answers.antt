@@ -1,5 +1,6 @@
 use Rattle.std.proofs.Common.{◌∙◌, refl, sym}
 use Rattle.rv_expect.specs.Judgement.{judge_view}
+use Rattle.rv_stream.specs.declared.stream.StreamedRun.{StreamedRun}
 use Rattle.rvtest_app.proofs.RowSinks.{shown_on_errors, shown_on_out, sink_known, taken_of_run}
 use Rattle.rvtest_app.specs.CommandOutputs.{outputs_of}
 use Rattle.rvtest_app.specs.IntoReports.{uses_run_stdout}
@@ -22,7 +23,7 @@ finish_run-requires-clause-received g c κs within =
     let outlets = c.in-Ok.outlets in
     let run = c.run_and_show-errors in
     rw c.in-Ok.ensures.nothing_committed
-    (taken_of_run g.F.Outputs.pending_path g.F.File.Sink.accepted g.F.File.Sink.failure_count (g.F.Outputs.committed c.args.destinations.files) args
+    (taken_of_run g.F.Outputs.pending_path g.F.File.Sink.accepted g.F.File.Sink.failure_count (λ (run : StreamedRun). run.rows) (g.F.Outputs.committed c.args.destinations.files) args
     c.args.context.old c.is_none.result planned.indices.now all run.result.2.ran c.split_sink-report.result.0 c.split_sink-report.result.1
     run.result.1 outlets.report c.with_sink.result outlets.junit outlets.counts c.in-Ok.ensures.open c.split_sink-report.ensures.parts
     c.with_sink.ensures c.is_none.ensures run.ensures.rows run.ensures.report_written)
@@ -35,7 +36,7 @@ finish_run-requires-else-uses_run_stdout-clause-received g c κs within =
     let outlets = c.in-Ok.outlets in
     let run = c.run_and_show-out in
     rw c.in-Ok.ensures.nothing_committed
-    (taken_of_run g.F.Outputs.pending_path g.F.File.Sink.accepted g.F.File.Sink.failure_count (g.F.Outputs.committed c.args.destinations.files) args
+    (taken_of_run g.F.Outputs.pending_path g.F.File.Sink.accepted g.F.File.Sink.failure_count (λ (run : StreamedRun). run.rows) (g.F.Outputs.committed c.args.destinations.files) args
     c.args.context.old c.is_none.result planned.indices.now all run.result.2.ran c.split_sink-report.result.0 c.split_sink-report.result.1
     run.result.1 outlets.report c.with_sink-else-uses_run_stdout.result outlets.junit outlets.counts c.in-Ok.ensures.open
     c.split_sink-report.ensures.parts c.with_sink-else-uses_run_stdout.ensures c.is_none.ensures run.ensures.rows run.ensures.report_written)

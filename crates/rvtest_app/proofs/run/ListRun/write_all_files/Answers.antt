@@ -29,9 +29,16 @@ pub write_run_files-requires-clause-texts : goal.write_run_files-requires-clause
 write_run_files-requires-clause-texts g c κs within =
     rw c.first_jobs-first.ensures.reporter
     (lines_of_first (failure_lines (reporter_of c.args.planned.now.reporter.now)) c.args.planned.now.indices.now
-    c.first_jobs-first.result.indices.now c.args.rows c.args.texts.items
+    c.first_jobs-first.result.indices.now c.args.run.rows c.args.texts.items
     (c.first_jobs-first.ensures.indices ∙ ap (λ (rows : List Row). take (length rows) c.args.planned.now.indices.now) c.as_slice.ensures)
     c.requires.texts)
+
+pub write_counts-requires-clause-table : goal.write_counts-requires-clause-table
+write_counts-requires-clause-table g c κs within =
+    let planned = c.args.planned.now in
+    let firsts : c.first_jobs-first.result.indices.now ≡ shown_indices planned.indices.now c.args.run.rows =
+    c.first_jobs-first.ensures.indices ∙ ap (λ (rows : List Row). take (length rows) planned.indices.now) c.as_slice.ensures in
+    rw (sym c.first_jobs-first.ensures.reporter, sym firsts) at c.requires.table
 
 pub write_counts-requires-clause-open : goal.write_counts-requires-clause-open
 write_counts-requires-clause-open g c κs within =
@@ -48,19 +55,19 @@ returns-in_ok-write_counts-in-Ok-clause-written g c = λ before shown.
     let indices = c.args.planned.now.indices.now in
     let report_path = run_report_path args in
     let junit_path = optional_text args.junit in
-    let firsts : c.first_jobs-first.result.indices.now ≡ shown_indices indices c.args.rows =
+    let firsts : c.first_jobs-first.result.indices.now ≡ shown_indices indices c.args.run.rows =
     c.first_jobs-first.ensures.indices ∙ ap (λ (rows : List Row). take (length rows) indices) c.as_slice.ensures in
     let told = c.first_jobs-first.ensures.reporter in
     let files = c.in-Ok.ensures in
     let start = outputs_of g.F.Outputs.committed g.O.Sink.accepted g.E.Sink.accepted g.E.Sink.failure_count c.args.destinations.now in
     let after = outputs_of g.F.Outputs.committed g.O.Sink.accepted g.E.Sink.accepted g.E.Sink.failure_count c.write_run_files.new.destinations in
     let report = subst (λ (ps : List ℕ). HasReceived g.F.Outputs.pending_path g.F.File.Sink.accepted g.F.File.Sink.failure_count
-    (g.F.Outputs.committed c.args.destinations.now.files) report_path (streamed_rows c.args.context.old ps c.args.rows) c.args.outlets.report)
+    (g.F.Outputs.committed c.args.destinations.now.files) report_path (streamed_rows c.args.context.old ps c.args.run.rows) c.args.outlets.report)
     (sym firsts) c.requires.received.report in
     let same = placed_of_shown _ _ before start shown in
     record {
       between = with_committed_if_reported before.committed after;
-      rows_written = run_put_where_told args (reporter_of reporter) indices c.args.context.shard c.args.context.old c.args.rows before after
+      rows_written = run_put_where_told args (reporter_of reporter) indices c.args.context.shard c.args.context.old c.args.run.rows before after
           (record {
             between = start;
             shown_written = shown;
@@ -78,15 +85,15 @@ returns-in_err-write_counts-in-Ok-clause-committed_after_error g c =
     let indices = c.args.planned.now.indices.now in
     let report_path = run_report_path args in
     let junit_path = optional_text args.junit in
-    let firsts : c.first_jobs-first.result.indices.now ≡ shown_indices indices c.args.rows =
+    let firsts : c.first_jobs-first.result.indices.now ≡ shown_indices indices c.args.run.rows =
     c.first_jobs-first.ensures.indices ∙ ap (λ (rows : List Row). take (length rows) indices) c.as_slice.ensures in
     let report = subst (λ (ps : List ℕ). HasReceived g.F.Outputs.pending_path g.F.File.Sink.accepted g.F.File.Sink.failure_count
-    (g.F.Outputs.committed c.args.destinations.now.files) report_path (streamed_rows c.args.context.old ps c.args.rows) c.args.outlets.report)
+    (g.F.Outputs.committed c.args.destinations.now.files) report_path (streamed_rows c.args.context.old ps c.args.run.rows) c.args.outlets.report)
     (sym firsts) c.requires.received.report in
     let files = rw (c.first_jobs-first.ensures.reporter, firsts)
     at (c.in-Ok.ensures.committed report_path junit_path report c.requires.received.junit) in
     OnErr-from c.from_residual.result _
-    (part_of_counts args (reporter_of c.args.planned.now.reporter.now) indices c.args.context.shard c.args.context.old c.args.rows _ _ _
+    (part_of_counts args (reporter_of c.args.planned.now.reporter.now) indices c.args.context.shard c.args.context.old c.args.run.rows _ _ _
     (c.in_err-write_counts-in-Ok.ensures.path_given (optional_text args.counts) (g.F.Outputs.committed c.args.destinations.now.files) c.requires.received.counts)
     files c.in_err-write_counts-in-Ok.ensures.nothing_committed)
 
@@ -101,12 +108,12 @@ returns-in_err-write_counts-in-Ok-clause-stopped g c =
 pub returns-in-Err-clause-committed_after_error : goal.returns-in-Err-clause-committed_after_error
 returns-in-Err-clause-committed_after_error g c =
     let args = c.args.self.now.args.now in
-    let firsts : c.first_jobs-first.result.indices.now ≡ shown_indices c.args.planned.now.indices.now c.args.rows =
+    let firsts : c.first_jobs-first.result.indices.now ≡ shown_indices c.args.planned.now.indices.now c.args.run.rows =
     c.first_jobs-first.ensures.indices
     ∙ ap (λ (rows : List Row). take (length rows) c.args.planned.now.indices.now) c.as_slice.ensures in
     rw c.abandon_outlet.ensures
     (part_of_rows args (reporter_of c.args.planned.now.reporter.now) c.args.planned.now.indices.now c.args.context.shard c.args.context.old
-    c.args.rows _ _
+    c.args.run.rows _ _
     (rw (c.first_jobs-first.ensures.reporter, firsts) at (c.in-Err.ensures.committed_after_error (optional_text args.junit) c.requires.received.junit)))
 
 pub returns-in-Err-clause-stopped : goal.returns-in-Err-clause-stopped
