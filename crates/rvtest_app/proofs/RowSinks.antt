@@ -20,8 +20,6 @@ use Rattle.rv_stream.specs.declared.stream_options.StreamOptions.{StreamOptions}
 use Rattle.rv_stream.specs.Streams.{joined_row_texts}
 use Rattle.rv_stream.specs.declared.error.StreamError.{StreamError}
 use Rattle.rv_stream.specs.declared.error.StreamError.TheVariants.{ObserverStopped}
-use Rattle.rvtest_app.specs.declared.run_output.ShowError.{ShowError}
-use Rattle.rvtest_app.specs.declared.run_output.ShowError.TheVariants.{ReportFailed}
 use Rattle.rv_files.specs.CommittedFiles.{CommittedFile}
 use Rattle.rvtest_cli.specs.declared.run.RunArgs.{RunArgs}
 use Rattle.rvtest_app.proofs.ChosenTexts.{ahead_of_shown}
@@ -200,13 +198,13 @@ sent_on (Ok rows) before (Err stop) S P is ok seen f = absurd (false≢true ok)
 sent_on (Err stop) before sent S P is ok seen f = tt
 
 -- the file of the report failed only if there is one
-pub report_of_failure : {X U H : Type 0} (after before : Result X ShowError) (sent : Result U H) (P : Type 0)
-    → IfErr after (λ error. error ≡ ReportFailed → before ≡ Err ReportFailed)
-    → IfErr before (λ error. error ≡ ReportFailed → is_ok sent ≡ false) → OnErr sent P → IfErr after (λ error. error ≡ ReportFailed → P)
+pub report_of_failure : {X U H : Type 0} (after before : Result X StreamError) (sent : Result U H) (P : Type 0)
+    → IfErr after (λ error. error ≡ ObserverStopped → before ≡ Err ObserverStopped)
+    → IfErr before (λ error. error ≡ ObserverStopped → is_ok sent ≡ false) → OnErr sent P → IfErr after (λ error. error ≡ ObserverStopped → P)
 report_of_failure (Ok rows) before sent P is was failed = tt
 report_of_failure (Err stop) before (Err error) P is was failed = λ same. failed
 report_of_failure {X = X} (Err stop) before (Ok done) P is was failed = λ same.
-    absurd (false≢true (sym (subst (λ (r : Result X ShowError). IfErr r (λ error. error ≡ ReportFailed → true ≡ false)) (is same) was refl)))
+    absurd (false≢true (sym (subst (λ (r : Result X StreamError). IfErr r (λ error. error ≡ ObserverStopped → true ≡ false)) (is same) was refl)))
 
 -- what a sender has sent was written to the sink
 module _ {V : Type 0} (taken : V → Option (List ℕ)) (failed : V → ℕ) where

@@ -13,9 +13,9 @@ use Rattle.rv_rows.specs.declared_report.WriteError.TheVariants as write
 use Rattle.rvtest_app.specs.Outlets.{HasReceived, file_path_at, outlet_path}
 use Rattle.rvtest_app.specs.WriteStops.{IsFileStop, IsOutputStop, IsOutputWriteStop, IsTextNotWrittenStop, IsFileNotOpenedStop, IsUncommittedStop, IsWriteFailedStop, IsWriteErrorStop, stop_of_write_error}
 use Rattle.rvtest_app.specs.IntoReports.{run_report_path}
-use Rattle.rvtest_app.specs.RunStops.{IsRunWriteStop, IsShowErrorStop}
-use Rattle.rvtest_app.specs.declared.run_output.ShowError.{ShowError}
-use Rattle.rvtest_app.specs.declared.run_output.ShowError.TheVariants as show
+use Rattle.rvtest_app.specs.RunStops.{IsRunWriteStop, IsStreamErrorStop}
+use Rattle.rv_stream.specs.declared.error.StreamError.{StreamError}
+use Rattle.rv_stream.specs.declared.error.StreamError.TheVariants as stream
 use Rattle.rvtest_app.specs.declared.outlets.Outlet.{Outlet}
 use Rattle.rvtest_app.proofs.PutTexts.{path_told}
 use Rattle.rvtest_app.proofs.StopLemmas.{IfErr-map}
@@ -90,12 +90,12 @@ module _ {P W : Type 0} (pending_path : P → List ℕ) (taken : W → Option (L
 -- ---- runs
 
 -- a run whose rows were not all shown and written, with the outlet of its report at the requested path
-pub run_of_show : (args : RunArgs) (path : Option (List ℕ)) (error : ShowError) (stop : Stop) → path ≡ file_path_at (run_report_path args)
-    → IsShowErrorStop path error stop → IsRunWriteStop args stop
-run_of_show args path show.OutOfMemory stop is stopped = inl (inr (inl stopped))
-run_of_show args path show.NoWorker stop is stopped = inl (inl stopped)
-run_of_show args path show.StreamFailed stop is stopped = inl (inr (inr (inl stopped)))
-run_of_show args path show.ReportFailed stop is stopped =
+pub run_of_show : (args : RunArgs) (path : Option (List ℕ)) (error : StreamError) (stop : Stop) → path ≡ file_path_at (run_report_path args)
+    → IsStreamErrorStop path error stop → IsRunWriteStop args stop
+run_of_show args path stream.OutOfMemory stop is stopped = inl (inr (inl stopped))
+run_of_show args path stream.NoWorker stop is stopped = inl (inl stopped)
+run_of_show args path stream.Failed stop is stopped = inl (inr (inr (inl stopped)))
+run_of_show args path stream.ObserverStopped stop is stopped =
     inl (inr (inr (inr (inl (of (file_path_at (run_report_path args)) (rw is at stopped))))))
   where
     of : (path : Option (List ℕ)) → IsSomeAnd path (λ path. IsWriteFailedStop path stop) → IsFileStop path stop

@@ -21,8 +21,8 @@ use Rattle.rvtest_app.specs.Overwrites.{IsRunOverwriteStop}
 use Rattle.rvtest_app.specs.WriteStops.{IsFileStop, IsOutputStop, IsWriteFailedStop}
 use Rattle.rvtest_app.specs.Runs.{AreJobsToRun, AreRequestedJobs}
 use Rattle.rvtest_app.specs.StackStops.{IsStackSumStop}
-use Rattle.rvtest_app.specs.declared.run_output.ShowError.{ShowError}
-use Rattle.rvtest_app.specs.declared.run_output.ShowError.TheVariants as show_error
+use Rattle.rv_stream.specs.declared.error.StreamError.{StreamError}
+use Rattle.rv_stream.specs.declared.error.StreamError.TheVariants as stream
 
 -- why the jobs to run could not be selected: the shard in the arguments is invalid, or no shard is given and the jobs could not be chosen
 abbrev pub IsSelectionStop : Option FileContents → RunArgs → List Job → Stop → Type 0
@@ -50,12 +50,12 @@ pub record IsKnownFailuresStop (contents : Option FileContents) (args : RunArgs)
   pub requested_jobs : AreRequestedJobs contents args jobs selection shard old_rows notes
   pub known_file_stop : IsKnownStop contents args jobs stop
 
--- why a command stopped: this error occurred while a run was shown; `path` is the path of the report
-abbrev pub IsShowErrorStop : Option (List ℕ) → ShowError → Stop → Type 0
-IsShowErrorStop path show_error.OutOfMemory stop = stop ≡ stops.OutOfMemory
-IsShowErrorStop path show_error.NoWorker stop = stop ≡ stops.NoWorker
-IsShowErrorStop path show_error.StreamFailed stop = stop ≡ stops.WriteFailed
-IsShowErrorStop path show_error.ReportFailed stop = IsSomeAnd path (λ path. IsWriteFailedStop path stop)
+-- why a command stopped: the stream of a run ended with this error; its observer writes the report at `path`
+abbrev pub IsStreamErrorStop : Option (List ℕ) → StreamError → Stop → Type 0
+IsStreamErrorStop path stream.OutOfMemory stop = stop ≡ stops.OutOfMemory
+IsStreamErrorStop path stream.NoWorker stop = stop ≡ stops.NoWorker
+IsStreamErrorStop path stream.Failed stop = stop ≡ stops.WriteFailed
+IsStreamErrorStop path stream.ObserverStopped stop = IsSomeAnd path (λ path. IsWriteFailedStop path stop)
 
 -- why a command stopped: no thread could be started, or the results, the report or the JUnit XML could not be written
 abbrev pub IsRowsWriteStop : RunArgs → Stop → Type 0

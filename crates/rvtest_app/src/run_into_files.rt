@@ -18,7 +18,7 @@ ghost use Rattle.rvtest_app.specs.RunOutput.{rows_status, run_output_text};
 ghost use Rattle.rvtest_app.specs.RunStops.{IsRunWriteStop};
 ghost use Rattle.rvtest_app.specs.Runs.{AreRunFilesPartlyCommitted, IsCountedRunWritten, IsCountsTable, run_junit, run_rows, shown_indices};
 ghost use Rattle.rvtest_app.specs.CommandOutputs.{CommandOutputs, outputs_of};
-ghost use Rattle.rvtest_app.specs.declared.run_output.ShowError.TheVariants.{ReportFailed};
+ghost use Rattle.rv_stream.specs.declared.error.StreamError.TheVariants.{ObserverStopped};
 
 use crate::chosen_rows::ChosenRows;
 use crate::destinations::Destinations;
@@ -144,7 +144,7 @@ impl<'x, R: Threads + Wait + Sync + Clock, D: Inputs> ListRun<'x, R, D> {
             planned.now.reporter.now.plan.now (shown_indices planned.now.indices.now run.rows))) }
         requires texts { IfOk run.ran (λ ran. AreLinesOf (failure_lines (reporter_of planned.now.reporter.now))
             planned.now.indices.now ran.rows run.texts.items) }
-        requires failed { IfErr run.ran (λ error. error ≡ ReportFailed → is_some (outlet_path outlets.report) ≡ true) }
+        requires failed { IfErr run.ran (λ error. error ≡ ObserverStopped → is_some (outlet_path outlets.report) ≡ true) }
         requires old_row_per_job { ForSome context.old (λ rows. length rows ≡ length planned.now.reporter.now.plan.now.jobs) }
         requires path { outlet_path outlets.report ≡ file_path_at (run_report_path self.now.args.now) }
         requires received { IfOk run.ran (λ run. HaveRunOutletsReceived F.pending_path F.File.accepted F.File.failure_count (F.committed destinations.files)

@@ -4,10 +4,9 @@ ghost use Rattle.std.specs.Prelude.{◌≡◌, ◌-◌, ◌≤◌, Err, IfErr, I
 ghost use Rattle.std.specs.Io.KnownBytes.{Appends};
 ghost use Rattle.rv_expect.specs.Judgement.{judge_view};
 ghost use Rattle.rv_job_text.specs.TotalsLine.{run_totals_line};
-ghost use Rattle.rv_stream.specs.declared.error.StreamError.TheVariants as stream;
+ghost use Rattle.rv_stream.specs.declared.error.StreamError.TheVariants.{ObserverStopped};
 ghost use Rattle.rvtest_app.specs.Outlets.{outlet_path};
-ghost use Rattle.rvtest_app.specs.RunStops.{IsShowErrorStop};
-ghost use Rattle.rvtest_app.specs.declared.run_output.ShowError.TheVariants.{OutOfMemory, ReportFailed};
+ghost use Rattle.rvtest_app.specs.RunStops.{IsStreamErrorStop};
 
 use crate::outlets::{Outlet, unwritten_stop};
 use rv_command::Stop;
@@ -18,45 +17,24 @@ use rv_rows::WriteError;
 use rv_stream::{Batch, StreamError, StreamedRun};
 use std::alloc::{AllocError, Global};
 
-/// Why not all rows of a run were shown and written.
-#[derive(Clone, Copy)]
-pub(crate) enum ShowError {
-    OutOfMemory,
-    /// The start of a thread was refused.
-    NoWorker,
-    /// The stream on which the run is shown did not accept all.
-    StreamFailed,
-    /// The file of the report did not accept all.
-    ReportFailed,
-}
-
-impl From<AllocError> for ShowError {
-    ghost from_gives = { λ _ error. error ≡ OutOfMemory };
-
-    // Returns `OutOfMemory`.
-    fn from(_: AllocError) -> ShowError {
-        ShowError::OutOfMemory
-    }
-}
-
-/// Returns the result of a run; an error if the run failed, or if `sent`, the result of writing its rows to the report, is an error.
+/// Returns the result of a run whose only observer sends its rows to the report: `ObserverStopped` if `sent`, the result of sending them,
+/// says that the report did not accept all.
 pub(crate) fn run_if_written(
     ran: Result<StreamedRun, StreamError>,
     sent: Result<(), WriteError>,
-) -> Result<StreamedRun, ShowError>
-    requires { ran ≡ Err stream.ObserverStopped → is_ok sent ≡ false }
+) -> Result<StreamedRun, StreamError>
+    requires { ran ≡ Err ObserverStopped → is_ok sent ≡ false }
     ensures run { IfOk result (λ run. ran ≡ Ok run) }
     ensures sent { OnOk result (is_ok sent ≡ true) }
-    ensures report { IfErr result (λ error. error ≡ ReportFailed → is_ok sent ≡ false) }
+    ensures report { IfErr result (λ error. error ≡ ObserverStopped → is_ok sent ≡ false) }
 {
     match (ran, sent) {
-        (Ok(run), Ok(())) => Ok(run),
-        (Err(StreamError::OutOfMemory), _) => Err(ShowError::OutOfMemory),
-        (Err(StreamError::NoWorker), _) => Err(ShowError::NoWorker),
-        (Err(StreamError::Failed), _) => Err(ShowError::StreamFailed),
-        (_, Err(WriteError::OutOfMemory)) => Err(ShowError::OutOfMemory),
-        (_, Err(WriteError::Failed)) => Err(ShowError::ReportFailed),
-        (Err(StreamError::ObserverStopped), Ok(())) => unreachable!(),
+        (Err(StreamError::OutOfMemory), _) => Err(StreamError::OutOfMemory),
+        (Err(StreamError::NoWorker), _) => Err(StreamError::NoWorker),
+        (Err(StreamError::Failed), _) => Err(StreamError::Failed),
+        (_, Err(WriteError::OutOfMemory)) => Err(StreamError::OutOfMemory),
+        (_, Err(WriteError::Failed)) => Err(StreamError::ObserverStopped),
+        (ran, Ok(())) => ran,
     }
 }
 
@@ -66,16 +44,16 @@ pub(crate) fn write_totals_line<W: Sink>(
     alloc: Global,
     judge: &Judge<'_>,
     batch: &Batch<'_>,
-    ran: Result<StreamedRun, ShowError>,
+    ran: Result<StreamedRun, StreamError>,
     out: &mut W,
-) -> Result<StreamedRun, ShowError>
+) -> Result<StreamedRun, StreamError>
     requires row_count { IfOk ran (λ run. length run.rows ≤ length batch.now.places.now) }
     ensures run { IfOk result (λ run. ran ≡ Ok run) }
     ensures line { IfOk result (λ run. Appends (W.accepted out.old) (W.accepted out.new)
         (run_totals_line (judge_view judge.now) batch.now.plan.now batch.now.places.now run.rows
         (length batch.now.places.now - length run.rows))) }
     ensures no_failed_writes { OnOk result (W.failure_count out.new ≡ W.failure_count out.old) }
-    ensures report { IfErr result (λ error. error ≡ ReportFailed → ran ≡ Err ReportFailed) }
+    ensures report { IfErr result (λ error. error ≡ ObserverStopped → ran ≡ Err ObserverStopped) }
 {
     let run = ran?;
     let shown = RunRows {
@@ -88,7 +66,7 @@ pub(crate) fn write_totals_line<W: Sink>(
     push_run_totals_line(&mut line, judge, &shown, hidden)?;
     match put_all(out, line.as_slice()) {
         Ok(()) => Ok(run),
-        Err(_) => Err(ShowError::StreamFailed),
+        Err(_) => Err(StreamError::Failed),
     }
 }
 
@@ -96,18 +74,18 @@ pub(crate) fn write_totals_line<W: Sink>(
 pub(crate) fn show_stop<P: Drop, W: Sink + LastError + Drop>(
     alloc: Global,
     report: &Outlet<'_, P, W>,
-    error: ShowError,
+    error: StreamError,
 ) -> Stop
-    requires { error ≡ ReportFailed → is_some (outlet_path report.now) ≡ true }
-    ensures { IsShowErrorStop (outlet_path report.now) error result }
+    requires { error ≡ ObserverStopped → is_some (outlet_path report.now) ≡ true }
+    ensures { IsStreamErrorStop (outlet_path report.now) error result }
 {
     match (error, report) {
-        (ShowError::OutOfMemory, _) => Stop::OutOfMemory,
-        (ShowError::NoWorker, _) => Stop::NoWorker,
-        (ShowError::StreamFailed, _) => Stop::WriteFailed,
-        (ShowError::ReportFailed, Outlet::File(file)) => {
+        (StreamError::OutOfMemory, _) => Stop::OutOfMemory,
+        (StreamError::NoWorker, _) => Stop::NoWorker,
+        (StreamError::Failed, _) => Stop::WriteFailed,
+        (StreamError::ObserverStopped, Outlet::File(file)) => {
             unwritten_stop(alloc, file.path, file.sink.last_error())
         }
-        (ShowError::ReportFailed, Outlet::Nowhere | Outlet::Stdout) => unreachable!(),
+        (StreamError::ObserverStopped, Outlet::Nowhere | Outlet::Stdout) => unreachable!(),
     }
 }

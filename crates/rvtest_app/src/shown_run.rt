@@ -12,19 +12,19 @@ ghost use Rattle.rvtest_app.specs.IntoReports.{report_row_text};
 ghost use Rattle.rvtest_app.specs.RowSinks.{AreRowsWritten};
 ghost use Rattle.rvtest_app.specs.RunOutput.{run_output_text};
 ghost use Rattle.rvtest_app.specs.Runs.{IsCountsTable, run_rows, shown_indices};
-ghost use Rattle.rvtest_app.specs.declared.run_output.ShowError.TheVariants.{ReportFailed};
+ghost use Rattle.rv_stream.specs.declared.error.StreamError.TheVariants.{ObserverStopped};
 
 use crate::crew::requested_crew;
 use crate::planned_run::PlannedRun;
 use crate::report_row_reporter::ReportRowReporter;
 use crate::run::ListRun;
-use crate::run_output::{ShowError, run_if_written, write_totals_line};
+use crate::run_output::{run_if_written, write_totals_line};
 use crate::terminals::Terminals;
 use rv_files::{Inputs, Sink};
 use rv_job_text::{TextReporter, Verbosity};
 use rv_junit::FailureTexts;
 use rv_stream::{
-    Batch, Both, ReporterOutput, RowSender, StreamOptions, StreamSpec, StreamedRun, stream_rows,
+    Batch, Both, ReporterOutput, RowSender, StreamError, StreamOptions, StreamSpec, StreamedRun, stream_rows,
 };
 use rv_terminal::{Progress, ProgressReporter, TerminalSink};
 use rvtest_cli::RunArgs;
@@ -47,7 +47,7 @@ pub(crate) struct RunDisplay<W: Drop> {
 #[derive(Drop)]
 pub(crate) struct ShownRun {
     pub(crate) texts: Vec<Option<Vec<u8>>>,
-    pub(crate) ran: Result<StreamedRun, ShowError>,
+    pub(crate) ran: Result<StreamedRun, StreamError>,
 }
 
 impl<'x, R: Threads + Wait + Sync + Clock, D: Inputs> ListRun<'x, R, D> {
@@ -87,7 +87,7 @@ impl<'x, R: Threads + Wait + Sync + Clock, D: Inputs> ListRun<'x, R, D> {
             (joined_row_texts (report_row_text rows.now.is_streaming) planned.now.indices.now (run_rows self.now.args.now.stop_after
             (judge_view planned.now.reporter.now.judge) planned.now.reporter.now.plan.now planned.now.indices.now))) }
         ensures sink { is_some result.1 ≡ is_some sink }
-        ensures report_failed { IfErr result.2.ran (λ error. error ≡ ReportFailed → is_some sink ≡ true) }
+        ensures report_failed { IfErr result.2.ran (λ error. error ≡ ObserverStopped → is_some sink ≡ true) }
         ensures texts { IfOk result.2.ran (λ run. AreLinesOf (failure_lines (reporter_of planned.now.reporter.now))
             planned.now.indices.now run.rows result.2.texts.items) }
     {
