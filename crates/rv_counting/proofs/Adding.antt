@@ -10,7 +10,6 @@ use Rattle.rv_count_tables.specs.declared.sum.SumError.{SumError}
 use Rattle.rv_count_tables.specs.declared.sum.SumError.TheVariants.{OutOfMemory, Count, Node, Names, Runs}
 use Rattle.rv_count_tables.specs.declared.table.CountTable.{CountTable}
 use Rattle.rv_count_tables.specs.Sum.{IsSumOfTables, HaveNoSum, no_counts}
-use Rattle.rv_fleet.specs.declared_engine.RunError.{RunError}
 use Rattle.rv_fleet.specs.declared_listener.Flow.{Flow}
 use Rattle.rv_fleet.specs.declared_listener.Flow.TheVariants.{Continue, Stop}
 use Rattle.rv_fleet.specs.Results.{IsRunDelivered, HasReceived, HasReceivedSome}
@@ -18,7 +17,7 @@ use Rattle.rv_trace.specs.Plans.{PlanView}
 use Rattle.rv_counting.specs.declared.index_ranges.IndexRange.{IndexRange}
 use Rattle.rv_counting.specs.JobTables.{jobs_at, IsTableOfFew, IsTableOfJobs, IsTableOfRange, IsTableOfJobsAt, SumsTo}
 use Rattle.rv_counting.specs.BatchRanges.{range_at, indices_in, range_start, AreIndexRanges}
-use Rattle.rv_counting.specs.TableSums.{sum_of_run, sum_or_error, TableSumView, AreTablesAdded, IsLastNotAdded}
+use Rattle.rv_counting.specs.TableSums.{sum_or_error, AreTablesAdded, IsLastNotAdded}
 use Rattle.rv_counting.proofs.OfJobs.{few_more, joined, no_counts_are_few, no_two_names, none_of_none}
 
 -- ---- what a listener has heard
@@ -132,7 +131,8 @@ module _ (P One : ℕ → CountTable → Type 0) (total : ℕ) (none : P 0 no_co
       (subst (λ ts. (n : ℕ) (d : CountTable) → n < length ts → One n (get_or ts n d)) h.tables each)
       h.sums h.refused
 
-  sum_added : (sum : CountTable) (failed : Option SumError) (flow : Flow)
+  -- the sum of a run that made the table of each number
+  pub sum_added : (sum : CountTable) (failed : Option SumError) (flow : Flow)
       → IsRunDelivered (λ n u. One n u) total (λ ts. AreTablesAdded sum failed (map (λ (u : CountTable). u) ts)) (is_some failed ≡ true) (Ok flow)
       → IfOk (sum_or_error sum failed) (P total)
   sum_added sum None flow ran =
@@ -143,31 +143,16 @@ module _ (P One : ℕ → CountTable → Type 0) (total : ℕ) (none : P 0 no_co
       (subst (λ ts. SumsTo no_counts ts sum) (map-id h.results) h.received))
   sum_added sum (Some error) flow ran = tt
 
-  sum_ended : (sum : CountTable) (failed : Option SumError) (flow : Flow)
+  pub sum_refused : (sum : CountTable) (failed : Option SumError) (flow : Flow)
       → IsRunDelivered (λ n u. One n u) total (λ ts. AreTablesAdded sum failed (map (λ (u : CountTable). u) ts)) (is_some failed ≡ true) (Ok flow)
-      → IfErr (sum_or_error sum failed) (λ error. (error ≡ OutOfMemory) ⊎ NextRefused P One total error)
-  sum_ended sum None flow ran = tt
-  sum_ended sum (Some error) flow ran =
+      → IfErr (sum_or_error sum failed) (λ error. NextRefused P One total error)
+  sum_refused sum None flow ran = tt
+  sum_refused sum (Some error) flow ran =
       let h = (heard_some _ total _ _ flow ran).hears in
       let long = h.count_is in
       let few = h.few in
-      inr (last_refused h.results sum error (omega (arith, long, few)) (λ n d lt. h.each n d lt)
-      (subst (λ ts. IsLastNotAdded sum error ts) (map-id h.results) h.received))
-
-  -- behind a run that made the table of each number
-  module _ (added : TableSumView) where
-    pub run_added : (ran : Result Flow RunError)
-        → IsRunDelivered (λ n u. One n u) total (λ ts. AreTablesAdded added.sum added.failed (map (λ (u : CountTable). u) ts))
-        (is_some added.failed ≡ true) ran → IfOk (sum_of_run added ran) (P total)
-    run_added (Ok flow) received = sum_added added.sum added.failed flow received
-    run_added (Err error) received = tt
-
-    pub run_ended : (ran : Result Flow RunError)
-        → IsRunDelivered (λ n u. One n u) total (λ ts. AreTablesAdded added.sum added.failed (map (λ (u : CountTable). u) ts))
-        (is_some added.failed ≡ true) ran
-        → IfErr (sum_of_run added ran) (λ error. (error ≡ OutOfMemory) ⊎ NextRefused P One total error)
-    run_ended (Ok flow) received = sum_ended added.sum added.failed flow received
-    run_ended (Err error) received = inl refl
+      last_refused h.results sum error (omega (arith, long, few)) (λ n d lt. h.each n d lt)
+      (subst (λ ts. IsLastNotAdded sum error ts) (map-id h.results) h.received)
 
 -- ---- counts alone
 
@@ -240,15 +225,15 @@ module _ (plan : PlanView) (indices : List ℕ) (pieces : List IndexRange) (are 
       }
       )
 
-  module _ (added : TableSumView) (ran : Result Flow RunError)
+  module _ (sum : CountTable) (failed : Option SumError) (flow : Flow)
       (received : IsRunDelivered (λ n u. IsTableOfRange plan (indices_in indices (range_at pieces n)) u) (length pieces)
-      (λ ts. AreTablesAdded added.sum added.failed (map (λ (u : CountTable). u) ts)) (is_some added.failed ≡ true) ran) where
-    pub all_counted : IfOk (sum_of_run added ran) (IsTableOfJobsAt plan indices)
+      (λ ts. AreTablesAdded sum failed (map (λ (u : CountTable). u) ts)) (is_some failed ≡ true) (Ok flow)) where
+    pub all_counted : IfOk (sum_or_error sum failed) (IsTableOfJobsAt plan indices)
     all_counted =
-        IfOk-weaker (sum_of_run added ran) (OfFirst (length pieces)) (IsTableOfJobsAt plan indices)
+        IfOk-weaker (sum_or_error sum failed) (OfFirst (length pieces)) (IsTableOfJobsAt plan indices)
         (λ t h. subst (λ ps. IsTableOfJobsAt plan ps t)
         (ap (λ m. take m indices) are.all ∙ take_all (length indices) indices (omega arith)) h.table)
-        (run_added OfFirst OfOne (length pieces) none_counted one_counted added ran received)
+        (sum_added OfFirst OfOne (length pieces) none_counted one_counted sum failed flow received)
 
     memory_if_refused : (error : SumError) → length indices ≤ max_jobs → NextRefused OfFirst OfOne (length pieces) error
         → error ≡ OutOfMemory
@@ -260,9 +245,8 @@ module _ (plan : PlanView) (indices : List ℕ) (pieces : List IndexRange) (are 
         let most = length-take (range_start pieces (h.count + 1)) indices in
         wanting (length ps) (length qs) h.first h.next error (omega (arith, long, same, most, few)) h.of_first.few h.of_next.few h.refused
 
-    pub memory_alone : length indices ≤ max_jobs → IfErr (sum_of_run added ran) (λ error. error ≡ OutOfMemory)
+    pub memory_alone : length indices ≤ max_jobs → IfErr (sum_or_error sum failed) (λ error. error ≡ OutOfMemory)
     memory_alone few =
-        IfErr-weaker (sum_of_run added ran) (λ error. (error ≡ OutOfMemory) ⊎ NextRefused OfFirst OfOne (length pieces) error)
-        (λ error. error ≡ OutOfMemory)
-        (λ error. ⊎_elim (λ is. is) (memory_if_refused error few))
-        (run_ended OfFirst OfOne (length pieces) none_counted one_counted added ran received)
+        IfErr-weaker (sum_or_error sum failed) (λ error. NextRefused OfFirst OfOne (length pieces) error)
+        (λ error. error ≡ OutOfMemory) (λ error. memory_if_refused error few)
+        (sum_refused OfFirst OfOne (length pieces) none_counted one_counted sum failed flow received)

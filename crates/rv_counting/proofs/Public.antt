@@ -1,5 +1,5 @@
 -- The lemmas that proofs of other crates may cite.
-pub use Rattle.rv_counting.proofs.Adding.{all_counted, run_added, run_ended, NextRefused}
+pub use Rattle.rv_counting.proofs.Adding.{all_counted, sum_added, sum_refused, NextRefused}
 pub use Rattle.rv_counting.proofs.Blocks.{reaches, Reaches}
 pub use Rattle.rv_counting.proofs.Counters.{counted_all, ready}
 pub use Rattle.rv_counting.proofs.Evens.{counts_even}

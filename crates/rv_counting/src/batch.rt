@@ -8,8 +8,7 @@ use crate::count_work::{CountWork, JobsTable};
 use crate::index_ranges::ranges_of_images;
 use crate::table_sum::TableSum;
 use rv_count_tables::{CountTable, SumError};
-use rv_fleet::{Batch, Crew, run_jobs};
-use std::alloc::AllocError;
+use rv_fleet::{Batch, Crew, RunError, run_jobs};
 use std::marker::Brand;
 use std::sync::Wait;
 use std::thread::Threads;
@@ -21,7 +20,7 @@ use std::thread::Threads;
 pub fn count_batch<R: Threads + Wait + Sync>(
     crew: &Crew<'_, R>,
     batch: &Batch<'_>,
-) -> Result<CountTable, AllocError>
+) -> Result<CountTable, RunError>
     ensures { IfOk result (λ table. IsTableOfJobsAt batch.now.plan.now batch.now.places.now table) }
 {
     let pieces = ranges_of_images(crew.alloc, batch.plan, batch.places, crew.workers)?;
@@ -35,19 +34,21 @@ pub fn count_batch<R: Threads + Wait + Sync>(
         &work,
         TableSum::new(crew.alloc),
     );
-    match sum.into_sum_of_run(ran) {
+    let _flow = ran?;
+    match sum.into_sum() {
         Ok(table) => Ok(table),
-        Err(error) => Err(alloc_error_of(error)),
+        Err(error) => Err(run_error_of(error)),
     }
 }
 
 // Converts the error of a sum of jobs' tables, which can only be `OutOfMemory`: these tables have no call trees, and a list cannot have
 // enough jobs for a number to reach 2^64.
-fn alloc_error_of(error: SumError) -> AllocError
+fn run_error_of(error: SumError) -> RunError
     requires { error ≡ OutOfMemory }
 {
     match error {
-        SumError::OutOfMemory => AllocError,
+        // Out of memory: adding the tables fails for that alone.
+        SumError::OutOfMemory => RunError::OutOfMemory,
         SumError::Count(_) | SumError::Node(_) | SumError::Names(_) | SumError::Runs => {
             unreachable!()
         }

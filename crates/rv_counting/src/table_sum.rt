@@ -4,12 +4,12 @@ ghost use Rattle.std.specs.Prelude.{◌≡◌, ◌∷◌, ◌++◌, [], List, No
 ghost use Rattle.rv_count_tables.specs.Sum.{no_counts};
 ghost use Rattle.rv_count_tables.specs.Table.{IsValidTable};
 ghost use Rattle.rv_count_tables.specs.declared.table.CountTable.{CountTable as Counted};
-ghost use Rattle.rv_counting.specs.TableSums.{AreTablesAdded, sum_of_run, sum_or_error};
+ghost use Rattle.rv_counting.specs.TableSums.{AreTablesAdded, sum_or_error};
 ghost use Rattle.rv_fleet.specs.declared_listener.Flow.TheVariants.{Continue, Stop};
 
 use crate::table_of_jobs::empty_table;
 use rv_count_tables::{CountTable, SumError, sum_of_tables};
-use rv_fleet::{Flow, Listener, Observer, RunError};
+use rv_fleet::{Flow, Listener, Observer};
 use std::alloc::Global;
 use std::marker::Model;
 
@@ -72,18 +72,6 @@ impl TableSum {
         match self.failed {
             None => Ok(self.sum),
             Some(error) => Err(error),
-        }
-    }
-
-    /// Returns the sum of the tables of a run, or why there is none. `ran` is the outcome of the run: it fails if an allocation fails or a
-    /// thread cannot be started, and both count as `OutOfMemory`.
-    pub fn into_sum_of_run(self, ran: Result<Flow, RunError>) -> Result<CountTable, SumError>
-        ensures { result ≡ sum_of_run self ran }
-    {
-        match ran {
-            Ok(_) => self.into_sum(),
-            // Out of memory: a run ends early by that, or by a thread that was not started.
-            Err(_) => Err(SumError::OutOfMemory),
         }
     }
 

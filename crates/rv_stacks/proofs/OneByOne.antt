@@ -1,16 +1,14 @@
 -- The tables of places that are added one after another.
-use Rattle.std.proofs.Common.{◌≡◌, ◌+◌, ◌<◌, ◌⊎◌, ℕ, List, [], ◌∷◌, ◌++◌, Result, map, length, take, get_or, sym, subst, arith, inl, inr, ⊎_elim}
+use Rattle.std.proofs.Common.{◌≡◌, ◌+◌, ◌<◌, ◌⊎◌, ℕ, List, [], ◌∷◌, ◌++◌, Option, Result, Ok, map, length, take, get_or, sym, subst, arith, inr}
 use Rattle.std.proofs.lemmas.List.{map-append, take_all, take_more}
 use Rattle.std.proofs.lemmas.Result.{IfErr-weaker, IfOk-weaker}
 use Rattle.std.specs.Prelude.{is_some, true, IfErr, IfOk}
 use Rattle.rv_count_tables.specs.declared.sum.SumError.{SumError}
-use Rattle.rv_count_tables.specs.declared.sum.SumError.TheVariants.{OutOfMemory}
 use Rattle.rv_count_tables.specs.declared.table.CountTable.{CountTable}
 use Rattle.rv_count_tables.specs.Sum.{IsSumOfTables, no_counts}
-use Rattle.rv_counting.proofs.Public.{run_added, run_ended, NextRefused}
+use Rattle.rv_counting.proofs.Public.{sum_added, sum_refused, NextRefused}
 use Rattle.rv_counting.specs.JobTables.{jobs_at}
-use Rattle.rv_counting.specs.TableSums.{sum_of_run, TableSumView, AreTablesAdded}
-use Rattle.rv_counting.specs.declared_engine.RunError.{RunError}
+use Rattle.rv_counting.specs.TableSums.{sum_or_error, AreTablesAdded}
 use Rattle.rv_counting.specs.declared_listener.Flow.{Flow}
 use Rattle.rv_counting.specs.Results.{IsRunDelivered}
 use Rattle.rv_counting.specs.Plans.{PlanView}
@@ -30,9 +28,9 @@ module _ (plan : PlanView) where
       (of_both plan.results (jobs_at plan ps) (jobs_at plan (p ∷ [])) t u next (of_places plan ps t h)
       (of_places plan (p ∷ []) u one) sums))
 
-  module _ (indices : List ℕ) (added : TableSumView) (ran : Result Flow RunError)
+  module _ (indices : List ℕ) (sum : CountTable) (failed : Option SumError) (flow : Flow)
       (received : IsRunDelivered (λ n u. IsTableWithStacks plan (get_or indices n 0 ∷ []) u) (length indices)
-      (λ ts. AreTablesAdded added.sum added.failed (map (λ (u : CountTable). u) ts)) (is_some added.failed ≡ true) ran) where
+      (λ ts. AreTablesAdded sum failed (map (λ (u : CountTable). u) ts)) (is_some failed ≡ true) (Ok flow)) where
     abbrev OfFirst : ℕ → CountTable → Type 0
     OfFirst n t = IsTableWithStacks plan (take n indices) t
 
@@ -44,11 +42,11 @@ module _ (plan : PlanView) where
         subst (λ ps. IsTableWithStacks plan ps next) (sym (take_more indices n 0 lt))
         (one_more (take n indices) (get_or indices n 0) t u next h one sums)
 
-    pub all_added : IfOk (sum_of_run added ran) (IsTableWithStacks plan indices)
+    pub all_added : IfOk (sum_or_error sum failed) (IsTableWithStacks plan indices)
     all_added =
-        IfOk-weaker (sum_of_run added ran) (OfFirst (length indices)) (IsTableWithStacks plan indices)
+        IfOk-weaker (sum_or_error sum failed) (OfFirst (length indices)) (IsTableWithStacks plan indices)
         (λ t h. subst (λ ps. IsTableWithStacks plan ps t) (take_all (length indices) indices (omega arith)) h)
-        (run_added OfFirst OfOne (length indices) of_no_place next_place added ran received)
+        (sum_added OfFirst OfOne (length indices) of_no_place next_place sum failed flow received)
 
     refused_here : (error : SumError) → NextRefused OfFirst OfOne (length indices) error → IsNextTableNotAdded plan indices error
     refused_here error h = record {
@@ -61,9 +59,8 @@ module _ (plan : PlanView) where
       refused = h.refused;
     }
 
-    pub next_refused : IfErr (sum_of_run added ran) (HaveNoTableWithStacks plan indices)
+    pub next_refused : IfErr (sum_or_error sum failed) (HaveNoTableWithStacks plan indices)
     next_refused =
-        IfErr-weaker (sum_of_run added ran)
-        (λ error. (error ≡ OutOfMemory) ⊎ NextRefused OfFirst OfOne (length indices) error)
-        (HaveNoTableWithStacks plan indices) (λ error. ⊎_elim inl (λ h. inr (refused_here error h)))
-        (run_ended OfFirst OfOne (length indices) of_no_place next_place added ran received)
+        IfErr-weaker (sum_or_error sum failed) (λ error. NextRefused OfFirst OfOne (length indices) error)
+        (HaveNoTableWithStacks plan indices) (λ error h. inr (refused_here error h))
+        (sum_refused OfFirst OfOne (length indices) of_no_place next_place sum failed flow received)

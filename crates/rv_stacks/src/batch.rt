@@ -1,25 +1,54 @@
 //! The table of the jobs at some indices of a plan, with their call trees.
 
-ghost use Rattle.std.specs.Prelude.{IfErr, IfOk};
-ghost use Rattle.rv_stacks.specs.StackTables.{HaveNoTableWithStacks, IsOfNamesOrMemory, IsTableWithStacks};
+ghost use Rattle.std.specs.Prelude.{◌≡◌, IfErr, IfOk};
+ghost use Rattle.rv_stacks.specs.StackErrors.{IsCountError, IsOfRunNamesOrMemory};
+ghost use Rattle.rv_stacks.specs.StackTables.{IsTableWithStacks};
+ghost use Rattle.rv_stacks.specs.declared.batch.CountError.TheVariants.{Run, Sum};
 
 use crate::stack_work::StackWork;
 use rv_count_tables::{CountTable, SumError};
-use rv_counting::{Batch, Crew, JobsTable, TableSum, run_jobs};
+use rv_counting::{Batch, Crew, JobsTable, RunError, TableSum, run_jobs};
 use std::marker::Brand;
 use std::sync::Wait;
 use std::thread::Threads;
 
-/// Returns the table of the counts and call trees of a batch's jobs, which is the same for every crew. Returns an error if two files with
-/// equal digests give a function different names; with so few jobs no number reaches 2^64. Each job is run once more, by the threads of the
-/// crew. Needs memory for the tables that wait to be added, and for two sums.
+/// Why the jobs of a batch have no table.
+#[derive(Clone, Copy, Debug)]
+pub enum CountError {
+    /// The run of the jobs failed.
+    Run(RunError),
+    /// The tables of the jobs have no sum.
+    Sum(SumError),
+}
+
+impl From<RunError> for CountError {
+    ghost from_gives = { λ error given. given ≡ Run error };
+
+    // Returns the error of a run that failed.
+    fn from(error: RunError) -> CountError {
+        CountError::Run(error)
+    }
+}
+
+impl From<SumError> for CountError {
+    ghost from_gives = { λ error given. given ≡ Sum error };
+
+    // Returns the error of tables that have no sum.
+    fn from(error: SumError) -> CountError {
+        CountError::Sum(error)
+    }
+}
+
+/// Returns the table of the counts and call trees of a batch's jobs, which is the same for every crew. Returns an error if the run fails, or
+/// if two files with equal digests give a function different names; with so few jobs no number reaches 2^64. Each job is run once more, by
+/// the threads of the crew. Needs memory for the tables that wait to be added, and for two sums.
 pub fn count_batch_with_stacks<R: Threads + Wait + Sync>(
     crew: &Crew<'_, R>,
     batch: &Batch<'_>,
-) -> Result<CountTable, SumError>
+) -> Result<CountTable, CountError>
     ensures value { IfOk result (IsTableWithStacks batch.now.plan.now batch.now.places.now) }
-    ensures error { IfErr result (HaveNoTableWithStacks batch.now.plan.now batch.now.places.now) }
-    ensures reasons { IfErr result IsOfNamesOrMemory }
+    ensures error { IfErr result (IsCountError batch.now.plan.now batch.now.places.now) }
+    ensures reasons { IfErr result IsOfRunNamesOrMemory }
 {
     let work = StackWork { batch };
     let (sum, ran) = run_jobs::<Brand, JobsTable, R, StackWork<'_>, TableSum>(
@@ -27,5 +56,6 @@ pub fn count_batch_with_stacks<R: Threads + Wait + Sync>(
         &work,
         TableSum::new(crew.alloc),
     );
-    sum.into_sum_of_run(ran)
+    let _flow = ran?;
+    Ok(sum.into_sum()?)
 }

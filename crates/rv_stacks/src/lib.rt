@@ -22,7 +22,7 @@ mod stacks;
 mod table;
 mod walk;
 
-pub use batch::count_batch_with_stacks;
+pub use batch::{CountError, count_batch_with_stacks};
 pub use children::Children;
 pub use functions::{CachedFunction, function_of};
 pub use job::count_job_with_stacks;
@@ -40,5 +40,5 @@ pub use walk::Walk;
 
 // From the crates below: what this interface names, and what its callers need with it.
 pub use rv_counting::{
-    Bus, CodeSymbols, Isa, Machine, Map, Misaligned, Region, count_batch, read_image,
+    Bus, CodeSymbols, Isa, Machine, Map, Misaligned, Region, RunError, count_batch, read_image,
 };

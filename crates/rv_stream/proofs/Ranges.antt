@@ -221,7 +221,7 @@ module _ (row_text : ℕ → Row → List ℕ) (batch : Batch) where
           → outcome_with_sum failed ran ≡ Ok Continue → (table : CountTable) × ((sum_or_error sum failed ≡ Ok table) × IsTableOfJobsAt batch.plan.now batch.places.now table)
       table_counted None (Ok Continue) h is = (
         sum, refl,
-        all_counted batch.plan.now batch.places.now ranges are (record { sum = sum; failed = None }) (Ok Continue)
+        all_counted batch.plan.now batch.places.now ranges are sum None Continue
             (tables_of_ranges h.0, λ some. false≢true some),
       )
       table_counted None (Ok Stop) h is = cc

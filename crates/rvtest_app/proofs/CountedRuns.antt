@@ -111,4 +111,4 @@ unopened_counts args stop is = inr (inl (unopened _ stop is))
 
 pub unput_counts : (args : RunArgs) (stop : Stop) → IsCountsWriteStop args (file_path_at (optional_text args.counts)) stop
     → IsRunWriteStop args stop
-unput_counts args stop = ⊎_elim (λ memory. inl (inr (inl memory))) (⊎_elim (λ failed. inl (inr (inr (inl failed)))) (λ is. inr is))
+unput_counts args stop = ⊎_elim (⊎_elim (λ memory. inl (inr (inl memory))) (λ none. inl (inl none))) (⊎_elim (λ failed. inl (inr (inr (inl failed)))) (λ is. inr is))

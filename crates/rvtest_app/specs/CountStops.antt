@@ -19,7 +19,10 @@ use Rattle.rv_count_tables.specs.declared.sum.SumError.TheVariants as sum_error
 use Rattle.rv_count_tables.specs.declared.table.CountTable.{CountTable}
 use Rattle.rv_job_text.specs.Printable.{printable_text}
 use Rattle.rv_job_text.specs.TextWords.{word_digits}
+use Rattle.rv_stacks.specs.declared.batch.CountError.{CountError}
+use Rattle.rv_stacks.specs.declared.batch.CountError.TheVariants as count
 use Rattle.rvtest_app.specs.CountSums.{AreTablesAdded, IsTableAt}
+use Rattle.rvtest_app.specs.Crews.{stop_of_run_error}
 use Rattle.rvtest_app.specs.Overwrites.{IsSumOverwriteStop}
 use Rattle.rvtest_app.specs.WrittenTexts.{IsTextNotWrittenAtStop, written_path}
 
@@ -48,6 +51,11 @@ IsSumErrorStop path (sum_error.Node function) stop =
     IsStop 2 (count_overflow_message path (codes ": a stack count of the function at ") function) stop
 IsSumErrorStop path (sum_error.Names function) stop = IsStop 2 (two_names_message path function) stop
 IsSumErrorStop path sum_error.Runs stop = IsStop 2 (path_message path (codes "the number of runs does not fit in 64 bits")) stop
+
+-- why a command stopped: jobs could not be counted with call stacks; a message about their sum names `path`
+abbrev pub IsCountErrorStop : List ℕ → CountError → Stop → Type 0
+IsCountErrorStop path (count.Run error) stop = stop ≡ stop_of_run_error error
+IsCountErrorStop path (count.Sum error) stop = IsSumErrorStop path error stop
 
 -- why a command stopped: `text` is not a valid table of counts and the stop reports its first error, or memory ran out
 pub record IsTableFaultStop (path text : List ℕ) (stop : Stop) : Type 0 where

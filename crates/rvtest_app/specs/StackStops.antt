@@ -4,22 +4,24 @@ use Rattle.rvtest_cli.specs.declared.run.RunArgs.{RunArgs}
 use Rattle.rv_command.specs.Texts.{optional_text}
 use Rattle.rv_command.specs.declared.stop.Stop.{Stop}
 use Rattle.rv_command.specs.declared.stop.Stop.TheVariants as stops
-use Rattle.rv_count_tables.specs.declared.sum.SumError.{SumError}
-use Rattle.rvtest_app.specs.CountStops.{IsSumErrorStop}
+use Rattle.rv_stacks.specs.declared.batch.CountError.{CountError}
+use Rattle.rvtest_app.specs.CountStops.{IsCountErrorStop}
+use Rattle.rvtest_app.specs.Crews.{IsRunErrorStop}
 use Rattle.rvtest_app.specs.WriteStops.{IsFileStop}
 use Rattle.rvtest_app.specs.WrittenTexts.{written_path}
 
--- why a command stopped: call stacks are requested, but cannot be summed up; the message names the path of the table, or `-` without a path
+-- why a command stopped: call stacks are requested, but the jobs could not be counted with them; a message about their sum names the path of
+-- the table, or `-` without a path
 abbrev pub IsStackSumStop : RunArgs → Stop → Type 0
 IsStackSumStop args stop = (args.stacks ≡ true)
-    × ((error : SumError) × IsSumErrorStop (written_path (optional_text args.counts)) error stop)
+    × ((error : CountError) × IsCountErrorStop (written_path (optional_text args.counts)) error stop)
 
--- why a run has no table of counts: memory ran out, or its call stacks cannot be summed up
+-- why a run has no table of counts: memory ran out, no thread could be started, or its call stacks cannot be summed up
 abbrev pub IsUncountedRunStop : RunArgs → Stop → Type 0
-IsUncountedRunStop args stop = (stop ≡ stops.OutOfMemory) ⊎ IsStackSumStop args stop
+IsUncountedRunStop args stop = IsRunErrorStop stop ⊎ IsStackSumStop args stop
 
--- why a command stopped: memory ran out, a write to standard output failed, the file at the path could not be created, or the call stacks
--- cannot be summed up
+-- why a command stopped: memory ran out, no thread could be started, a write to standard output failed, the file at the path could not be
+-- created, or the call stacks cannot be summed up
 abbrev pub IsCountsWriteStop : RunArgs → Option (List ℕ) → Stop → Type 0
 IsCountsWriteStop args path stop =
-    (stop ≡ stops.OutOfMemory) ⊎ ((stop ≡ stops.WriteFailed) ⊎ (IsFileStop path stop ⊎ IsStackSumStop args stop))
+    IsRunErrorStop stop ⊎ ((stop ≡ stops.WriteFailed) ⊎ (IsFileStop path stop ⊎ IsStackSumStop args stop))

@@ -7,7 +7,6 @@ use Rattle.rv_command.specs.Stops.{IsStop, IsResultUnreadStop}
 use Rattle.rv_command.specs.Texts.{IsTextAt, optional_text}
 use Rattle.rv_command.specs.declared.stop.Stop.{Stop}
 use Rattle.rv_command.specs.declared.stop.Stop.TheVariants as stops
-use Rattle.rv_count_tables.specs.declared.sum.SumError.{SumError}
 use Rattle.rv_count_tables.specs.declared.table.CountTable.{CountTable}
 use Rattle.rv_profile.specs.ImageCounts.{other_image}
 use Rattle.rv_profile.specs.JobImages.{ImageFileView, images_of}
@@ -19,10 +18,12 @@ use Rattle.rv_rows.specs.declared_job.Job.{Job}
 use Rattle.rv_profile.specs.ImageStacks.{image_past_64_bits}
 use Rattle.rv_rows.specs.declared_row.Row.{Row}
 use Rattle.rv_rows.specs.declared_saved.Shard.{Shard}
-use Rattle.rv_stacks.specs.StackTables.{HaveNoTableWithStacks}
+use Rattle.rv_stacks.specs.StackErrors.{IsCountError}
+use Rattle.rv_stacks.specs.declared.batch.CountError.{CountError}
 use Rattle.rv_job_text.specs.Printable.{printable_text}
-use Rattle.rvtest_app.specs.CountStops.{IsSumErrorStop, IsTableFaultStop}
+use Rattle.rvtest_app.specs.CountStops.{IsCountErrorStop, IsTableFaultStop}
 use Rattle.rvtest_app.specs.CountSums.{IsTableAt}
+use Rattle.rvtest_app.specs.Crews.{IsRunErrorStop}
 use Rattle.rvtest_app.specs.RunStops.{IsJobRequestStop}
 use Rattle.rvtest_app.specs.Runs.{AreRequestedJobs, IsPlanFor, selected_job_indices}
 use Rattle.rvtest_app.specs.Views.{IsTableForView, has_counts_for}
@@ -62,15 +63,15 @@ IsMismatchedTableStop contents requested_view path images stop = IsNoTableStop c
 
 -- ---- runs that cannot be counted
 
--- why a command stopped: the call stacks of the jobs at these indices cannot be summed up; the message names `path`
+-- why a command stopped: the jobs at these indices could not be counted with call stacks; a message about their sum names `path`
 abbrev pub IsStackSumOfJobsStop : PlanView → List ℕ → List ℕ → Stop → Type 0
 IsStackSumOfJobsStop plan indices path stop =
-    (error : SumError) × (HaveNoTableWithStacks plan indices error × IsSumErrorStop path error stop)
+    (error : CountError) × (IsCountError plan indices error × IsCountErrorStop path error stop)
 
--- why a command stopped: the runs of the jobs at these indices could not be counted: memory ran out, or the call stacks of a profile cannot
--- be summed up
+-- why a command stopped: the runs of the jobs at these indices could not be counted: memory ran out, no thread could be started, or the
+-- call stacks of a profile cannot be summed up
 abbrev pub IsUncountedStop : View → PlanView → List ℕ → List ℕ → Stop → Type 0
-IsUncountedStop (view.Cover csv) plan indices path stop = stop ≡ stops.OutOfMemory
+IsUncountedStop (view.Cover csv) plan indices path stop = IsRunErrorStop stop
 IsUncountedStop (view.Profile format) plan indices path stop = IsStackSumOfJobsStop plan indices path stop
 
 -- why a command stopped: no table for the view was found: the table at the given path cannot be used, or no path is given and the runs

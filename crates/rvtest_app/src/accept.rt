@@ -27,7 +27,7 @@ use crate::accept_inputs::reject_accept_overwrites;
 use crate::accepted_files::{
     check_files_are_unchanged, check_written_files, read_golden_files, write_accepted_files,
 };
-use crate::crew::requested_crew;
+use crate::crew::{requested_crew, stop_of_run_error};
 use crate::current_verdicts::CurrentFiles;
 use crate::destinations::Destinations;
 use crate::host::Host;
@@ -43,7 +43,7 @@ use rv_choice::{Choice, Chooser};
 use rv_command::{DONE, SOME_FAIL, Stop, parse_list, read_list_text, write_message, write_results};
 use rv_files::{Inputs, Outputs, RecordingStore, Sink};
 use rv_rows::{Job, JobList, Row, selected_indices};
-use rv_stream::{Batch, RunError, run_batch};
+use rv_stream::{Batch, run_batch};
 use rvtest_cli::{AcceptArgs, ChoosingCommand};
 use std::alloc::{AllocError, Global};
 use std::sync::Wait;
@@ -292,16 +292,6 @@ fn run_selected<
     match run_batch(&crew, &batch) {
         Ok(rows) => Ok(indexed_rows(alloc, selection.as_slice(), rows.into_vec())?),
         Err(error) => Err(stop_of_run_error(error)),
-    }
-}
-
-// Returns the stop for an error of the run engine: memory ran out, or no thread could be started.
-fn stop_of_run_error(error: RunError) -> Stop
-    ensures { (result ≡ Stop.OutOfMemory) ⊎ (result ≡ Stop.NoWorker) }
-{
-    match error {
-        RunError::NoWorker => Stop::NoWorker,
-        RunError::OutOfMemory => Stop::OutOfMemory,
     }
 }
 

@@ -5,7 +5,7 @@ ghost use Rattle.rv_command.specs.Texts.{optional_text};
 ghost use Rattle.rv_count_tables.specs.Sum.{no_counts};
 ghost use Rattle.rv_count_tables.specs.Table.{IsValidTable};
 ghost use Rattle.rv_count_tables.specs.Text.{table_text};
-ghost use Rattle.rvtest_app.specs.CountStops.{IsCountsStop, IsReadErrorStop, IsSumErrorStop, IsSumStop, IsTableFaultStop, IsTableNotAddedStop, count_overflow_message, two_names_message};
+ghost use Rattle.rvtest_app.specs.CountStops.{IsCountErrorStop, IsCountsStop, IsReadErrorStop, IsSumErrorStop, IsSumStop, IsTableFaultStop, IsTableNotAddedStop, count_overflow_message, two_names_message};
 ghost use Rattle.rvtest_app.specs.CountSums.{AreTablesAdded, IsTableAdded, IsSumWritten};
 ghost use Rattle.rvtest_app.specs.Outlets.{is_stdout};
 ghost use Rattle.rvtest_app.specs.Overwrites.{HoldsIfCommitted, IsSumFileNotAnInput, IsSumOverwriteStop};
@@ -13,6 +13,7 @@ ghost use Rattle.rvtest_app.specs.CommandOutputs.{outputs_of};
 ghost use Rattle.rvtest_app.specs.WrittenTexts.{written_path};
 
 use crate::counts_note::sum_note;
+use crate::crew::stop_of_run_error;
 use crate::destinations::Destinations;
 use crate::overwrites::{identified_files, inputs_of_args, reject_option_overwrite};
 use crate::written_text::write_text;
@@ -22,6 +23,7 @@ use rv_count_tables::{
 };
 use rv_files::{Inputs, Outputs, Sink};
 use rv_job_text::{Span, text_of_spans};
+use rv_stacks::CountError;
 use rvtest_cli::CountsArgs;
 use std::alloc::{AllocError, Global};
 
@@ -150,6 +152,16 @@ pub(crate) fn sum_error_stop(alloc: Global, path: &str, error: SumError) -> Stop
             let what = "the number of runs does not fit in 64 bits";
             Stop::rejection(path_message(alloc, path, what))
         }
+    }
+}
+
+/// Returns the stop for an error in counting jobs with call stacks; a message about their sum names the path.
+pub(crate) fn count_error_stop(alloc: Global, path: &str, error: CountError) -> Stop
+    ensures { IsCountErrorStop path.now error result }
+{
+    match error {
+        CountError::Run(error) => stop_of_run_error(error),
+        CountError::Sum(error) => sum_error_stop(alloc, path, error),
     }
 }
 

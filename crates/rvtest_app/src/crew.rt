@@ -1,10 +1,11 @@
 //! The worker threads of a run.
 
 ghost use Rattle.std.specs.Prelude.{◌≡◌};
-ghost use Rattle.rvtest_app.specs.Crews.{AreRequestedWorkers, requested_group};
+ghost use Rattle.rvtest_app.specs.Crews.{AreRequestedWorkers, IsRunErrorStop, requested_group, stop_of_run_error};
 
+use rv_command::Stop;
 use rv_files::limits::{MAX_GROUP, MAX_WORKERS};
-use rv_stream::Crew;
+use rv_stream::{Crew, RunError};
 use rvtest_cli::RunArgs;
 use std::alloc::Global;
 use std::thread::{self, Threads};
@@ -32,5 +33,16 @@ fn requested_workers<R: Threads>(rt: &R, args: &RunArgs<'_>) -> u32
             Ok(count) => count.get().clamp(1, MAX_WORKERS as usize) as u32,
             Err(_) => 1,
         },
+    }
+}
+
+/// Returns the stop for an error of the run engine.
+pub(crate) fn stop_of_run_error(error: RunError) -> Stop
+    ensures value { result ≡ stop_of_run_error error }
+    ensures reasons { IsRunErrorStop result }
+{
+    match error {
+        RunError::NoWorker => Stop::NoWorker,
+        RunError::OutOfMemory => Stop::OutOfMemory,
     }
 }

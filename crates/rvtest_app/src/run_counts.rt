@@ -9,8 +9,8 @@ ghost use Rattle.rvtest_app.specs.Runs.{AreCountsWritten, IsCountsTable, IsCount
 ghost use Rattle.rvtest_app.specs.CommandOutputs.{outputs_of, with_committed_if_reported};
 ghost use Rattle.rvtest_app.specs.StackStops.{IsCountsWriteStop, IsUncountedRunStop};
 
-use crate::counts::sum_error_stop;
-use crate::crew::requested_crew;
+use crate::counts::count_error_stop;
+use crate::crew::{requested_crew, stop_of_run_error};
 use crate::destinations::Destinations;
 use crate::outlets::{Outlet, abandon_outlet};
 use crate::planned_run::PlannedRun;
@@ -87,11 +87,14 @@ impl<'x, R: Threads + Wait + Sync + Clock, D: Inputs> ListRun<'x, R, D> {
         let crew = requested_crew(rt, alloc, self.args);
         let batch = Batch::new(plan, indices);
         if !self.args.stacks {
-            return Ok(count_batch(&crew, &batch)?);
+            return match count_batch(&crew, &batch) {
+                Ok(table) => Ok(table),
+                Err(error) => Err(stop_of_run_error(error)),
+            };
         }
         match count_batch_with_stacks(&crew, &batch) {
             Ok(table) => Ok(table),
-            Err(error) => Err(sum_error_stop(alloc, self.args.counts.unwrap_or("-"), error)),
+            Err(error) => Err(count_error_stop(alloc, self.args.counts.unwrap_or("-"), error)),
         }
     }
 }

@@ -12,8 +12,8 @@ ghost use Rattle.rvtest_app.specs.CountSums.{IsTableAt};
 ghost use Rattle.rvtest_app.specs.ViewStops.{IsNoTableStop, IsUncountedStop, IsMismatchedTableStop, IsStackSumOfJobsStop, IsNoViewTableStop, no_stacks_message, other_image_message};
 ghost use Rattle.rvtest_app.specs.Views.{IsRunTableForView, IsMatchingTableAt, IsTableForView, has_counts_for};
 
-use crate::counts::{sum_error_stop, table_of_text};
-use crate::crew::requested_crew;
+use crate::counts::{count_error_stop, table_of_text};
+use crate::crew::{requested_crew, stop_of_run_error};
 use crate::host::Host;
 use crate::view::{JobsView, View};
 use rv_command::{Stop, path_message, read_result_file};
@@ -22,7 +22,7 @@ use rv_files::Inputs;
 use rv_job_text::{Span, text_of_spans};
 use rv_profile::{ImageFile, has_stacks, other_image};
 use rv_rows::Plan;
-use rv_stacks::{count_batch, count_batch_with_stacks};
+use rv_stacks::{RunError, count_batch, count_batch_with_stacks};
 use rv_stream::Batch;
 use rvtest_cli::RunArgs;
 use std::alloc::{AllocError, Global};
@@ -60,7 +60,10 @@ impl<'x, R: Threads + Wait + Sync, D: Inputs> JobsView<'x, R, D> {
         ensures stopped { IfErr result (IsUncountedStop self.now.view plan.now indices.now self.now.args.now.list.now) }
     {
         match self.view {
-            View::Cover { .. } => Ok(counts_of_jobs(self.host, self.args, plan, indices)?),
+            View::Cover { .. } => match counts_of_jobs(self.host, self.args, plan, indices) {
+                Ok(table) => Ok(table),
+                Err(error) => Err(stop_of_run_error(error)),
+            },
             View::Profile(_) => counts_with_stacks_of_jobs(self.host, self.args, plan, indices),
         }
     }
@@ -89,7 +92,7 @@ fn counts_of_jobs<R: Threads + Wait + Sync, D>(
     args: &RunArgs<'_>,
     plan: &Plan,
     indices: &[usize],
-) -> Result<CountTable, AllocError>
+) -> Result<CountTable, RunError>
     requires within { AreJobIndices plan.now indices.now }
     requires rising { IsStrictlyIncreasing indices.now }
     ensures { IfOk result (IsTableOfJobsAt plan.now indices.now) }
@@ -113,7 +116,7 @@ fn counts_with_stacks_of_jobs<R: Threads + Wait + Sync, D>(
     let crew = requested_crew(host.rt, host.alloc, args);
     match count_batch_with_stacks(&crew, &Batch::new(plan, indices)) {
         Ok(table) => Ok(table),
-        Err(error) => Err(sum_error_stop(host.alloc, args.list, error)),
+        Err(error) => Err(count_error_stop(host.alloc, args.list, error)),
     }
 }
 

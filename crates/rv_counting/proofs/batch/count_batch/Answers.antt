@@ -1,4 +1,4 @@
--- The tables that are heard are those of the pieces, and so few have a sum.
+-- The tables that are received are those of the ranges, and so few have a sum.
 use Rattle.std.proofs.Common.{◌≡◌, List, Result, sym, subst}
 use Rattle.std.specs.Prelude.{IfErr, IfOk}
 use Rattle.rv_count_tables.specs.declared.sum.SumError.{SumError}
@@ -16,18 +16,18 @@ returns-in-Ok g c =
     let indices = c.args.batch.now.places.now in
     let pieces = c.as_slice.result.now in
     let are = subst (λ (ps : List IndexRange). AreIndexRanges plan indices ps) (sym c.as_slice.ensures.value) c.in_ok-pieces.ensures in
-    let ran = c.run_jobs-sum.result in
-    let sums = subst (λ (r : Result CountTable SumError). IfOk r (IsTableOfJobsAt plan indices)) (sym c.into_sum_of_run.ensures)
-    (all_counted plan indices pieces are ran.0 ran.1 c.run_jobs-sum.ensures) in
+    let sum = c.run_jobs-sum.result.0 in
+    let sums = subst (λ (r : Result CountTable SumError). IfOk r (IsTableOfJobsAt plan indices)) (sym c.into_sum.ensures)
+    (all_counted plan indices pieces are sum.sum sum.failed c.in_ok-flow.flow c.in_ok-flow.ensures) in
     rw c.in-Ok.is at sums
 
-pub alloc_error_of-requires : goal.alloc_error_of-requires
-alloc_error_of-requires g c =
+pub run_error_of-requires : goal.run_error_of-requires
+run_error_of-requires g c =
     let plan = c.args.batch.now.plan.now in
     let indices = c.args.batch.now.places.now in
     let pieces = c.as_slice.result.now in
     let are = subst (λ (ps : List IndexRange). AreIndexRanges plan indices ps) (sym c.as_slice.ensures.value) c.in_ok-pieces.ensures in
-    let ran = c.run_jobs-sum.result in
-    let refused = subst (λ (r : Result CountTable SumError). IfErr r (λ error. error ≡ OutOfMemory)) (sym c.into_sum_of_run.ensures)
-    (memory_alone plan indices pieces are ran.0 ran.1 c.run_jobs-sum.ensures c.args.batch.now.few) in
+    let sum = c.run_jobs-sum.result.0 in
+    let refused = subst (λ (r : Result CountTable SumError). IfErr r (λ error. error ≡ OutOfMemory)) (sym c.into_sum.ensures)
+    (memory_alone plan indices pieces are sum.sum sum.failed c.in_ok-flow.flow c.in_ok-flow.ensures c.args.batch.now.few) in
     rw c.in-Err.is at refused
