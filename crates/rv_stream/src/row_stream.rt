@@ -25,9 +25,9 @@ use std::alloc::Global;
 
 /// The jobs of a stream, its options, and the reporter of its rows.
 #[derive(Clone, Copy, Drop)]
-pub(crate) struct RowStream<'b, 't, T: RowReporter> {
+pub(crate) struct RowStream<'b, 'o, 't, T: RowReporter> {
     pub(crate) batch: &'b Batch<'b>,
-    pub(crate) options: &'b StreamOptions<'b>,
+    pub(crate) options: &'o StreamOptions<'o>,
     pub(crate) reporter: &'t T,
 }
 
@@ -60,7 +60,7 @@ pub(crate) fn row_recipients<
     }
 }
 
-impl<T: RowReporter> RowStream<'_, '_, T> {
+impl<T: RowReporter> RowStream<'_, '_, '_, T> {
     /// Writes the buffered text of a run's rows, and returns the sink, the observer and the rows, given the outcome of the run.
     pub(crate) fn finish<
         'k,
