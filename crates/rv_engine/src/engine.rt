@@ -81,7 +81,8 @@ pub fn run_jobs<
 }
 
 // Delivers to the listener the results that no worker delivered, and returns the listener and the outcome of the run. After a run that ends
-// normally there are no such results.
+// normally there are no such results: the workers draw every chunk. But no contract of the threads says so, and with this function the
+// contract of `run_jobs` does not depend on it.
 fn deliver_remaining<J: RunSpec<H>, H: Drop, R, W: Work<H>, L: Listener<H>>(
     crew: &Crew<'_, R>,
     work: &W,

@@ -56,18 +56,18 @@ impl Work<Row> for BatchRows<'_> {
 pub(crate) struct CollectedRows {
     rows: Vec<Row>,
     // Whether an allocation failed.
-    refused: bool,
+    allocation_failed: bool,
 }
 
 impl CollectedRows {
     // Returns a collector without rows. Does not allocate.
     fn new(alloc: Global) -> CollectedRows
         ensures rows { result.rows.items ≡ [] }
-        ensures refused { result.refused ≡ false }
+        ensures allocation_failed { result.allocation_failed ≡ false }
     {
         CollectedRows {
             rows: Vec::new(alloc),
-            refused: false,
+            allocation_failed: false,
         }
     }
 }
@@ -75,16 +75,16 @@ impl CollectedRows {
 impl Listener<Row> for CollectedRows {
     ghost use Rattle.std.specs.Prelude.{◌≡◌, false, true};
 
-    ghost has_received = { λ s rows. s.refused ≡ false → s.rows.items ≡ rows };
+    ghost has_received = { λ s rows. s.allocation_failed ≡ false → s.rows.items ≡ rows };
 
-    ghost stops = { λ s. s.refused ≡ true };
+    ghost stops = { λ s. s.allocation_failed ≡ true };
 
     // Keeps the next row. Stops if an allocation fails.
     fn receive(&mut self, output: Row) -> Flow {
         match self.rows.push(output) {
             Ok(()) => Flow::Continue,
             Err(_) => {
-                self.refused = true;
+                self.allocation_failed = true;
                 Flow::Stop
             }
         }

@@ -17,6 +17,17 @@ pub struct Symbols {
     pub end: Text,
 }
 
+impl Symbols {
+    // Returns a copy of the names.
+    fn copy(&self, alloc: Global) -> Result<Symbols, AllocError>
+        ensures { IfOk result (λ copy. copy ≡ self.now) }
+    {
+        let begin = Text::copy(alloc, self.begin.as_str())?;
+        let end = Text::copy(alloc, self.end.as_str())?;
+        Ok(Symbols { begin, end })
+    }
+}
+
 /// The console text that a run is expected to print.
 #[derive(Debug, Drop)]
 pub enum ExpectedConsole {
@@ -106,15 +117,30 @@ impl Job {
         self.budget = steps;
     }
 
-    // Removes the expectations of the job and its `same_as`.
-    fn remove_expectations(&mut self)
-        ensures { self.new ≡ without_expectations self.old }
+    // Returns a copy of the job without its expectations and its `same_as`.
+    fn copy_without_expectations(&self, alloc: Global) -> Result<Job, AllocError>
+        ensures { IfOk result (λ copy. copy ≡ without_expectations self.now) }
     {
-        self.expect_exit = None;
-        self.expect_signature = None;
-        self.expect_console = None;
-        self.expect_end = None;
-        self.same_as = None;
+        let signature = match &self.signature {
+            Some(symbols) => Some(symbols.copy(alloc)?),
+            None => None,
+        };
+        Ok(Job {
+            name: Text::copy(alloc, self.name.as_str())?,
+            image: Text::copy(alloc, self.image.as_str())?,
+            budget: self.budget,
+            script: Bytes::new(Vec::from_slice(alloc, self.script.as_slice())?),
+            load: self.load,
+            regions: self.regions,
+            signature,
+            expect_exit: None,
+            expect_signature: None,
+            expect_console: None,
+            expect_end: None,
+            same_as: None,
+            isa: self.isa,
+            misaligned: self.misaligned,
+        })
     }
 }
 
@@ -197,15 +223,16 @@ impl JobList {
         &self.items
     }
 
-    /// Returns the list without the expectations of its jobs. Does not allocate.
-    pub fn without_expectations(self) -> JobList
-        ensures { result ≡ map without_expectations self }
+    /// Returns a copy of the list without the expectations of its jobs.
+    pub fn copy_without_expectations(&self, alloc: Global) -> Result<JobList, AllocError>
+        ensures { IfOk result (λ copy. copy ≡ map without_expectations self.now) }
     {
-        let mut items = self.items;
-        for at in 0..items.len() {
-            items[at].remove_expectations();
+        let mut items = Vec::with_capacity(alloc, self.items.len())?;
+        for at in 0..self.items.len() {
+            let job = self.items[at].copy_without_expectations(alloc)?;
+            items.push(job)?;
         }
-        JobList { items }
+        Ok(JobList { items })
     }
 
     /// Returns the underlying vector. Does not allocate.

@@ -46,11 +46,8 @@ outcome_told contents args list judged golden_texts files new told path left are
   unchanged = rw (of.4, of.1) unchanged;
 }
 
--- a list that is read twice gives the same jobs, so there is a mark for each that expects nothing
-pub bare_count : {E : Type 0} (read : Result (List Job) E) (jobs again bare : List Job) (chosen selection : List Bool)
-    → read ≡ Ok jobs → read ≡ Ok again → bare ≡ map without_expectations again → length chosen ≡ length jobs
+-- the selection has an entry for each job without its expectations
+pub bare_count : (jobs bare : List Job) (chosen selection : List Bool) → bare ≡ map without_expectations jobs → length chosen ≡ length jobs
     → selection ≡ jobs_to_run jobs chosen → length selection ≡ length bare
-bare_count read jobs again bare chosen selection listed more are counted selected =
-    let same : jobs ≡ again = cc (listed, more) in
-    ap length selected ∙ marks_count jobs chosen counted
-    ∙ rw (are, length-map again without_expectations, same) refl
+bare_count jobs bare chosen selection are counted selected =
+    ap length selected ∙ marks_count jobs chosen counted ∙ rw (are, length-map jobs without_expectations) refl

@@ -153,8 +153,7 @@ fn checked_jobs<R, D, F: Outputs + Drop, O: Sink + Drop, E: Sink + Drop>(
     chosen: &[bool],
     destinations: &mut Destinations<F, O, E>,
 ) -> Result<BareJobs, Stop>
-    requires same_length { length chosen.now ≡ length list.now.jobs }
-    requires listed { job_list_of list.now.text.items ≡ Ok list.now.jobs }
+    requires { length chosen.now ≡ length list.now.jobs }
     ensures jobs { IfOk result (λ selected. selected.jobs ≡ map without_expectations list.now.jobs) }
     ensures selection { IfOk result (λ selected. selected.selection.items
         ≡ jobs_to_run list.now.jobs chosen.now) }
@@ -165,7 +164,7 @@ fn checked_jobs<R, D, F: Outputs + Drop, O: Sink + Drop, E: Sink + Drop>(
         args.now list.now.jobs (jobs_to_run list.now.jobs chosen.now))) }
     ensures stopped { IfErr result IsAcceptOverwriteStop }
 {
-    let selected = selected_jobs(host.alloc, args, list, chosen)?;
+    let selected = selected_jobs(host.alloc, list, chosen)?;
     let (jobs, selection) = (list.jobs.as_slice(), selected.selection.as_slice());
     let outside = reject_accept_overwrites(&destinations.files, host.alloc, args, jobs, selection)?;
     write_message(&mut destinations.errors, outside.as_slice());
@@ -239,19 +238,15 @@ fn chosen_list<R, D: Inputs>(
 // need.
 fn selected_jobs(
     alloc: Global,
-    args: &AcceptArgs<'_>,
     list: &ChosenList,
     chosen: &[bool],
-) -> Result<BareJobs, Stop>
-    requires same_length { length chosen.now ≡ length list.now.jobs }
-    requires listed { job_list_of list.now.text.items ≡ Ok list.now.jobs }
+) -> Result<BareJobs, AllocError>
+    requires { length chosen.now ≡ length list.now.jobs }
     ensures jobs { IfOk result (λ selected. selected.jobs ≡ map without_expectations list.now.jobs) }
     ensures selection { IfOk result (λ selected. selected.selection.items
         ≡ jobs_to_run list.now.jobs chosen.now) }
-    ensures memory { IfErr result (λ stop. stop ≡ Stop.OutOfMemory) }
 {
-    let listed = parse_list(alloc, args.run.list, list.text.as_slice())?;
-    let jobs = listed.without_expectations();
+    let jobs = list.jobs.copy_without_expectations(alloc)?;
     let selection = jobs_to_run(alloc, list.jobs.as_slice(), chosen)?;
     Ok(BareJobs { jobs, selection })
 }

@@ -8,5 +8,5 @@ pub returns-in-Continue : goal.returns-in-Continue
 returns-in-Continue g c =
     let kept = c.run_jobs-kept.result.0 in
     c.new.ensures
-    ∙ all_heard c.args.batch.now kept.refused kept.rows.items c.run_jobs-kept.result.1
+    ∙ all_heard c.args.batch.now kept.allocation_failed kept.rows.items c.run_jobs-kept.result.1
     (c.in_ok-ran.was ∙ ap (λ (flow : Flow). Ok flow) c.in-Continue.is) c.run_jobs-kept.ensures
