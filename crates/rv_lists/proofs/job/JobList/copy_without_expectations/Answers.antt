@@ -14,7 +14,7 @@ loop-at-preserved c =
     let lt : at < length jobs = omega (arith, c.loop-at-test.true, c.len-at-end.ensures, long) in
     let here : get_or jobs at job ≡ job =
     ap (λ js. get_or js at job) (sym c.self.view_is)
-    ∙ get_or_read c.self.inside.items.items at job (omega (arith, lt, long)) c.index.ensures job in record {
+    ∙ sym (get_or_read c.self.inside.items.items at job (omega (arith, lt, long)) c.index.ensures job) in record {
       within = omega (arith, lt);
       copied = c.in_ok-push.ensures.items ∙ ap (λ js. js ++ c.in_ok-job.job ∷ []) c.loop-at.invariant.copied
           ∙ ap (λ j. map without_expectations (take at jobs) ++ j ∷ []) (c.in_ok-job.ensures ∙ ap without_expectations (sym here))
