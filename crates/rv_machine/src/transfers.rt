@@ -72,7 +72,8 @@ impl Hart {
         self.complete(pc, instr.rd, next, target)
     }
 
-    /// Executes a branch: moves the pc to its target if it is taken, else to `next`. `here`, the pc, is the address of the branch.
+    /// Executes a branch: moves the pc to its target if it is taken, else to `next`. A taken branch to a misaligned target is an error, and
+    /// then nothing changes. `here`, the pc, is the address of the branch.
     #[inline]
     pub(crate) fn branch(
         &mut self,
