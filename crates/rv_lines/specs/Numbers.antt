@@ -33,6 +33,7 @@ abbrev pub modulo_or : ℤ → List ℕ → Read ℕ
 modulo_or (pos n) bytes = if nat_lt n (2 ^ 31) then Ok (n, bytes) else Err Number
 modulo_or (negsuc n) bytes = if nat_lt n (2 ^ 31) then Ok (2 ^ 32 - 1 - n, bytes) else Err Number
 
+-- a signed number modulo 2^32; or an error: `cut` if it has no end, `Number` if it does not fit in 32 bits
 abbrev pub signed_or : UnitError → Option (ℤ × List ℕ) → Read ℕ
 signed_or cut None = Err cut
 signed_or cut (Some n) = modulo_or n.0 n.1
@@ -41,6 +42,7 @@ signed_or cut (Some n) = modulo_or n.0 n.1
 unfoldable pub signed_at : UnitError → List ℕ → Read ℕ
 signed_at cut bytes = signed_or cut (signed_leb bytes)
 
+-- the bytes after a number; or the error `cut` if it has no end
 abbrev pub end_or : UnitError → Option (ℕ × List ℕ) → Result (List ℕ) UnitError
 end_or cut None = Err cut
 end_or cut (Some n) = Ok n.1

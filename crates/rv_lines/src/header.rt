@@ -11,14 +11,14 @@ use crate::error::UnitError;
 use crate::reading::{byte_at, half_at, word_at};
 use crate::tables::StringSections;
 
-/// The parameters of a program.
+/// The fields of a header that its program depends on.
 #[derive(Clone, Copy)]
 pub(crate) struct Parameters {
     /// `minimum_instruction_length`.
     pub(crate) min_length: u8,
     /// `default_is_stmt`.
     pub(crate) is_stmt: bool,
-    /// `line_base`, modulo 2^32.
+    /// `line_base`, a signed number, modulo 2^32.
     pub(crate) line_base: u32,
     /// `line_range`.
     pub(crate) line_range: u8,
@@ -26,14 +26,14 @@ pub(crate) struct Parameters {
     pub(crate) opcode_base: u8,
 }
 
-/// The numbers of a unit's files: `count` of them, from `first` on.
+/// The file numbers of a unit: `count` consecutive numbers from `first` on.
 #[derive(Clone, Copy)]
 pub(crate) struct FileNumbers {
     pub(crate) first: u32,
     pub(crate) count: u64,
 }
 
-/// The numbers of the directory and of the file to be picked from a header.
+/// The numbers of the directory and the file to be picked from a header.
 #[derive(Clone, Copy)]
 pub(crate) struct RequestedEntries {
     pub(crate) directory: u64,
@@ -48,7 +48,7 @@ impl RequestedEntries {
     };
 }
 
-/// A header, with the directory and the file that were picked.
+/// What is stored of a header, with the picked directory and file, each `None` if the header does not have it.
 #[derive(Clone, Copy)]
 pub(crate) struct Header<'a> {
     pub(crate) parameters: Parameters,
@@ -62,7 +62,7 @@ pub(crate) struct Header<'a> {
 /// The numbers of operands of the standard opcodes 1 to 12 (6.2.5.2).
 const STANDARD_LENGTHS: [u8; 12] = [0, 1, 1, 1, 1, 0, 0, 0, 1, 0, 0, 1];
 
-/// Reads the header of a unit, from the bytes after `unit_length`. After it comes the program.
+/// Reads the header of a unit from the bytes after `unit_length`. Returns it with the bytes after it, which are the program.
 #[tactic(auto, unfolding(crate::specs::Header::header_at))]
 pub(crate) fn header_at<'a>(
     strings: &StringSections<'a>,
@@ -78,7 +78,7 @@ pub(crate) fn header_at<'a>(
     Ok((header, program))
 }
 
-// Reads the version, and returns the bytes of the header's fields and those of the program.
+// Reads a header up to `header_length`. Returns the version, the bytes of the remaining fields, and the bytes of the program.
 #[tactic(auto, unfolding(crate::specs::Header::frame_at))]
 fn frame_at(bytes: &[u8]) -> Result<(u16, &[u8], &[u8]), UnitError>
     ensures { Gives (λ x. ((x.0, x.1.now), x.2.now)) result (frame_at bytes.now) }
@@ -155,21 +155,21 @@ fn fields_of_header<'a>(
     })
 }
 
-// Returns the number of the first file and of the first directory.
+// Returns the number of the first file and of the first directory: 0 in DWARF 5, and 1 in earlier versions.
 fn first_number(version: u16) -> u32
     ensures { result ≡ first_number version }
 {
     if version == 5 { 0 } else { 1 }
 }
 
-// Returns the index of a number that is counted from `first`.
+// Returns the index of the entry with this number if the first entry has the number `first`; `None` if the number is below `first`.
 fn index_of(first: u32, number: u64) -> Option<u64>
     ensures { result ≡ index_of first number }
 {
     number.checked_sub(u64::from(first))
 }
 
-// Reads directories or files in the form of the version, and picks the entry at an index.
+// Reads a list of directories, or of files if `of_files` is true, in the form of the version, and picks the entry at an index.
 #[tactic(auto, unfolding(crate::specs::Header::entries_of_version))]
 fn entries_of_version<'a>(
     strings: &StringSections<'a>,
@@ -232,7 +232,7 @@ fn operations_check(version: u16, bytes: &[u8]) -> Result<&[u8], UnitError>
     }
 }
 
-// Returns a signed byte, modulo 2^32.
+// Sign-extends a byte to 32 bits.
 fn sign_extended(byte: u8) -> u32
     ensures { result ≡ sign_extended byte }
 {
@@ -243,7 +243,7 @@ fn sign_extended(byte: u8) -> u32
     }
 }
 
-// Reads `standard_opcode_lengths`, of the opcodes from 1 up to but excluding `opcode_base`.
+// Reads `standard_opcode_lengths`: one byte for each opcode from 1 up to, but not including, `opcode_base`.
 #[tactic(auto, unfolding(crate::specs::Header::lengths_at))]
 fn lengths_at(opcode_base: u8, bytes: &[u8]) -> Result<(&[u8], &[u8]), UnitError>
     ensures { Gives (λ x. (x.0.now, x.1.now)) result (lengths_at opcode_base bytes.now) }
@@ -259,7 +259,7 @@ fn lengths_at(opcode_base: u8, bytes: &[u8]) -> Result<(&[u8], &[u8]), UnitError
     Ok((lengths, rest))
 }
 
-// Whether the lengths of the opcodes that the standard has are those of the standard.
+// Whether the first 12 lengths, or all if there are fewer, are the standard's.
 fn are_standard(lengths: &[u8]) -> bool
     ensures { result ≡ are_standard lengths.now }
 {

@@ -16,7 +16,7 @@ pub(crate) enum Operation {
     Copy,
     /// `DW_LNS_advance_pc`.
     AdvancePc(u32),
-    /// `DW_LNS_advance_line`, modulo 2^32.
+    /// `DW_LNS_advance_line`, with its signed operand modulo 2^32.
     AdvanceLine(u32),
     /// `DW_LNS_set_file`.
     SetFile(u32),
@@ -30,7 +30,7 @@ pub(crate) enum Operation {
     EndSequence,
     /// `DW_LNE_set_address`.
     SetAddress(u32),
-    /// An operation that changes nothing that is kept.
+    /// Any other operation. It changes no register that is needed here.
     Skipped,
 }
 
@@ -74,7 +74,7 @@ pub(crate) fn operation_at<'a>(
     }
 }
 
-// Reads the operands of a standard opcode.
+// Reads the operands of a standard opcode, and returns its operation.
 #[tactic(auto, unfolding(crate::specs::Operations::standard_at))]
 fn standard_at<'a>(
     lengths: &[u8],
@@ -121,7 +121,7 @@ fn operands_of(lengths: &[u8], code: u8) -> u8
     if at < lengths.len() { lengths[at] } else { 0 }
 }
 
-// Reads an extended opcode, from its length, which must not be 0.
+// Reads an extended opcode, beginning with its length, which must not be 0.
 #[tactic(auto, unfolding(crate::specs::Operations::extended_at))]
 fn extended_at(bytes: &[u8]) -> Result<(Operation, &[u8]), UnitError>
     ensures { Gives (λ x. (x.0, x.1.now)) result (extended_at bytes.now) }
@@ -133,7 +133,7 @@ fn extended_at(bytes: &[u8]) -> Result<(Operation, &[u8]), UnitError>
     extended_of_length(size, rest)
 }
 
-// Reads an extended opcode of a length, which counts its code and its operands.
+// Reads an extended opcode of this length, which counts its code and its operands.
 #[tactic(auto, unfolding(crate::specs::Operations::extended_of_length))]
 fn extended_of_length(size: u32, bytes: &[u8]) -> Result<(Operation, &[u8]), UnitError>
     requires { 0 < size }
