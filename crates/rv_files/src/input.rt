@@ -27,7 +27,7 @@ impl From<AllocError> for InputError {
     }
 }
 
-// The maximum number of bytes requested per read: large, for lists and images of megabytes, since each read is a system call.
+// The maximum number of bytes requested per read. It is large because lists and images can have megabytes, and each read is a system call.
 const BUFFER_SIZE: usize = 16_384;
 
 /// Returns the reader's bytes up to its end, or the first `limit` of them if there are more; the others remain in the reader.
@@ -52,8 +52,8 @@ pub fn read_at_most<R: Read>(
     Ok(bytes)
 }
 
-// Reads once, appends the bytes that were read, so that there are at most `max_len`, and returns how many were read. A separate buffer
-// receives them, so that a failed allocation is not taken for a failed read.
+// Reads once, appends the bytes that were read, of which there are at most as many as `bytes` has room for up to `max_len`, and returns how
+// many were read. A separate buffer receives them, so that a failed allocation is not taken for a failed read.
 fn read_once<R: Read>(
     input: &mut R,
     buffer: &mut [u8; BUFFER_SIZE],

@@ -1,4 +1,4 @@
-//! The sources that a command reads: a list, a report, the files of jobs.
+//! The files that a command reads: a list, a report, the files of jobs.
 
 ghost use Rattle.std.specs.Prelude.{◌≡◌, ◌≢◌, ◌≤◌, ◌<◌, ◌+◌, ◌^◌, None, Option, Some, length, take};
 ghost use Rattle.std.specs.Prelude.{IfErr, IfNone, IfOk, IfSome, IsSomeAnd};

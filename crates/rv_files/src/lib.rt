@@ -43,5 +43,5 @@ pub use roots::resolved_path;
 pub use streams::StreamSink;
 pub use system_outputs::SystemOutputs;
 
-// From the crates below: what this interface names, and what its callers need with it.
+// Re-exports from lower crates: the types in this interface, and what its callers need with them.
 pub use rv_base::{Bytes, ReadError, Sink, SinkFailed, Store, Text, is_name, limits, put_all};

@@ -10,7 +10,7 @@ use std::alloc::{AllocError, Global};
 
 /// A destination for files, each of which is written, synced to disk, and then placed at its path.
 pub trait Outputs {
-    /// The destination of a file. Writing to the file does not change it.
+    /// The destination of a file that is not yet placed.
     type Place: Drop;
 
     /// A file that accepts bytes.
@@ -61,7 +61,7 @@ pub trait Outputs {
         ensures synced { IfOk result (λ synced. synced_bytes synced ≡ Self.File.accepted file) }
         ensures another_error { IfErr result (λ error. error ≢ FileError.SameFile) };
 
-    /// Places a file at its path.
+    /// Places a synced file at its path, where it replaces any other file.
     fn place(&mut self, place: Self::Place, file: Self::Synced) -> Result<(), FileError>
         ensures committed { OnOk result
             (IsCommittedFileAdded (committed self.old) (committed self.new) (pending_path place) (synced_bytes file)) }

@@ -237,7 +237,7 @@ where
 
     // Renames a temporary file to its final path. A file that was written directly stays as it is.
     fn place(&mut self, target: PendingFile, file: SyncedFile<R::File>) -> Result<(), FileError> {
-        // Its lock is released here, once the file has its final path.
+        // The file stays open, and so stays locked, until this function returns, when it has its final path.
         let SyncedFile { file: _locked } = file;
         let Some(paths) = &target.paths else {
             return Ok(());
