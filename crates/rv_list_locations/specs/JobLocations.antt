@@ -120,7 +120,7 @@ is_top Table = false
 is_top Element = false
 
 -- the result of scanning the entry with which the text begins, or `None` if it is malformed; before the first header, an array at the key
--- `job` has the jobs, and its elements come next
+-- `job` holds the jobs, and its elements come next
 unfoldable pub keyed_entry : ScanState → List ℕ → Option Step
 keyed_entry state text = key text >>= (λ parsed. let value = after_equals parsed.1 in
     if (is_job parsed.0 && is_top state) && first value == left_bracket
