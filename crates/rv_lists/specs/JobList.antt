@@ -132,13 +132,13 @@ map_from_table ms = parsed_or_default map_from_elements default_regions (array_a
 
 -- ---- where the image is loaded
 
--- the addresses at which segments are loaded, from the value of `load`: `physical` or `virtual`; any other text is an error
+-- the load addresses that a value of `load` selects: `physical` or `virtual`; any other text is an error
 abbrev pub load_from_text : List ℕ → Result LoadAt What
 load_from_text t = if bytes_eq t (codes "physical") then Ok Physical
     else if bytes_eq t (codes "virtual") then Ok Virtual
     else Err what.Load
 
--- the addresses at which a job's segments are loaded, physical or virtual; the default is physical
+-- whether a job's segments are loaded at their physical or virtual addresses; the default is physical
 unfoldable pub load_from_table : Members → Result LoadAt What
 load_from_table ms = parsed_or_default load_from_text Physical (text_at_key (codes "load") ms)
 

@@ -21,7 +21,7 @@ run_options_from_table earlier ms = do
   misaligned_policy ← misaligned_from_table ms
   Ok (record { expect_end = expect_end; same_as = same_as; isa = set; misaligned = misaligned_policy })
 
--- the script, the regions and the load addresses of a job, or the first error
+-- the script and the regions of a job, and whether its segments are loaded at their physical or virtual addresses, or the first error
 unfoldable pub setup_from_table : Members → Result Setup What
 setup_from_table ms = do
   script ← script_from_table ms

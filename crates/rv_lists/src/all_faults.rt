@@ -30,7 +30,7 @@ pub fn read_faults(alloc: Global, bytes: &[u8]) -> Result<Vec<JobError>, AllocEr
         Ok(table) => faults_of_table(alloc, &table),
         Err(error) => {
             if error.is_memory() {
-                // Out of memory: `toml` says so of its own error.
+                // Out of memory: `toml` reports that its own allocation failed.
                 return Err(AllocError);
             }
             single_list_fault(alloc, What::NotToml)

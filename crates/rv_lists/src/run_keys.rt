@@ -13,7 +13,8 @@ use crate::keys::text_at_key;
 use rv_machine::{Isa, Misaligned};
 use toml::Table;
 
-/// The values of the last four keys of a job: how its run should end, the job whose results it must have, and its hart.
+/// The values of the last four keys of a job: how its run should end, the job whose results it must have, its instruction set, and what
+/// misaligned accesses do.
 #[derive(Clone, Copy)]
 pub(crate) struct RunOptions {
     pub(crate) expect_end: Option<ExpectedEnd>,
