@@ -101,7 +101,7 @@ unknown_isa_text isa =
     if starts_with nat_eq isa (codes "rv64") then codes "RV64 is not simulated: " ++ known_isas_text
     else if starts_with nat_eq isa (codes "rv32") then unknown_letters_text (drop 4 isa) else known_isas_text
 
--- the explanation of a bad `isa`, given its text, if it has one
+-- the explanation of a bad `isa`, given its text, or `None` if it is not a text
 abbrev pub isa_text : Option (List ℕ) → List ℕ
 isa_text None = known_isas_text
 isa_text (Some isa) = unknown_isa_text isa

@@ -77,7 +77,7 @@ too_many_jobs_text count = (codes "too many jobs: expected at most " ++ (decimal
 
 -- ---- keys
 
--- whether the whole list, a job or a region has a key with this name
+-- whether a key with this name is valid in the whole list, in a job or in a region
 abbrev pub is_key_of_owner : Owner → List ℕ → Bool
 is_key_of_owner owner.List key = is_list_key key
 is_key_of_owner owner.Job key = is_job_key key
@@ -105,7 +105,7 @@ abbrev pub nearest_job_text : List (Option (List ℕ)) → Option (List ℕ) →
 nearest_job_text names (Some name) = codes "; a similar name exists: " ++ quoted name
 nearest_job_text names None = codes "; the earlier jobs are " ++ names_text (present names)
 
--- `message` suggests the name that is probably meant by the job name `expected`, or else all of these names
+-- `message` suggests the name that is nearest to `expected`, an unknown name of a job, or, if that is not near, lists all of these names
 abbrev pub IsJobNameSuggestion : List (Option (List ℕ)) → List ℕ → List ℕ → Type 0
 IsJobNameSuggestion names expected message =
     (near : Option (List ℕ)) × IsNearName names expected near × (message ≡ nearest_job_text names near)

@@ -184,7 +184,7 @@ key_of what.Signature = Some (codes "signature")
 key_of what.Misaligned = Some (codes "misaligned")
 key_of _ = None
 
--- ---- values of the kind type
+-- ---- values of the wrong type
 
 -- `message` begins with the key and its value, or that it is missing
 abbrev pub BeginsWithValue : List ℕ → Members → List ℕ → Type 0
@@ -194,7 +194,7 @@ BeginsWithValue key ms message = (key_and_value : List ℕ) × IsKeyAndValue key
 abbrev pub BeginsWithRegion : List ℕ → Members → List ℕ → Type 0
 BeginsWithRegion key ms message = BeginsWithValue key ms message ⊎ BeginsWith (codes "region ") message
 
--- `message` explains that the value of this key does not have the type of this kind
+-- `message` explains that the value of this key does not have this type
 abbrev pub ExplainsWrongType : List ℕ → ValueType → Members → List ℕ → Type 0
 ExplainsWrongType key value_type.Regions ms message = BeginsWithRegion key ms message
 ExplainsWrongType key _ ms message = BeginsWithValue key ms message
@@ -239,12 +239,12 @@ key_and_type key = (key.0.now, key.1)
 abbrev pub has_wrong_type_at_key : Members → Bor (List ℕ) × ValueType → Bool
 has_wrong_type_at_key ms key = has_wrong_type_at ms (key_and_type key)
 
--- `message` explains that the value of this key has the kind type; without a key, that some type is invalid
+-- `message` explains that the value of this key has the wrong type; without a key, it only says that some type is invalid
 abbrev pub ExplainsWrongTypeOfKey : Members → Option (List ℕ × ValueType) → List ℕ → Type 0
 ExplainsWrongTypeOfKey ms None message = message ≡ codes "invalid type"
 ExplainsWrongTypeOfKey ms (Some key) message = ExplainsWrongType key.0 key.1 ms message
 
--- `message` explains the first key of the job, in the order of the format, whose value has the kind type
+-- `message` explains the first key of the job, in the order of the format, whose value has the wrong type
 abbrev pub ExplainsFirstWrongType : Members → List ℕ → Type 0
 ExplainsFirstWrongType ms message = ExplainsWrongTypeOfKey ms (find (has_wrong_type_at ms) types_of_keys) message
 

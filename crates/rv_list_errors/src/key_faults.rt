@@ -255,8 +255,8 @@ impl<'a> FaultyJob<'a> {
         }
     }
 
-    // Returns the explanation of an `expect_signature` with this path, or `None` if it is valid: the job has a signature, and the path may
-    // be one.
+    // Returns the explanation of an invalid `expect_signature` with this path, or `None` if it is valid. It is invalid if the job has no
+    // signature, or if the path is empty or too long.
     fn reference_fault(&self, path: &str) -> Option<Explanation> {
         if value_at_key(self.table, "signature").is_none() {
             Some(Explanation::Expected(&WITHOUT_SIGNATURE))
