@@ -318,7 +318,7 @@ with_last_row_finished state =
 unfoldable pub state_after_text : List ℕ → ReaderStateView
 state_after_text text = with_last_row_finished (with_lines (lines text) (state_between_rows [] [] extent.Whole))
 
--- ---- the rows before the first row that no report has at its index
+-- ---- the rows before the first that cannot follow the earlier ones
 
 -- the number of leading job numbers that increase strictly, are greater than `previous`, and are at most `max_jobs`
 unfoldable pub increasing_count : ℕ → List ℕ → ℕ

@@ -73,11 +73,11 @@ saved_text r = numbered_rows_text r.numbers r.rows ++ extent_line r.extent (leng
 
 -- ---- valid reports
 
--- the number has 32 bits
+-- the number fits in 32 bits
 abbrev pub IsWord : ℕ → Type 0
 IsWord word = word < 2 ^ 32
 
--- the ending can be in a row: its numbers have 32 bits, and it is not a refusal for lack of memory
+-- the ending can be in a row: its numbers fit in 32 bits, and it is not a refusal for lack of memory
 abbrev pub IsValidEnd : RowEnd → Type 0
 IsValidEnd (ending.Exit code) = IsWord code
 IsValidEnd (ending.Fault kind pc value) = IsWord pc × IsWord value
@@ -88,12 +88,12 @@ IsValidEnd (ending.Refused why) = why ≡ refusal.Image image.OutOfMemory → �
 abbrev pub max_words : ℕ
 max_words = 65536
 
--- the signature has at most `max_words` words of 32 bits each, or is not given
+-- the signature has at most `max_words` words, each of which fits in 32 bits; or there is no signature
 abbrev pub IsValidSignature : Option (List ℕ) → Type 0
 IsValidSignature None = Unit {0}
 IsValidSignature (Some words) = (length words ≤ max_words) × AllByRecursion IsWord words
 
--- the row is valid: its name is valid, its numbers have 32 bits, and its console consists of bytes
+-- the row is valid: its name is valid, its numbers fit in 32 bits, its console consists of bytes, and its signature is valid
 pub record IsValidRow (row : Row) : Type 0 where
   pub name : is_name row.name ≡ true
   pub ending : IsValidEnd row.ending

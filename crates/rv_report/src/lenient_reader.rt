@@ -1,4 +1,4 @@
-//! The report that is read from a text leniently: its lines, up to the first row that no report has there.
+//! Reads a report leniently: its rows, up to the first that cannot follow the earlier ones.
 
 ghost use Rattle.std.specs.Prelude.{◌≡◌, ◌≤◌, IfOk, length};
 ghost use Rattle.rv_report.specs.LenientReport.{increasing_count, extent_or_selection, lenient_report};

@@ -32,6 +32,6 @@ pub use saved_report_text::push_extent_line;
 pub use saved_writer::write_saved_report;
 pub use signature_lines::{WORD_LINE_LEN, are_word_lines, word_line};
 
-// From the crates below: what this interface names, and what its callers need with it.
+// Re-exports from lower crates: the types in this interface, and what its callers need with them.
 pub use rv_base::{Bytes, Sequence, Sink, SinkFailed, Text, is_name, put_all};
 pub use rv_text::{Span, is_utf8, push_number, push_spans, push_text, tail_from};

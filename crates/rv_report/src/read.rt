@@ -56,7 +56,7 @@ pub fn read_report(alloc: Global, bytes: &[u8]) -> Result<SavedReport, ReadError
     ensures first_error { IfErr result (λ error. IsFirstError error bytes.now) }
     // If a prefix of a report's text is rejected, the error is `Truncated`.
     ensures truncated { IsReportPrefix bytes.now → IfErr result (λ error. IsSameReadError error Truncated) }
-    // The location is that of the first difference from the report of the text's content.
+    // The error is at the first difference from the text of the lenient report.
     ensures exact_error { IfErr result (λ error. IsSameReadError error
         (read_error_from 1 word.NotStarted (saved_text (lenient_report bytes.now)) bytes.now)) }
 {
