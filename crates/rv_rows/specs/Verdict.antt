@@ -113,7 +113,7 @@ outcomes_match outcome other = endings_match outcome.ending other.ending
     && (bytes_eq outcome.console other.console && are_same_signatures outcome.signature other.signature)
 
 -- whether an outcome equals the outcome `other` of the job that `same_as` names, as `outcomes_match` compares them; true if there is no
--- `same_as`
+-- `same_as`, and otherwise false if `other` is missing
 abbrev pub matches_same_as : Option ℕ → Option Outcome → Outcome → Bool
 matches_same_as None other outcome = true
 matches_same_as (Some index) None outcome = false

@@ -34,7 +34,7 @@ pub use verdict::{
     has_expected_exit, outcomes_match,
 };
 
-// From the crates below: what this interface names, and what its callers need with it.
+// Re-exports from lower crates: the types in this interface, and what its callers need with them.
 pub use rv_elf::{
     CodeSymbols, Image, ImageError, LoadAt, Segment, SymbolAt, find_symbol, read_image,
     segments_overlap, symbol_at, symbol_of_value, unfit_segment,
