@@ -14,7 +14,7 @@ use Rattle.rv_diff.specs.declared.change.Change.TheVariants.{Gone, Added, Change
 
 -- ---- which rows differ
 
--- whether two endings are of one kind: two equal exit codes, two faults of one kind, two used budgets, or two equal refusals
+-- whether two endings are of one kind: two equal exit codes, two faults of one kind, two used-up budgets, or two equal refusals
 abbrev pub are_same_end_kinds : RowEnd → RowEnd → Bool
 are_same_end_kinds (ending.Refused refusal) (ending.Refused other) =
     bytes_eq (refusal_name refusal) (refusal_name other)
