@@ -102,7 +102,7 @@ fn deliver_remaining<J: RunSpec<H>, H: Drop, R, W: Work<H>, L: Listener<H>>(
     } = remaining;
     match ended {
         Some(End::Stopped) => (listener, Ok(Flow::Stop)),
-        // Out of memory: a worker gives up for that, and a refused thread has been returned already.
+        // Out of memory: a worker fails for no other reason, and a thread that could not be started was reported before.
         Some(End::Failed) => (listener, Err(RunError::OutOfMemory)),
         None => {
             let flow = deliver_from::<J, H, R, W, L>(crew, work, &mut listener, pending, next);

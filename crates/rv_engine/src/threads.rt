@@ -57,12 +57,12 @@ pub(crate) fn run_workers<R: Threads + Wait, S: Worker>(
                 ) else {
                     // The others need not continue.
                     worker.abort();
-                    // No worker: `spawn` fails where the start of a thread was refused.
+                    // No worker: `spawn` fails only if the thread could not be started.
                     return Err(RunError::NoWorker);
                 };
                 let Ok(()) = handles.push(handle) else {
                     worker.abort();
-                    // Out of memory: `push` fails by that alone.
+                    // Out of memory: `push` fails for no other reason.
                     return Err(RunError::OutOfMemory);
                 };
             }
