@@ -44,7 +44,7 @@ read_reference (a ∷ b ∷ c ∷ d ∷ e ∷ f ∷ g ∷ h ∷ feed ∷ rest) =
     with_reference_line (word_of_line (a ∷ b ∷ c ∷ d ∷ e ∷ f ∷ g ∷ h ∷ feed ∷ [])) (read_reference rest)
 read_reference _ = BadLine 1
 
--- the number has 32 bits
+-- the number fits in 32 bits
 abbrev pub IsWord : ℕ → Type 0
 IsWord word = word < 2 ^ 32
 

@@ -27,7 +27,7 @@ pub enum SignatureDifference {
     Word(usize),
     /// The numbers of words differ; the words that both have are equal.
     Count,
-    /// The reference was not read.
+    /// The file with the expected signature was not read.
     Missing,
 }
 

@@ -47,5 +47,5 @@ pub use same_as_job::row_of_same_as_job;
 pub use two_ends::{expects_two_ends, two_ends_fail};
 pub use unmet::{UnmetExpectation, unmet_expectations};
 
-// From the crates below: what this interface names, and what its callers need with it.
+// Re-exports from lower crates: the types in this interface, and what its callers need with them.
 pub use rv_rows::{Job, Row, Shard};
