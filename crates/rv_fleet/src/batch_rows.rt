@@ -79,7 +79,7 @@ impl Listener<Row> for CollectedRows {
 
     ghost stops = { λ s. s.refused ≡ true };
 
-    // Keeps the next row. Stops if an allocation fails.
+    // Appends the next row. Stops if an allocation fails.
     fn receive(&mut self, output: Row) -> Flow {
         match self.rows.push(output) {
             Ok(()) => Flow::Continue,
@@ -108,7 +108,7 @@ pub fn run_batch<R: Threads + Wait + Sync>(
     let (kept, ran) = run_jobs::<Brand, Row, R, BatchRows<'_>, CollectedRows>(crew, &work, kept);
     match ran? {
         Flow::Continue => Ok(Rows::new(kept.rows)),
-        // Out of memory: the rows stop a run for that alone.
+        // Out of memory: collecting the rows stops a run for no other reason.
         Flow::Stop => Err(RunError::OutOfMemory),
     }
 }
