@@ -1,4 +1,4 @@
--- What a sink has accepted. Its bytes are `None` if it does not reveal them.
+-- The bytes that a sink has accepted; `None` if the sink does not reveal them.
 use Rattle.std.specs.Prelude.{◌≡◌, ℕ, List, ◌++◌, Option}
 use Rattle.std.specs.Io.KnownBytes.{Appends}
 
