@@ -81,7 +81,7 @@ pub fn run_jobs<
 }
 
 // Delivers to the listener the results that no worker delivered, and returns the listener and the outcome of the run. After a run that ends
-// normally there are no such results.
+// normally there are no such results; they are computed here so that the contract need not depend on the threads.
 fn deliver_remaining<J: RunSpec<H>, H: Drop, R, W: Work<H>, L: Listener<H>>(
     crew: &Crew<'_, R>,
     work: &W,

@@ -12,7 +12,7 @@ use std::sync::Wait;
 use std::thread;
 use std::thread::Threads;
 
-/// The work of each thread.
+/// What each thread of a run does.
 pub(crate) trait Worker: Sync {
     ghost use Rattle.std.specs.Prelude.{◌≡◌};
     ghost use Rattle.rv_claims.specs.Passes.{CounterView};
