@@ -59,7 +59,7 @@ source_at spans a = option_map (λ s. s.source) (chosen (filter (covers a) spans
 abbrev pub with_line : SourceLine → Option SourceLine
 with_line source = if source.line == 0 then None else Some source
 
--- the units of `.debug_line`
+-- the units of `.debug_line`, in order
 abbrev pub units_of : Strings → List ℕ → List UnitRead
 units_of strings section = units (length section) strings 0 section
 

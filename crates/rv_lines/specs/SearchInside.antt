@@ -50,7 +50,7 @@ abbrev pub file_check : FileNumbers → Option Row → Result (Unit {0}) UnitErr
 file_check files None = Ok tt
 file_check files (Some row) = if lacks_file files row then Err FileNumber else Ok tt
 
--- a result without its value
+-- the result without its value, or the error
 abbrev pub checked_only : {X : Type 0} → Result X UnitError → Result (Unit {0}) UnitError
 checked_only read = read >>= λ _. Ok tt
 

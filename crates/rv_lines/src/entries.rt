@@ -158,7 +158,7 @@ fn entries_at<'a>(
     ))
 }
 
-// Reads an entry of a format.
+// Reads an entry with the fields of a format.
 fn entry_at<'a>(
     strings: &StringSections<'a>,
     format: &Format<'a>,

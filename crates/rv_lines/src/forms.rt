@@ -74,14 +74,14 @@ impl Field {
     }
 }
 
-// Whether a form is a string.
+// Whether the values of a form are strings.
 fn is_string_form(form: u32) -> bool
     ensures { result ≡ is_string_form form }
 {
     form == DW_FORM_STRING || form == DW_FORM_LINE_STRP || form == DW_FORM_STRP
 }
 
-// Whether a form is a number.
+// Whether the values of a form are numbers.
 fn is_number_form(form: u32) -> bool
     ensures { result ≡ is_number_form form }
 {

@@ -41,7 +41,7 @@ pub(crate) struct RequestedEntries {
 }
 
 impl RequestedEntries {
-    /// For a caller that needs neither.
+    /// For a caller that needs neither of them.
     pub(crate) const NOTHING: RequestedEntries = RequestedEntries {
         directory: 0,
         file: 0,

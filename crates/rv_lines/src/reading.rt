@@ -46,7 +46,7 @@ pub(crate) fn long_at(cut: UnitError, bytes: &[u8]) -> Result<(u64, &[u8]), Unit
     Ok((LittleEndian::read_u64(bytes), &bytes[8..]))
 }
 
-/// Skips `size` bytes.
+/// Skips `size` bytes, and returns the bytes after them.
 pub(crate) fn skip_at(cut: UnitError, size: u32, bytes: &[u8]) -> Result<&[u8], UnitError>
     ensures { Gives (λ x. x.now) result (skip_at cut size bytes.now) }
 {
@@ -56,7 +56,7 @@ pub(crate) fn skip_at(cut: UnitError, size: u32, bytes: &[u8]) -> Result<&[u8], 
     Ok(&bytes[size as usize..])
 }
 
-/// Reads a string and its zero byte.
+/// Reads a string that ends with a zero byte, which is not part of the result.
 #[tactic(auto, unfolding(crate::specs::Reading::string_at))]
 pub(crate) fn string_at(cut: UnitError, bytes: &[u8]) -> Result<(&[u8], &[u8]), UnitError>
     ensures { Gives (λ x. (x.0.now, x.1.now)) result (string_at cut bytes.now) }

@@ -103,8 +103,8 @@ pub(crate) fn unit_size(bytes: &[u8]) -> usize
     bytes.len().min(LENGTH_SIZE + unit_length as usize)
 }
 
-// Returns the number of bytes from the unit at the front, which is in the 64-bit format, to the next one, or the number of all bytes if
-// there is no next one.
+// Returns the number of bytes from the unit at the front to the next one, for a unit in the 64-bit format; the number of all bytes if there
+// is no next one.
 fn long_unit_size(bytes: &[u8]) -> usize
     ensures { result ≡ min (long_unit_size bytes.now) (length bytes.now) }
 {
