@@ -36,7 +36,7 @@ abbrev pub IsShownValue : Data → List ℕ → Type 0
 IsShownValue value shown = MatchOption (as_str value)
     ((text : List ℕ) × IsValueText false value text × (shown ≡ printable_value text)) (λ text. shown ≡ quoted text)
 
--- the text that this key is missing
+-- the message that this key is missing
 abbrev pub missing_key_text : List ℕ → List ℕ
 missing_key_text key = codes "missing key \"" ++ (key ++ codes "\"")
 
@@ -89,7 +89,7 @@ first_unknown_key is_known no_members = None
 first_unknown_key is_known (member key value members) =
     if is_known key then first_unknown_key is_known members else Some key
 
--- the text that this key is unknown
+-- the message that this key is unknown
 abbrev pub unknown_key_text : List ℕ → List ℕ
 unknown_key_text key = codes "unknown key " ++ quoted key
 

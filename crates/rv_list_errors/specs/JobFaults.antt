@@ -149,7 +149,7 @@ shown_byte_count bytes.Untold length = 0
 shown_byte_count bytes.Each length = length
 shown_byte_count bytes.Pairs length = length / 2
 
--- the number of bytes in parentheses, or nothing if it does not exceed the maximum or there is no maximum
+-- the text ` (COUNT bytes)` if the count exceeds the maximum; empty if it does not, or if there is no maximum
 abbrev pub bytes_text : InsertedText → ℕ → List ℕ
 bytes_text (rest.Maximum most) count = if nat_lt most count then codes " (" ++ (decimal count ++ codes " bytes)") else []
 bytes_text _ count = []
@@ -255,13 +255,13 @@ abbrev pub job_of_name_text : Option ℕ → List ℕ
 job_of_name_text None = []
 job_of_name_text (Some number) = codes ", but job " ++ (decimal number ++ codes " has this name")
 
--- `message` is a key for a name with its value, then `expected`, which is expected, and then the number of the first job with this name, if
--- any
+-- `message` is `KEY = VALUE: EXPECTED`, or that the key is missing instead of `KEY = VALUE`, followed by the number of the first job with
+-- this name, if there is one
 abbrev pub ExplainsName : List (Option (List ℕ)) → List ℕ → List ℕ → Members → List ℕ → Type 0
 ExplainsName names key expected ms message = (key_and_value : List ℕ) × IsKeyAndValue key (get_member key ms) key_and_value
     × (message ≡ key_and_value ++ (codes ": " ++ (expected ++ job_of_name_text (number_of_name names (text_at_key key ms)))))
 
--- the text that says what is expected of a job's name that an earlier job has
+-- what is expected instead of a name that an earlier job already has
 abbrev pub unique_name_text : List ℕ
 unique_name_text = codes "expected a unique name"
 

@@ -25,7 +25,7 @@ text_distance text other = levenshtein_row nat_eq (chars text) (chars other) (le
 abbrev pub farthest : ℕ
 farthest = 2 ^ 64 - 1
 
--- the edit distance of a text from a name, or `farthest` if there is no name or one of them is longer than a name may be
+-- the edit distance of a text from a name, or `farthest` if there is no name, or if the name or the text is longer than a name may be
 unfoldable pub name_distance : List ℕ → Option (List ℕ) → ℕ
 name_distance text None = farthest
 name_distance text (Some name) =

@@ -92,7 +92,7 @@ impl Message {
         }
     }
 
-    // Appends a value as in TOML.
+    // Appends a value as TOML writes it, cut off if it is long.
     fn push_value_in_toml(&mut self, value: &Value)
         ensures { AppendsTextThat self.old self.new
             (λ shown. (text : List ℕ) × IsValueText false (view value.now) text × (shown ≡ printable_value text)) }
