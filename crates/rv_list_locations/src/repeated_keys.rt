@@ -39,8 +39,8 @@ pub fn repeated_key<'a>(
     }
 }
 
-// Scans the text, which has no byte order mark, up to the header, entry or element where `remaining` bytes remain, and returns the key that
-// is repeated there, or `None` if there is none.
+// Scans the text up to the header, entry or element at which `remaining` bytes of the text remain, and returns the key that is repeated
+// there, or `None` if there is none. The text has no byte order mark.
 fn find_repeated_key<'a>(
     alloc: Global,
     text: &'a str,

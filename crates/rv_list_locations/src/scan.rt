@@ -197,8 +197,9 @@ fn scan_table_header(alloc: Global, text: &str) -> Result<Step<'_>, ParseError>
     }
 }
 
-// Scans an entry. Before the first header, an array at the key `job` holds the jobs, and its elements come next. Returns what comes next,
-// and the text after the entry or after the array's opening bracket.
+// Scans an entry, at which no job begins. If the entry is `job = [..]` and comes before the first header, the elements of the array are the
+// jobs: the first element comes next, and the returned text begins after the opening bracket. Otherwise, returns `state` as what comes
+// next, and the text after the entry.
 #[tactic(auto, unfolding(crate::specs::JobLocations::keyed_entry))]
 fn scan_entry(alloc: Global, text: &str, state: ScanState) -> Result<Step<'_>, ParseError>
     ensures step { GivesStep result (spec.keyed_entry state text.now) }
