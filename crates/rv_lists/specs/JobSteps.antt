@@ -38,8 +38,8 @@ expected_results_from_table ms = do
   console ← console_from_table ms
   Ok (record { signature = signature; exit = exit; reference = reference; console = console })
 
--- the job with this name, image and budget, and the other keys of a table, or the first error of these keys; `earlier` are the names of the
--- earlier jobs
+-- the job with this name, image and budget, and with the values of a table's other keys, or the first error of these keys; `earlier` are
+-- the names of the earlier jobs
 unfoldable pub job_from_remaining_keys : List (List ℕ) → List ℕ → List ℕ → ℕ → Members → Result Job What
 job_from_remaining_keys earlier name image budget ms = do
   setup ← setup_from_table ms

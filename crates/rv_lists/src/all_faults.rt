@@ -141,8 +141,8 @@ fn reserved_name<'a>(earlier: &EarlierJobs, element: &'a Value) -> Option<&'a st
     }
 }
 
-/// Proves that the first of all errors is the one for which a list is rejected, and that there is no error exactly if the list is valid.
-/// There is no code to run.
+/// Proves that a list is rejected with the first of all its errors, and that there is no error if and only if the list is valid. There is
+/// no code to run.
 pub fn first_fault_refuses_a_list()
     ensures { (bytes : List ℕ) → slice_get (list_faults bytes) 0 ≡ result_err (job_list_of bytes) }
 {}
