@@ -53,8 +53,8 @@ impl Map {
     }
 }
 
-// Returns where the `len` bytes at an address are stored, or `None` if none of these regions has all of them. The bytes of the first region
-// begin at index `start`.
+// Returns where the `len` bytes at an address are stored, or `None` if none of these regions has all of them. `start` is the index of the
+// first region's bytes in the concatenated bytes of all regions.
 #[inline]
 fn search_regions(regions: &[Region], start: usize, addr: u32, len: u32) -> Option<BufferRange>
     requires positive { 0 < len }
