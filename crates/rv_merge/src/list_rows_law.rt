@@ -14,9 +14,9 @@ ghost use Rattle.rv_merge.specs.Numbers.{EndHasWordNumbers, HasNumbers, HasWords
 
 use rv_rows::{Bytes, Row, RowEnd, Words};
 
-/// Proves that the rows of a list that was read can be the rows of a list, whatever the results for its paths are: there are up to 4,096,
-/// with distinct valid names, numbers that fit in 32 bits, consoles of bytes, signatures of at most 65,536 words, and no refusal for lack
-/// of memory.
+/// Proves that the rows that a machine computes for a list are valid as the rows of a list, whatever the results for its paths are: there
+/// are up to 4,096, with distinct valid names, numbers that fit in 32 bits, consoles of bytes, signatures of at most 65,536 words, and no
+/// refusal for lack of memory.
 pub fn rows_form_a_list(rows: &[Row])
     ensures { (bytes : List ℕ) (list : List Job) (results : List PathResult)
         → job_list_of bytes ≡ Ok list → rows.now ≡ rows_of (plan_of_jobs list results)
