@@ -3,8 +3,8 @@
 //! A [`Row`] is the result of one job. [`write_report`] appends a report's text to a sink in few large writes; if a write fails, a prefix
 //! of the text has been written and nothing after it. [`read_report`] returns the [`SavedReport`] with the given text, whether of a whole
 //! list, of selected jobs or of a shard, or the first invalid line ([`ReadError`]). It reads each line for what it appears to contain,
-//! writes the report of that, and compares: a single comparison ensures that the result has exactly this text. [`one_text_one_report`] is a
-//! law of reports.
+//! writes the report of that, and compares: a single comparison ensures that the result has exactly this text. The law
+//! [`one_text_one_report`] says that no two valid reports have the same text.
 #![tactic(auto)]
 
 mod fields;

@@ -91,8 +91,9 @@ fn first_read_error(text: &[u8], bytes: &[u8]) -> ReadError
     ReadError::Truncated
 }
 
-// Returns the error, given that the remaining bytes `remaining` differ in their first byte from a text whose next byte is `expected`: this
-// line, or `Truncated` if `remaining` ends in this line, and the line can still be the beginning of a report's line.
+// Returns the error at the first difference between the bytes and a report's text. `remaining` is the rest of the bytes, and `expected` is
+// the next byte of the text. The error is `Truncated` if the line can still be the beginning of a report's line and no line feed follows,
+// and otherwise this line.
 fn read_error_at(line: usize, word: FirstWordState, expected: u8, remaining: &[u8]) -> ReadError
     ensures { result ≡ read_error_at line word expected remaining.now }
 {
