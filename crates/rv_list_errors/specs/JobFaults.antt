@@ -255,8 +255,8 @@ abbrev pub job_of_name_text : Option ℕ → List ℕ
 job_of_name_text None = []
 job_of_name_text (Some number) = codes ", but job " ++ (decimal number ++ codes " has this name")
 
--- `message` is `KEY = VALUE: EXPECTED`, or that the key is missing instead of `KEY = VALUE`, followed by the number of the first job with
--- this name, if there is one
+-- `message` is the key and its value, or that the key is missing, then what is expected, and then the number of the first job with this
+-- name, if there is one
 abbrev pub ExplainsName : List (Option (List ℕ)) → List ℕ → List ℕ → Members → List ℕ → Type 0
 ExplainsName names key expected ms message = (key_and_value : List ℕ) × IsKeyAndValue key (get_member key ms) key_and_value
     × (message ≡ key_and_value ++ (codes ": " ++ (expected ++ job_of_name_text (number_of_name names (text_at_key key ms)))))
