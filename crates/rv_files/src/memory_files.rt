@@ -197,7 +197,7 @@ impl Outputs for MemoryOutputs {
         }
     }
 
-    // Does nothing: a file that was not placed leaves nothing behind.
+    // Does nothing: a file that was not placed leaves no trace.
     fn abandon(&mut self, _place: Text) {}
 }
 
