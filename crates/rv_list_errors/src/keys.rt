@@ -37,7 +37,7 @@ pub(crate) fn unknown_key(table: &Table, owner: Owner) -> Option<&str>
     }
 }
 
-// Returns the first key of a table that is not valid in `owner`, as a string of the table, or `None` if all keys are valid.
+// Returns the first key of a table that is not valid in `owner`, borrowed from the table, or `None` if all keys are valid.
 fn first_unknown_key(table: &Table, owner: Owner) -> Option<&String>
     ensures { option_map (λ key. string_bytes key.now) result
         ≡ first_unknown_key (is_key_of_owner owner) (table_view table.now) }

@@ -84,7 +84,7 @@ fn index_of_name(names: &[Option<&str>], name: &str) -> Option<usize>
     names.iter().position(|other| is_name_of(name, *other))
 }
 
-// Whether there is another name, and it equals this one.
+// Whether the other name exists and equals this one.
 fn is_name_of(name: &str, other: Option<&str>) -> bool
     ensures { result ≡ is_name_of name.now (borrowed_name other.entry) }
 {

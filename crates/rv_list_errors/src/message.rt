@@ -15,8 +15,8 @@ use std::fmt::{Display, Formatter};
 use strsim::levenshtein;
 use toml::Value;
 
-/// The text of a message so far. It records the first failed allocation and appends nothing after it, so that its writers have only one
-/// exit.
+/// The text of a message so far. It records the first failed allocation and appends nothing after it, so that an error is handled only
+/// once, in [`finish`](Message::finish).
 #[derive(Drop)]
 pub(crate) struct Message {
     alloc: Global,
