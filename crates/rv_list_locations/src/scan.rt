@@ -265,7 +265,7 @@ fn skip_line_end(text: &str) -> &str
     }
 }
 
-// Scans a key, and returns whether it is `job`, and the text after it. The key is dropped here, so that it is not alive at any other exit.
+// Scans a key, and returns whether it is `job`, and the text after it. The key is dropped here, so that no caller holds it at its exits.
 fn scan_key(alloc: Global, text: &str) -> Result<(bool, &str), ParseError>
     ensures key { Reads (λ is_job. is_job) result
         (option_map (λ name. (spec.is_job name.0, name.1)) (key text.now)) }
