@@ -97,8 +97,8 @@ fn add_element_or_fault(
     }
 }
 
-/// Returns the earlier jobs with a job that reserves the name of a bad element, if the name is valid and not already reserved. This job has
-/// default values.
+/// Returns the earlier jobs with one more job, which reserves the name of a bad element; unchanged if that name is invalid or already
+/// reserved. The added job has default values.
 fn reserve_bad_job_name(
     alloc: Global,
     earlier: EarlierJobs,
