@@ -11,8 +11,8 @@ use crate::hart::{Hart, set_pc};
 use rv_isa::Instr;
 
 impl Hart {
-    /// Returns the address after an instruction of `length` bytes. It is computed by a processor branch rather than a sum, so that the next
-    /// cache entry is looked up before the length is known.
+    /// Returns the address after an instruction of `length` bytes. It is computed with a branch of the host processor instead of a sum, so
+    /// that the next cache entry is looked up before the length is known.
     #[inline(always)]
     pub(crate) fn following_pc(&mut self, pc: u32, length: u32) -> u32
         requires { (length ≡ 2) ⊎ (length ≡ 4) }
