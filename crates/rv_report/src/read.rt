@@ -146,7 +146,8 @@ impl FirstWordState {
         }
     }
 
-    // Whether the line that differs from the expected text can still be the beginning of a report's line, judging by its first word.
+    // Whether the line in which a text first differs from the expected one can still be the beginning of a report's line, judging by its
+    // first word.
     fn can_begin_report_line(self, expected: u8, remaining: &[u8]) -> bool
         ensures { result ≡ can_begin_report_line self expected remaining.now }
     {
