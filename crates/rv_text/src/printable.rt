@@ -153,7 +153,7 @@ fn is_some_format_char(character: Option<char>) -> bool
     }
 }
 
-// Whether a character is invisible or changes the direction of the text around it.
+// Whether a character is a format character, which is invisible or changes the direction of the text around it.
 fn is_format_char(character: char) -> bool
     ensures { result ≡ is_format_char character }
 {
