@@ -57,7 +57,7 @@ pub(crate) fn note_span(span: &Span, addresses: &[u32], found: &mut [Option<Sour
     }
 }
 
-// Returns `source`, unless a source line with an equal or greater `low` was found before.
+// Returns `source`, or the source line that was found before if its `low` is equal or greater.
 fn higher(source: SourceLine, found: Option<SourceLine>) -> Option<SourceLine>
     ensures { result ≡ higher source found }
 {
