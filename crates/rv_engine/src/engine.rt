@@ -112,7 +112,7 @@ fn deliver_remaining<J: RunSpec<H>, H: Drop, R, W: Work<H>, L: Listener<H>>(
 }
 
 // Delivers to the listener the results of the chunk with the number `next` and of all later chunks. Results that are not pending are
-// computed here. Returns whether to continue.
+// computed here. Returns whether to continue, or an error if memory runs out.
 fn deliver_from<J: RunSpec<H>, H: Drop, R, W: Work<H>, L: Listener<H>>(
     crew: &Crew<'_, R>,
     work: &W,

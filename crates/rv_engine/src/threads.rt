@@ -29,7 +29,8 @@ pub(crate) trait Worker: Sync {
     fn abort(&self);
 }
 
-/// Runs as many threads as the crew has, or one per chunk if there are fewer chunks. Returns once all of them have ended.
+/// Runs as many threads as the crew has, or one per chunk if there are fewer chunks. Returns once all of them have ended, with an error if
+/// a thread could not be started or memory ran out.
 pub(crate) fn run_workers<R: Threads + Wait, S: Worker>(
     crew: &Crew<'_, R>,
     worker: &S,
