@@ -30,7 +30,8 @@ impl From<AllocError> for InputError {
 // The maximum number of bytes requested per read. It is large because lists and images can have megabytes, and each read is a system call.
 const BUFFER_SIZE: usize = 16_384;
 
-/// Returns the reader's bytes up to its end, or the first `limit` of them if there are more; the others remain in the reader.
+/// Returns the reader's bytes up to its end, or the first `limit` of them if there are more; the others remain in the reader. Fails if a
+/// read fails or memory runs out.
 pub fn read_at_most<R: Read>(
     alloc: Global,
     input: &mut R,
