@@ -96,7 +96,8 @@ impl Listener<Row> for CollectedRows {
     }
 }
 
-/// Runs the jobs of a batch, and returns their rows in order. The rows do not depend on the crew.
+/// Runs the jobs of a batch, and returns their rows in order, or an error if a thread cannot be started or memory runs out. The rows do not
+/// depend on the crew.
 pub fn run_batch<R: Threads + Wait + Sync>(
     crew: &Crew<'_, R>,
     batch: &Batch<'_>,

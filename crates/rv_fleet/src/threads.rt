@@ -75,7 +75,8 @@ fn split_passes(
     Ok(passes)
 }
 
-/// Runs one thread for each pass, and returns the result of each thread once all of them have ended.
+/// Runs one thread for each pass, and returns the result of each thread once all of them have ended. Fails if a thread cannot be started or
+/// memory runs out.
 fn run_workers<R: Threads + Wait, G: Gate>(
     crew: &Crew<'_, R>,
     claims: &Claims,
