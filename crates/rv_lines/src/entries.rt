@@ -1,5 +1,6 @@
 //! The directories and files of a unit's header (DWARF 4, section 6.2.4; DWARF 5, section 6.2.4.1). The lists are not stored: the entries
-//! of each are counted, and one of them is picked. A function that reads also returns the bytes after what it has read.
+//! of each are counted, and one of them is picked. A function that reads also returns the bytes after what it has read, or the error
+//! `HeaderCutOff` if the bytes end too early.
 ghost use Rattle.std.specs.Prelude.{◌≡◌, ◌||◌, if◌then◌else◌, Some, length, option_map, is_ok, true, false};
 ghost use Rattle.rv_lines.specs.Reading.{Gives};
 ghost use Rattle.rv_lines.specs.Entries.{empty_entry, is_path, numbers_at, list_at, fields_at, with_field, entry_at, entries_at, table_at};
@@ -35,7 +36,8 @@ pub(crate) struct Format<'a> {
     pub(crate) bytes: &'a [u8],
 }
 
-/// Reads a list of directories or files in the form of DWARF 2 to 4, which ends with an empty name, and picks the entry at an index.
+/// Reads a list of directories or files in the form of DWARF 2 to 4, which ends with an empty name. Returns the number of entries and the
+/// entry at an index.
 pub(crate) fn list_at<'a>(
     of_files: bool,
     index: Option<u64>,
@@ -87,8 +89,8 @@ fn numbers_at(of_files: bool, bytes: &[u8]) -> Result<(u64, &[u8]), UnitError>
     Ok((u64::from(directory), rest))
 }
 
-/// Reads a list of directories or files in the form of DWARF 5, which is the entry format, the number of entries and the entries, and picks
-/// the entry at an index.
+/// Reads a list of directories or files in the form of DWARF 5, which is the entry format, the number of entries and the entries. Returns
+/// the number of entries and the entry at an index. The error is `EntryForm` if there are entries and none of their fields is a path.
 #[tactic(auto, unfolding(crate::specs::Entries::table_at))]
 pub(crate) fn table_at<'a>(
     strings: &StringSections<'a>,
@@ -108,7 +110,8 @@ pub(crate) fn table_at<'a>(
     entries_at(strings, &format, entries, index, rest)
 }
 
-// Checks the fields of an entry format. Returns whether one of them is a path, and the bytes after them.
+// Checks the fields of an entry format, whose forms must be valid for their contents. Returns whether one of them is a path, and the bytes
+// after them.
 fn format_end<'a>(format: &Format<'a>) -> Result<(bool, &'a [u8]), UnitError>
     ensures { Gives (λ x. (x.0, x.1.now)) result
         (path_and_rest false (fields_at format.now.count format.now.bytes.now)) }
@@ -130,7 +133,7 @@ fn has_path_with(before: bool, field: Field) -> bool
     before || field.content == DW_LNCT_PATH
 }
 
-// Reads `count` entries of a format, and picks the one at an index.
+// Reads `count` entries of a format. Returns the count and the entry at an index.
 fn entries_at<'a>(
     strings: &StringSections<'a>,
     format: &Format<'a>,

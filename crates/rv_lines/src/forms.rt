@@ -1,4 +1,4 @@
-//! The fields of an entry and their forms (DWARF 5, sections 6.2.4.1 and 7.5.6).
+//! The fields of an entry and their forms (DWARF 5, sections 6.2.4.1 and 7.5.6). The error is `HeaderCutOff` if the bytes end too early.
 ghost use Rattle.std.specs.Prelude.{◌≡◌};
 ghost use Rattle.rv_lines.specs.Reading.{Gives};
 ghost use Rattle.rv_lines.specs.Entries.{is_string_form, size_of_form, is_number_form, is_known_form, is_valid_field, field_at, offset_string_at};
@@ -45,7 +45,7 @@ const DW_FORM_DATA16: u32 = 0x1e;
 
 const DW_FORM_LINE_STRP: u32 = 0x1f;
 
-/// Reads one field of an entry format. Its form must be valid for its content.
+/// Reads one field of an entry format. The error is `EntryForm` if its form is not valid for its content.
 #[tactic(auto, unfolding(crate::specs::Entries::field_at))]
 pub(crate) fn field_at(bytes: &[u8]) -> Result<(Field, &[u8]), UnitError>
     ensures { Gives (λ x. (x.0, x.1.now)) result (field_at bytes.now) }
@@ -125,7 +125,7 @@ pub(crate) fn string_of_form<'a>(
     }
 }
 
-// Reads the offset of a string, and returns the string at this offset of the section.
+// Reads the offset of a string, and returns the string at this offset of the section, or the error `EntryText` if there is none.
 #[tactic(auto, unfolding(crate::specs::Entries::offset_string_at))]
 fn offset_string_at<'a>(
     section: &'a [u8],
@@ -167,7 +167,7 @@ pub(crate) fn number_of_form(form: u32, bytes: &[u8]) -> Result<(u64, &[u8]), Un
     }
 }
 
-/// Skips a value of this form, and returns the bytes after it.
+/// Skips a value of this form, and returns the bytes after it. The error is `EntryForm` if the form is not supported.
 pub(crate) fn skip_form(form: u32, bytes: &[u8]) -> Result<&[u8], UnitError>
     ensures { Gives (λ x. x.now) result (skip_form form bytes.now) }
 {
@@ -188,7 +188,7 @@ fn skipped_size(form: u32) -> Option<u32>
     }
 }
 
-// Skips a value of a form without a fixed size: a string, udata or block.
+// Skips a value of a form without a fixed size: a string, udata or block. Any other form is the error `EntryForm`.
 #[tactic(auto, unfolding(crate::specs::Entries::skip_variable_form))]
 fn skip_variable_form(form: u32, bytes: &[u8]) -> Result<&[u8], UnitError>
     ensures { Gives (λ x. x.now) result (skip_variable_form form bytes.now) }

@@ -62,7 +62,8 @@ pub(crate) struct Header<'a> {
 /// The numbers of operands of the standard opcodes 1 to 12 (6.2.5.2).
 const STANDARD_LENGTHS: [u8; 12] = [0, 1, 1, 1, 1, 0, 0, 0, 1, 0, 0, 1];
 
-/// Reads the header of a unit from the bytes after `unit_length`. Returns it with the bytes after it, which are the program.
+/// Reads the header of a unit from the bytes after `unit_length`, and picks the requested directory and file. Returns the header and the
+/// bytes after it, which are the program; or the header's first error.
 #[tactic(auto, unfolding(crate::specs::Header::header_at))]
 pub(crate) fn header_at<'a>(
     strings: &StringSections<'a>,
@@ -106,7 +107,8 @@ fn version_at(bytes: &[u8]) -> Result<(u16, &[u8]), UnitError>
     }
 }
 
-// Checks `address_size` and `segment_selector_size`, which only DWARF 5 has, and returns the bytes after them.
+// Checks `address_size`, which must be 4, and `segment_selector_size`, which must be 0, and returns the bytes after them. Only DWARF 5 has
+// these fields.
 #[tactic(auto, unfolding(crate::specs::Header::addresses_check))]
 fn addresses_check(version: u16, bytes: &[u8]) -> Result<&[u8], UnitError>
     ensures { Gives (λ x. x.now) result (addresses_check version bytes.now) }
@@ -125,7 +127,7 @@ fn addresses_check(version: u16, bytes: &[u8]) -> Result<&[u8], UnitError>
     Ok(rest)
 }
 
-// Reads the fields of a header after `header_length`.
+// Reads the fields of a header after `header_length`, and picks the requested directory and file.
 #[tactic(auto, unfolding(crate::specs::Header::fields_of_header))]
 fn fields_of_header<'a>(
     strings: &StringSections<'a>,
@@ -169,7 +171,8 @@ fn index_of(first: u32, number: u64) -> Option<u64>
     number.checked_sub(u64::from(first))
 }
 
-// Reads a list of directories, or of files if `of_files` is true, in the form of the version, and picks the entry at an index.
+// Reads a list of directories, or of files if `of_files` is true, in the form of the version. Returns the number of entries and the entry
+// at an index.
 #[tactic(auto, unfolding(crate::specs::Header::entries_of_version))]
 fn entries_of_version<'a>(
     strings: &StringSections<'a>,
@@ -188,7 +191,7 @@ fn entries_of_version<'a>(
     }
 }
 
-// Reads the parameters of the program, from `minimum_instruction_length` to `opcode_base`.
+// Reads the parameters of the program, from `minimum_instruction_length` to `opcode_base`. `line_range` and `opcode_base` must not be 0.
 #[tactic(auto, unfolding(crate::specs::Header::parameters_at))]
 fn parameters_at(version: u16, bytes: &[u8]) -> Result<(Parameters, &[u8]), UnitError>
     ensures value { Gives (λ x. (x.0, x.1.now)) result (parameters_at version bytes.now) }
@@ -216,7 +219,7 @@ fn parameters_at(version: u16, bytes: &[u8]) -> Result<(Parameters, &[u8]), Unit
     Ok((parameters, rest))
 }
 
-// Checks `maximum_operations_per_instruction`, which DWARF 2 and 3 do not have, and returns the bytes after it.
+// Checks `maximum_operations_per_instruction`, which must be 1, and returns the bytes after it. DWARF 2 and 3 do not have this field.
 #[tactic(auto, unfolding(crate::specs::Header::operations_check))]
 fn operations_check(version: u16, bytes: &[u8]) -> Result<&[u8], UnitError>
     ensures { Gives (λ x. x.now) result (operations_check version bytes.now) }
@@ -243,7 +246,8 @@ fn sign_extended(byte: u8) -> u32
     }
 }
 
-// Reads `standard_opcode_lengths`: one byte for each opcode from 1 up to, but not including, `opcode_base`.
+// Reads `standard_opcode_lengths`: one byte for each opcode from 1 up to, but not including, `opcode_base`. The first 12 must be the
+// standard's.
 #[tactic(auto, unfolding(crate::specs::Header::lengths_at))]
 fn lengths_at(opcode_base: u8, bytes: &[u8]) -> Result<(&[u8], &[u8]), UnitError>
     ensures { Gives (λ x. (x.0.now, x.1.now)) result (lengths_at opcode_base bytes.now) }

@@ -21,8 +21,8 @@ pub fn rows_are_of_operations()
     ensures count { (p : Parameters) (s : State) (ops : List Operation) → length (rows_of p s ops) ≡ count_by adds_row ops }
 {}
 
-/// Proves that the source line of an address comes from a row that covers the address, that no row that covers it has a greater `low`, and
-/// that no such row before it has an equal one.
+/// Proves that the source line of an address comes from the right row: among the rows that cover the address, the first of those whose
+/// `low`, the address of the first row of their sequence, is the greatest.
 pub fn line_is_of_first_highest_row()
     ensures { (strings : Strings) (section : List ℕ) (a : ℕ) (source : SourceLine) → line_at strings section a ≡ Some source
         → IsSourceOf (all_spans (units_of strings section)) a source }

@@ -54,7 +54,8 @@ const DW_LNE_END_SEQUENCE: u8 = 1;
 
 const DW_LNE_SET_ADDRESS: u8 = 2;
 
-/// Reads an operation: a special one if its code is `opcode_base` or above, an extended one if it is 0, and otherwise a standard one.
+/// Reads an operation: a special one if its code is `opcode_base` or above, an extended one if it is 0, and otherwise a standard one. The
+/// error is `OperationCutOff` if the bytes end too early.
 #[tactic(auto, unfolding(crate::specs::Operations::operation_at))]
 pub(crate) fn operation_at<'a>(
     opcode_base: u8,
@@ -133,7 +134,8 @@ fn extended_at(bytes: &[u8]) -> Result<(Operation, &[u8]), UnitError>
     extended_of_length(size, rest)
 }
 
-// Reads an extended opcode of this length, which counts its code and its operands.
+// Reads an extended opcode of this length, which counts its code and its operands. The length must be 1 for DW_LNE_end_sequence and 5 for
+// DW_LNE_set_address; any other opcode is skipped.
 #[tactic(auto, unfolding(crate::specs::Operations::extended_of_length))]
 fn extended_of_length(size: u32, bytes: &[u8]) -> Result<(Operation, &[u8]), UnitError>
     requires { 0 < size }

@@ -57,7 +57,8 @@ pub(crate) fn note_program(
     }
 }
 
-// Checks that the unit has the file of an added row. Succeeds if no row was added, or if it ends a sequence.
+// Returns the error `FileNumber` if a row was added whose file the unit does not have. The file of a row that ends its sequence is not
+// checked.
 fn check_file(added: Option<Row>, files: FileNumbers) -> Result<(), UnitError>
     ensures { result ≡ file_check files added }
 {

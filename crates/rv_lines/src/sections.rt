@@ -97,7 +97,7 @@ fn has_no_lines(file: &[u8]) -> bool
     }
 }
 
-// Returns `.debug_line` and the string sections, each of which is checked in turn.
+// Returns `.debug_line` and the string sections, or the error of the first of them that cannot be read.
 #[tactic(auto, unfolding(crate::specs::Sections::tables_of))]
 fn tables_of(file: &[u8]) -> Result<LineTables<'_>, LinesError>
     requires { HasNames file.now }
@@ -112,8 +112,8 @@ fn tables_of(file: &[u8]) -> Result<LineTables<'_>, LinesError>
     })
 }
 
-// Returns the bytes of the first section with one of two names, or no bytes if there is none. The name `gnu` is that of a compressed
-// section.
+// Returns the bytes of the first section with one of two names, no bytes if there is none, or why they cannot be read. The name `gnu` is
+// that of a compressed section.
 #[tactic(auto, unfolding(crate::specs::Sections::bytes_named))]
 fn bytes_named<'a>(file: &'a [u8], plain: &[u8], gnu: &[u8]) -> Result<&'a [u8], LinesError>
     requires { HasNames file.now }
