@@ -118,7 +118,7 @@ ExplainsRegions message = BeginsWith (codes "region") message ⊎ BeginsWith (co
 abbrev pub are_digit_pairs : List ℕ → Bool
 are_digit_pairs digits = list_all is_ascii_hexdigit digits && length digits % 2 == 0
 
--- the text of the maximum length of a script
+-- `expected at most COUNT bytes`, with the maximum length of a script
 abbrev pub expected_script_text : List ℕ
 expected_script_text = codes "expected at most " ++ (decimal max_script_len ++ codes " bytes")
 
