@@ -27,7 +27,8 @@ impl Hart {
         pc.wrapping_add(4)
     }
 
-    /// Executes JALR: the target is computed before the link is written, and its lowest bit is cleared.
+    /// Executes JALR: the target is computed before the link is written, and its lowest bit is cleared. A misaligned target is an error,
+    /// and then nothing is written.
     #[inline]
     pub(crate) fn jump_and_link_register(
         &mut self,
