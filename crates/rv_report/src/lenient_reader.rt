@@ -12,8 +12,8 @@ use crate::saved::{Extent, Numbers, SavedReport};
 use rv_base::limits::MAX_JOBS;
 use std::alloc::{AllocError, Global};
 
-/// Reads a report from a text leniently, and returns its rows before the first whose job number does not increase or whose name is
-/// repeated.
+/// Reads as much of a report as any text contains: its rows up to the first line that cannot come next, but only those before the first
+/// whose job number does not increase or whose name is repeated.
 #[tactic(auto, unfolding(crate::specs::LenientReport::lenient_report))]
 pub(crate) fn lenient_report(alloc: Global, text: &[u8]) -> Result<SavedReport, AllocError>
     ensures value { IfOk result (λ report. report ≡ lenient_report text.now) }

@@ -41,8 +41,11 @@ impl From<AllocError> for ReadError {
     }
 }
 
-/// Returns the report with this text, whether of a whole list, of chosen jobs or of a shard. Takes memory for its rows, and again for its
-/// text; if the text is not a report, for at most 4,096 rows and one more signature of 65,536 words.
+/// Returns the report with this text, whether of a whole list, of chosen jobs or of a shard; or the first invalid line, or that the text is
+/// truncated.
+///
+/// Takes memory for the report's rows, and again for its text; if the text is not a report, for at most 4,096 rows and one more signature
+/// of 65,536 words.
 pub fn read_report(alloc: Global, bytes: &[u8]) -> Result<SavedReport, ReadError>
     // The result has this text, and is a valid report.
     ensures report { IfOk result (λ report. IsValidReport report × (saved_text report ≡ bytes.now)) }
