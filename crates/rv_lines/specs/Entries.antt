@@ -25,7 +25,8 @@ empty_entry = record { name = []; directory = 0 }
 
 -- ---- DWARF 2 to 4: include_directories, file_names
 
--- the numbers after a file's name: its directory, and its time and length, which are skipped; a directory has none
+-- the numbers after a name: for a file, the number of its directory, and its time and length, which are skipped; for a directory, there are
+-- none, and the result is 0
 unfoldable pub numbers_at : Bool → List ℕ → Read ℕ
 numbers_at false bytes = Ok (0, bytes)
 numbers_at true bytes = do
@@ -34,8 +35,8 @@ numbers_at true bytes = do
   size ← skip_number HeaderCutOff time
   Ok (directory.0, size)
 
--- a list of directories, or of files if `of_files` is true, which ends with an empty name; `most` is a bound on its length, such as the
--- number of bytes
+-- a list of directories, or of files if `of_files` is true, which ends with an empty name; the error `HeaderCutOff` if it has no end;
+-- `most` is a bound on its length, such as the number of bytes
 unfoldable pub list_at : ℕ → Bool → List ℕ → Read (List Entry)
 list_at zero of_files bytes = Err HeaderCutOff
 list_at (suc most) of_files bytes = do
@@ -51,7 +52,7 @@ list_at (suc most) of_files bytes = do
 abbrev pub is_string_form : ℕ → Bool
 is_string_form form = (form == 0x08) || ((form == 0x1f) || (form == 0x0e))
 
--- the number of bytes of a form of a fixed size: data1, data2, data4, data8
+-- the number of bytes of a number of this form: data1, data2, data4 or data8; `None` for any other form
 abbrev pub size_of_form : ℕ → Option ℕ
 size_of_form form = if form == 0x0b then Some 1 else if form == 0x05 then Some 2 else if form == 0x06 then Some 4
     else if form == 0x07 then Some 8 else None
@@ -83,7 +84,7 @@ field_at bytes = do
   let field : Field = record { content = content.0; form = form.0 } in
       if is_valid_field field then Ok (field, form.1) else Err EntryForm
 
--- `count` fields of an entry format
+-- `count` fields of an entry format, whose forms must be valid for their contents
 unfoldable pub fields_at : ℕ → List ℕ → Read (List Field)
 fields_at zero bytes = Ok ([], bytes)
 fields_at (suc count) bytes = do
@@ -96,7 +97,7 @@ abbrev pub section_string : Option (List ℕ) → List ℕ → Read (List ℕ)
 section_string None rest = Err EntryText
 section_string (Some text) rest = Ok (text, rest)
 
--- the string that a four-byte offset into a section refers to
+-- the string at the four-byte offset that is read, in this section; the error `EntryText` if there is none
 unfoldable pub offset_string_at : List ℕ → List ℕ → Read (List ℕ)
 offset_string_at section bytes = do
   offset ← fixed_at HeaderCutOff 4 bytes
@@ -117,7 +118,7 @@ sized_number_at (Some size) bytes = fixed_at HeaderCutOff size bytes
 unfoldable pub form_number_at : ℕ → List ℕ → Read ℕ
 form_number_at form bytes = if form == 0x0f then number_at HeaderCutOff bytes else sized_number_at (size_of_form form) bytes
 
--- the bytes after a value of a form without a fixed size, which is skipped: string, udata, block
+-- the bytes after a value of a form without a fixed size, which is skipped: string, udata, block; the error `EntryForm` for any other form
 unfoldable pub skip_variable_form : ℕ → List ℕ → Result (List ℕ) UnitError
 skip_variable_form form bytes = if form == 0x08 then (string_at HeaderCutOff bytes >>= λ text. Ok text.1)
     else if form == 0x0f then skip_number HeaderCutOff bytes
@@ -134,7 +135,7 @@ abbrev pub skip_sized : Option ℕ → ℕ → List ℕ → Result (List ℕ) Un
 skip_sized None form bytes = skip_variable_form form bytes
 skip_sized (Some size) form bytes = skip_at HeaderCutOff size bytes
 
--- the bytes after a value of this form, which is skipped
+-- the bytes after a value of this form, which is skipped; the error `EntryForm` if the form is not supported
 abbrev pub skip_form : ℕ → List ℕ → Result (List ℕ) UnitError
 skip_form form bytes = skip_sized (skipped_size form) form bytes
 
@@ -151,7 +152,7 @@ unfoldable pub entry_at : Strings → List Field → Entry → List ℕ → Read
 entry_at strings [] entry bytes = Ok (entry, bytes)
 entry_at strings (field ∷ fields) entry bytes = with_field strings field entry bytes >>= λ more. entry_at strings fields more.0 more.1
 
--- `count` entries with these fields
+-- `count` entries with these fields, or the error of the first that cannot be read
 unfoldable pub entries_at : Strings → List Field → ℕ → List ℕ → Read (List Entry)
 entries_at strings fields zero bytes = Ok ([], bytes)
 entries_at strings fields (suc count) bytes = do

@@ -50,13 +50,13 @@ unfoldable pub operations_check : ℕ → List ℕ → Result (List ℕ) UnitErr
 operations_check version bytes = if nat_lt version 4 then Ok bytes else (byte_at unit.HeaderCutOff bytes >>= λ operations.
     if operations.0 == 1 then Ok operations.1 else Err unit.Operations)
 
--- standard_opcode_lengths: one byte for each opcode from 1 up to, but not including, `opcode_base`
+-- standard_opcode_lengths: one byte for each opcode from 1 up to, but not including, `opcode_base`; the first 12 must be the standard's
 unfoldable pub lengths_at : ℕ → List ℕ → Read (List ℕ)
 lengths_at opcode_base bytes = let lengths = take (opcode_base - 1) bytes in
     if are_standard lengths then (if length lengths == opcode_base - 1 then Ok (lengths, drop (opcode_base - 1) bytes)
     else Err unit.HeaderCutOff) else Err unit.OpcodeLengths
 
--- the parameters from minimum_instruction_length to opcode_base
+-- the parameters from minimum_instruction_length to opcode_base; line_range and opcode_base must not be 0
 unfoldable pub parameters_at : ℕ → List ℕ → Read Parameters
 parameters_at version bytes = do
   min_length ← byte_at unit.HeaderCutOff bytes
@@ -81,7 +81,7 @@ parameters_at version bytes = do
 unfoldable pub entries_of_version : Strings → ℕ → Bool → List ℕ → Read (List Entry)
 entries_of_version strings version of_files bytes = if version == 5 then table_at strings bytes else list_at (length bytes) of_files bytes
 
--- the fields of a header after header_length
+-- the fields of a header after header_length, or the first error in them
 unfoldable pub fields_of_header : Strings → ℕ → List ℕ → Result Header UnitError
 fields_of_header strings version bytes = do
   parameters ← parameters_at version bytes
@@ -118,7 +118,7 @@ frame_at bytes = do
   if nat_lt (length size.1) size.0 then Err unit.HeaderCutOff
       else Ok ((version.0, take size.0 size.1), drop size.0 size.1)
 
--- the header of a unit, read from the bytes after unit_length, and then the bytes of the program
+-- the header of a unit, read from the bytes after unit_length, and then the bytes of the program; or the header's first error
 unfoldable pub header_at : Strings → List ℕ → Read Header
 header_at strings bytes = do
   frame ← frame_at bytes

@@ -85,7 +85,7 @@ pub record IsSourceOf (spans : List Span) (a : ℕ) (source : SourceLine) : Type
 abbrev pub is_rejected : UnitRead → Bool
 is_rejected read = is_err read.rows
 
--- the error and the offset of a unit, or `later` if the unit has no error
+-- the error and the offset of a unit, or `later`, those of a later unit, if the unit has no error
 abbrev pub error_or : ℕ → Result (List Row) UnitError → Option (UnitError × ℕ) → Option (UnitError × ℕ)
 error_or unit (Ok rows) later = later
 error_or unit (Err error) later = Some (error, unit)

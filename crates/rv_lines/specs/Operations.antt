@@ -28,7 +28,8 @@ standard_at lengths code bytes =
     else if code == 9 then with_operand operation.FixedAdvancePc (fixed_at OperationCutOff 2 bytes)
     else skip_operands (skip_numbers OperationCutOff (slice_index lengths (code - 1)) bytes)
 
--- the operation of an extended opcode of this length, which counts its code and its operands (section 6.2.5.3)
+-- the operation of an extended opcode of this length, which counts its code and its operands (section 6.2.5.3); the length must be 1 for
+-- DW_LNE_end_sequence and 5 for DW_LNE_set_address, and any other opcode is skipped
 unfoldable pub extended_of_length : ℕ → List ℕ → Read Operation
 extended_of_length size bytes = byte_at OperationCutOff bytes >>= λ code.
     if code.0 == 1 then (if size == 1 then Ok (operation.EndSequence, code.1) else Err OperationLength)
@@ -40,7 +41,8 @@ unfoldable pub extended_at : List ℕ → Read Operation
 extended_at bytes = number_at OperationCutOff bytes >>= λ size.
     if size.0 == 0 then Err OperationLength else extended_of_length size.0 size.1
 
--- one operation: a special one if its code is `opcode_base` or above, an extended one if it is 0, and otherwise a standard one
+-- one operation: a special one if its code is `opcode_base` or above, an extended one if it is 0, and otherwise a standard one; or the
+-- error of reading it
 unfoldable pub operation_at : ℕ → List ℕ → List ℕ → Read Operation
 operation_at opcode_base lengths bytes = byte_at OperationCutOff bytes >>= λ code.
     if nat_le opcode_base code.0 then Ok (operation.Special (code.0 - opcode_base), code.1)

@@ -108,7 +108,7 @@ require_closed rows = if is_open false rows then Err OpenSequence else Ok rows
 abbrev pub check_rows : FileNumbers → Program → List Row → Result (List Row) UnitError
 check_rows files ops rows = if list_any (lacks_file files) rows then Err FileNumber else option_map_or Err ops.1 (require_closed rows)
 
--- the rows of a program, from its bytes
+-- the rows of a program, from its bytes, or the first error
 unfoldable pub program_rows : Parameters → FileNumbers → List ℕ → List ℕ → Result (List Row) UnitError
 program_rows p files lengths bytes = let ops = program (length bytes) p.opcode_base lengths bytes in
     check_rows files ops (rows_of p (initial p) ops.0)

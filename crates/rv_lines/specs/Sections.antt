@@ -100,7 +100,7 @@ abbrev pub ◌then◌ : {A B : Type 0} → Result A LinesError → (A → Result
 (Ok x) then f = f x
 (Err e) then f = Err e
 
--- `.debug_line` and the string sections, each of which is checked in turn
+-- `.debug_line` and the string sections, or the error of the first of them that cannot be read
 unfoldable pub tables_of : List ℕ → Result Tables LinesError
 tables_of file = bytes_named file (codes ".debug_line") (codes ".zdebug_line") then λ lines.
     (bytes_named file (codes ".debug_line_str") (codes ".zdebug_line_str") then λ line_str.
