@@ -81,7 +81,8 @@ abbrev pub console_explanation_of : Members → Option (List ℕ) × List ℕ
 console_explanation_of ms = console_explanation (text_at_key (codes "expect_console") ms)
     (text_at_key (codes "expect_console_file") ms) (text_at_key (codes "expect_end") ms)
 
--- the explanation of a job's bad `expect_signature`, or, if that is missing or good, of the expected console or end
+-- the explanation of a job's bad `expect_signature`, or, if that is missing or good, of its bad expected console or end: the key whose
+-- value is shown, and the words
 abbrev pub reference_explanation_of : Members → Option (List ℕ) × List ℕ
 reference_explanation_of ms = reference_explanation (is_some (get_member (codes "signature") ms))
     (text_at_key (codes "expect_signature") ms) (console_explanation_of ms)
