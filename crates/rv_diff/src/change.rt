@@ -77,7 +77,7 @@ fn are_same_end_kinds(old: RowEnd, new: RowEnd) -> bool
     }
 }
 
-// Whether two faults have equal addresses and equal values; true if one of the endings is not a fault.
+// Whether two faults have equal addresses and equal values; true unless both endings are faults.
 fn agree_in_fault_pc_and_value(old: RowEnd, new: RowEnd) -> bool
     ensures { result ≡ agree_in_fault_pc_and_value old new }
 {
