@@ -21,7 +21,7 @@ where
     Ok(file)
 }
 
-// Returns the metadata of the file at a path, or `None` if there is none. A read-only file is an error.
+// Returns the metadata of the file at a path, or `None` if the system returns none. A read-only file is an error.
 fn replaceable_file<R: Files>(files: &R, path: &str) -> io::Result<Option<Metadata>> {
     match files.metadata(path) {
         Ok(metadata) if metadata.permissions().readonly() => Err(io::Error::from(
