@@ -16,7 +16,7 @@ use Rattle.rv_list_errors.specs.Explanation.{first_fault_kinds_text, unknown_let
 abbrev pub path_text : List ℕ
 path_text = codes "expected a path of 1 to " ++ (decimal max_path_len ++ codes " bytes")
 
--- whether a text may not be a path: it is empty, or longer than `max_path_len`
+-- whether a text is invalid as a path: it is empty, or longer than `max_path_len`
 abbrev pub is_invalid_path : List ℕ → Bool
 is_invalid_path path = (length path == 0) || nat_lt max_path_len (length path)
 
@@ -102,7 +102,7 @@ unknown_isa_text isa =
     if starts_with nat_eq isa (codes "rv64") then codes "RV64 is not simulated: " ++ known_isas_text
     else if starts_with nat_eq isa (codes "rv32") then unknown_letters_text (drop 4 isa) else known_isas_text
 
--- the explanation of a bad `isa`, given its text, or `None` if it is not a text
+-- the explanation of a bad `isa`, given its text; if it is not a text, only the known instruction sets
 abbrev pub isa_text : Option (List ℕ) → List ℕ
 isa_text None = known_isas_text
 isa_text (Some isa) = unknown_isa_text isa

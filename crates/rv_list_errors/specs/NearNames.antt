@@ -21,7 +21,7 @@ Adds before after text = OnOk after.grown (IsOk before.grown × (after.bytes.ite
 abbrev pub text_distance : List ℕ → List ℕ → ℕ
 text_distance text other = levenshtein_row nat_eq (chars text) (chars other) (length (chars other))
 
--- the distance from a missing name, or if the text or the name is too long
+-- the distance that is used if the name is missing, or if the text or the name is too long
 abbrev pub farthest : ℕ
 farthest = 2 ^ 64 - 1
 

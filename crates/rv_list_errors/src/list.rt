@@ -29,7 +29,7 @@ pub(crate) struct List<'a> {
 }
 
 impl<'a> List<'a> {
-    /// Returns the list with this text and this table.
+    /// Returns the list with this text, whose table is the one that the text was parsed to.
     pub(crate) fn from_table(
         alloc: Global,
         text: &[u8],
