@@ -40,7 +40,8 @@ pub(crate) struct KeyStep<'a> {
 }
 
 /// Returns the keys of the job that a text begins with, in order. The name of a dotted key is its first part, and the name of a table in
-/// the job is the part of its header after `job`, so a name may occur several times.
+/// the job is the part of its header after `job`, so a name may occur several times. A text that is not TOML is scanned up to where the
+/// scan fails.
 pub fn job_keys<'a>(alloc: Global, job: &'a str) -> Result<Vec<JobKey<'a>>, AllocError>
     ensures { IfOk result (λ keys. All IsNamedKey keys.items) }
 {

@@ -17,8 +17,8 @@ use std::alloc::{AllocError, Global};
 use toml_parser::text::{byte_at, first, skip, skip_ws};
 use toml_parser::{ErrorKind, ParseError, dotted_key};
 
-/// Returns the line, counted from 1, on which each job of a list begins: the line of its header, or of its element if the list is an array.
-/// A text that is not TOML is scanned up to where the scan fails.
+/// Returns the line, counted from 1, on which each job of a list begins: the line of its header `[[job]]`, or of its element in an array
+/// `job = [..]`. A text that is not TOML is scanned up to where the scan fails.
 pub fn job_line_numbers(alloc: Global, text: &str) -> Result<Vec<usize>, AllocError>
     ensures lines { IfOk result (λ lines. lines.items ≡ spec.job_lines text.now) }
     ensures sorted { IfOk result (λ lines. IsNonDecreasing lines.items) }
@@ -45,7 +45,7 @@ pub(crate) fn skip_byte_order_mark(text: &str) -> &str
 pub(crate) enum ScanState {
     /// An entry of the whole list, or the first header.
     Top,
-    /// An element of the array that is the list, or the end of the array.
+    /// An element of an array `job = [..]`, or the end of the array.
     Element,
     /// An entry of a table, or a header.
     Table,
@@ -59,7 +59,8 @@ pub(crate) struct Step<'a> {
     pub(crate) rest: &'a str,
 }
 
-/// Returns, for each job of a list, the suffix of the list's text that begins with the job.
+/// Returns, for each job of a list, the suffix of the list's text that begins with the job. A text that is not TOML is scanned up to where
+/// the scan fails.
 pub fn job_texts<'a>(alloc: Global, text: &'a str) -> Result<Vec<&'a str>, AllocError>
     ensures { IfOk result (λ jobs. texts_of_references jobs.items ≡ spec.jobs_of_text (skip_bom text.now)) }
 {
