@@ -33,7 +33,7 @@ impl FailureKind {
     pub const COUNT: usize = FaultKind::ALL.len() + 6;
 
     /// Returns the kind at an index below [`COUNT`](FailureKind::COUNT), in the order exit, budget, each kind of fault, refused, console,
-    /// signature, named job.
+    /// signature, `same_as`.
     pub fn from_index(index: usize) -> FailureKind
         ensures { result ≡ failure_kind_at index }
     {
