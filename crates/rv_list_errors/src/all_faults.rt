@@ -58,7 +58,7 @@ pub fn push_all_faults<'a>(
 struct FaultLineWriter<'a> {
     file: &'a str,
     list: List<'a>,
-    // For each job, the suffix of the list's text that begins with it.
+    // For each job, the list's text from the job on.
     jobs: Vec<&'a str>,
     cursor: Cursor<'a>,
 }

@@ -50,7 +50,7 @@ impl<'a> List<'a> {
         })
     }
 
-    /// Returns the offset in the list's text at which `rest`, a suffix of it, begins.
+    /// Returns the offset in the list's text at which the suffix `rest` of this text begins.
     pub(crate) fn offset_of_suffix(&self, rest: &str) -> usize {
         self.len.saturating_sub(rest.len())
     }
