@@ -187,7 +187,7 @@ fn scan_table_name(alloc: Global, header: &str) -> Result<Option<String>, ParseE
     }
 }
 
-/// Returns the suffix of a text, which begins with a header, that begins with the key of the header.
+/// Skips the opening brackets of the header with which a text begins, and returns the text from the header's key on.
 #[tactic(auto, unfolding(crate::specs::JobKeys::header_key))]
 pub(crate) fn after_brackets(header: &str) -> &str
     requires { slice_index header.now 0 ≡ left_bracket }

@@ -59,8 +59,7 @@ pub(crate) struct Step<'a> {
     pub(crate) rest: &'a str,
 }
 
-/// Returns, for each job of a list, the suffix of the list's text that begins with the job. A text that is not TOML is scanned up to where
-/// the scan fails.
+/// Returns, for each job of a list, the list's text from the job on. A text that is not TOML is scanned up to where the scan fails.
 pub fn job_texts<'a>(alloc: Global, text: &'a str) -> Result<Vec<&'a str>, AllocError>
     ensures { IfOk result (λ jobs. texts_of_references jobs.items ≡ spec.jobs_of_text (skip_bom text.now)) }
 {
@@ -71,7 +70,7 @@ pub fn job_texts<'a>(alloc: Global, text: &'a str) -> Result<Vec<&'a str>, Alloc
     }
 }
 
-// Appends, for each job of a list, the suffix of the list's text that begins with the job. The text has no byte order mark.
+// Appends, for each job of a list, the list's text from the job on. The text has no byte order mark.
 fn push_job_texts<'a>(
     alloc: Global,
     text: &'a str,
@@ -223,8 +222,8 @@ fn scan_entry(alloc: Global, text: &str, state: ScanState) -> Result<Step<'_>, P
     })
 }
 
-/// Returns the suffix of a text that begins with the value of an entry. The text begins after the entry's key; without an equals sign
-/// there, returns an empty text.
+/// Skips the equals sign of an entry, with which the text begins, and returns the text from the entry's value on. Without an equals sign,
+/// returns an empty text.
 #[tactic(auto, unfolding(crate::specs::JobLocations::after_equals))]
 pub(crate) fn skip_equals_sign(text: &str) -> &str
     ensures text { result.now ≡ spec.after_equals text.now }
@@ -237,7 +236,8 @@ pub(crate) fn skip_equals_sign(text: &str) -> &str
     }
 }
 
-/// Returns the suffix of a text that begins with the next element, or with the bracket after the last element.
+/// Skips the comma after an element, if there is one, and the blanks, line ends and comments around it. Returns the text from the next
+/// element on, or from the bracket after the last element on.
 #[tactic(auto, unfolding(crate::specs::JobLocations::after_comma))]
 pub(crate) fn skip_comma(text: &str) -> &str
     ensures text { result.now ≡ spec.after_comma text.now }
@@ -251,8 +251,8 @@ pub(crate) fn skip_comma(text: &str) -> &str
     }
 }
 
-// Returns the suffix of a text that begins with the next header or entry, or an empty text if something other than a comment is left on the
-// line.
+// Skips the end of a line, and returns the text from the next header or entry on, or an empty text if something other than a comment is
+// left on the line.
 #[tactic(auto, unfolding(crate::specs::JobLocations::text_after_line))]
 fn skip_line_end(text: &str) -> &str
     ensures text { result.now ≡ spec.text_after_line text.now }
