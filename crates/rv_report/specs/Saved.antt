@@ -31,8 +31,8 @@ are_evenly_spaced next step limit [] = nat_lt limit next
 are_evenly_spaced next step limit (n ∷ ns) =
     (n == next) && (nat_le n limit && are_evenly_spaced (next + step) step limit ns)
 
--- whether a shard is valid: its number is from 1 to the number of shards, that number and the number of jobs are at most `max_jobs`, and
--- its stamp is a valid name
+-- whether a shard is valid: its number is from 1 to the number of shards, there are at most `max_jobs` shards and at most `max_jobs` jobs,
+-- and its stamp is a valid name
 unfoldable pub is_valid_shard : Shard → Bool
 is_valid_shard s = nat_le 1 s.number && (nat_le s.number s.shards && (nat_le s.shards max_jobs
     && (nat_le s.jobs max_jobs && is_name s.stamp)))
