@@ -29,7 +29,7 @@ number_or cut (Some n) = if nat_lt n.0 (2 ^ 32) then Ok n else Err Number
 unfoldable pub number_at : UnitError → List ℕ → Read ℕ
 number_at cut bytes = number_or cut (unsigned_leb bytes)
 
--- a number from -2^31 to 2^31 - 1, modulo 2^32; or an error: `cut` if it has no end, `Number` if it is outside this range
+-- the number modulo 2^32, and the bytes after it; the error `Number` if the number is not from -2^31 to 2^31 - 1
 abbrev pub modulo_or : ℤ → List ℕ → Read ℕ
 modulo_or (pos n) bytes = if nat_lt n (2 ^ 31) then Ok (n, bytes) else Err Number
 modulo_or (negsuc n) bytes = if nat_lt n (2 ^ 31) then Ok (2 ^ 32 - 1 - n, bytes) else Err Number

@@ -1,4 +1,5 @@
-//! The fields of an entry and their forms (DWARF 5, sections 6.2.4.1 and 7.5.6). The error is `HeaderCutOff` if the bytes end too early.
+//! The fields of an entry and their forms (DWARF 5, sections 6.2.4.1 and 7.5.6). A function that reads also returns the bytes after what it
+//! has read, or the error `HeaderCutOff` if the bytes end too early.
 ghost use Rattle.std.specs.Prelude.{◌≡◌};
 ghost use Rattle.rv_lines.specs.Reading.{Gives};
 ghost use Rattle.rv_lines.specs.Entries.{is_string_form, size_of_form, is_number_form, is_known_form, is_valid_field, field_at, offset_string_at};

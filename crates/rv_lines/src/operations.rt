@@ -1,4 +1,5 @@
-//! The instructions of a line number program (DWARF 5, section 6.2.5), which are called operations here.
+//! The instructions of a line number program (DWARF 5, section 6.2.5), which are called operations here. A function that reads also returns
+//! the bytes after what it has read, or the error `OperationCutOff` if the bytes end too early.
 ghost use Rattle.std.specs.Prelude.{◌≡◌, ◌<◌, ◌-◌, slice_index};
 ghost use Rattle.rv_lines.specs.Reading.{Gives};
 ghost use Rattle.rv_lines.specs.Operations.{standard_at, extended_of_length, extended_at, operation_at};
