@@ -138,7 +138,8 @@ load_from_text t = if bytes_eq t (codes "physical") then Ok Physical
     else if bytes_eq t (codes "virtual") then Ok Virtual
     else Err what.Load
 
--- whether a job's segments are loaded at their physical or virtual addresses; the default is physical
+-- whether a job's segments are loaded at their physical or virtual addresses, or an error if `load` has another value; the default is
+-- physical
 unfoldable pub load_from_table : Members → Result LoadAt What
 load_from_table ms = parsed_or_default load_from_text Physical (text_at_key (codes "load") ms)
 

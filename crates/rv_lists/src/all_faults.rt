@@ -72,7 +72,8 @@ fn faults_of_elements(alloc: Global, elements: &[Value]) -> Result<Vec<JobError>
     Ok(faults)
 }
 
-/// Adds the job of an element to the earlier jobs. If the element is bad, reserves its name and adds its error to `faults`.
+/// Adds the job of an element to the earlier jobs, and returns them. If the element is bad, reserves its name and adds its error to
+/// `faults`.
 fn add_element_or_fault(
     alloc: Global,
     earlier: EarlierJobs,
