@@ -1,5 +1,5 @@
-//! The header of a unit's line number program (DWARF 5, section 6.2.4). A function that reads also returns the bytes after what it has
-//! read, or the error `HeaderCutOff` if the bytes end too early.
+//! The header of a unit's line number program (DWARF 5, section 6.2.4). A function named `.._at` also returns the bytes after what it has
+//! read. The error is `HeaderCutOff` if the bytes end too early.
 ghost use Rattle.std.specs.Prelude.{◌≡◌, ◌<◌, IfOk};
 ghost use Rattle.rv_lines.specs.Reading.{Gives};
 ghost use Rattle.rv_lines.specs.Header.{are_standard, sign_extended, operations_check, lengths_at, parameters_at, entries_of_version};
