@@ -83,7 +83,7 @@ fn forget_all(found: &mut [Option<SourceLine>])
     }
 }
 
-// Replaces results with line 0 by `None`.
+// Replaces results with line 0, which means that the line is not known, by `None`.
 fn show_lines(found: &mut [Option<SourceLine>])
     ensures { found.new ≡ map drop_line_0 found.old }
 {
