@@ -300,11 +300,11 @@ with_line_at_stage stage.Signature line state = after_signature_line line state
 with_line_at_stage stage.Words line state = after_word_or_verdict_line line state
 with_line_at_stage stage.Done line state = state
 
--- the state after one more line
+-- the state of reading a report after one more line
 unfoldable pub with_line : List ℕ → ReaderStateView → ReaderStateView
 with_line line state = with_line_at_stage state.stage line state
 
--- the state after these lines
+-- the state of reading a report after these lines
 unfoldable pub with_lines : List (List ℕ) → ReaderStateView → ReaderStateView
 with_lines [] state = state
 with_lines (line ∷ lines) state = with_lines lines (with_line line state)

@@ -96,7 +96,7 @@ fn initial_state(alloc: Global) -> Result<ReaderState, AllocError>
     })
 }
 
-// Reads the next line.
+// Reads the next line of a text. The stage says what the line should have; after a line that cannot come next, all lines are ignored.
 #[tactic(auto, unfolding(crate::specs::LenientReport::with_line))]
 fn read_line(alloc: Global, state: &mut ReaderState, line: &[u8]) -> Result<(), AllocError>
     ensures { OnOk result (reader_state_view state.new ≡ with_line line.now (reader_state_view state.old)) }
