@@ -18,7 +18,7 @@ use Rattle.rv_report.specs.declared.row.Verdict.{Verdict}
 use Rattle.rv_report.specs.declared.row.Verdict.TheVariants as verdict
 use Rattle.rv_report.specs.Report.{word_line}
 
--- whether a job has expectations
+-- whether a job has at least one expectation: an exit code, an end, a console, a signature or `same_as`
 abbrev pub has_expectations : Job → Bool
 has_expectations job =
     is_some job.expect_exit || (is_some job.expect_end || (is_some job.expect_console

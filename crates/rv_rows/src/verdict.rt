@@ -47,7 +47,7 @@ pub(crate) fn verdict_of(
     Verdict::Pass
 }
 
-/// Whether a job has expectations.
+/// Whether a job has at least one expectation: an exit code, an end, a console, a signature or `same_as`.
 pub fn has_expectations(job: &Job) -> bool
     ensures { result ≡ has_expectations job.now }
 {
