@@ -53,8 +53,8 @@ pub fn read_at_most<R: Read>(
     Ok(bytes)
 }
 
-// Reads once, appends the bytes that were read, of which there are at most as many as `bytes` has room for up to `max_len`, and returns how
-// many were read. A separate buffer receives them, so that a failed allocation is not taken for a failed read.
+// Reads once, at most as many bytes as `bytes` lacks to have `max_len`, appends them, and returns how many they are. A separate buffer
+// receives them, so that a failed allocation is not taken for a failed read.
 fn read_once<R: Read>(
     input: &mut R,
     buffer: &mut [u8; BUFFER_SIZE],
