@@ -223,7 +223,7 @@ fn begins_with_name(bytes: &[u8], text: &[u8]) -> bool
     }
 }
 
-// Returns the section header at an index of the table.
+// Returns the section whose header is at an index of the table.
 fn section_of_index(file: &[u8], index: u16) -> Section
     requires table { HasTable file.now }
     requires within { index < e_shnum file.now }
