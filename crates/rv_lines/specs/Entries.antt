@@ -1,5 +1,5 @@
--- The directories and files of a unit's header: lists of strings and numbers in DWARF 2 to 4 (DWARF 4, section 6.2.4), entries of described fields
--- in DWARF 5 (section 6.2.4.1, forms in 7.5.6).
+-- The directories and files of a unit's header: lists of strings and numbers in DWARF 2 to 4 (DWARF 4, section 6.2.4), entries of described
+-- fields in DWARF 5 (section 6.2.4.1, forms in 7.5.6).
 use Rattle.std.specs.Prelude.{◌==◌, ◌||◌, ◌&&◌, ℕ, zero, suc, Bool, not, true, false, List, [], ◌∷◌, length, drop, nat_lt, Option, Some, None, Result, Ok, Err, if◌then◌else◌}
 use Rattle.std.specs.List.{list_any}
 use Rattle.rv_elf.specs.Sections.{text_before_zero}
