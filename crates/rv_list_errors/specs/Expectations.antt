@@ -87,8 +87,8 @@ abbrev pub reference_explanation_of : Members → Option (List ℕ) × List ℕ
 reference_explanation_of ms = reference_explanation (is_some (get_member (codes "signature") ms))
     (text_at_key (codes "expect_signature") ms) (console_explanation_of ms)
 
--- `explanation`, the key whose value is shown and the words, explains the first bad expectation of the job: `expect_exit`, if the job has this
--- key, or another expectation
+-- `explanation`, the key whose value is shown and the words, explains the first bad expectation of the job: `expect_exit`, if the job has
+-- this key, or another expectation
 abbrev pub IsExpectationExplanation : Members → Option (List ℕ) × List ℕ → Type 0
 IsExpectationExplanation ms explanation =
     ((is_some (get_member (codes "expect_exit") ms) ≡ true) × (explanation ≡ exit_explanation (number_at_key (codes "expect_exit") ms)))

@@ -107,8 +107,8 @@ abbrev pub ExplainsOverlap : List Region → List ℕ → Type 0
 ExplainsOverlap regions message = (index later address : ℕ) × IsFirstOverlap regions index later address
     × (message ≡ overlap_text index later address)
 
--- `message` explains why regions do not form a map: it begins with a region's number or the number of regions, or says what their sizes add up
--- to
+-- `message` explains why regions do not form a map: it begins with a region's number or the number of regions, or says what their sizes add
+-- up to
 abbrev pub ExplainsRegions : List ℕ → Type 0
 ExplainsRegions message = BeginsWith (codes "region") message ⊎ BeginsWith (codes "the sizes of the regions add up to ") message
 
