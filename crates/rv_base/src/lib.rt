@@ -1,5 +1,5 @@
-//! The basics that need no instruction, image or job: values that contracts see as lists, the limits of job lists and files, and the
-//! sources and destinations of bytes.
+//! The foundations of the other crates: types that contracts see as lists, the limits of job lists and files, and the sources and
+//! destinations of bytes.
 //!
 //! Contracts see a [`Sequence`] (a vector) and a [`Text`] (a string) as lists. A [`Store`] reads files by path; a [`Sink`] accepts bytes.
 //! Both count their failures, so that a caller's contract can say where an error came from. [`limits`] holds the numbers that the job list

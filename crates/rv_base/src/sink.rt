@@ -17,7 +17,7 @@ pub trait Sink {
     // The number of failures, saturating at `u64::MAX`.
     ghost failure_count: { Self → ℕ };
 
-    /// Accepts one or more bytes from the front of `bytes` and returns how many, or fails and accepts none.
+    /// Accepts a nonempty prefix of `bytes` and returns its length, or fails and accepts nothing. `bytes` must not be empty.
     fn put(&mut self, bytes: &[u8]) -> Result<usize, SinkFailed>
         requires { 0 < length bytes.now }
         ensures within { IfOk result (λ count. (1 ≤ count) × (count ≤ length bytes.now)) }

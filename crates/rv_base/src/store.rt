@@ -26,7 +26,7 @@ pub trait Store {
     // The number of unreadable files so far, saturating at `u64::MAX`.
     ghost fault_count: { Self → ℕ };
 
-    /// Returns the bytes of the file at a path, of which there are at most 16,777,216.
+    /// Reads the file at a path. A file of more than 16,777,216 bytes is the error `TooLong`.
     fn read(&mut self, alloc: Global, path: &str) -> Result<Vec<u8>, ReadError>
         ensures same { contents self.new ≡ contents self.old }
         ensures within { IfOk result (λ bytes. length bytes.items ≤ max_file_size) }

@@ -6,7 +6,7 @@ use crate::sequence::Sequence;
 use std::alloc::{AllocError, Global};
 use std::marker::Model;
 
-/// A name or a path, seen by contracts as the list of its bytes.
+/// A string, such as a name or a path, seen by contracts as the list of its bytes.
 #[derive(Debug, Drop)]
 pub struct Text {
     text: String,
@@ -21,7 +21,7 @@ impl Model for Text {
 }
 
 impl Text {
-    /// Returns the text of a string. Does not allocate.
+    /// Wraps a string. Does not allocate.
     pub fn new(text: String) -> Text
         ensures { result ≡ string_bytes text }
     {

@@ -5,7 +5,7 @@ use Rattle.rv_claims.specs.declared.view.Entry.{Entry}
 use Rattle.rv_claims.specs.Draws.{numbers}
 use Rattle.rv_claims.specs.Passes.{PassView}
 
--- the pass `q` is the pass `p` after it made no, one or more further draws
+-- the pass `q` is the pass `p` after some number of further draws, possibly none
 abbrev pub HasDrawnMore : PassView → PassView → Type 0
 HasDrawnMore p q = (q.draw ≡ p.draw) × (q.pass_indices ≡ p.pass_indices)
     × ((more : List Entry) × (q.draws ≡ p.draws ++ more))

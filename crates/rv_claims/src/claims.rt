@@ -19,7 +19,7 @@ use std::marker::Model;
 /// A shared counter from which workers draw the numbers of chunks, counted from 0. Up to 64 passes draw from it concurrently, each by one
 /// atomic addition, and no number is drawn twice.
 ///
-/// Contracts see its identity and its number of chunks. A pass belongs to the counter that its value names.
+/// Contracts see its identity and its number of chunks, and for each pass the counter that the pass belongs to.
 #[derive(Drop)]
 pub struct Claims {
     // Word 0 counts the draws; word p + 1 is 1 if pass index p was assigned.

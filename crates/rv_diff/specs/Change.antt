@@ -14,13 +14,13 @@ use Rattle.rv_diff.specs.declared.change.Change.TheVariants.{Gone, Added, Change
 
 -- ---- which rows differ
 
--- whether two endings are of one kind: two equal exit codes, two faults of one kind, two used budgets, or two equal refusals
+-- whether two endings are of one kind: two equal exit codes, two faults of one kind, two used-up budgets, or two equal refusals
 abbrev pub are_same_end_kinds : RowEnd → RowEnd → Bool
 are_same_end_kinds (ending.Refused refusal) (ending.Refused other) =
     bytes_eq (refusal_name refusal) (refusal_name other)
 are_same_end_kinds old new = endings_match old new
 
--- whether two faults have equal addresses and equal values; true if one of the endings is not a fault
+-- whether two faults have equal addresses and equal values; true unless both endings are faults
 abbrev pub agree_in_fault_pc_and_value : RowEnd → RowEnd → Bool
 agree_in_fault_pc_and_value (ending.Fault kind pc value) (ending.Fault other other_pc other_value) = pc == other_pc && value == other_value
 agree_in_fault_pc_and_value old new = true

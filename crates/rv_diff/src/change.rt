@@ -24,9 +24,10 @@ pub enum Change {
 pub enum CompareMode {
     /// How they ended, and their consoles, signatures and verdicts.
     Outcomes,
-    /// Also the steps, and the addresses and values of faults.
+    /// How they ended, including the addresses and values of faults, and their steps, consoles, signatures and verdicts.
     Steps,
-    /// Also whether a job takes more steps than before, by more than this percentage.
+    /// How they ended, and their consoles, signatures and verdicts; and whether the job takes more steps than before, by more than this
+    /// percentage.
     Slower(u32),
 }
 
@@ -55,7 +56,7 @@ fn rows_agree(mode: CompareMode, old_row: &Row, new_row: &Row) -> bool
         && are_same_verdicts(old_row.verdict, new_row.verdict)
 }
 
-/// Whether two endings are equal, as far as `mode` compares them: two equal exit codes, two faults of one kind, two used budgets, or two
+/// Whether two endings are equal, as far as `mode` compares them: two equal exit codes, two faults of one kind, two used-up budgets, or two
 /// equal refusals. The addresses and values of faults are compared only if steps are.
 pub fn are_same_endings(mode: CompareMode, old: RowEnd, new: RowEnd) -> bool
     ensures { result ≡ are_same_endings mode old new }
@@ -66,7 +67,7 @@ pub fn are_same_endings(mode: CompareMode, old: RowEnd, new: RowEnd) -> bool
     }
 }
 
-// Whether two endings are of one kind: two equal exit codes, two faults of one kind, two used budgets, or two equal refusals.
+// Whether two endings are of one kind: two equal exit codes, two faults of one kind, two used-up budgets, or two equal refusals.
 fn are_same_end_kinds(old: RowEnd, new: RowEnd) -> bool
     ensures { result ≡ are_same_end_kinds old new }
 {
@@ -76,7 +77,7 @@ fn are_same_end_kinds(old: RowEnd, new: RowEnd) -> bool
     }
 }
 
-// Whether two faults have equal addresses and equal values; true if one of the endings is not a fault.
+// Whether two faults have equal addresses and equal values; true unless both endings are faults.
 fn agree_in_fault_pc_and_value(old: RowEnd, new: RowEnd) -> bool
     ensures { result ≡ agree_in_fault_pc_and_value old new }
 {

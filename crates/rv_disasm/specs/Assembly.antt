@@ -29,7 +29,8 @@ form_text form f = form.mnemonic ++ operands_text form.operands f
 abbrev pub fetched_instr : Instr → ℕ → ℕ → Fetched
 fetched_instr i code pc = record { instr = i; code = code; pc = pc }
 
--- the text of a word: of the instruction that it decodes to, or, if there is none, the description of an instruction that is not simulated
+-- the assembly text of a word fetched at an address, given the instruction that it decodes to; if there is none, its description as an
+-- encoding that is not simulated
 abbrev pub decoded_word_text : Option Instr → ℕ → ℕ → List ℕ
 decoded_word_text None word pc = unsimulated_text (unsimulated32 word)
 decoded_word_text (Some i) word pc = form_text (form32 i.op) (fetched_instr i word pc)
@@ -38,8 +39,8 @@ decoded_word_text (Some i) word pc = form_text (form32 i.op) (fetched_instr i wo
 unfoldable pub assembly32 : ℕ → ℕ → List ℕ
 assembly32 word pc = decoded_word_text (meaning32 set.Imc word) word pc
 
--- the text of a halfword in this form with the operands of this instruction, or, if one is missing, the description of an instruction that
--- is not simulated
+-- the assembly text of a halfword fetched at an address, given its form and the instruction that it decodes to; if either is missing, its
+-- description as an encoding that is not simulated
 abbrev pub decoded_half_text : Option Form → Option Instr → ℕ → ℕ → List ℕ
 decoded_half_text None i half pc = unsimulated_text (unsimulated16 half)
 decoded_half_text (Some form) None half pc = unsimulated_text (unsimulated16 half)

@@ -222,7 +222,7 @@ rows32 =
     (cache_block_zeroing ++
     privileged)))))))))))
 
--- the first row that a word matches, or `None` if it matches none
+-- the row of a word in the listings of instructions that are not simulated: the first row that it matches, or `None` if it matches none
 unfoldable pub unsimulated32 : ℕ → Option Row
 unsimulated32 word = find (is_row_of word) rows32
 
@@ -242,6 +242,6 @@ rows16 =
     row 0xe003 0xe002 (codes "c.fswsp") (codes "F") ∷
     []
 
--- the first row that a halfword matches, or `None` if it matches none
+-- the row of a halfword in the listings of instructions that are not simulated: the first row that it matches, or `None` if it matches none
 unfoldable pub unsimulated16 : ℕ → Option Row
 unsimulated16 half = find (is_row_of half) rows16

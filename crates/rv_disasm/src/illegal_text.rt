@@ -11,8 +11,8 @@ use crate::unsimulated::{Row, unsimulated16, unsimulated32};
 use rv_isa::{Isa, decode32};
 use std::alloc::AllocError;
 
-/// Appends the description of a 32-bit word that is not an instruction of a job's set: its mnemonic and its extension, as in `mul (M: not
-/// in this job's "isa")` or `csrrw (Zicsr: not simulated)`, or `not an instruction` if no known listing has it.
+/// Appends the description of a 32-bit word that is not in a job's instruction set: its mnemonic and its extension, as in `mul (M: not in
+/// this job's "isa")` or `csrrw (Zicsr: not simulated)`, or `not an instruction` if no known listing has it.
 #[tactic(auto, unfolding(crate::specs::Illegal::illegal_text32))]
 pub fn push_illegal32(bytes: &mut Vec<u8>, word: u32) -> Result<(), AllocError>
     ensures { OnOk result (bytes.new.items ≡ bytes.old.items ++ illegal_text32 word) }
@@ -23,7 +23,7 @@ pub fn push_illegal32(bytes: &mut Vec<u8>, word: u32) -> Result<(), AllocError>
     }
 }
 
-/// Appends the description of a halfword that is not an instruction of a job's set, as in `c.li (C: not in this job's "isa")` or `c.flw (F:
+/// Appends the description of a halfword that is not in a job's instruction set, as in `c.li (C: not in this job's "isa")` or `c.flw (F:
 /// not simulated)`, or `not an instruction` if no known listing has it.
 #[tactic(auto, unfolding(crate::specs::Illegal::illegal_text16))]
 pub fn push_illegal16(bytes: &mut Vec<u8>, half: u16) -> Result<(), AllocError>
@@ -36,8 +36,8 @@ pub fn push_illegal16(bytes: &mut Vec<u8>, half: u16) -> Result<(), AllocError>
     }
 }
 
-// Appends the description of an instruction that a job's set lacks, `MNEMONIC (EXTENSION: not in this job's "isa")`, given its form and its
-// extension.
+// Appends `MNEMONIC (EXTENSION: not in this job's "isa")`: the description of an instruction that a job's instruction set lacks, given its
+// form and its extension.
 fn push_missing_extension(
     bytes: &mut Vec<u8>,
     form: Form,
@@ -50,8 +50,8 @@ fn push_missing_extension(
     push_name_and_reason(bytes, mnemonic, extension, "not in this job's \"isa\"")
 }
 
-/// Appends the description of an encoding that is not an instruction of RV32IMC: `MNEMONIC (EXTENSION: not simulated)`, or `not an
-/// instruction` if it has no row.
+/// Appends the description of an encoding that is not an instruction of RV32IMC, given its row in the listings of instructions that are not
+/// simulated: `MNEMONIC (EXTENSION: not simulated)`, or `not an instruction` if it has no row.
 pub(crate) fn push_unsimulated(bytes: &mut Vec<u8>, row: Option<Row>) -> Result<(), AllocError>
     ensures { OnOk result (bytes.new.items
         ≡ bytes.old.items ++ unsimulated_text (option_map row_view row)) }

@@ -5,7 +5,7 @@
 //! decimal except those of LUI and AUIPC, which are shown as their upper 20 bits in hexadecimal, and targets are addresses. There are no
 //! pseudoinstructions: `addi zero, zero, 0` is not written as `nop`. An encoding without a row is described by its mnemonic and extension,
 //! as in `mret (privileged: not simulated)`, or as `not an instruction`. [`push_illegal32`] and [`push_illegal16`] describe an encoding
-//! that is not an instruction of a job's set.
+//! that is not in a job's instruction set.
 #![tactic(auto)]
 
 mod assembly_text;

@@ -20,7 +20,7 @@ is_named_code strings s = may_be_code s && (has_section s && has_usable_name str
 abbrev pub rank : ℕ → Symbol → ℕ
 rank index s = 0x1000_0000 * (3 * s.value + precedence s) + (0x1000_0000 - 1 - index)
 
--- the symbol `s` at an index of the table in the form in which it is stored: its rank, its value, and the offset of its name
+-- the entry for the symbol `s` at an index of the table: its rank, its value, and the offset of its name
 abbrev pub code_symbol : ℕ → Symbol → CodeSymbol
 code_symbol index s = record { rank = rank index s; value = s.value; name = s.name }
 
@@ -32,14 +32,14 @@ symbol_count table = length table / 16
 abbrev pub symbol_at_index : List ℕ → ℕ → Symbol
 symbol_at_index table k = symbol_at_offset table (16 * k)
 
--- `s` is the stored form of one of the first `n` symbols of the table, and this symbol may name code
+-- `s` is the entry for one of the first `n` symbols of the table, and this symbol may name code
 pub record IsCodeSymbol (table strings : List ℕ) (n : ℕ) (s : CodeSymbol) : Type 0 where
   pub index : ℕ
   pub within : index < n
   pub code : is_named_code strings (symbol_at_index table index) ≡ true
   pub is : s ≡ code_symbol index (symbol_at_index table index)
 
--- `symbols` has the stored form of each of the first `n` symbols of the table that may name code, and nothing else, in any order
+-- `symbols` has an entry for each of the first `n` symbols of the table that may name code, and nothing else, in any order
 pub record AreCodeSymbols (table strings : List ℕ) (n : ℕ) (symbols : List CodeSymbol) : Type 0 where
   pub sound : All (IsCodeSymbol table strings n) symbols
   pub complete : (k : ℕ) → k < n → is_named_code strings (symbol_at_index table k) ≡ true
@@ -60,8 +60,8 @@ abbrev pub named_in_segment : List Segment → List ℕ → ℕ → CodeSymbol �
 named_in_segment segments strings addr s =
     if are_in_one_segment segments s.value addr then name_and_offset_of strings addr s else None
 
--- in this list of symbols, sorted by value, an address belongs to the last symbol whose value is not above it, if one segment has both, and
--- otherwise to none
+-- a lookup of an address in this list, which is sorted by value, agrees with `symbol_at`: the address belongs to the last symbol whose
+-- value is not above it, if one segment has both, and otherwise to no symbol
 abbrev pub AgreeWithSymbolAt : Image → List ℕ → List ℕ → List CodeSymbol → Type 0
 AgreeWithSymbolAt image file strings symbols = (addr above : ℕ) (d : CodeSymbol) → above ≤ length symbols
     → IsPartitionPoint (λ s. nat_le s.value addr ≡ true) (λ s. nat_le s.value addr ≡ false) symbols above

@@ -1,4 +1,4 @@
--- The checks of each step of reading an image: its part of the errors in `image_error_rows`.
+-- The checks in each step of reading an image: each step covers a part of `image_error_rows`.
 use Rattle.std.specs.Prelude.{ℕ, List, drop, take, Result, Ok}
 use Rattle.rv_isa.specs.declared.isa.Isa.{Isa}
 use Rattle.rv_isa.specs.declared.isa.Isa.TheVariants.{Imc}

@@ -10,7 +10,7 @@ use crate::symbol_search::{SymbolAt, are_in_one_segment, names_end, text_before_
 use crate::symbols::{SYMBOL_SIZE, Symbol, bytes_from, symbol_and_string_bytes, symbol_at_offset};
 use std::alloc::{AllocError, Global};
 
-// A symbol that may name code, in its stored form.
+// What a lookup by address needs of a symbol that may name code.
 #[derive(Clone, Copy)]
 struct CodeSymbol {
     // Greater for symbols that [`symbol_at`](crate::symbol_at) prefers.
@@ -109,7 +109,7 @@ impl<'a> CodeSymbols<'a> {
     }
 }
 
-// Returns the symbols of a table that may name code, sorted by rank.
+// Returns the symbols of a table that may name code, in order of ascending rank.
 fn sorted_symbols(
     alloc: Global,
     table: &[u8],
@@ -149,7 +149,7 @@ impl Symbol {
         self.may_be_code() && self.has_section() && self.has_usable_name(strings, end)
     }
 
-    // Returns the symbol at this index of its table, in the form in which it is stored: its rank, its value, and the offset of its name.
+    // Returns the entry for the symbol at this index of its table: its rank, its value, and the offset of its name.
     fn code_symbol(&self, index: usize) -> CodeSymbol
         requires { index < 0x1000_0000 }
         ensures { result ≡ code_symbol index self.now }

@@ -23,7 +23,8 @@ pub enum ImageError {
     NotExecutable,
     /// `e_machine` is not EM_RISCV, 243.
     NotRiscv,
-    /// There are more than 64 program headers; or there is one, and `e_phentsize` is not 32 or the table extends past the end of the file.
+    /// There are more than 64 program headers; or there is at least one, and `e_phentsize` is not 32 or the table extends past the end of
+    /// the file.
     ProgramTable,
     /// A program header is PT_DYNAMIC or PT_INTERP.
     Dynamic,
@@ -50,10 +51,10 @@ pub enum ImageError {
     /// The symbol table's link is not the index of a section, or is the index of one that is not SHT_STRTAB or extends past the end of the
     /// file.
     StringTable,
-    /// No defined symbol has the name; for a signature, the name of its begin.
+    /// No defined symbol has the name; for a signature, the name of its begin symbol.
     NoBegin,
-    /// No defined symbol has the name of a signature's end. This crate never returns it: a caller that looks up both symbols reports it for
-    /// the second.
+    /// No defined symbol has the name of a signature's end symbol. This crate never returns this error: a caller that looks up both symbols
+    /// reports it for the end symbol.
     NoEnd,
     /// A signature's begin is above its end, one of them is not a multiple of 4, or its bytes are not in one region or make up more than
     /// 65,536 words.

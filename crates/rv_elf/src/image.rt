@@ -14,7 +14,7 @@ use rv_base::Sequence;
 use rv_isa::Isa;
 use std::alloc::Global;
 
-/// A loaded part of the file (System V ABI, "Program Header", PT_LOAD).
+/// A segment that is loaded into memory (System V ABI, "Program Header", PT_LOAD).
 #[derive(Clone, Copy, Debug, PartialEq, Eq)]
 pub struct Segment {
     /// The offset of its bytes in the file.
@@ -43,7 +43,7 @@ impl Segment {
 /// Segments in the order of the file's program header table.
 pub type Segments = Sequence<Segment>;
 
-/// What an executable file loads.
+/// An executable file: its entry and the segments that it loads.
 #[derive(Debug, Drop)]
 pub struct Image {
     /// The address of the first instruction: even in every image that is read, and a multiple of 4 if the set has no 16-bit instructions.
@@ -52,13 +52,13 @@ pub struct Image {
     pub segments: Segments,
 }
 
-/// Reads a file's bytes as an executable for a hart with this instruction set, or returns why they are not one.
+/// Reads a file's bytes as an executable for a hart with this instruction set, or returns the first error that applies.
 pub fn read_image(alloc: Global, file: &[u8], isa: Isa) -> Result<Image, ImageError>
     ensures value { MatchResult result (λ image. image_of isa file.now ≡ Ok image)
         (λ e. e ≢ OutOfMemory → image_of isa file.now ≡ Err e) }
     ensures image { IfOk result (IsImageOf file.now) }
 
-    // An instruction may start there.
+    // An instruction may begin at the entry.
     ensures even { IfOk result (λ image. image.entry % 2 ≡ 0) }
     ensures aligned { IfOk result (λ image. has_extension isa RV32C ≡ false → image.entry % 4 ≡ 0) }
 {

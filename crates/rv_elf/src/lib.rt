@@ -1,12 +1,12 @@
-//! ELF32 executables for RISC-V: which bytes are one, and what memory holds once it is loaded.
+//! ELF32 executables for RISC-V: which files are executables, and what memory holds once one is loaded.
 //!
 //! [`read_image`] reads a file's bytes as an [`Image`], its entry and its loadable segments, or returns the first error that applies
 //! ([`ImageError`]). [`check_map`] checks that an image fits the regions of a map, [`unfit_segment`] returns the first segment that does
 //! not, and [`load`] writes the bytes of an image to a new bus. [`find_symbol`] returns the value of a symbol, [`symbol_at`] the symbol
-//! that a code address belongs to, and [`symbol_of_value`] the symbol whose address a value is or into which it points. [`CodeSymbols`]
-//! finds the same symbols as [`symbol_at`], without scanning the symbol table for each address. Each result is exactly as defined in
-//! `specs/`, which reads the fields at the offsets of the System V ABI and keeps no state between checks. Only [`read_image`],
-//! [`functions`] and [`CodeSymbols::new`] allocate.
+//! that a code address belongs to, and [`symbol_of_value`] the symbol that a value points at or into. [`CodeSymbols`] finds the same
+//! symbols as [`symbol_at`], without scanning the symbol table for each address. Each result is exactly as defined in `specs/`, which reads
+//! the fields at the offsets of the System V ABI and keeps no state between checks. Only [`read_image`], [`functions`] and
+//! [`CodeSymbols::new`] allocate.
 #![tactic(auto)]
 
 mod code_symbols;

@@ -230,8 +230,8 @@ impl Symbol {
         SHN_UNDEF < self.section && self.section < SHN_LORESERVE
     }
 
-    // Whether the symbol has a name that is not empty and begins with neither `.` nor `$`. `end` is where the names of the string table
-    // end.
+    // Whether the symbol has a name that is not empty and begins with neither `.` nor `$`. `end` is the result of [`names_end`] for
+    // `strings`.
     pub(crate) fn has_usable_name(&self, strings: &[u8], end: usize) -> bool
         requires { IsNamesEnd strings.now end }
         ensures { result ≡ has_usable_name strings.now self.now }

@@ -35,9 +35,9 @@ pub(crate) const SHN_UNDEF: u16 = 0;
 /// The maximum size of a signature in bytes, 65,536 words.
 const MAX_SIGNATURE_SIZE: u32 = 0x4_0000;
 
-/// Returns the value of the first defined symbol of this name in the file's first symbol table, or the first error of the file's sections
-/// that applies: [`ImageError::SectionTable`], [`ImageError::NoSymbols`], [`ImageError::SymbolTable`], [`ImageError::StringTable`], or, for
-/// any name that no defined symbol has, [`ImageError::NoBegin`].
+/// Returns the value of the first defined symbol with this name in the file's first symbol table, or the first error that applies:
+/// [`ImageError::SectionTable`], [`ImageError::NoSymbols`], [`ImageError::SymbolTable`] or [`ImageError::StringTable`] for the file's
+/// sections, or [`ImageError::NoBegin`] if no defined symbol has the name, even if it is looked up as the end of a signature.
 pub fn find_symbol(image: &Image, file: &[u8], name: &[u8]) -> Result<u32, ImageError>
     requires image { IsImageOf file.now image.now }
     requires not_empty { 0 < length name.now }

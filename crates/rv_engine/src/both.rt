@@ -19,14 +19,14 @@ impl<H, A: Observer<H> + Drop, B: Listener<H> + Drop> Listener<H> for Both<A, B>
 
     ghost stops = { λ s. A.stops s.first ⊎ B.stops s.second };
 
-    // Delivers the result to both listeners. Returns `Stop` if one of them does.
+    // Shows the result to the observer, and then delivers it to the listener. Returns `Stop` if one of them does.
     fn receive(&mut self, output: H) -> Flow {
         let first = self.first.see(&output);
         let second = self.second.receive(output);
         either_stop(first, second)
     }
 
-    // Lets both listeners pause. Returns `Stop` if one of them does.
+    // Lets the observer and the listener pause. Returns `Stop` if one of them does.
     fn pause(&mut self) -> Flow {
         let first = self.first.pause();
         let second = self.second.pause();

@@ -7,7 +7,7 @@ use crate::listener::{Flow, Listener};
 use std::alloc::{AllocError, Global};
 use std::marker::{Brand, Model, PhantomData};
 
-/// Specifies a run: which results its jobs can have, the number of jobs, and the chunk size. Each run chooses its own.
+/// Specifies a run: which results its jobs can have, the number of jobs, and the chunk size. The caller of each run chooses them.
 pub trait RunSpec<H> {
     ghost use Rattle.std.specs.Prelude.{ℕ};
 

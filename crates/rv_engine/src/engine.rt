@@ -81,8 +81,7 @@ pub fn run_jobs<
 }
 
 // Delivers to the listener the results that no worker delivered, and returns the listener and the outcome of the run. After a run that ends
-// normally there are no such results: the workers draw every chunk. But no contract of the threads says so, and with this function the
-// contract of `run_jobs` does not depend on it.
+// normally there are no such results; they are computed here so that the contract need not depend on the threads.
 fn deliver_remaining<J: RunSpec<H>, H: Drop, R, W: Work<H>, L: Listener<H>>(
     crew: &Crew<'_, R>,
     work: &W,
@@ -103,7 +102,7 @@ fn deliver_remaining<J: RunSpec<H>, H: Drop, R, W: Work<H>, L: Listener<H>>(
     } = remaining;
     match ended {
         Some(End::Stopped) => (listener, Ok(Flow::Stop)),
-        // Out of memory: a worker gives up for that, and a refused thread has been returned already.
+        // Out of memory: a worker fails for no other reason, and a thread that could not be started was reported before.
         Some(End::Failed) => (listener, Err(RunError::OutOfMemory)),
         None => {
             let flow = deliver_from::<J, H, R, W, L>(crew, work, &mut listener, pending, next);
@@ -113,7 +112,7 @@ fn deliver_remaining<J: RunSpec<H>, H: Drop, R, W: Work<H>, L: Listener<H>>(
 }
 
 // Delivers to the listener the results of the chunk with the number `next` and of all later chunks. Results that are not pending are
-// computed here. Returns whether to continue.
+// computed here. Returns whether to continue, or an error if memory runs out.
 fn deliver_from<J: RunSpec<H>, H: Drop, R, W: Work<H>, L: Listener<H>>(
     crew: &Crew<'_, R>,
     work: &W,

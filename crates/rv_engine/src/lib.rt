@@ -24,5 +24,5 @@ pub use listener::{Flow, Listener, Observer};
 pub use work::Work;
 pub use worker_state::WorkerState;
 
-// From the crates below: what this interface names, and what its callers need with it.
+// Re-exports from lower crates: the types in this interface, and what its callers need with them.
 pub use rv_claims::{Claims, Pass, SplitError};

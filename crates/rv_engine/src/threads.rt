@@ -12,7 +12,7 @@ use std::sync::Wait;
 use std::thread;
 use std::thread::Threads;
 
-/// The work of each thread.
+/// What each thread of a run does.
 pub(crate) trait Worker: Sync {
     ghost use Rattle.std.specs.Prelude.{◌≡◌};
     ghost use Rattle.rv_claims.specs.Passes.{CounterView};
@@ -29,7 +29,8 @@ pub(crate) trait Worker: Sync {
     fn abort(&self);
 }
 
-/// Runs as many threads as the crew has, or one per chunk if there are fewer chunks. Returns once all of them have ended.
+/// Runs as many threads as the crew has, or one per chunk if there are fewer chunks. Returns once all of them have ended, with an error if
+/// a thread could not be started or memory ran out.
 pub(crate) fn run_workers<R: Threads + Wait, S: Worker>(
     crew: &Crew<'_, R>,
     worker: &S,
@@ -57,12 +58,12 @@ pub(crate) fn run_workers<R: Threads + Wait, S: Worker>(
                 ) else {
                     // The others need not continue.
                     worker.abort();
-                    // No worker: `spawn` fails where the start of a thread was refused.
+                    // No worker: `spawn` fails only if the thread could not be started.
                     return Err(RunError::NoWorker);
                 };
                 let Ok(()) = handles.push(handle) else {
                     worker.abort();
-                    // Out of memory: `push` fails by that alone.
+                    // Out of memory: `push` fails for no other reason.
                     return Err(RunError::OutOfMemory);
                 };
             }

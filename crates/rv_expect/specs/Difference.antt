@@ -77,7 +77,8 @@ difference_of_runs row other =
     if endings_match row.ending other.ending then difference_of_outputs row other
     else Some same.Ending
 
--- the first difference between a row and the row `other` of the job that `same_as` names, or `None` if they agree or there is no `same_as`
+-- the first difference between a row and the row `other` of the job that `same_as` names, `Missing` if there is no such row, or `None` if
+-- the rows agree or there is no `same_as`
 abbrev pub same_as_difference : Option ℕ → Option Row → Row → Option SameAsDifference
 same_as_difference None other row = None
 same_as_difference (Some index) None row = Some same.Missing

@@ -44,7 +44,7 @@ read_reference (a ∷ b ∷ c ∷ d ∷ e ∷ f ∷ g ∷ h ∷ feed ∷ rest) =
     with_reference_line (word_of_line (a ∷ b ∷ c ∷ d ∷ e ∷ f ∷ g ∷ h ∷ feed ∷ [])) (read_reference rest)
 read_reference _ = BadLine 1
 
--- the number has 32 bits
+-- the number fits in 32 bits
 abbrev pub IsWord : ℕ → Type 0
 IsWord word = word < 2 ^ 32
 
@@ -84,8 +84,8 @@ difference_from_reference (Words expected) words =
     option_map word_difference (first_difference words expected)
 difference_from_reference (BadLine line) words = Some (Line line)
 
--- the first difference between a signature and the expected one, or `None` if they are equal or none is expected; the list names the
--- expected file, and `bytes` are its contents, if it was read
+-- the first difference between a signature and the expected one, or `None` if they are equal or none is expected; the first argument is the
+-- path of the file with the expected signature, if one is expected, and `bytes` are its contents, if it was read
 abbrev pub signature_difference :
     Option (List ℕ) → Option (List ℕ) → Option (List ℕ) → Option SignatureDifference
 signature_difference None bytes signature = None

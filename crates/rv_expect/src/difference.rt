@@ -27,7 +27,7 @@ pub enum SignatureDifference {
     Word(usize),
     /// The numbers of words differ; the words that both have are equal.
     Count,
-    /// The reference was not read.
+    /// The file with the expected signature was not read.
     Missing,
 }
 
@@ -100,8 +100,8 @@ pub(crate) fn console_difference(
     }
 }
 
-/// Returns the first difference between a row and the row of the job that `same_as` names, or `None` if they agree or there is no
-/// `same_as`.
+/// Returns the first difference between a row and the row of the job that `same_as` names, `Missing` if there is no such row, or `None` if
+/// the rows agree or there is no `same_as`.
 pub(crate) fn same_as_difference(
     same_as: Option<usize>,
     other: Option<&Row>,

@@ -8,7 +8,7 @@ ghost use Rattle.rv_expect.specs.FailureKinds.{failure_kind_after_budget, failur
 use crate::unmet::UnmetExpectation;
 use rv_rows::{FaultKind, RowEnd};
 
-/// The kind of a failed job: how it ended, without the exit code, address or value; or, if it ended as expected, the first other
+/// The kind of failure of a job: how it ended, without the exit code, address or value; or, if it ended as expected, the first other
 /// expectation that its run does not meet.
 #[derive(Clone, Copy)]
 pub enum FailureKind {
@@ -33,7 +33,7 @@ impl FailureKind {
     pub const COUNT: usize = FaultKind::ALL.len() + 6;
 
     /// Returns the kind at an index below [`COUNT`](FailureKind::COUNT), in the order exit, budget, each kind of fault, refused, console,
-    /// signature, named job.
+    /// signature, `same_as`.
     pub fn from_index(index: usize) -> FailureKind
         ensures { result ≡ failure_kind_at index }
     {

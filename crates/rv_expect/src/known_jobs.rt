@@ -53,7 +53,7 @@ pub enum KnownFaultKind {
     UnknownJob,
 }
 
-/// An error in a line of a text.
+/// An error in a line of a list of known failures.
 #[derive(Debug, Drop)]
 pub struct KnownFault {
     /// The line's number, from 1.

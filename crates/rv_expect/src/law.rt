@@ -22,8 +22,8 @@ pub fn differences_are_first()
         (λ difference. IsDifference difference xs ys) }
 {}
 
-/// Proves that the text of an expected signature is read as words if and only if it consists of their lines, and that otherwise the result
-/// is the first line without a 32-bit word.
+/// Proves that `read_reference` returns words if and only if the text consists of the lines of these words, and that it otherwise returns
+/// the number of the first line that is not the line of a 32-bit word.
 pub fn references_are_lines_of_words()
     ensures read { (text : List ℕ) → IsReferenceOf (read_reference text) text }
     ensures written { (words : List ℕ) → AllByRecursion IsWord words

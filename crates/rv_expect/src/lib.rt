@@ -1,11 +1,11 @@
 //! Explains a row to a person: which expectations of its job the run does not meet, and the first difference for each.
 //!
 //! [`unmet_expectations`] returns them for a [`Comparison`]: the bytes of a job's files, and the row of the job that its `same_as` names,
-//! which [`row_of_same_as_job`] returns. Their order is exit, end, console, signature, `same_as`. Each is reported exactly when it does not
-//! hold by the definitions of the verdict ([`unmet_is_what_does_not_hold`], [`unmet_of_a_plan_is_what_does_not_hold`]), and none exactly
-//! when the job passes ([`nothing_is_unmet_where_a_job_passes`]). A reported difference is the first one ([`differences_are_first`]), and
-//! the text of an expected signature is read as words exactly when it consists of their lines ([`references_are_lines_of_words`]). A job
-//! that [`expects_two_ends`] never passes ([`two_ends_fail`]).
+//! which [`row_of_same_as_job`] returns. Their order is exit, end, console, signature, `same_as`. An expectation is reported if and only if
+//! it does not hold by the definitions of the verdict ([`unmet_is_what_does_not_hold`], [`unmet_of_a_plan_is_what_does_not_hold`]), and
+//! none is reported if and only if the job passes ([`nothing_is_unmet_where_a_job_passes`]). A reported difference is the first one
+//! ([`differences_are_first`]), and the text of an expected signature is read as words if and only if it consists of the lines of these
+//! words ([`references_are_lines_of_words`]). A job that [`expects_two_ends`] never passes ([`two_ends_fail`]).
 //!
 //! [`read_known_jobs`] parses the list of known failures: names of jobs, each with a reason. It returns a [`KnownJob`] for each, or the
 //! first error in the text ([`KnownFault`]). [`KnownJobs`] holds those of a file, and returns why a job is known to fail.
@@ -47,5 +47,5 @@ pub use same_as_job::row_of_same_as_job;
 pub use two_ends::{expects_two_ends, two_ends_fail};
 pub use unmet::{UnmetExpectation, unmet_expectations};
 
-// From the crates below: what this interface names, and what its callers need with it.
+// Re-exports from lower crates: the types in this interface, and what its callers need with them.
 pub use rv_rows::{Job, Row, Shard};

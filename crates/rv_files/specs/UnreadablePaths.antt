@@ -29,7 +29,7 @@ unreadable_path path reason = record {
   reason = reason;
 }
 
--- a record of the path if the system failed to open or read it, or else none
+-- the records that this error adds: one for the path if the system failed to open or read it, and otherwise none
 abbrev pub unreadable_paths_after : List ℕ → ReadWholeError → List UnreadablePath
 unreadable_paths_after path (whole.Failed reason) = unreadable_path path reason ∷ []
 unreadable_paths_after path whole.TooLong = []

@@ -12,7 +12,7 @@ pub enum FileError {
     OutOfMemory,
     /// The system failed to open the file, to sync it to disk or to move it to its path, for this reason.
     Failed(ErrorKind),
-    /// The path denotes a file that was already written.
+    /// Another file that is not yet placed has the same final or temporary path.
     SameFile,
 }
 

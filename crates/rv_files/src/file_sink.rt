@@ -24,7 +24,7 @@ impl<W: Write + Drop> Sink for FileSink<W> {
 
     ghost failure_count = { λ sink. sink.stream.failures };
 
-    // Writes bytes to the file, and returns how many were written, which is at least one.
+    // Writes bytes to the file, and returns how many were written, which is at least one, or fails.
     fn put(&mut self, bytes: &[u8]) -> Result<usize, SinkFailed>
         ensures within { IfOk result (λ count. (1 ≤ count) × (count ≤ length bytes.now)) }
         ensures written { IfOk result (λ count. Appends (W.contents self.old.stream.stream)

@@ -78,7 +78,7 @@ impl<'a, R: Files> FileStore<'a, R> {
         FileStore { files, faults: 0 }
     }
 
-    // Reads the file at a path, and counts it if it is unreadable.
+    // Reads the file at a path, or returns why it cannot be read; counts it if it is unreadable.
     fn read_counting_faults(&mut self, alloc: Global, path: &str) -> Result<Vec<u8>, ReadError>
         ensures opened { IfOk result (λ bytes. (file : R.File)
             × IfSome (R.File.remaining file) (λ remaining. bytes.items ≡ remaining)) }
@@ -120,7 +120,7 @@ impl<'a, R: Files> Store for FileStore<'a, R> {
     }
 }
 
-/// Returns the contents of the file at exactly this path, read by [`read_whole`].
+/// Returns the contents of the file at exactly this path, or an error if it cannot be opened or read or has more than 16,777,216 bytes.
 pub(crate) fn read_file<R: Files>(
     files: &R,
     alloc: Global,

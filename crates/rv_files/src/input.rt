@@ -27,10 +27,11 @@ impl From<AllocError> for InputError {
     }
 }
 
-// The maximum number of bytes requested per read: large, for lists and images of megabytes, since each read is a system call.
+// The maximum number of bytes requested per read. It is large because lists and images can have megabytes, and each read is a system call.
 const BUFFER_SIZE: usize = 16_384;
 
-/// Returns the reader's bytes up to its end, or the first `limit` of them if there are more; the others remain in the reader.
+/// Returns the reader's bytes up to its end, or the first `limit` of them if there are more; the others remain in the reader. Fails if a
+/// read fails or memory runs out.
 pub fn read_at_most<R: Read>(
     alloc: Global,
     input: &mut R,
@@ -52,7 +53,7 @@ pub fn read_at_most<R: Read>(
     Ok(bytes)
 }
 
-// Reads once, appends the bytes that were read, so that there are at most `max_len`, and returns how many were read. A separate buffer
+// Reads once, at most as many bytes as `bytes` lacks to have `max_len`, appends them, and returns how many they are. A separate buffer
 // receives them, so that a failed allocation is not taken for a failed read.
 fn read_once<R: Read>(
     input: &mut R,

@@ -1,4 +1,4 @@
-//! The sources that a command reads: a list, a report, the files of jobs.
+//! The files that a command reads: a list, a report, the files of jobs.
 
 ghost use Rattle.std.specs.Prelude.{◌≡◌, ◌≢◌, ◌≤◌, ◌<◌, ◌+◌, ◌^◌, None, Option, Some, length, take};
 ghost use Rattle.std.specs.Prelude.{IfErr, IfNone, IfOk, IfSome, IsSomeAnd};
@@ -14,7 +14,7 @@ pub trait Inputs {
     // The contents of each path, if known. Reading does not change them.
     ghost contents: { Self → Option FileContents };
 
-    /// Returns the first `limit` bytes of the file at a path, or all of them if there are fewer.
+    /// Returns the first `limit` bytes of the file at a path, or all of them if there are fewer; or an error if the file cannot be read.
     fn read_up_to(&self, alloc: Global, path: &str, limit: usize) -> Result<Vec<u8>, InputError>
         ensures within { IfOk result (λ bytes. length bytes.items ≤ limit) }
         ensures known { IfOk result (λ bytes. IfSome (contents self.now)
@@ -56,7 +56,7 @@ impl<'a, R: Files> Inputs for SystemInputs<'a, R> {
     }
 }
 
-/// Returns all bytes of the file at a path, or `None` if there are more than `limit`.
+/// Returns all bytes of the file at a path, `None` if there are more than `limit`, or an error if the file cannot be read.
 pub fn read_whole_up_to<D: Inputs>(
     inputs: &D,
     alloc: Global,

@@ -1,8 +1,8 @@
 //! The system's files and streams, and files in memory: what a command reads and writes.
 //!
-//! What the outside world holds is not known, so contracts are about any reader and any writer: [`read_at_most`] and [`read_whole`] return
-//! a reader's bytes, and a [`StreamSink`] writes to a writer. The contract of a command that is generic over [`Inputs`] and [`Outputs`]
-//! states what it read and which files it wrote: [`SystemInputs`] and [`SystemOutputs`] are the system's, [`MemoryInputs`] and
+//! Contracts cannot know what is outside the program, so they are about any reader and any writer: [`read_at_most`] and [`read_whole`]
+//! return a reader's bytes, and a [`StreamSink`] writes to a writer. The contract of a command that is generic over [`Inputs`] and
+//! [`Outputs`] states what it read and which files it wrote: [`SystemInputs`] and [`SystemOutputs`] are the system's, [`MemoryInputs`] and
 //! [`MemoryOutputs`] are for tests. A [`FileStore`] opens and reads files; a [`RecordingStore`] reads inputs and also records why a file
 //! was unreadable.
 #![tactic(auto)]
@@ -43,5 +43,5 @@ pub use roots::resolved_path;
 pub use streams::StreamSink;
 pub use system_outputs::SystemOutputs;
 
-// From the crates below: what this interface names, and what its callers need with it.
+// Re-exports from lower crates: the types in this interface, and what its callers need with them.
 pub use rv_base::{Bytes, ReadError, Sink, SinkFailed, Store, Text, is_name, limits, put_all};

@@ -87,7 +87,7 @@ impl Sink for MemorySink {
 impl LastError for MemorySink {
     // Returns `OutOfMemory`: a write to memory fails for no other reason.
     fn last_error(&self) -> ErrorKind {
-        // Out of memory: nothing but a growth is refused here.
+        // Out of memory: only a failed allocation makes a write to memory fail.
         ErrorKind::OutOfMemory
     }
 }
@@ -197,7 +197,7 @@ impl Outputs for MemoryOutputs {
         }
     }
 
-    // Does nothing: a file that was not placed leaves nothing behind.
+    // Does nothing: a file that was not placed leaves no trace.
     fn abandon(&mut self, _place: Text) {}
 }
 

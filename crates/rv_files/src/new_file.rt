@@ -7,8 +7,8 @@ use std::io::{self, ErrorKind};
 use std::os::unix::fs::MetadataExt;
 use std::rt::Files;
 
-/// Creates a locked file at the temporary path, with the mode of the file at the final path. A temporary file that an earlier run left is
-/// replaced; one that another process has locked is an error, and so is a read-only file at the final path.
+/// Creates a locked file at the temporary path, with the mode of the file at the final path, if there is one. A temporary file that an
+/// earlier run left is replaced; one that another process has locked is an error, and so is a read-only file at the final path.
 pub(crate) fn create_new_file<R: Files>(files: &R, paths: &FilePaths) -> io::Result<R::File>
 where
     R::File: FileLock,
@@ -21,7 +21,7 @@ where
     Ok(file)
 }
 
-// Returns the metadata of the file at a path, or `None` if there is none. A read-only file is an error.
+// Returns the metadata of the file at a path, or `None` if the system returns none. A read-only file is an error.
 fn replaceable_file<R: Files>(files: &R, path: &str) -> io::Result<Option<Metadata>> {
     match files.metadata(path) {
         Ok(metadata) if metadata.permissions().readonly() => Err(io::Error::from(

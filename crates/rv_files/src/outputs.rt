@@ -10,7 +10,7 @@ use std::alloc::{AllocError, Global};
 
 /// A destination for files, each of which is written, synced to disk, and then placed at its path.
 pub trait Outputs {
-    /// The destination of a file. Writing to the file does not change it.
+    /// The destination of a file that is not yet placed.
     type Place: Drop;
 
     /// A file that accepts bytes.
@@ -43,7 +43,8 @@ pub trait Outputs {
     fn replaced_files(&self, alloc: Global, path: &str) -> Result<Vec<Text>, FileError>
         ensures { IfOk result (λ replaced. IfSome (committed self.now) (λ _. replaced.items ≡ path.now ∷ [])) };
 
-    /// Creates an empty file that is to be placed at a path, and returns its destination and the file. Any file at the path remains.
+    /// Creates an empty file that is to be placed at a path, and returns its destination and the file. Any file at the path remains. The
+    /// error is `SameFile` if a file that is not yet placed has the same final or temporary path.
     fn create(&mut self, alloc: Global, path: &str) -> Result<(Self::Place, Self::File), FileError>
         ensures same { committed self.new ≡ committed self.old }
         ensures path { IfOk result (λ created. pending_path created.0 ≡ path.now) }
@@ -61,7 +62,7 @@ pub trait Outputs {
         ensures synced { IfOk result (λ synced. synced_bytes synced ≡ Self.File.accepted file) }
         ensures another_error { IfErr result (λ error. error ≢ FileError.SameFile) };
 
-    /// Places a file at its path.
+    /// Places a synced file at its path, where it replaces any other file. After an error, the placed files are unchanged.
     fn place(&mut self, place: Self::Place, file: Self::Synced) -> Result<(), FileError>
         ensures committed { OnOk result
             (IsCommittedFileAdded (committed self.old) (committed self.new) (pending_path place) (synced_bytes file)) }

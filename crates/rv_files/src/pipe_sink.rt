@@ -42,7 +42,7 @@ impl<W: Write + Drop> PipeSink<W> {
         }
     }
 
-    // Counts a failed write, and records whether it failed because the pipe has no readers left.
+    // Counts a failed write, records whether it failed because the pipe has no readers left, and returns the error.
     fn record_failure(&mut self, reason: ErrorKind) -> SinkFailed
         ensures one_more_failure { self.new.failures ≡ one_more self.old.failures }
         ensures closed { self.new.is_closed ≡ (self.old.is_closed || is_broken_pipe reason) }

@@ -74,7 +74,8 @@ fn may_be_replaced(metadata: &Metadata) -> bool
 // The maximum number of links followed in a chain, as on Linux.
 const MAX_LINKS: u32 = 40;
 
-/// Returns the path at the end of the chain of symbolic links that begins at a path, or the path itself if it is not a link.
+/// Returns the path at the end of the chain of symbolic links that begins at a path, or the path itself if it is not a link. A chain of
+/// more than 40 links is an error.
 pub(crate) fn follow_links<R: Files>(
     files: &R,
     alloc: Global,

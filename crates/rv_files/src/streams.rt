@@ -39,7 +39,7 @@ impl<W: Write + Drop> StreamSink<W> {
         self.stream
     }
 
-    // Counts a failed write, and records its error.
+    // Counts a failed write, records its kind of error, and returns the error of the sink.
     fn count_failure(&mut self, error: ErrorKind) -> SinkFailed
         ensures one_more_failure { self.new.failures ≡ one_more self.old.failures }
         ensures stream_unchanged { self.new.stream ≡ self.old.stream }

@@ -140,7 +140,8 @@ fn real_path_of<R: Files>(
     }
 }
 
-// Returns the path at which the system creates a file when it writes to a path where there is nothing, or only a dangling link.
+// Returns the path at which the system creates a file when it writes to a path where there is nothing, or only a dangling link; or the path
+// itself if its links cannot be followed.
 fn path_of_missing_file<R: Files>(
     files: &R,
     alloc: Global,
@@ -159,7 +160,7 @@ fn open_null_device<R: Files>(files: &R) -> io::Result<R::File> {
     fs::open(files, "/dev/null")
 }
 
-// What the outside world holds is not known, so the placed files are unknown.
+// No contract can know what is on a disk, so the placed files are unknown.
 impl<'a, R: Files> Outputs for SystemOutputs<'a, R>
 where
     R::File: FileLock,
@@ -237,7 +238,7 @@ where
 
     // Renames a temporary file to its final path. A file that was written directly stays as it is.
     fn place(&mut self, target: PendingFile, file: SyncedFile<R::File>) -> Result<(), FileError> {
-        // Its lock is released here, once the file has its final path.
+        // The file stays open, and so stays locked, until this function returns, when it has its final path.
         let SyncedFile { file: _locked } = file;
         let Some(paths) = &target.paths else {
             return Ok(());

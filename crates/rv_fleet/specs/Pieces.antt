@@ -1,4 +1,4 @@
--- The chunks of rows: those of groups of jobs, in order.
+-- The chunks of rows: the rows of consecutive groups of jobs.
 use Rattle.std.specs.Prelude.{ℕ, List, length}
 use Rattle.std.specs.Int.{div_ceil}
 use Rattle.std.specs.Fork.{slice_chunk}

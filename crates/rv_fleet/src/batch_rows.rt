@@ -79,7 +79,7 @@ impl Listener<Row> for CollectedRows {
 
     ghost stops = { λ s. s.allocation_failed ≡ true };
 
-    // Keeps the next row. Stops if an allocation fails.
+    // Appends the next row. Stops if an allocation fails.
     fn receive(&mut self, output: Row) -> Flow {
         match self.rows.push(output) {
             Ok(()) => Flow::Continue,
@@ -96,7 +96,8 @@ impl Listener<Row> for CollectedRows {
     }
 }
 
-/// Runs the jobs of a batch, and returns their rows in order. The rows do not depend on the crew.
+/// Runs the jobs of a batch, and returns their rows in order, or an error if a thread cannot be started or memory runs out. The rows do not
+/// depend on the crew.
 pub fn run_batch<R: Threads + Wait + Sync>(
     crew: &Crew<'_, R>,
     batch: &Batch<'_>,
@@ -108,7 +109,7 @@ pub fn run_batch<R: Threads + Wait + Sync>(
     let (kept, ran) = run_jobs::<Brand, Row, R, BatchRows<'_>, CollectedRows>(crew, &work, kept);
     match ran? {
         Flow::Continue => Ok(Rows::new(kept.rows)),
-        // Out of memory: the rows stop a run for that alone.
+        // Out of memory: collecting the rows stops a run for no other reason.
         Flow::Stop => Err(RunError::OutOfMemory),
     }
 }

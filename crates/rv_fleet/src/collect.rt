@@ -19,7 +19,7 @@ use std::alloc::{AllocError, Global};
 pub(crate) struct CollectedChunks {
     /// The rows of each chunk that was computed, in the slot with its number.
     pub(crate) slots: Vec<Option<Rows>>,
-    /// All passes merged into one, if there are any.
+    /// The passes of all workers, merged into one; `None` if there were no workers.
     pub(crate) pass: Option<Pass>,
 }
 

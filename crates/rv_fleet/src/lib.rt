@@ -24,7 +24,7 @@ pub use gate::{FreeGate, Gate};
 pub use piece::Piece;
 pub use worker::work;
 
-// From the crates below: what this interface names, and what its callers need with it.
+// Re-exports from lower crates: the types in this interface, and what its callers need with them.
 pub use rv_engine::{
     Both, Claims, Crew, Flow, Listener, Observer, Pass, RunError, SplitError, Work, WorkerState,
     run_jobs,

@@ -38,7 +38,7 @@ pub(crate) fn compute_chunks<R: Threads + Wait, G: Gate>(
     let worked = run_workers(crew, &claims, passes, pieces, gate)?;
     let CollectedChunks { slots, pass } = collect_chunks(alloc, &claims, worked, pieces)?;
     if let Some(pass) = pass {
-        // The rows depend on the workers' promises and not on this result: a chunk that nobody made is made later.
+        // The rows depend on the workers' promises and not on this result: a chunk that no worker computed is computed later.
         let _each_once = claims.finish(pass);
     }
     Ok(slots)
@@ -75,7 +75,8 @@ fn split_passes(
     Ok(passes)
 }
 
-/// Runs one thread for each pass, and returns the result of each thread once all of them have ended.
+/// Runs one thread for each pass, and returns the result of each thread once all of them have ended. Fails if a thread cannot be started or
+/// memory runs out.
 fn run_workers<R: Threads + Wait, G: Gate>(
     crew: &Crew<'_, R>,
     claims: &Claims,
@@ -120,15 +121,15 @@ fn run_workers<R: Threads + Wait, G: Gate>(
                         run_worker(alloc, claims, pass, &Pieces { batch, group }, gate)
                     },
                 ) else {
-                    // No worker: `spawn_with` fails where the start of a thread was refused.
+                    // No worker: `spawn_with` fails only if the thread could not be started.
                     return Err(FleetError::NoWorker);
                 };
                 let Ok(()) = handles.push(handle) else {
-                    // Out of memory: `push` fails by that alone.
+                    // Out of memory: `push` fails for no other reason.
                     return Err(FleetError::OutOfMemory);
                 };
             }
-            // Out of memory: `join_promised` fails by that alone.
+            // Out of memory: `join_promised` fails for no other reason.
             thread::join_promised(rt, handles).map_err(|_| FleetError::OutOfMemory)
         },
     )

@@ -1,5 +1,5 @@
-//! The 32-bit words equivalent to 16-bit instructions, each with its meaning. Immediates and offsets are passed in the form that the format
-//! functions expect.
+//! Encodes the 32-bit instructions to which 16-bit instructions expand. Immediates and offsets are passed as the bits that
+//! [`crate::encode`] expects.
 
 ghost use Rattle.rv_isa.specs.Bits.{sign_extended};
 ghost use Rattle.rv_isa.specs.Words.{meaning32, instr_with};
@@ -10,10 +10,10 @@ ghost use Rattle.std.specs.Prelude.{◌≡◌, ◌*◌, ◌<◌, ◌^◌, ◌%�
 use crate::encode::{b_word, i_word, j_word, r_word, s_word, u_word};
 use crate::opcodes::{BRANCH, JAL, JALR, LOAD, LUI, OP, OP_IMM, STORE};
 
-/// The word of `ebreak`.
+/// The encoding of `ebreak`.
 pub const EBREAK: u32 = 0x0010_0073;
 
-/// Returns the word of `addi rd, rs1, imm`, where `imm` is the immediate's 12 bits.
+/// Returns the encoding of `addi rd, rs1, imm`, where `imm` is the 12 bits of the immediate.
 #[inline]
 pub fn addi(rd: u32, rs1: u32, imm: u32) -> u32
     requires rd { rd < 32 }
@@ -24,7 +24,7 @@ pub fn addi(rd: u32, rs1: u32, imm: u32) -> u32
     i_word(imm, rs1, 0, rd, OP_IMM)
 }
 
-/// Returns the word of `andi rd, rs1, imm`, where `imm` is the immediate's 12 bits.
+/// Returns the encoding of `andi rd, rs1, imm`, where `imm` is the 12 bits of the immediate.
 #[inline]
 pub fn andi(rd: u32, rs1: u32, imm: u32) -> u32
     requires rd { rd < 32 }
@@ -35,7 +35,7 @@ pub fn andi(rd: u32, rs1: u32, imm: u32) -> u32
     i_word(imm, rs1, 7, rd, OP_IMM)
 }
 
-/// Returns the word of `lw rd, imm(rs1)`, where `imm` is the offset's 12 bits.
+/// Returns the encoding of `lw rd, imm(rs1)`, where `imm` is the 12 bits of the offset.
 #[inline]
 pub fn lw(rd: u32, rs1: u32, imm: u32) -> u32
     requires rd { rd < 32 }
@@ -46,7 +46,7 @@ pub fn lw(rd: u32, rs1: u32, imm: u32) -> u32
     i_word(imm, rs1, 2, rd, LOAD)
 }
 
-/// Returns the word of `jalr rd, imm(rs1)`, where `imm` is the offset's 12 bits.
+/// Returns the encoding of `jalr rd, imm(rs1)`, where `imm` is the 12 bits of the offset.
 #[inline]
 pub fn jalr(rd: u32, rs1: u32, imm: u32) -> u32
     requires rd { rd < 32 }
@@ -57,7 +57,7 @@ pub fn jalr(rd: u32, rs1: u32, imm: u32) -> u32
     i_word(imm, rs1, 0, rd, JALR)
 }
 
-/// Returns the word of `slli rd, rs1, shift`.
+/// Returns the encoding of `slli rd, rs1, shift`.
 #[inline]
 pub fn slli(rd: u32, rs1: u32, shift: u32) -> u32
     requires rd { rd < 32 }
@@ -68,7 +68,7 @@ pub fn slli(rd: u32, rs1: u32, shift: u32) -> u32
     r_word(0, shift, rs1, 1, rd, OP_IMM)
 }
 
-/// Returns the word of `srli rd, rs1, shift`.
+/// Returns the encoding of `srli rd, rs1, shift`.
 #[inline]
 pub fn srli(rd: u32, rs1: u32, shift: u32) -> u32
     requires rd { rd < 32 }
@@ -79,7 +79,7 @@ pub fn srli(rd: u32, rs1: u32, shift: u32) -> u32
     r_word(0, shift, rs1, 5, rd, OP_IMM)
 }
 
-/// Returns the word of `srai rd, rs1, shift`.
+/// Returns the encoding of `srai rd, rs1, shift`.
 #[inline]
 pub fn srai(rd: u32, rs1: u32, shift: u32) -> u32
     requires rd { rd < 32 }
@@ -90,7 +90,7 @@ pub fn srai(rd: u32, rs1: u32, shift: u32) -> u32
     r_word(0x20, shift, rs1, 5, rd, OP_IMM)
 }
 
-/// Returns the word of `add rd, rs1, rs2`.
+/// Returns the encoding of `add rd, rs1, rs2`.
 #[inline]
 pub fn add(rd: u32, rs1: u32, rs2: u32) -> u32
     requires rd { rd < 32 }
@@ -101,7 +101,7 @@ pub fn add(rd: u32, rs1: u32, rs2: u32) -> u32
     r_word(0, rs2, rs1, 0, rd, OP)
 }
 
-/// Returns the word of `sub rd, rs1, rs2`.
+/// Returns the encoding of `sub rd, rs1, rs2`.
 #[inline]
 pub fn sub(rd: u32, rs1: u32, rs2: u32) -> u32
     requires rd { rd < 32 }
@@ -112,7 +112,7 @@ pub fn sub(rd: u32, rs1: u32, rs2: u32) -> u32
     r_word(0x20, rs2, rs1, 0, rd, OP)
 }
 
-/// Returns the word of `xor rd, rs1, rs2`.
+/// Returns the encoding of `xor rd, rs1, rs2`.
 #[inline]
 pub fn xor(rd: u32, rs1: u32, rs2: u32) -> u32
     requires rd { rd < 32 }
@@ -123,7 +123,7 @@ pub fn xor(rd: u32, rs1: u32, rs2: u32) -> u32
     r_word(0, rs2, rs1, 4, rd, OP)
 }
 
-/// Returns the word of `or rd, rs1, rs2`.
+/// Returns the encoding of `or rd, rs1, rs2`.
 #[inline]
 pub fn or(rd: u32, rs1: u32, rs2: u32) -> u32
     requires rd { rd < 32 }
@@ -134,7 +134,7 @@ pub fn or(rd: u32, rs1: u32, rs2: u32) -> u32
     r_word(0, rs2, rs1, 6, rd, OP)
 }
 
-/// Returns the word of `and rd, rs1, rs2`.
+/// Returns the encoding of `and rd, rs1, rs2`.
 #[inline]
 pub fn and(rd: u32, rs1: u32, rs2: u32) -> u32
     requires rd { rd < 32 }
@@ -145,7 +145,7 @@ pub fn and(rd: u32, rs1: u32, rs2: u32) -> u32
     r_word(0, rs2, rs1, 7, rd, OP)
 }
 
-/// Returns the word of `sw rs2, imm(rs1)`, where `imm` is the offset's 12 bits.
+/// Returns the encoding of `sw rs2, imm(rs1)`, where `imm` is the 12 bits of the offset.
 #[inline]
 pub fn sw(rs1: u32, rs2: u32, imm: u32) -> u32
     requires rs1 { rs1 < 32 }
@@ -156,7 +156,7 @@ pub fn sw(rs1: u32, rs2: u32, imm: u32) -> u32
     s_word(imm, rs2, rs1, 2, STORE)
 }
 
-/// Returns the word of `beq rs1, rs2` with this offset in bytes, given by its 13 bits.
+/// Returns the encoding of `beq rs1, rs2, offset`, where `offset` is the 13 bits of an even offset in bytes.
 #[inline]
 pub fn beq(rs1: u32, rs2: u32, offset: u32) -> u32
     requires rs1 { rs1 < 32 }
@@ -169,7 +169,7 @@ pub fn beq(rs1: u32, rs2: u32, offset: u32) -> u32
     b_word(offset, rs2, rs1, 0, BRANCH)
 }
 
-/// Returns the word of `bne rs1, rs2` with this offset in bytes, given by its 13 bits.
+/// Returns the encoding of `bne rs1, rs2, offset`, where `offset` is the 13 bits of an even offset in bytes.
 #[inline]
 pub fn bne(rs1: u32, rs2: u32, offset: u32) -> u32
     requires rs1 { rs1 < 32 }
@@ -182,7 +182,7 @@ pub fn bne(rs1: u32, rs2: u32, offset: u32) -> u32
     b_word(offset, rs2, rs1, 1, BRANCH)
 }
 
-/// Returns the word of `jal rd` with this offset in bytes, given by its 21 bits.
+/// Returns the encoding of `jal rd, offset`, where `offset` is the 21 bits of an even offset in bytes.
 #[inline]
 pub fn jal(rd: u32, offset: u32) -> u32
     requires rd { rd < 32 }
@@ -193,7 +193,7 @@ pub fn jal(rd: u32, offset: u32) -> u32
     j_word(offset, rd, JAL)
 }
 
-/// Returns the word of `lui rd, upper`, which loads `upper` into bits 31 to 12.
+/// Returns the encoding of `lui rd, upper`, which loads `upper` into bits 31 to 12 of `rd` and clears the others.
 #[inline]
 pub fn lui(rd: u32, upper: u32) -> u32
     requires rd { rd < 32 }

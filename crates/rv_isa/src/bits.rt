@@ -30,7 +30,7 @@ pub fn field(word: u32, high: u32, low: u32) -> u32
     (word >> low) & (u32::MAX >> (31 - (high - low)))
 }
 
-/// Returns the number whose low `width` bits are `low` and whose bits above are `high`.
+/// Joins two bit fields: returns `low` in the low `width` bits and `high` in the bits above them.
 #[inline]
 pub fn concat_bits(high: u32, low: u32, width: u32) -> u32
     requires fits { low < 2 ^ width }

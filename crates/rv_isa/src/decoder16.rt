@@ -1,4 +1,4 @@
-//! Decodes a halfword through an equivalent 32-bit word, and distinguishes 16-bit from 32-bit instructions.
+//! Decodes a halfword by expanding it to a 32-bit instruction, and distinguishes 16-bit from 32-bit instructions.
 ghost use Rattle.rv_isa.specs.Bits.{field as bits_of};
 ghost use Rattle.rv_isa.specs.Halfwords.{rows16, fits16, Means16, meaning16, Expands};
 ghost use Rattle.rv_isa.specs.Words.{Means32, IsWellFormed};

@@ -7,7 +7,7 @@ ghost use Rattle.std.specs.Prelude.{◌≡◌, ◌+◌, ◌*◌, ◌-◌, ◌<�
 
 use crate::bits::{concat_bits, field};
 
-/// Returns the word of format R with these fields.
+/// Returns the format R word with these fields.
 #[inline]
 #[tactic(auto, using(crate::proofs::Fields::field_self))]
 pub fn r_word(funct7: u32, rs2: u32, rs1: u32, funct3: u32, rd: u32, opcode: u32) -> u32
@@ -30,7 +30,7 @@ pub fn r_word(funct7: u32, rs2: u32, rs1: u32, funct3: u32, rd: u32, opcode: u32
     concat_bits(sources, rest, 15)
 }
 
-/// Returns the word of format I with these fields; `imm` is the immediate's 12 bits.
+/// Returns the format I word with these fields; `imm` is the 12 bits of the immediate.
 #[inline]
 #[tactic(auto, using(crate::proofs::Fields::field_self))]
 pub fn i_word(imm: u32, rs1: u32, funct3: u32, rd: u32, opcode: u32) -> u32
@@ -52,7 +52,7 @@ pub fn i_word(imm: u32, rs1: u32, funct3: u32, rd: u32, opcode: u32) -> u32
     concat_bits(with_rd, opcode, 7)
 }
 
-/// Returns the word of format S with these fields; `imm` is the immediate's 12 bits.
+/// Returns the format S word with these fields; `imm` is the 12 bits of the immediate.
 #[inline]
 #[tactic(auto, using(crate::proofs::Fields::field_self))]
 pub fn s_word(imm: u32, rs2: u32, rs1: u32, funct3: u32, opcode: u32) -> u32
@@ -73,7 +73,7 @@ pub fn s_word(imm: u32, rs2: u32, rs1: u32, funct3: u32, opcode: u32) -> u32
     r_word(upper, rs2, rs1, funct3, lower, opcode)
 }
 
-/// Returns the word of format B with these fields; `offset` is the 13 bits of an even offset in bytes.
+/// Returns the format B word with these fields; `offset` is the 13 bits of an even offset in bytes.
 #[inline]
 #[tactic(auto, using(crate::proofs::Fields::field_self))]
 pub fn b_word(offset: u32, rs2: u32, rs1: u32, funct3: u32, opcode: u32) -> u32
@@ -95,7 +95,7 @@ pub fn b_word(offset: u32, rs2: u32, rs1: u32, funct3: u32, opcode: u32) -> u32
     r_word(upper, rs2, rs1, funct3, lower, opcode)
 }
 
-/// Returns the word of format U with these fields; `upper` is bits 31 to 12.
+/// Returns the format U word with these fields; `upper` is bits 31 to 12 of the word.
 #[inline]
 #[tactic(auto, using(crate::proofs::Fields::field_self))]
 pub fn u_word(upper: u32, rd: u32, opcode: u32) -> u32
@@ -111,7 +111,7 @@ pub fn u_word(upper: u32, rd: u32, opcode: u32) -> u32
     concat_bits(with_rd, opcode, 7)
 }
 
-/// Returns the word of format J with these fields; `offset` is the 21 bits of an even offset in bytes.
+/// Returns the format J word with these fields; `offset` is the 21 bits of an even offset in bytes.
 #[inline]
 #[tactic(auto, using(crate::proofs::Fields::field_self))]
 pub fn j_word(offset: u32, rd: u32, opcode: u32) -> u32

@@ -1,4 +1,4 @@
-//! The operands that each format takes from a word.
+//! Reads the operands of an instruction from its 32-bit word, in each format.
 
 ghost use Rattle.rv_isa.specs.Bits.{field as bits_of};
 ghost use Rattle.rv_isa.specs.Words.{immediate_i, immediate_s, immediate_b, immediate_u, immediate_j, instruction};
@@ -8,7 +8,7 @@ ghost use Rattle.std.specs.Prelude.{◌≡◌, ◌+◌, ◌*◌, ◌-◌, ◌<�
 use crate::bits::{concat_bits, field, sign_extend};
 use crate::instruction::{Instr, Op};
 
-/// Returns the instruction of this name with the operands of a word of format R.
+/// Returns the instruction `op` with the operands of a format R word.
 #[inline]
 pub fn type_r(op: Op, word: u32) -> Instr
     ensures { result ≡ instruction op TypeR word }
@@ -22,7 +22,7 @@ pub fn type_r(op: Op, word: u32) -> Instr
     }
 }
 
-/// Returns the instruction of this name with the operands of a word of format I.
+/// Returns the instruction `op` with the operands of a format I word.
 #[inline]
 pub fn type_i(op: Op, word: u32) -> Instr
     ensures { result ≡ instruction op TypeI word }
@@ -36,7 +36,7 @@ pub fn type_i(op: Op, word: u32) -> Instr
     }
 }
 
-/// Returns the shift by an immediate of this name with the operands of a word. The shift amount is in the bits of `rs2`.
+/// Returns the immediate shift `op` with the operands of a word, whose bits 24 to 20 are the shift amount.
 #[inline]
 pub fn type_shift(op: Op, word: u32) -> Instr
     ensures { result ≡ instruction op TypeShift word }
@@ -50,7 +50,7 @@ pub fn type_shift(op: Op, word: u32) -> Instr
     }
 }
 
-/// Returns the instruction of this name with the operands of a word of format S.
+/// Returns the instruction `op` with the operands of a format S word.
 #[inline]
 pub fn type_s(op: Op, word: u32) -> Instr
     ensures { result ≡ instruction op TypeS word }
@@ -64,7 +64,7 @@ pub fn type_s(op: Op, word: u32) -> Instr
     }
 }
 
-/// Returns the instruction of this name with the operands of a word of format B.
+/// Returns the instruction `op` with the operands of a format B word.
 #[inline]
 pub fn type_b(op: Op, word: u32) -> Instr
     ensures { result ≡ instruction op TypeB word }
@@ -78,7 +78,7 @@ pub fn type_b(op: Op, word: u32) -> Instr
     }
 }
 
-/// Returns the instruction of this name with the operands of a word of format U.
+/// Returns the instruction `op` with the operands of a format U word.
 #[inline]
 pub fn type_u(op: Op, word: u32) -> Instr
     ensures { result ≡ instruction op TypeU word }
@@ -92,7 +92,7 @@ pub fn type_u(op: Op, word: u32) -> Instr
     }
 }
 
-/// Returns the instruction of this name with the operands of a word of format J.
+/// Returns the instruction `op` with the operands of a format J word.
 #[inline]
 pub fn type_j(op: Op, word: u32) -> Instr
     ensures { result ≡ instruction op TypeJ word }
@@ -106,7 +106,7 @@ pub fn type_j(op: Op, word: u32) -> Instr
     }
 }
 
-/// Returns the instruction of this name without operands.
+/// Returns the instruction `op` without operands.
 #[inline]
 pub fn no_operands(op: Op) -> Instr
     ensures { result ≡ instruction op NoOperands 0 }

@@ -15,7 +15,7 @@ pub fn imm_ci(half: u32) -> u32
     concat_bits(field(half, 12, 12), field(half, 6, 2), 5)
 }
 
-/// Returns the immediate of C.ADDI4SPN.
+/// Returns the immediate of C.ADDI4SPN, a multiple of 4 below 1024.
 #[inline]
 pub fn imm_ciw(half: u32) -> u32
     ensures value { result ≡ row.immediate_ciw half }
@@ -30,7 +30,7 @@ pub fn imm_ciw(half: u32) -> u32
     words << 2
 }
 
-/// Returns the offset of C.LW and C.SW.
+/// Returns the offset of C.LW and C.SW in bytes, a multiple of 4 below 128.
 #[inline]
 pub fn imm_cl(half: u32) -> u32
     ensures value { result ≡ row.immediate_cl half }
@@ -89,7 +89,7 @@ pub fn imm_cb(half: u32) -> u32
     ) << 1
 }
 
-/// Returns the offset of C.LWSP.
+/// Returns the offset of C.LWSP in bytes, a multiple of 4 below 256.
 #[inline]
 pub fn imm_lwsp(half: u32) -> u32
     ensures value { result ≡ row.immediate_lwsp half }
@@ -99,7 +99,7 @@ pub fn imm_lwsp(half: u32) -> u32
     concat_bits(upper, field(half, 6, 4), 3) << 2
 }
 
-/// Returns the offset of C.SWSP.
+/// Returns the offset of C.SWSP in bytes, a multiple of 4 below 256.
 #[inline]
 pub fn imm_css(half: u32) -> u32
     ensures value { result ≡ row.immediate_css half }

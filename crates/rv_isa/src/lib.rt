@@ -3,7 +3,7 @@
 //! `is_long` returns whether a halfword begins a 32-bit instruction; `decode32` decodes a word, and `decode16` a halfword. The result is an
 //! `Instr`, a name and operands, whatever the length. For every word and halfword and each instruction set (`Isa`), the result is proved to
 //! be what the listings of the RISC-V Unprivileged ISA 20191213 (chapter 24 and section 16.8) specify, and no encoding matches two lines of
-//! the listings. A smaller set has fewer lines; encodings of the lines that it lacks do not decode.
+//! the listings. A smaller instruction set has fewer lines, and encodings of the missing lines do not decode.
 #![tactic(auto)]
 
 mod assemble;

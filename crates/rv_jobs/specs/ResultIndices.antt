@@ -16,7 +16,7 @@ pub record AreResultIndices (paths : List (List ℕ)) (job : Job) (indices : Res
       option_map (index_in paths) (console_path job.expect_console)
       ≡ option_map (λ k. Some k) indices.console
 
--- each entry of `recorded` has the indices in `paths` of the paths of one job, or is empty
+-- `recorded` has an entry for each job, which is empty or has the indices of the job's paths in `paths`
 pub record AreRecorded (paths : List (List ℕ)) (jobs : List Job)
     (recorded : List (Option ResultIndices)) : Type 0 where
   pub many : length recorded ≡ length jobs

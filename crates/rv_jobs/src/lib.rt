@@ -18,7 +18,7 @@ pub use path_results::PathResult;
 pub use plan::{Plan, gather, gather_jobs};
 pub use selection::selected_indices;
 
-// From the crates below: what this interface names, and what its callers need with it.
+// Re-exports from lower crates: the types in this interface, and what its callers need with them.
 pub use rv_lists::{
     Bytes, ExpectedConsole, ExpectedEnd, Job, JobError, JobList, ReadError, Store, Symbols, Text,
     What, limits, read_faults, read_jobs,

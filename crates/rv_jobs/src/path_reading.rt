@@ -45,6 +45,7 @@ pub(crate) fn empty_result_indices(
 
 impl<'a> PathResults<'a> {
     /// Reads the paths that the row of the job at an index needs: the job's own paths, and the paths of the job that its `same_as` names.
+    /// Records the indices of their results, and returns all results so far.
     pub(crate) fn read_paths_for_row<S: Store>(
         self,
         alloc: Global,
@@ -73,6 +74,7 @@ impl<'a> PathResults<'a> {
     }
 
     /// Reads the paths of the job at an index, and records the indices of their results. Does nothing if these are already recorded.
+    /// Returns all results so far.
     fn read_paths_at_index<S: Store>(
         self,
         alloc: Global,

@@ -59,7 +59,7 @@ impl<'a> PathResults<'a> {
 
     /// Reads a path, unless it already has a result, and returns the results with the index of this path's result.
     ///
-    /// A new path is searched for only once: the search that would find it inserts it.
+    /// A new path costs only one lookup, which inserts it.
     pub(crate) fn read_path_once<S: Store>(
         self,
         alloc: Global,

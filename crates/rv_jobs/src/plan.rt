@@ -25,7 +25,7 @@ pub struct Plan {
     jobs: JobList,
     // The indices of the jobs for which the plan was gathered.
     chosen: Vec<usize>,
-    // The result for each path that their rows need, in order of first use.
+    // The result for each path that the rows of these jobs need, in order of first use.
     results: Vec<Kept>,
     // The indices of the results for each job's paths.
     result_indices: Vec<PartialResultIndices>,

@@ -17,19 +17,19 @@ pub record Header : Type 0 where
   pub directories : List Entry
   pub files : List Entry
 
--- the numbers of its files
+-- the file numbers of a unit with this header
 abbrev pub file_numbers : Header → FileNumbers
 file_numbers h = record { first = h.first; count = length h.files }
 
--- the number of the first file and of the first directory: 0 in DWARF 5, and 1 before
+-- the number of the first file and of the first directory: 0 in DWARF 5, and 1 in earlier versions
 abbrev pub first_number : ℕ → ℕ
 first_number version = if version == 5 then 0 else 1
 
--- the index of a number that is counted from `first`
+-- the index of the entry with this number if the first entry has the number `first`; `None` if the number is below `first`
 abbrev pub index_of : ℕ → ℕ → Option ℕ
 index_of first number = if nat_lt number first then None else Some (number - first)
 
--- the entry of a number, counted from `first`
+-- the entry with this number if the first entry has the number `first`; `None` if there is none
 abbrev pub numbered : ℕ → List Entry → ℕ → Option Entry
 numbered first entries number = option_and_then (slice_get entries) (index_of first number)
 
@@ -37,26 +37,26 @@ numbered first entries number = option_and_then (slice_get entries) (index_of fi
 abbrev pub standard_lengths : List ℕ
 standard_lengths = 0 ∷ 1 ∷ 1 ∷ 1 ∷ 1 ∷ 0 ∷ 0 ∷ 0 ∷ 1 ∷ 0 ∷ 0 ∷ 1 ∷ []
 
--- whether the lengths of the opcodes that the standard has are those of the standard
+-- whether the first 12 lengths, or all if there are fewer, are the standard's
 abbrev pub are_standard : List ℕ → Bool
 are_standard lengths = let known = min (length lengths) 12 in bytes_eq (take known lengths) (take known standard_lengths)
 
--- a signed byte, modulo 2^32
+-- a byte, sign-extended to 32 bits
 abbrev pub sign_extended : ℕ → ℕ
 sign_extended b = if nat_lt b 128 then b else b + (2 ^ 32 - 2 ^ 8)
 
--- maximum_operations_per_instruction, which DWARF 2 and 3 do not have; it must be 1
+-- the bytes after maximum_operations_per_instruction, which must be 1; DWARF 2 and 3 do not have it
 unfoldable pub operations_check : ℕ → List ℕ → Result (List ℕ) UnitError
 operations_check version bytes = if nat_lt version 4 then Ok bytes else (byte_at unit.HeaderCutOff bytes >>= λ operations.
     if operations.0 == 1 then Ok operations.1 else Err unit.Operations)
 
--- standard_opcode_lengths: one byte for each opcode from 1 up to but excluding `opcode_base`
+-- standard_opcode_lengths: one byte for each opcode from 1 up to, but not including, `opcode_base`; the first 12 must be the standard's
 unfoldable pub lengths_at : ℕ → List ℕ → Read (List ℕ)
 lengths_at opcode_base bytes = let lengths = take (opcode_base - 1) bytes in
     if are_standard lengths then (if length lengths == opcode_base - 1 then Ok (lengths, drop (opcode_base - 1) bytes)
     else Err unit.HeaderCutOff) else Err unit.OpcodeLengths
 
--- the parameters from minimum_instruction_length to opcode_base
+-- the parameters from minimum_instruction_length to opcode_base; line_range and opcode_base must not be 0
 unfoldable pub parameters_at : ℕ → List ℕ → Read Parameters
 parameters_at version bytes = do
   min_length ← byte_at unit.HeaderCutOff bytes
@@ -77,11 +77,11 @@ parameters_at version bytes = do
       opcode_base.1,
     ))
 
--- the directories and then the files, in the form of the version
+-- a list of directories, or of files if `of_files` is true, in the form of the version
 unfoldable pub entries_of_version : Strings → ℕ → Bool → List ℕ → Read (List Entry)
 entries_of_version strings version of_files bytes = if version == 5 then table_at strings bytes else list_at (length bytes) of_files bytes
 
--- the fields of a header after header_length
+-- the fields of a header after header_length, or the first error in them
 unfoldable pub fields_of_header : Strings → ℕ → List ℕ → Result Header UnitError
 fields_of_header strings version bytes = do
   parameters ← parameters_at version bytes
@@ -96,7 +96,7 @@ fields_of_header strings version bytes = do
     files = files.0;
   })
 
--- address_size, which must be 4, and segment_selector_size, which must be 0; DWARF 2 to 4 do not have them
+-- the bytes after address_size, which must be 4, and segment_selector_size, which must be 0; DWARF 2 to 4 do not have them
 unfoldable pub addresses_check : ℕ → List ℕ → Result (List ℕ) UnitError
 addresses_check version bytes = if version == 5 then (do
   size ← byte_at unit.HeaderCutOff bytes
@@ -109,7 +109,7 @@ unfoldable pub version_at : List ℕ → Read ℕ
 version_at bytes = fixed_at unit.HeaderCutOff 2 bytes >>= λ version.
     if nat_le 2 version.0 && nat_le version.0 5 then Ok version else Err unit.Version
 
--- the version, the bytes of the fields of the header, and after them the program
+-- the version and the bytes of the header's fields after header_length, and then the bytes of the program
 unfoldable pub frame_at : List ℕ → Read (ℕ × List ℕ)
 frame_at bytes = do
   version ← version_at bytes
@@ -118,7 +118,7 @@ frame_at bytes = do
   if nat_lt (length size.1) size.0 then Err unit.HeaderCutOff
       else Ok ((version.0, take size.0 size.1), drop size.0 size.1)
 
--- the header of a unit, from the bytes after unit_length, and after it the program
+-- the header of a unit, read from the bytes after unit_length, and then the bytes of the program; or the header's first error
 unfoldable pub header_at : Strings → List ℕ → Read Header
 header_at strings bytes = do
   frame ← frame_at bytes

@@ -1,4 +1,4 @@
--- What the code keeps of a header: the parameters of the program, the number of files, one file and one directory.
+-- What the code stores of a header: the parameters of the program, the file numbers, one file and one directory.
 use Rattle.std.specs.Prelude.{ℕ, List, Option, option_map, Result, Ok}
 use Rattle.rv_lines.specs.declared.error.UnitError.{UnitError}
 use Rattle.rv_lines.specs.declared.header.FileNumbers.{FileNumbers}
@@ -10,7 +10,7 @@ use Rattle.rv_lines.specs.Entries.{Entry}
 use Rattle.rv_lines.specs.EntriesInside.{view_entry}
 use Rattle.rv_lines.specs.Header.{Header, file_numbers, numbered}
 
--- a header, of whose directories and files one each is known
+-- a header with only one of its directories and one of its files, each `None` if the header does not have it
 pub record HeaderSummary : Type 0 where
   pub parameters : Parameters
   pub lengths : List ℕ
@@ -18,6 +18,7 @@ pub record HeaderSummary : Type 0 where
   pub directory : Option Entry
   pub file : Option Entry
 
+-- a `Header` of the code as contracts see it, with values in place of references
 abbrev pub view_header : declared.Header → HeaderSummary
 view_header h = record {
   parameters = h.parameters;
@@ -27,7 +28,7 @@ view_header h = record {
   file = option_map view_entry h.file;
 }
 
--- a header with the directory and the file of the numbers that are requested
+-- the summary of a header, with the requested directory and file
 abbrev pub header_summary : RequestedEntries → Header → HeaderSummary
 header_summary requested h = record {
   parameters = h.parameters;
@@ -37,8 +38,10 @@ header_summary requested h = record {
   file = numbered h.first h.files requested.file;
 }
 
+-- the summary of the header that was read, or the error
 abbrev pub header_summary_of : RequestedEntries → Result Header UnitError → Result HeaderSummary UnitError
 header_summary_of requested read = read >>= λ h. Ok (header_summary requested h)
 
+-- the summary of the header that was read, and the bytes after the header; or the error
 abbrev pub header_summary_at : RequestedEntries → Read Header → Read HeaderSummary
 header_summary_at requested read = read >>= λ h. Ok (header_summary requested h.0, h.1)

@@ -1,4 +1,4 @@
--- The source line of an address (DWARF 5, section 6.2.2): that of the row before it, in the order of the rows.
+-- The source line of an address (DWARF 5, section 6.2.2): the line of a row that covers the address.
 use Rattle.std.specs.Prelude.{◌≡◌, true, false, ◌==◌, ℕ, Bool, not, ◌&&◌, ◌||◌, List, [], ◌∷◌, ◌++◌, length, filter, nat_lt, nat_le, Option, Some, None, is_err, Result, Ok, Err, if◌then◌else◌, option_map, option_and_then, find}
 use Rattle.std.specs.List.{list_any, flat_map, count_by}
 use Rattle.rv_lines.specs.declared.error.UnitError.{UnitError}
@@ -9,7 +9,7 @@ use Rattle.rv_lines.specs.declared.span.Span.{Span}
 use Rattle.rv_lines.specs.Entries.{Strings}
 use Rattle.rv_lines.specs.Units.{UnitRead, units}
 
--- the addresses that a row covers: from its own up to but excluding that of the next row of its unit
+-- the span of a row: the addresses that it covers, from its own up to, but not including, that of the next row of its unit
 abbrev pub span : ℕ → Row → Row → Span
 span unit row next = record {
   from = row.address;
@@ -17,28 +17,29 @@ span unit row next = record {
   source = record { unit = unit; file = row.file; line = row.line; low = row.low };
 }
 
--- whether a row covers no address: it ends its sequence, or its address is below that of the first row of its sequence, as where a linker
--- gives code that it dropped the address 2^32 - 1
+-- whether a row covers no address: it ends its sequence, or its address is below that of the first row of its sequence, as in the sequence
+-- of code that a linker dropped and moved to the address 2^32 - 1
 abbrev pub covers_nothing : Row → Bool
 covers_nothing row = row.ends || nat_lt row.address row.low
 
--- the spans of rows, in their order, without those that cover nothing; `before` is the row before them, if there is one
+-- the spans of rows, in order, without the rows that cover nothing; the row `before`, if there is one, comes before them, and the last row
+-- has no span
 abbrev pub spans_after : ℕ → Option Row → List Row → List Span
 spans_after unit before [] = []
 spans_after unit None (row ∷ rows) = spans_after unit (Some row) rows
 spans_after unit (Some before) (row ∷ rows) =
     if covers_nothing before then spans_after unit (Some row) rows else span unit before row ∷ spans_after unit (Some row) rows
 
--- the spans of the rows of a unit at an offset; one that is rejected has none
+-- the spans of the rows of the unit at an offset; none if the unit is rejected
 abbrev pub spans_of_rows : ℕ → Result (List Row) UnitError → List Span
 spans_of_rows unit (Ok rows) = spans_after unit None rows
 spans_of_rows unit (Err error) = []
 
--- the spans of a unit
+-- the spans of a unit that was read
 abbrev pub spans_of : UnitRead → List Span
 spans_of read = spans_of_rows read.offset read.rows
 
--- the spans of a section
+-- the spans of all units of a section
 abbrev pub all_spans : List UnitRead → List Span
 all_spans reads = flat_map spans_of reads
 
@@ -46,27 +47,28 @@ all_spans reads = flat_map spans_of reads
 abbrev pub covers : ℕ → Span → Bool
 covers a s = nat_le s.from a && nat_lt a s.to
 
--- the first span such that no span has a greater `low`
+-- the first of the spans with the greatest `low`, or `None` if there is no span
 abbrev pub chosen : List Span → Option Span
 chosen spans = find (λ s. not (list_any (λ t. nat_lt s.source.low t.source.low) spans)) spans
 
--- the source of the span chosen among those that cover an address, also if its line is 0
+-- the source line of the chosen span among those that cover an address, even if its line is 0
 unfoldable pub source_at : List Span → ℕ → Option SourceLine
 source_at spans a = option_map (λ s. s.source) (chosen (filter (covers a) spans))
 
--- line 0 is no line
+-- the source line, or `None` if its line is 0, which means that the line is not known
 abbrev pub with_line : SourceLine → Option SourceLine
 with_line source = if source.line == 0 then None else Some source
 
--- the units of `.debug_line`
+-- the units of `.debug_line`, in order
 abbrev pub units_of : Strings → List ℕ → List UnitRead
 units_of strings section = units (length section) strings 0 section
 
--- the source line of an address
+-- the source line of an address, or `None` if it has none
 unfoldable pub line_at : Strings → List ℕ → ℕ → Option SourceLine
 line_at strings section a = option_and_then with_line (source_at (all_spans (units_of strings section)) a)
 
--- `source` is that of a span that covers an address; no span that covers it has a greater `low`, and none before it has an equal one
+-- `source` is the source line of a span that covers an address; no span that covers it has a greater `low`, and none before it has an equal
+-- one
 pub record IsSourceOf (spans : List Span) (a : ℕ) (source : SourceLine) : Type 0 where
   pub span : Span
   pub is : span.source ≡ source
@@ -79,19 +81,20 @@ pub record IsSourceOf (spans : List Span) (a : ℕ) (source : SourceLine) : Type
 
 -- ---- the units that are rejected
 
+-- whether a unit is rejected
 abbrev pub is_rejected : UnitRead → Bool
 is_rejected read = is_err read.rows
 
--- the error of a unit at an offset, or else `later`
+-- the error and the offset of a unit, or `later`, those of a later unit, if the unit has no error
 abbrev pub error_or : ℕ → Result (List Row) UnitError → Option (UnitError × ℕ) → Option (UnitError × ℕ)
 error_or unit (Ok rows) later = later
 error_or unit (Err error) later = Some (error, unit)
 
--- the error and the offset of the first unit that is rejected
+-- the error and the offset of the first rejected unit, or `None` if there is none
 abbrev pub first_error : List UnitRead → Option (UnitError × ℕ)
 first_error [] = None
 first_error (read ∷ reads) = error_or read.offset read.rows (first_error reads)
 
--- how many units there are, how many of them are rejected, and the error and the offset of the first
+-- the number of units, how many of them are rejected, and the error and the offset of the first rejected one
 abbrev pub rejected_units : List UnitRead → RejectedUnits
 rejected_units reads = record { units = length reads; rejected = count_by is_rejected reads; first = first_error reads }

@@ -15,11 +15,11 @@ is_absolute (b ∷ bytes) = b == 0x2f
 abbrev pub has_no_directory : Entry → Bool
 has_no_directory file = is_absolute file.name || (file.directory == 0)
 
--- the name of a directory; an empty one is none
+-- the name of a directory, or `None` if it is empty
 abbrev pub directory_name : Entry → Option (List ℕ)
 directory_name directory = if length directory.name == 0 then None else Some directory.name
 
--- the directory of a file: none if it has none, if no directory has its number, or if the name of that directory is empty
+-- the name of a file's directory; `None` if the file has no directory, if no directory has its number, or if the directory's name is empty
 abbrev pub directory_of : Header → Entry → Option (List ℕ)
 directory_of h file = if has_no_directory file then None
     else option_and_then directory_name (numbered h.first h.directories file.directory)
@@ -29,10 +29,11 @@ pub record Path : Type 0 where
   pub directory : Option (List ℕ)
   pub name : List ℕ
 
+-- the path with this directory and this name
 abbrev pub path_with : Option (List ℕ) → List ℕ → Path
 path_with directory name = record { directory = directory; name = name }
 
--- NAME, or DIRECTORY/NAME
+-- the text NAME, or DIRECTORY/NAME if there is a directory
 abbrev pub joined : Option (List ℕ) → List ℕ → List ℕ
 joined None name = name
 joined (Some directory) name = directory ++ 0x2f ∷ name
@@ -41,7 +42,7 @@ joined (Some directory) name = directory ++ 0x2f ∷ name
 abbrev pub path_text : Path → List ℕ
 path_text path = joined path.directory path.name
 
--- the path of a file of a header
+-- the path of a file, whose directory is in this header
 abbrev pub path_in : Header → Entry → Path
 path_in h file = path_with (directory_of h file) file.name
 

@@ -14,7 +14,7 @@ abbrev pub ◌>>=◌ : {A B : Type 0} → Result A UnitError → (A → Result B
 (Ok x) >>= f = f x
 (Err e) >>= f = Err e
 
--- the code's result is what the definition reads, seen through `view`
+-- the definition reads what the code returns: the value, seen through `view`, or the error
 abbrev pub Gives : {X Y : Type 0} → (X → Y) → Result X UnitError → Result Y UnitError → Type 0
 Gives view (Ok x) read = read ≡ Ok (view x)
 Gives view (Err e) read = read ≡ Err e
@@ -32,7 +32,7 @@ fixed_at cut size bytes = if nat_lt (length bytes) size then Err cut else Ok (li
 abbrev pub skip_at : UnitError → ℕ → List ℕ → Result (List ℕ) UnitError
 skip_at cut size bytes = if nat_lt (length bytes) size then Err cut else Ok (drop size bytes)
 
--- a string, and the bytes after its zero byte; or the error `cut` if there was no zero byte
+-- the string and the bytes after its zero byte; or the error `cut` if no string is given
 abbrev pub string_or : UnitError → List ℕ → Option (List ℕ) → Read (List ℕ)
 string_or cut bytes None = Err cut
 string_or cut bytes (Some text) = Ok (text, drop (length text + 1) bytes)

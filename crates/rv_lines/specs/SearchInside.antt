@@ -1,4 +1,4 @@
--- How spans, one after the other, change what has been found for each address.
+-- How each span changes what has been found for each address.
 use Rattle.std.specs.Prelude.{◌+◌, ℕ, Bool, true, List, [], ◌∷◌, nat_lt, Option, Some, None, if◌then◌else◌, option_and_then, Result, Ok, Err}
 use Rattle.std.specs.List.Sorted.{IsNonDecreasingBy}
 use Rattle.std.specs.Option.{option_map_or, option_or}
@@ -14,11 +14,11 @@ use Rattle.rv_lines.specs.Lines.{covers, with_line}
 use Rattle.rv_lines.specs.Reading.{◌>>=◌}
 use Rattle.rv_lines.specs.Rows.{lacks_file, program_rows}
 
--- whether a source is chosen after what was found: nothing, or one with a smaller `low`
+-- whether a source line replaces what was found: nothing, or a source line with a smaller `low`
 abbrev pub is_higher : SourceLine → Option SourceLine → Bool
 is_higher source found = option_map_or (λ f. nat_lt f.low source.low) found true
 
--- the source that is chosen of a new one and what was found
+-- the source line if it replaces what was found, and otherwise what was found
 abbrev pub higher : SourceLine → Option SourceLine → Option SourceLine
 higher source found = if is_higher source found then Some source else found
 
@@ -41,24 +41,24 @@ noted_all (s ∷ spans) addresses found = noted_all spans addresses (noted_each 
 abbrev pub drop_line_0 : Option SourceLine → Option SourceLine
 drop_line_0 found = option_and_then with_line found
 
--- nothing, whatever was found
+-- `None`, whatever was found
 abbrev pub clear : Option SourceLine → Option SourceLine
 clear found = None
 
--- whether the file of a row that was added is there
+-- the error `FileNumber` if a row was added whose file the unit does not have
 abbrev pub file_check : FileNumbers → Option Row → Result (Unit {0}) UnitError
 file_check files None = Ok tt
 file_check files (Some row) = if lacks_file files row then Err FileNumber else Ok tt
 
--- a result without its value
+-- the result without its value, or the error
 abbrev pub checked_only : {X : Type 0} → Result X UnitError → Result (Unit {0}) UnitError
 checked_only read = read >>= λ _. Ok tt
 
--- the rows of a program that the code holds
+-- the rows of a `Program` of the code, or its error
 abbrev pub rows_of_program : declared.Program → Result (List Row) UnitError
 rows_of_program p = program_rows p.parameters p.files p.lengths.now p.bytes.now
 
--- the counts after one more unit at an offset
+-- the counts after one more unit, which is at this offset and was read with this result
 abbrev pub rejected_after : RejectedUnits → ℕ → Result (Unit {0}) UnitError → RejectedUnits
 rejected_after counts offset (Ok _) = record counts { units = counts.units + 1 }
 rejected_after counts offset (Err error) = record {
@@ -67,6 +67,6 @@ rejected_after counts offset (Err error) = record {
   first = option_or counts.first (Some (error, offset));
 }
 
--- addresses in their order
+-- the addresses are in ascending order, possibly with equal ones
 abbrev pub IsRising : List ℕ → Type 0
 IsRising addresses = IsNonDecreasingBy (λ a. a) addresses

@@ -1,4 +1,4 @@
--- The sections of line tables, by their names (System V ABI, "Sections", "String Table"; compressed sections: SHF_COMPRESSED).
+-- The sections of line tables, found by their names (System V ABI, "Sections", "String Table"; compressed sections: SHF_COMPRESSED).
 use Rattle.std.specs.Prelude.{◌≡◌, ◌≤◌, ◌<◌, ◌==◌, ◌||◌, ◌&&◌, ◌+◌, ◌*◌, ℕ, Bool, not, true, false, List, [], length, map, take, drop, nat_lt, Option, Result, Ok, Err, if◌then◌else◌, find, codes, bit_and}
 use Rattle.std.specs.List.{range_with_len}
 use Rattle.std.specs.Option.{option_map_or}
@@ -9,7 +9,7 @@ use Rattle.rv_lines.specs.declared.error.LinesError.TheVariants.{SectionTable, N
 use Rattle.rv_lines.specs.declared.sections.Section.{Section}
 use Rattle.rv_lines.specs.Entries.{Strings}
 
--- e_shstrndx: the index of the section that has the names of sections
+-- e_shstrndx: the index of the section that holds the names of the sections
 abbrev pub e_shstrndx : List ℕ → ℕ
 e_shstrndx file = half_at file 50
 
@@ -23,7 +23,7 @@ header_at file at = record {
   size = word_at file (at + 20);
 }
 
--- a section as it is in the file, where one of type SHT_NOBITS has no bytes
+-- a section as it is in the file: a section of type SHT_NOBITS has no bytes there
 abbrev pub in_file : Section → Section
 in_file s = if s.kind == 8 then record s { offset = 0; size = 0 } else s
 
@@ -52,15 +52,15 @@ is_past_file n s = nat_lt n (s.offset + s.size)
 abbrev pub bytes_of : List ℕ → Section → List ℕ
 bytes_of file s = take s.size (drop s.offset file)
 
--- whether a section is no string table (SHT_STRTAB) within the file
+-- whether a section is not a string table (SHT_STRTAB), or extends past the end of the file
 abbrev pub is_invalid_name_table : List ℕ → Section → Bool
 is_invalid_name_table file s = not (s.kind == 3) || is_past_file (length file) s
 
--- whether the index of the section of names is not that of a string table within the file
+-- whether there is no section with the index `e_shstrndx`, or it is not a string table within the file
 abbrev pub has_bad_names : List ℕ → Bool
 has_bad_names file = not (nat_lt (e_shstrndx file) (e_shnum file)) || is_invalid_name_table file (section_of_index file (e_shstrndx file))
 
--- the names of the sections
+-- the string table with the names of the sections
 abbrev pub names_of : List ℕ → List ℕ
 names_of file = bytes_of file (section_of_index file (e_shstrndx file))
 
@@ -68,11 +68,11 @@ names_of file = bytes_of file (section_of_index file (e_shstrndx file))
 abbrev pub is_named : List ℕ → List ℕ → Section → Bool
 is_named names text s = begins_with_name (drop s.name names) text
 
--- whether a section has one of the two names: the one that it has as it is, or the one that `-gz=zlib-gnu` gives it
+-- whether a section has one of the two names: the plain one, or the one that `-gz=zlib-gnu` gives it
 abbrev pub is_named_either : List ℕ → List ℕ → List ℕ → Section → Bool
 is_named_either names plain gnu s = is_named names plain s || is_named names gnu s
 
--- the first section with one of the two names
+-- the first section with one of the two names, or `None` if there is none
 unfoldable pub named : List ℕ → List ℕ → List ℕ → Option Section
 named file plain gnu = find (is_named_either (names_of file) plain gnu) (sections file)
 
@@ -85,7 +85,7 @@ abbrev pub readable_bytes : List ℕ → List ℕ → Section → Result (List �
 readable_bytes file gnu s = if is_compressed (names_of file) gnu s then Err Compressed
     else if is_past_file (length file) s then Err SectionFile else Ok (bytes_of file s)
 
--- the bytes of the section with one of the two names, none if it is absent, or why they cannot be read
+-- the bytes of the first section with one of the two names, no bytes if there is none, or why they cannot be read
 unfoldable pub bytes_named : List ℕ → List ℕ → List ℕ → Result (List ℕ) LinesError
 bytes_named file plain gnu = option_map_or (readable_bytes file gnu) (named file plain gnu) (Ok [])
 
@@ -100,7 +100,7 @@ abbrev pub ◌then◌ : {A B : Type 0} → Result A LinesError → (A → Result
 (Ok x) then f = f x
 (Err e) then f = Err e
 
--- the tables of the sections, each checked in turn
+-- `.debug_line` and the string sections, or the error of the first of them that cannot be read
 unfoldable pub tables_of : List ℕ → Result Tables LinesError
 tables_of file = bytes_named file (codes ".debug_line") (codes ".zdebug_line") then λ lines.
     (bytes_named file (codes ".debug_line_str") (codes ".zdebug_line_str") then λ line_str.

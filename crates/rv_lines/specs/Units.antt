@@ -9,11 +9,11 @@ use Rattle.rv_lines.specs.Entries.{Strings}
 use Rattle.rv_lines.specs.Header.{file_numbers, header_at}
 use Rattle.rv_lines.specs.Rows.{program_rows}
 
--- unit_length
+-- unit_length: the length of a unit without this field
 abbrev pub unit_length : List ℕ → ℕ
 unit_length bytes = little_number 4 bytes
 
--- the bytes of the unit after unit_length, or why they cannot be told
+-- the bytes of the unit after unit_length, or the error of its length
 unfoldable pub unit_bytes : List ℕ → Result (List ℕ) UnitError
 unit_bytes bytes = if nat_lt (length bytes) 4 then Err UnitCutOff
     else if unit_length bytes == 0xffff_ffff then Err Dwarf64
@@ -21,19 +21,19 @@ unit_bytes bytes = if nat_lt (length bytes) 4 then Err UnitCutOff
     else if nat_lt (length bytes) (4 + unit_length bytes) then Err UnitCutOff
     else Ok (take (unit_length bytes) (drop 4 bytes))
 
--- the number of bytes from a unit in 64-bit form to the next, by its length
+-- the number of bytes from a unit in the 64-bit format to the next, which its length gives; all bytes if the length is cut off
 abbrev pub long_unit_size : List ℕ → ℕ
 long_unit_size bytes = if nat_lt (length bytes) 12 then length bytes else 12 + little_number 8 (drop 4 bytes)
 
--- the number of bytes from a unit to the next: a unit in 64-bit form is passed over by its length, and nothing is read after a length that is
--- reserved or cut off
+-- the number of bytes from a unit to the next: a unit in the 64-bit format is skipped by its length, and nothing is read after a length
+-- that is reserved or cut off
 unfoldable pub unit_size : List ℕ → ℕ
 unit_size bytes = if nat_lt (length bytes) 4 then length bytes
     else if unit_length bytes == 0xffff_ffff then long_unit_size bytes
     else if nat_le 0xffff_fff0 (unit_length bytes) then length bytes
     else 4 + unit_length bytes
 
--- the rows of a unit; they depend on its bytes and the string sections alone
+-- the rows of a unit from its bytes after unit_length, or its error; they depend only on these bytes and the string sections
 unfoldable pub unit_rows : Strings → List ℕ → Result (List Row) UnitError
 unit_rows strings bytes = header_at strings bytes >>= λ header.
     program_rows header.0.parameters (file_numbers header.0) header.0.lengths header.1

@@ -1,5 +1,6 @@
-//! The directories and files of a unit's header (DWARF 4, section 6.2.4; DWARF 5, section 6.2.4.1). They are not kept: of each list, the number
-//! of its entries is counted, and one entry is picked.
+//! The directories and files of a unit's header (DWARF 4, section 6.2.4; DWARF 5, section 6.2.4.1). The lists are not stored: the entries
+//! of each are counted, and one of them is picked. A function that reads also returns the bytes after what it has read, or the error
+//! `HeaderCutOff` if the bytes end too early.
 ghost use Rattle.std.specs.Prelude.{◌≡◌, ◌||◌, if◌then◌else◌, Some, length, option_map, is_ok, true, false};
 ghost use Rattle.rv_lines.specs.Reading.{Gives};
 ghost use Rattle.rv_lines.specs.Entries.{empty_entry, is_path, numbers_at, list_at, fields_at, with_field, entry_at, entries_at, table_at};
@@ -21,21 +22,22 @@ pub(crate) struct Entry<'a> {
     pub(crate) directory: u64,
 }
 
-/// A list of entries: how many there are, and the one that was picked, if there is one.
+/// What is stored of a list: the number of its entries, and the picked entry, or `None` if the list does not have it.
 #[derive(Clone, Copy)]
 pub(crate) struct Entries<'a> {
     pub(crate) count: u64,
     pub(crate) found: Option<Entry<'a>>,
 }
 
-/// The format of entries in DWARF 5: `count` fields, described by `bytes`.
+/// The entry format of DWARF 5: `bytes` begins with the descriptions of `count` fields.
 #[derive(Clone, Copy)]
 pub(crate) struct Format<'a> {
     pub(crate) count: u8,
     pub(crate) bytes: &'a [u8],
 }
 
-/// Reads a list of DWARF 2 to 4, of directories or files, up to the empty name that ends it, and picks the entry at an index.
+/// Reads a list of directories or files in the form of DWARF 2 to 4, which ends with an empty name. Returns the number of entries and the
+/// entry at an index.
 pub(crate) fn list_at<'a>(
     of_files: bool,
     index: Option<u64>,
@@ -59,7 +61,7 @@ pub(crate) fn list_at<'a>(
     }
 }
 
-// Returns the entry at index `k` if that is the one to be picked, and otherwise what was found before.
+// Returns `entry` if its index `k` is the one to be picked, and otherwise `found`.
 fn pick<'a>(
     index: Option<u64>,
     k: u64,
@@ -72,7 +74,8 @@ fn pick<'a>(
     if index == Some(k) { Some(entry) } else { found }
 }
 
-// Reads the numbers after the name of a file: its directory, and its time and length, which are skipped. A directory has none.
+// Reads the numbers after a name. After a file's name there are the number of its directory, which is returned, and its time and length,
+// which are skipped. After a directory's name there are none, and the result is 0.
 #[tactic(auto, unfolding(crate::specs::Entries::numbers_at))]
 fn numbers_at(of_files: bool, bytes: &[u8]) -> Result<(u64, &[u8]), UnitError>
     ensures { Gives (λ x. (x.0, x.1.now)) result (numbers_at of_files bytes.now) }
@@ -86,7 +89,8 @@ fn numbers_at(of_files: bool, bytes: &[u8]) -> Result<(u64, &[u8]), UnitError>
     Ok((u64::from(directory), rest))
 }
 
-/// Reads entries of DWARF 5 after their format and their number, and picks the entry at an index.
+/// Reads a list of directories or files in the form of DWARF 5, which is the entry format, the number of entries and the entries. Returns
+/// the number of entries and the entry at an index. The error is `EntryForm` if there are entries and none of their fields is a path.
 #[tactic(auto, unfolding(crate::specs::Entries::table_at))]
 pub(crate) fn table_at<'a>(
     strings: &StringSections<'a>,
@@ -106,7 +110,8 @@ pub(crate) fn table_at<'a>(
     entries_at(strings, &format, entries, index, rest)
 }
 
-// Checks the fields of a format, and returns whether one of them is a path, and the bytes after them.
+// Checks the fields of an entry format, whose forms must be valid for their contents. Returns whether one of them is a path, and the bytes
+// after them.
 fn format_end<'a>(format: &Format<'a>) -> Result<(bool, &'a [u8]), UnitError>
     ensures { Gives (λ x. (x.0, x.1.now)) result
         (path_and_rest false (fields_at format.now.count format.now.bytes.now)) }
@@ -121,14 +126,14 @@ fn format_end<'a>(format: &Format<'a>) -> Result<(bool, &'a [u8]), UnitError>
     Ok((has_path, rest))
 }
 
-// Whether there is a path, once there is one more field.
+// Whether the fields up to and including `field` have a path, given whether those before it do.
 fn has_path_with(before: bool, field: Field) -> bool
     ensures { result ≡ (before || is_path field) }
 {
     before || field.content == DW_LNCT_PATH
 }
 
-// Reads `count` entries of a format, and picks the one at an index.
+// Reads `count` entries of a format. Returns the count and the entry at an index.
 fn entries_at<'a>(
     strings: &StringSections<'a>,
     format: &Format<'a>,
@@ -156,7 +161,7 @@ fn entries_at<'a>(
     ))
 }
 
-// Reads an entry of a format.
+// Reads an entry with the fields of a format.
 fn entry_at<'a>(
     strings: &StringSections<'a>,
     format: &Format<'a>,
@@ -182,7 +187,7 @@ fn entry_at<'a>(
     Ok((entry, rest))
 }
 
-// Reads one more field of an entry.
+// Reads the next field of an entry, and returns the entry with it. A field that is neither a path nor a directory index is skipped.
 #[tactic(auto, unfolding(crate::specs::Entries::with_field))]
 fn with_field<'a>(
     strings: &StringSections<'a>,

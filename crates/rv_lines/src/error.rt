@@ -2,8 +2,8 @@
 ghost use Rattle.std.specs.Prelude.{◌≡◌};
 ghost use Rattle.rv_lines.specs.ErrorNames.{lines_error_name, unit_error_name};
 
-/// Why a file has no source lines at all. If two reasons apply, the first that is checked is returned: in the order below, with `Compressed`
-/// and `SectionFile` for one section after the other.
+/// Why a file has no source lines at all. If several reasons apply, the first in this order is returned, except that a missing or empty
+/// `.debug_line` is checked for after `SectionNames`, and that `Compressed` and `SectionFile` are checked section by section.
 #[derive(Clone, Copy, Debug, PartialEq, Eq)]
 pub enum LinesError {
     /// The section headers are not 40 bytes long, or extend past the end of the file.
@@ -33,20 +33,20 @@ impl LinesError {
     }
 }
 
-/// Why a unit of `.debug_line` is rejected: the first error in the order of its bytes. The sections are those of DWARF 5.
+/// Why a unit of `.debug_line` is rejected: the first error in the order of its bytes. Section numbers are those of DWARF 5.
 #[derive(Clone, Copy, Debug, PartialEq, Eq)]
 pub enum UnitError {
-    /// Fewer than 4 bytes are left, or the length extends past the section. Nothing after it is read.
+    /// Fewer than 4 bytes are left in the section, or the unit extends past its end. No later unit is read.
     UnitCutOff,
-    /// The unit is in 64-bit form (7.4). It is passed over.
+    /// The unit is in the 64-bit format (7.4). It is skipped.
     Dwarf64,
-    /// The length is reserved (7.2.2). Nothing after it is read.
+    /// The length is reserved (7.2.2). No later unit is read.
     ReservedLength,
-    /// The version is none of 2 to 5.
+    /// The version is not 2, 3, 4 or 5.
     Version,
-    /// `address_size` is not 4, or there is a segment selector.
+    /// `address_size` is not 4, or `segment_selector_size` is not 0.
     AddressSize,
-    /// A field of the header extends past the header, or the header past the unit.
+    /// A field of the header extends past the header, or the header extends past the unit.
     HeaderCutOff,
     /// `maximum_operations_per_instruction` is not 1.
     Operations,
@@ -54,21 +54,23 @@ pub enum UnitError {
     LineRange,
     /// `opcode_base` is 0.
     OpcodeBase,
-    /// The number of operands of one of the standard opcodes 1 to 12 is not the standard's.
+    /// The number of operands of one of the standard opcodes 1 to 12 differs from the standard's.
     OpcodeLengths,
-    /// A form is not read here, a path is not a string, a directory is not a number, or entries have no path (6.2.4.1).
+    /// A form is not supported, the form of a path is not a string, the form of a directory index is not a number, or the entries have no
+    /// path (6.2.4.1).
     EntryForm,
-    /// The offset of a string is outside its section, or no zero byte follows.
+    /// The offset of a string is outside its section, or no zero byte follows it.
     EntryText,
-    /// A LEB128 number (7.6) that is not skipped is out of range.
+    /// A LEB128 number (7.6) is out of range: an unsigned one is 2^32 or more, or a signed one does not fit in 32 bits. A number that is
+    /// skipped may have any size.
     Number,
     /// An operand extends past the unit.
     OperationCutOff,
-    /// The length of an extended opcode is not that of its operands (6.2.5.3).
+    /// The length of an extended opcode does not match its operands (6.2.5.3).
     OperationLength,
-    /// A row that does not end a sequence is of an unknown file.
+    /// The unit has no file with the number in a row. The row at the end of a sequence is not checked.
     FileNumber,
-    /// Rows follow the last end of a sequence.
+    /// The program ends in the middle of a sequence.
     OpenSequence,
 }
 

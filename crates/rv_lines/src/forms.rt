@@ -1,4 +1,5 @@
-//! The fields of an entry and their forms (DWARF 5, sections 6.2.4.1 and 7.5.6).
+//! The fields of an entry and their forms (DWARF 5, sections 6.2.4.1 and 7.5.6). A function that reads also returns the bytes after what it
+//! has read, or the error `HeaderCutOff` if the bytes end too early.
 ghost use Rattle.std.specs.Prelude.{◌≡◌};
 ghost use Rattle.rv_lines.specs.Reading.{Gives};
 ghost use Rattle.rv_lines.specs.Entries.{is_string_form, size_of_form, is_number_form, is_known_form, is_valid_field, field_at, offset_string_at};
@@ -45,7 +46,7 @@ const DW_FORM_DATA16: u32 = 0x1e;
 
 const DW_FORM_LINE_STRP: u32 = 0x1f;
 
-/// Reads one field of the format of entries, whose form must fit its content.
+/// Reads one field of an entry format. The error is `EntryForm` if its form is not valid for its content.
 #[tactic(auto, unfolding(crate::specs::Entries::field_at))]
 pub(crate) fn field_at(bytes: &[u8]) -> Result<(Field, &[u8]), UnitError>
     ensures { Gives (λ x. (x.0, x.1.now)) result (field_at bytes.now) }
@@ -61,7 +62,8 @@ pub(crate) fn field_at(bytes: &[u8]) -> Result<(Field, &[u8]), UnitError>
 }
 
 impl Field {
-    // Whether the field may have its form: a path is a string, the number of a directory a number, and any other has a form that is read.
+    // Whether the form of the field is valid for its content: a path must be a string, a directory index a number, and any other content
+    // may have any supported form.
     fn is_valid_field(self) -> bool
         ensures { result ≡ is_valid_field self }
     {
@@ -73,28 +75,28 @@ impl Field {
     }
 }
 
-// Whether a form is a string.
+// Whether the values of a form are strings.
 fn is_string_form(form: u32) -> bool
     ensures { result ≡ is_string_form form }
 {
     form == DW_FORM_STRING || form == DW_FORM_LINE_STRP || form == DW_FORM_STRP
 }
 
-// Whether a form is a number.
+// Whether the values of a form are numbers.
 fn is_number_form(form: u32) -> bool
     ensures { result ≡ is_number_form form }
 {
     form == DW_FORM_UDATA || size_of_form(form).is_some()
 }
 
-// Whether a form is read at all.
+// Whether a form is supported: a string, a number, data16 or block.
 fn is_known_form(form: u32) -> bool
     ensures { result ≡ is_known_form form }
 {
     is_string_form(form) || is_number_form(form) || form == DW_FORM_DATA16 || form == DW_FORM_BLOCK
 }
 
-// Returns the number of bytes of a number of a fixed size, or `None` for another form.
+// Returns the size in bytes of a number of this form, or `None` if the form is not a number of fixed size.
 fn size_of_form(form: u32) -> Option<u32>
     ensures { result ≡ size_of_form form }
 {
@@ -107,7 +109,7 @@ fn size_of_form(form: u32) -> Option<u32>
     }
 }
 
-/// Reads a string of a form.
+/// Reads a string of this form; the error is `EntryForm` if the form is not a string.
 #[tactic(auto, unfolding(crate::specs::Entries::form_string_at))]
 pub(crate) fn string_of_form<'a>(
     strings: &StringSections<'a>,
@@ -124,7 +126,7 @@ pub(crate) fn string_of_form<'a>(
     }
 }
 
-// Reads the offset of a string, and returns the string of the section there.
+// Reads the offset of a string, and returns the string at this offset of the section, or the error `EntryText` if there is none.
 #[tactic(auto, unfolding(crate::specs::Entries::offset_string_at))]
 fn offset_string_at<'a>(
     section: &'a [u8],
@@ -139,7 +141,7 @@ fn offset_string_at<'a>(
     }
 }
 
-/// Reads a number of a form.
+/// Reads a number of this form; the error is `EntryForm` if the form is not a number.
 #[tactic(auto, unfolding(crate::specs::Entries::form_number_at))]
 pub(crate) fn number_of_form(form: u32, bytes: &[u8]) -> Result<(u64, &[u8]), UnitError>
     ensures { Gives (λ x. (x.0, x.1.now)) result (form_number_at form bytes.now) }
@@ -166,7 +168,7 @@ pub(crate) fn number_of_form(form: u32, bytes: &[u8]) -> Result<(u64, &[u8]), Un
     }
 }
 
-/// Skips a value of a form.
+/// Skips a value of this form, and returns the bytes after it. The error is `EntryForm` if the form is not supported.
 pub(crate) fn skip_form(form: u32, bytes: &[u8]) -> Result<&[u8], UnitError>
     ensures { Gives (λ x. x.now) result (skip_form form bytes.now) }
 {
@@ -176,7 +178,7 @@ pub(crate) fn skip_form(form: u32, bytes: &[u8]) -> Result<&[u8], UnitError>
     }
 }
 
-// Returns the number of bytes of a value that is skipped, or `None` if they depend on the value.
+// Returns the size in bytes of a value of this form, or `None` if the form has no fixed size.
 fn skipped_size(form: u32) -> Option<u32>
     ensures { result ≡ skipped_size form }
 {
@@ -187,7 +189,7 @@ fn skipped_size(form: u32) -> Option<u32>
     }
 }
 
-// Skips a value whose number of bytes depends on it.
+// Skips a value of a form without a fixed size: a string, udata or block. Any other form is the error `EntryForm`.
 #[tactic(auto, unfolding(crate::specs::Entries::skip_variable_form))]
 fn skip_variable_form(form: u32, bytes: &[u8]) -> Result<&[u8], UnitError>
     ensures { Gives (λ x. x.now) result (skip_variable_form form bytes.now) }

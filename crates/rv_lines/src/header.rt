@@ -1,4 +1,5 @@
-//! The header of a unit's line number program (DWARF 5, section 6.2.4).
+//! The header of a unit's line number program (DWARF 5, section 6.2.4). A function named `.._at` also returns the bytes after what it has
+//! read. The error is `HeaderCutOff` if the bytes end too early.
 ghost use Rattle.std.specs.Prelude.{◌≡◌, ◌<◌, IfOk};
 ghost use Rattle.rv_lines.specs.Reading.{Gives};
 ghost use Rattle.rv_lines.specs.Header.{are_standard, sign_extended, operations_check, lengths_at, parameters_at, entries_of_version};
@@ -11,14 +12,14 @@ use crate::error::UnitError;
 use crate::reading::{byte_at, half_at, word_at};
 use crate::tables::StringSections;
 
-/// The parameters of a program.
+/// The fields of a header that its program depends on.
 #[derive(Clone, Copy)]
 pub(crate) struct Parameters {
     /// `minimum_instruction_length`.
     pub(crate) min_length: u8,
     /// `default_is_stmt`.
     pub(crate) is_stmt: bool,
-    /// `line_base`, modulo 2^32.
+    /// `line_base`, a signed number, modulo 2^32.
     pub(crate) line_base: u32,
     /// `line_range`.
     pub(crate) line_range: u8,
@@ -26,14 +27,14 @@ pub(crate) struct Parameters {
     pub(crate) opcode_base: u8,
 }
 
-/// The numbers of a unit's files: `count` of them, from `first` on.
+/// The file numbers of a unit: `count` consecutive numbers from `first` on.
 #[derive(Clone, Copy)]
 pub(crate) struct FileNumbers {
     pub(crate) first: u32,
     pub(crate) count: u64,
 }
 
-/// The numbers of the directory and of the file to be picked from a header.
+/// The numbers of the directory and the file to be picked from a header.
 #[derive(Clone, Copy)]
 pub(crate) struct RequestedEntries {
     pub(crate) directory: u64,
@@ -41,14 +42,14 @@ pub(crate) struct RequestedEntries {
 }
 
 impl RequestedEntries {
-    /// For a caller that needs neither.
+    /// For a caller that needs neither of them.
     pub(crate) const NOTHING: RequestedEntries = RequestedEntries {
         directory: 0,
         file: 0,
     };
 }
 
-/// A header, with the directory and the file that were picked.
+/// What is stored of a header, with the picked directory and file, each `None` if the header does not have it.
 #[derive(Clone, Copy)]
 pub(crate) struct Header<'a> {
     pub(crate) parameters: Parameters,
@@ -62,7 +63,8 @@ pub(crate) struct Header<'a> {
 /// The numbers of operands of the standard opcodes 1 to 12 (6.2.5.2).
 const STANDARD_LENGTHS: [u8; 12] = [0, 1, 1, 1, 1, 0, 0, 0, 1, 0, 0, 1];
 
-/// Reads the header of a unit, from the bytes after `unit_length`. After it comes the program.
+/// Reads the header of a unit from the bytes after `unit_length`, and picks the requested directory and file. Returns the header and the
+/// bytes after it, which are the program; or the header's first error.
 #[tactic(auto, unfolding(crate::specs::Header::header_at))]
 pub(crate) fn header_at<'a>(
     strings: &StringSections<'a>,
@@ -78,7 +80,7 @@ pub(crate) fn header_at<'a>(
     Ok((header, program))
 }
 
-// Reads the version, and returns the bytes of the header's fields and those of the program.
+// Reads a header up to `header_length`. Returns the version, the bytes of the remaining fields, and the bytes of the program.
 #[tactic(auto, unfolding(crate::specs::Header::frame_at))]
 fn frame_at(bytes: &[u8]) -> Result<(u16, &[u8], &[u8]), UnitError>
     ensures { Gives (λ x. ((x.0, x.1.now), x.2.now)) result (frame_at bytes.now) }
@@ -106,7 +108,8 @@ fn version_at(bytes: &[u8]) -> Result<(u16, &[u8]), UnitError>
     }
 }
 
-// Checks `address_size` and `segment_selector_size`, which only DWARF 5 has, and returns the bytes after them.
+// Checks `address_size`, which must be 4, and `segment_selector_size`, which must be 0, and returns the bytes after them. Only DWARF 5 has
+// these fields.
 #[tactic(auto, unfolding(crate::specs::Header::addresses_check))]
 fn addresses_check(version: u16, bytes: &[u8]) -> Result<&[u8], UnitError>
     ensures { Gives (λ x. x.now) result (addresses_check version bytes.now) }
@@ -125,7 +128,7 @@ fn addresses_check(version: u16, bytes: &[u8]) -> Result<&[u8], UnitError>
     Ok(rest)
 }
 
-// Reads the fields of a header after `header_length`.
+// Reads the fields of a header after `header_length`, and picks the requested directory and file.
 #[tactic(auto, unfolding(crate::specs::Header::fields_of_header))]
 fn fields_of_header<'a>(
     strings: &StringSections<'a>,
@@ -155,21 +158,22 @@ fn fields_of_header<'a>(
     })
 }
 
-// Returns the number of the first file and of the first directory.
+// Returns the number of the first file and of the first directory: 0 in DWARF 5, and 1 in earlier versions.
 fn first_number(version: u16) -> u32
     ensures { result ≡ first_number version }
 {
     if version == 5 { 0 } else { 1 }
 }
 
-// Returns the index of a number that is counted from `first`.
+// Returns the index of the entry with this number if the first entry has the number `first`; `None` if the number is below `first`.
 fn index_of(first: u32, number: u64) -> Option<u64>
     ensures { result ≡ index_of first number }
 {
     number.checked_sub(u64::from(first))
 }
 
-// Reads directories or files in the form of the version, and picks the entry at an index.
+// Reads a list of directories, or of files if `of_files` is true, in the form of the version. Returns the number of entries and the entry
+// at an index.
 #[tactic(auto, unfolding(crate::specs::Header::entries_of_version))]
 fn entries_of_version<'a>(
     strings: &StringSections<'a>,
@@ -188,7 +192,7 @@ fn entries_of_version<'a>(
     }
 }
 
-// Reads the parameters of the program, from `minimum_instruction_length` to `opcode_base`.
+// Reads the parameters of the program, from `minimum_instruction_length` to `opcode_base`. `line_range` and `opcode_base` must not be 0.
 #[tactic(auto, unfolding(crate::specs::Header::parameters_at))]
 fn parameters_at(version: u16, bytes: &[u8]) -> Result<(Parameters, &[u8]), UnitError>
     ensures value { Gives (λ x. (x.0, x.1.now)) result (parameters_at version bytes.now) }
@@ -216,7 +220,7 @@ fn parameters_at(version: u16, bytes: &[u8]) -> Result<(Parameters, &[u8]), Unit
     Ok((parameters, rest))
 }
 
-// Checks `maximum_operations_per_instruction`, which DWARF 2 and 3 do not have, and returns the bytes after it.
+// Checks `maximum_operations_per_instruction`, which must be 1, and returns the bytes after it. DWARF 2 and 3 do not have this field.
 #[tactic(auto, unfolding(crate::specs::Header::operations_check))]
 fn operations_check(version: u16, bytes: &[u8]) -> Result<&[u8], UnitError>
     ensures { Gives (λ x. x.now) result (operations_check version bytes.now) }
@@ -232,7 +236,7 @@ fn operations_check(version: u16, bytes: &[u8]) -> Result<&[u8], UnitError>
     }
 }
 
-// Returns a signed byte, modulo 2^32.
+// Sign-extends a byte to 32 bits.
 fn sign_extended(byte: u8) -> u32
     ensures { result ≡ sign_extended byte }
 {
@@ -243,7 +247,8 @@ fn sign_extended(byte: u8) -> u32
     }
 }
 
-// Reads `standard_opcode_lengths`, of the opcodes from 1 up to but excluding `opcode_base`.
+// Reads `standard_opcode_lengths`: one byte for each opcode from 1 up to, but not including, `opcode_base`. The first 12 must be the
+// standard's.
 #[tactic(auto, unfolding(crate::specs::Header::lengths_at))]
 fn lengths_at(opcode_base: u8, bytes: &[u8]) -> Result<(&[u8], &[u8]), UnitError>
     ensures { Gives (λ x. (x.0.now, x.1.now)) result (lengths_at opcode_base bytes.now) }
@@ -259,7 +264,7 @@ fn lengths_at(opcode_base: u8, bytes: &[u8]) -> Result<(&[u8], &[u8]), UnitError
     Ok((lengths, rest))
 }
 
-// Whether the lengths of the opcodes that the standard has are those of the standard.
+// Whether the first 12 lengths, or all if there are fewer, are the standard's.
 fn are_standard(lengths: &[u8]) -> bool
     ensures { result ≡ are_standard lengths.now }
 {

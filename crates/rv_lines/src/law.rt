@@ -12,8 +12,8 @@ ghost use Rattle.rv_lines.specs.Lines.{line_at, all_spans, units_of, IsSourceOf}
 ghost use Rattle.rv_lines.specs.Units.{unit_length, rows_at};
 ghost use Rattle.rv_lines.specs.Paths.{path_text, path_with};
 
-/// Proves that the rows are those of the operations that add one, one each, in the order of the operations: after the rows of the operations
-/// before it comes the row of an operation, if it adds one, and then come those of the operations after it.
+/// Proves that each operation adds at most one row, and that the rows are in the order of the operations: first the rows of the operations
+/// before an operation, then its own row, if it adds one, and then the rows of the operations after it.
 pub fn rows_are_of_operations()
     ensures order { (p : Parameters) (s : State) (front : List Operation) (op : Operation) (back : List Operation)
         → rows_of p s (front ++ op ∷ back)
@@ -21,14 +21,14 @@ pub fn rows_are_of_operations()
     ensures count { (p : Parameters) (s : State) (ops : List Operation) → length (rows_of p s ops) ≡ count_by adds_row ops }
 {}
 
-/// Proves that the line of an address is that of a row that covers it, that no row that covers it has a greater `low`, and that none before
-/// it has an equal one.
+/// Proves that the source line of an address comes from the right row: among the rows that cover the address, the first of those whose
+/// `low`, the address of the first row of their sequence, is the greatest.
 pub fn line_is_of_first_highest_row()
     ensures { (strings : Strings) (section : List ℕ) (a : ℕ) (source : SourceLine) → line_at strings section a ≡ Some source
         → IsSourceOf (all_spans (units_of strings section)) a source }
 {}
 
-/// Proves that the rows of a unit depend on its bytes and the string sections alone, and not on the bytes after it.
+/// Proves that the rows of a unit depend only on its bytes and the string sections, and not on the bytes after the unit.
 pub fn rows_depend_on_the_unit()
     ensures { (strings : Strings) (unit more : List ℕ) → 4 + unit_length unit ≡ length unit
         → rows_at strings (unit ++ more) ≡ rows_at strings unit }
@@ -46,7 +46,7 @@ pub fn operations_are_no_more_than_bytes()
         → length (program (length bytes) opcode_base lengths bytes).0 ≤ length bytes }
 {}
 
-/// Proves that reading an operation takes at least a byte, so that reading a program ends.
+/// Proves that reading an operation consumes at least one byte, so that reading a program ends.
 pub fn operation_takes_a_byte()
     ensures { (opcode_base : ℕ) (lengths bytes rest : List ℕ) (operation : Operation)
         → operation_at opcode_base lengths bytes ≡ Ok (operation, rest) → length rest < length bytes }

@@ -1,8 +1,8 @@
 //! The source lines of an image, from its own line tables (DWARF 2 to 5, section 6.2 of DWARF 5).
 //!
-//! [`line_tables`] finds `.debug_line` and the string sections in a file. [`find_lines`] finds the source line of each of a sorted list of
-//! addresses without keeping a table, and returns how many units were rejected and the error of the first. [`source_path`] returns the path of a
-//! line's file. Each result is exactly as defined in `specs/`, which restricts the standard. Nothing here allocates.
+//! [`line_tables`] finds `.debug_line` and the string sections in a file. [`find_lines`] finds the source lines of sorted addresses without
+//! building a table, and returns how many units were rejected and the error of the first. [`source_path`] returns the path of a line's
+//! file. Each result is exactly as defined in `specs/`, which supports a subset of the standard. Nothing here allocates.
 #![tactic(auto)]
 
 mod entries;

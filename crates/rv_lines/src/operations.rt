@@ -1,4 +1,5 @@
-//! The instructions of a line number program (DWARF 5, section 6.2.5), which are called operations here.
+//! The instructions of a line number program (DWARF 5, section 6.2.5), which are called operations here. A function that reads also returns
+//! the bytes after what it has read, or the error `OperationCutOff` if the bytes end too early.
 ghost use Rattle.std.specs.Prelude.{◌≡◌, ◌<◌, ◌-◌, slice_index};
 ghost use Rattle.rv_lines.specs.Reading.{Gives};
 ghost use Rattle.rv_lines.specs.Operations.{standard_at, extended_of_length, extended_at, operation_at};
@@ -16,7 +17,7 @@ pub(crate) enum Operation {
     Copy,
     /// `DW_LNS_advance_pc`.
     AdvancePc(u32),
-    /// `DW_LNS_advance_line`, modulo 2^32.
+    /// `DW_LNS_advance_line`, with its signed operand modulo 2^32.
     AdvanceLine(u32),
     /// `DW_LNS_set_file`.
     SetFile(u32),
@@ -30,7 +31,7 @@ pub(crate) enum Operation {
     EndSequence,
     /// `DW_LNE_set_address`.
     SetAddress(u32),
-    /// An operation that changes nothing that is kept.
+    /// Any other operation. It changes no register that is needed here.
     Skipped,
 }
 
@@ -54,7 +55,8 @@ const DW_LNE_END_SEQUENCE: u8 = 1;
 
 const DW_LNE_SET_ADDRESS: u8 = 2;
 
-/// Reads an operation: a special one if its code is `opcode_base` or above, an extended one if it is 0, and otherwise a standard one.
+/// Reads an operation: a special one if its code is `opcode_base` or above, an extended one if it is 0, and otherwise a standard one. The
+/// error is `OperationCutOff` if the bytes end too early.
 #[tactic(auto, unfolding(crate::specs::Operations::operation_at))]
 pub(crate) fn operation_at<'a>(
     opcode_base: u8,
@@ -74,7 +76,7 @@ pub(crate) fn operation_at<'a>(
     }
 }
 
-// Reads the operands of a standard opcode.
+// Reads the operands of a standard opcode, and returns its operation.
 #[tactic(auto, unfolding(crate::specs::Operations::standard_at))]
 fn standard_at<'a>(
     lengths: &[u8],
@@ -121,7 +123,7 @@ fn operands_of(lengths: &[u8], code: u8) -> u8
     if at < lengths.len() { lengths[at] } else { 0 }
 }
 
-// Reads an extended opcode, from its length, which must not be 0.
+// Reads an extended opcode, beginning with its length, which must not be 0.
 #[tactic(auto, unfolding(crate::specs::Operations::extended_at))]
 fn extended_at(bytes: &[u8]) -> Result<(Operation, &[u8]), UnitError>
     ensures { Gives (λ x. (x.0, x.1.now)) result (extended_at bytes.now) }
@@ -133,7 +135,8 @@ fn extended_at(bytes: &[u8]) -> Result<(Operation, &[u8]), UnitError>
     extended_of_length(size, rest)
 }
 
-// Reads an extended opcode of a length, which counts its code and its operands.
+// Reads an extended opcode of this length, which counts its code and its operands. The length must be 1 for DW_LNE_end_sequence and 5 for
+// DW_LNE_set_address; any other opcode is skipped.
 #[tactic(auto, unfolding(crate::specs::Operations::extended_of_length))]
 fn extended_of_length(size: u32, bytes: &[u8]) -> Result<(Operation, &[u8]), UnitError>
     requires { 0 < size }

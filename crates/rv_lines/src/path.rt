@@ -20,10 +20,10 @@ pub struct SourcePath<'a> {
     pub name: &'a [u8],
 }
 
-/// Returns the path of a file of the unit at an offset of `.debug_line`, as [`SourceLine`](crate::SourceLine) has them, or `None` if the
-/// unit's header is rejected or has no such file. The path is NAME if that begins with `/`, if its directory is number 0, the compiler's own,
-/// if no directory has its number, or if the
-/// name of that directory is empty; otherwise it is DIRECTORY/NAME. Reads the header again. Does not allocate.
+/// Returns the path of the file with the number `file` in the unit at the offset `unit` of `.debug_line`, as in a
+/// [`SourceLine`](crate::SourceLine); `None` if the unit's header is rejected or has no such file. The path is NAME if that begins with
+/// `/`, if its directory is number 0, the compiler's own, if no directory has its number, or if the name of that directory is empty;
+/// otherwise it is DIRECTORY/NAME. Reads the header again. Does not allocate.
 pub fn source_path<'a>(tables: &LineTables<'a>, unit: u32, file: u32) -> Option<SourcePath<'a>>
     ensures { MatchOption result (path_of (view_strings tables.now.strings) tables.now.lines.now unit file ≡ None)
         (λ p. path_of (view_strings tables.now.strings) tables.now.lines.now unit file ≡ Some (view_path p)) }
@@ -74,7 +74,7 @@ fn header_of<'a>(
     }
 }
 
-// Returns the name of a directory, unless it is empty.
+// Returns the name of a directory, or `None` if there is no directory or its name is empty.
 fn name_of(entry: Option<Entry<'_>>) -> Option<&[u8]>
     ensures { option_map (λ name. name.now) result ≡ option_and_then directory_name (option_map view_entry entry.entry) }
 {

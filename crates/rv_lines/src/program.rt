@@ -1,4 +1,4 @@
-//! Reads the program of a unit: checks it, and notes the span of each row.
+//! Runs the program of a unit: checks it, and records the span of each row.
 ghost use Rattle.std.specs.Prelude.{◌≡◌, ◌<◌, [], length, IfOk, None};
 ghost use Rattle.rv_lines.specs.Lines.{spans_after};
 ghost use Rattle.rv_lines.specs.SearchInside.{noted_all, checked_only, rows_of_program, file_check, IsRising};
@@ -10,7 +10,7 @@ use crate::operations::operation_at;
 use crate::rows::{Row, State};
 use crate::span::{SourceLine, Span, note_span};
 
-/// The program of a unit at an offset of `.debug_line`, and what it needs of the header.
+/// The line number program of a unit, with the unit's offset in `.debug_line` and the fields of its header that the program depends on.
 #[derive(Clone, Copy)]
 pub(crate) struct Program<'a> {
     pub(crate) unit: u32,
@@ -20,7 +20,8 @@ pub(crate) struct Program<'a> {
     pub(crate) bytes: &'a [u8],
 }
 
-/// Notes the spans of a program's rows, or returns its first error. After an error, some spans may have been noted.
+/// Runs a program and records the spans of its rows in `found`, which has a result for each address; or returns the program's first error,
+/// and then some spans may have been recorded.
 pub(crate) fn note_program(
     program: &Program,
     addresses: &[u32],
@@ -56,7 +57,8 @@ pub(crate) fn note_program(
     }
 }
 
-// Checks that the file of a row is there, if a row was added and does not end a sequence.
+// Returns the error `FileNumber` if a row was added whose file the unit does not have. The file of a row that ends its sequence is not
+// checked.
 fn check_file(added: Option<Row>, files: FileNumbers) -> Result<(), UnitError>
     ensures { result ≡ file_check files added }
 {
@@ -66,7 +68,7 @@ fn check_file(added: Option<Row>, files: FileNumbers) -> Result<(), UnitError>
     }
 }
 
-// Notes the span of the row before, once a row was added after it. A row that covers nothing has none.
+// Records the span of the row `before`, if a row was added after it. A row that covers no address has no span.
 fn note_row(
     unit: u32,
     before: Option<Row>,

@@ -6,7 +6,7 @@ ghost use Rattle.rv_lines.specs.Reading.{Gives, byte_at, fixed_at, skip_at, stri
 use crate::error::UnitError;
 use byteorder::{ByteOrder, LittleEndian};
 
-/// Reads a byte.
+/// Reads a byte, or returns the error `cut` if there is none.
 pub(crate) fn byte_at(cut: UnitError, bytes: &[u8]) -> Result<(u8, &[u8]), UnitError>
     ensures { Gives (λ x. (x.0, x.1.now)) result (byte_at cut bytes.now) }
 {
@@ -16,7 +16,7 @@ pub(crate) fn byte_at(cut: UnitError, bytes: &[u8]) -> Result<(u8, &[u8]), UnitE
     }
 }
 
-/// Reads a little-endian number of two bytes.
+/// Reads a little-endian number of two bytes, or returns the error `cut` if there are fewer.
 pub(crate) fn half_at(cut: UnitError, bytes: &[u8]) -> Result<(u16, &[u8]), UnitError>
     ensures { Gives (λ x. (x.0, x.1.now)) result (fixed_at cut 2 bytes.now) }
 {
@@ -26,7 +26,7 @@ pub(crate) fn half_at(cut: UnitError, bytes: &[u8]) -> Result<(u16, &[u8]), Unit
     Ok((LittleEndian::read_u16(bytes), &bytes[2..]))
 }
 
-/// Reads a little-endian number of four bytes.
+/// Reads a little-endian number of four bytes, or returns the error `cut` if there are fewer.
 pub(crate) fn word_at(cut: UnitError, bytes: &[u8]) -> Result<(u32, &[u8]), UnitError>
     ensures { Gives (λ x. (x.0, x.1.now)) result (fixed_at cut 4 bytes.now) }
 {
@@ -36,7 +36,7 @@ pub(crate) fn word_at(cut: UnitError, bytes: &[u8]) -> Result<(u32, &[u8]), Unit
     Ok((LittleEndian::read_u32(bytes), &bytes[4..]))
 }
 
-/// Reads a little-endian number of eight bytes.
+/// Reads a little-endian number of eight bytes, or returns the error `cut` if there are fewer.
 pub(crate) fn long_at(cut: UnitError, bytes: &[u8]) -> Result<(u64, &[u8]), UnitError>
     ensures { Gives (λ x. (x.0, x.1.now)) result (fixed_at cut 8 bytes.now) }
 {
@@ -46,7 +46,7 @@ pub(crate) fn long_at(cut: UnitError, bytes: &[u8]) -> Result<(u64, &[u8]), Unit
     Ok((LittleEndian::read_u64(bytes), &bytes[8..]))
 }
 
-/// Skips `size` bytes.
+/// Skips `size` bytes, and returns the bytes after them, or the error `cut` if there are fewer.
 pub(crate) fn skip_at(cut: UnitError, size: u32, bytes: &[u8]) -> Result<&[u8], UnitError>
     ensures { Gives (λ x. x.now) result (skip_at cut size bytes.now) }
 {
@@ -56,7 +56,7 @@ pub(crate) fn skip_at(cut: UnitError, size: u32, bytes: &[u8]) -> Result<&[u8], 
     Ok(&bytes[size as usize..])
 }
 
-/// Reads a string and its zero byte.
+/// Reads a string that ends with a zero byte, which is not part of the result, or returns the error `cut` if there is no zero byte.
 #[tactic(auto, unfolding(crate::specs::Reading::string_at))]
 pub(crate) fn string_at(cut: UnitError, bytes: &[u8]) -> Result<(&[u8], &[u8]), UnitError>
     ensures { Gives (λ x. (x.0.now, x.1.now)) result (string_at cut bytes.now) }

@@ -1,4 +1,4 @@
-//! The rows of a line number program: the fold of its operations over the state (DWARF 5, sections 6.2.2 and 6.2.5).
+//! The rows of a line number program, which its operations add as they change the state (DWARF 5, sections 6.2.2 and 6.2.5).
 ghost use Rattle.std.specs.Prelude.{◌≡◌, ◌<◌};
 ghost use Rattle.rv_lines.specs.Rows.{initial, apply, advanced, line_advanced, low_of, row_of, row_added, next_state, has_file, lacks_file};
 ghost use Rattle.rv_lines.specs.Lines.{covers_nothing};
@@ -6,7 +6,8 @@ ghost use Rattle.rv_lines.specs.Lines.{covers_nothing};
 use crate::header::{FileNumbers, Parameters};
 use crate::operations::Operation;
 
-/// The registers of the state machine that are kept (6.2.2), and `low`, the address of the first row of the sequence.
+/// The registers of the state machine that are needed here (6.2.2), and `low`, the address of the first row of the current sequence, or
+/// `None` if it has no row yet.
 #[derive(Clone, Copy)]
 pub(crate) struct State {
     pub(crate) address: u32,
@@ -16,7 +17,8 @@ pub(crate) struct State {
     pub(crate) low: Option<u32>,
 }
 
-/// A row: the registers as an operation added it. `ends` marks the end of a sequence.
+/// A row: the registers when an operation added it. `ends` says whether the row ends its sequence, and `low` is the address of the
+/// sequence's first row.
 #[derive(Clone, Copy)]
 pub(crate) struct Row {
     pub(crate) address: u32,
@@ -41,7 +43,7 @@ impl State {
         }
     }
 
-    /// Returns the state as an operation changes it, before its row.
+    /// Returns the state after an operation has changed the registers, and before it adds a row.
     pub(crate) fn apply(self, parameters: &Parameters, operation: Operation) -> State
         requires { 0 < parameters.now.line_range }
         ensures { result ≡ apply parameters.now operation self }
@@ -74,7 +76,7 @@ impl State {
         }
     }
 
-    // Returns the state with its address advanced by an operation advance.
+    // Returns the state with its address advanced by `operation_advance` times the minimum instruction length, modulo 2^32.
     fn advanced(self, parameters: &Parameters, operation_advance: u32) -> State
         ensures { result ≡ advanced parameters.now operation_advance self }
     {
@@ -95,7 +97,7 @@ impl State {
         }
     }
 
-    /// Returns the row that an operation adds to the rows, given the state as it changed it.
+    /// Returns the row that an operation adds, or `None` if it adds none. `self` is the state after [`State::apply`].
     pub(crate) fn row_added(self, operation: Operation) -> Option<Row>
         ensures { result ≡ row_added operation self }
     {
@@ -106,7 +108,7 @@ impl State {
         }
     }
 
-    // Returns the row of the state.
+    // Returns the state as a row. `ends` says whether the row ends its sequence.
     fn row_of(self, ends: bool) -> Row
         ensures { result ≡ row_of ends self }
     {
@@ -120,14 +122,14 @@ impl State {
         }
     }
 
-    // Returns the address of the first row of the sequence, if a row is added now.
+    // Returns the address of the first row of the sequence, which is the row to be added if the sequence has none yet.
     fn low_of(self) -> u32
         ensures { result ≡ low_of self }
     {
         self.low.unwrap_or(self.address)
     }
 
-    /// Returns the state after an operation, given the state as it changed it.
+    /// Returns the state for the next operation. `self` is the state after [`State::apply`].
     pub(crate) fn next_state(self, parameters: &Parameters, operation: Operation) -> State
         ensures { result ≡ next_state parameters.now operation self }
     {
@@ -150,7 +152,7 @@ impl Row {
         self.ends || self.address < self.low
     }
 
-    /// Whether the row needs an unknown file.
+    /// Whether the unit does not have the file of the row. The end of a sequence needs no file.
     pub(crate) fn lacks_file(&self, files: FileNumbers) -> bool
         ensures { result ≡ lacks_file files self.now }
     {
@@ -159,7 +161,7 @@ impl Row {
 }
 
 impl FileNumbers {
-    // Whether there is a file of this number.
+    // Whether the unit has a file with this number.
     fn has_file(self, file: u32) -> bool
         ensures { result ≡ has_file self file }
     {

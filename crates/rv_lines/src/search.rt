@@ -1,4 +1,4 @@
-//! The lookup of addresses, in one walk over the units of `.debug_line` that keeps no table.
+//! The lookup of addresses, in one pass over the units of `.debug_line` that stores no table.
 ghost use Rattle.std.specs.Prelude.{◌≡◌, ◌<◌, ◌≤◌, ◌^◌, length, map};
 ghost use Rattle.rv_lines.specs.EntriesInside.{view_strings};
 ghost use Rattle.rv_lines.specs.Lines.{line_at, units_of, rejected_units};
@@ -10,7 +10,7 @@ use crate::span::SourceLine;
 use crate::tables::LineTables;
 use crate::units::{note_unit, unit_size};
 
-/// How many units there are, how many of them are rejected, and the error and the offset of the first.
+/// The number of units, how many of them are rejected, and the error and the offset of the first rejected one.
 #[derive(Clone, Copy, Debug, PartialEq, Eq)]
 pub struct RejectedUnits {
     /// The number of units.
@@ -21,11 +21,12 @@ pub struct RejectedUnits {
     pub first: Option<(UnitError, u32)>,
 }
 
-/// Finds the source line of each address; the addresses must be sorted. `found` must be as long as `addresses`. Rejected units are
-/// ignored; how many there are is returned, and the error of the first of them.
+/// Finds the source lines of sorted addresses: sets each element of `found` to the source line of the address at its index, or to `None` if
+/// the address has none. `found` must be as long as `addresses`. Rejected units are ignored; their number and the error of the first are
+/// returned.
 ///
-/// Walks over the units once, and reads each program twice, first to check it. A row takes time logarithmic in the number of addresses and
-/// linear in the number of those that it covers. Does not allocate.
+/// Makes one pass over the units, and reads each program twice, first to check it. A row takes time logarithmic in the number of addresses
+/// and linear in the number of those that it covers. Does not allocate.
 pub fn find_lines(
     tables: &LineTables,
     addresses: &[u32],
@@ -53,7 +54,7 @@ pub fn find_lines(
 }
 
 impl RejectedUnits {
-    // Counts a unit at an offset.
+    // Returns the counts after one more unit, which is at this offset and was read with this result.
     fn after(self, offset: u32, read: Result<(), UnitError>) -> RejectedUnits
         requires few { self.units < 2 ^ 32 }
         requires within { self.rejected ≤ self.units }
@@ -73,7 +74,7 @@ impl RejectedUnits {
     }
 }
 
-// Forgets what was found.
+// Sets all results to `None`.
 fn forget_all(found: &mut [Option<SourceLine>])
     ensures { found.new ≡ map clear found.old }
 {
@@ -82,7 +83,7 @@ fn forget_all(found: &mut [Option<SourceLine>])
     }
 }
 
-// Replaces results with line 0 by `None`.
+// Replaces results with line 0, which means that the line is not known, by `None`.
 fn show_lines(found: &mut [Option<SourceLine>])
     ensures { found.new ≡ map drop_line_0 found.old }
 {
@@ -91,7 +92,7 @@ fn show_lines(found: &mut [Option<SourceLine>])
     }
 }
 
-// Returns what was found, or `None` if its line is 0.
+// Returns the result, or `None` if its line is 0.
 fn drop_line_0(found: Option<SourceLine>) -> Option<SourceLine>
     ensures { result ≡ drop_line_0 found }
 {

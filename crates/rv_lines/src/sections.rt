@@ -1,4 +1,4 @@
-//! The sections of line tables, by their names (System V ABI, "Sections" and "String Table").
+//! Finds the sections of line tables by their names (System V ABI, "Sections" and "String Table").
 ghost use Rattle.std.specs.Prelude.{◌≡◌, ◌==◌, ◌<◌, ◌≤◌, ◌+◌, ◌*◌, ◌^◌, length, MatchResult, IfOk, Ok, Err, false};
 ghost use Rattle.rv_elf.specs.Fields.{half_at, word_at};
 ghost use Rattle.rv_elf.specs.Sections.{e_shnum, begins_with_name};
@@ -40,8 +40,7 @@ const SHT_NOBITS: u32 = 8;
 
 const SHF_COMPRESSED: u32 = 0x800;
 
-/// Returns the line tables of the file of an image, or the first error that applies. A string section that is absent is empty. Does not
-/// allocate.
+/// Returns the line tables of an ELF file, or the first error that applies. A missing string section counts as empty. Does not allocate.
 #[tactic(auto, unfolding(crate::specs::Sections::line_tables))]
 pub fn line_tables(file: &[u8]) -> Result<LineTables<'_>, LinesError>
     requires { 52 ≤ length file.now }
@@ -74,7 +73,7 @@ fn has_bad_table(file: &[u8]) -> bool
                 < word_field(file, E_SHOFF) as usize + HEADER_SIZE as usize * count as usize)
 }
 
-// Whether the index of the section of names is not that of a string table within the file.
+// Whether there is no section with the index `e_shstrndx`, or it is not a string table within the file.
 fn has_bad_names(file: &[u8]) -> bool
     requires { HasTable file.now }
     ensures { result ≡ has_bad_names file.now }
@@ -98,7 +97,7 @@ fn has_no_lines(file: &[u8]) -> bool
     }
 }
 
-// Returns the tables of the sections, each checked in turn.
+// Returns `.debug_line` and the string sections, or the error of the first of them that cannot be read.
 #[tactic(auto, unfolding(crate::specs::Sections::tables_of))]
 fn tables_of(file: &[u8]) -> Result<LineTables<'_>, LinesError>
     requires { HasNames file.now }
@@ -113,7 +112,8 @@ fn tables_of(file: &[u8]) -> Result<LineTables<'_>, LinesError>
     })
 }
 
-// Returns the bytes of the section with one of two names, or none if it is absent. The second name is that of a compressed section.
+// Returns the bytes of the first section with one of two names, no bytes if there is none, or why they cannot be read. The name `gnu` is
+// that of a compressed section.
 #[tactic(auto, unfolding(crate::specs::Sections::bytes_named))]
 fn bytes_named<'a>(file: &'a [u8], plain: &[u8], gnu: &[u8]) -> Result<&'a [u8], LinesError>
     requires { HasNames file.now }
@@ -127,7 +127,7 @@ fn bytes_named<'a>(file: &'a [u8], plain: &[u8], gnu: &[u8]) -> Result<&'a [u8],
     }
 }
 
-// Returns the bytes of a section, unless it is compressed or extends past the end of the file.
+// Returns the bytes of a section, or an error if it is compressed or extends past the end of the file.
 fn readable_bytes<'a>(file: &'a [u8], gnu: &[u8], section: &Section) -> Result<&'a [u8], LinesError>
     requires { HasNames file.now }
     ensures value { MatchResult result (λ bytes. readable_bytes file.now gnu.now section.now ≡ Ok bytes.now)
@@ -159,7 +159,7 @@ fn named(file: &[u8], plain: &[u8], gnu: &[u8]) -> Option<Section>
     None
 }
 
-// Returns the names of the sections.
+// Returns the string table with the names of the sections.
 fn names_of(file: &[u8]) -> &[u8]
     requires { HasNames file.now }
     ensures { result.now ≡ names_of file.now }
@@ -168,7 +168,7 @@ fn names_of(file: &[u8]) -> &[u8]
 }
 
 impl Section {
-    // Returns the section as it is in the file, where one of type `SHT_NOBITS` has no bytes.
+    // Returns the section as it is in the file: a section of type `SHT_NOBITS` has no bytes there.
     fn in_file(self) -> Section
         ensures { result ≡ in_file self }
     {
@@ -183,7 +183,7 @@ impl Section {
         }
     }
 
-    // Whether the section has this name.
+    // Whether the section has this name. `names` is the string table with the names of the sections.
     fn is_named(&self, names: &[u8], text: &[u8]) -> bool
         ensures { result ≡ is_named names.now text.now self.now }
     {
@@ -223,7 +223,7 @@ fn begins_with_name(bytes: &[u8], text: &[u8]) -> bool
     }
 }
 
-// Returns the section header at an index of the table.
+// Returns the section whose header is at an index of the table.
 fn section_of_index(file: &[u8], index: u16) -> Section
     requires table { HasTable file.now }
     requires within { index < e_shnum file.now }

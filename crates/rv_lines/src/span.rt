@@ -1,4 +1,4 @@
-//! The addresses that a row covers, and what is found for them.
+//! The addresses that a row covers, and the source line that is found for them.
 ghost use Rattle.std.specs.Prelude.{◌≡◌, length};
 ghost use Rattle.rv_lines.specs.Lines.{span};
 ghost use Rattle.rv_lines.specs.SearchInside.{higher, noted_each, IsRising};
@@ -14,7 +14,7 @@ pub struct SourceLine {
     pub file: u32,
     /// The line, from 1.
     pub line: u32,
-    /// The address of the first row of the sequence.
+    /// The address of the first row of its sequence. If several rows cover an address, the first one with the greatest `low` is chosen.
     pub low: u32,
 }
 
@@ -44,7 +44,7 @@ impl Span {
     }
 }
 
-/// Notes a span for each address that it covers, unless one with the same `low` or a greater one was found before.
+/// Records the source line of a span for each address that it covers, unless the address has one with an equal or greater `low`.
 pub(crate) fn note_span(span: &Span, addresses: &[u32], found: &mut [Option<SourceLine>])
     requires rising { IsRising addresses.now }
     requires places { length found.old ≡ length addresses.now }
@@ -57,7 +57,7 @@ pub(crate) fn note_span(span: &Span, addresses: &[u32], found: &mut [Option<Sour
     }
 }
 
-// Returns a source, if nothing was found before or a source with a smaller `low`, and otherwise what was found.
+// Returns `source`, or the source line that was found before if its `low` is equal or greater.
 fn higher(source: SourceLine, found: Option<SourceLine>) -> Option<SourceLine>
     ensures { result ≡ higher source found }
 {

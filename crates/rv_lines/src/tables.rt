@@ -10,7 +10,7 @@ pub struct StringSections<'a> {
     pub str: &'a [u8],
 }
 
-/// The sections of an image that have its line tables.
+/// The sections of an image that hold its line tables.
 #[derive(Clone, Copy)]
 pub struct LineTables<'a> {
     /// `.debug_line`.

@@ -14,18 +14,18 @@ use crate::span::SourceLine;
 use crate::tables::LineTables;
 use byteorder::{ByteOrder, LittleEndian};
 
-/// The bytes of `unit_length`, in 32-bit and in 64-bit form.
+/// The size of `unit_length` in bytes, in the 32-bit and in the 64-bit format.
 const LENGTH_SIZE: usize = 4;
 
 const LONG_LENGTH_SIZE: usize = 12;
 
-/// The length that introduces the 64-bit form.
+/// The length that introduces the 64-bit format.
 const DWARF_64: u32 = 0xffff_ffff;
 
 /// The first reserved length.
 const RESERVED: u32 = 0xffff_fff0;
 
-/// Notes the spans of the unit at an offset, or returns its error, and then notes none.
+/// Records the spans of the unit at an offset; or returns the unit's error, and records none.
 pub(crate) fn note_unit(
     tables: &LineTables,
     offset: u32,
@@ -39,12 +39,12 @@ pub(crate) fn note_unit(
         (spans_of_rows offset (rows_at (view_strings tables.now.strings) (drop offset tables.now.lines.now))) addresses.now found.old }
 {
     let program = program_of(tables, offset)?;
-    // An error may follow rows, so the program is read once before its rows count.
+    // An error may follow rows, so the program is checked before its rows are recorded.
     note_program(&program, &[], &mut [])?;
     note_program(&program, addresses, found)
 }
 
-// Returns the program of the unit at an offset, if its header can be read.
+// Returns the program of the unit at an offset, or the error of its length or of its header.
 fn program_of<'a>(tables: &LineTables<'a>, offset: u32) -> Result<Program<'a>, UnitError>
     ensures value { MatchResult result
         (λ p. rows_at (view_strings tables.now.strings) (drop offset tables.now.lines.now) ≡ rows_of_program p)
@@ -63,7 +63,7 @@ fn program_of<'a>(tables: &LineTables<'a>, offset: u32) -> Result<Program<'a>, U
     })
 }
 
-/// Returns the bytes of the unit at the front, after `unit_length`.
+/// Returns the bytes of the unit at the front, after `unit_length`, or the error of its length.
 #[tactic(auto, unfolding(crate::specs::Units::unit_bytes))]
 pub(crate) fn unit_bytes(bytes: &[u8]) -> Result<&[u8], UnitError>
     ensures { Gives (λ x. x.now) result (unit_bytes bytes.now) }
@@ -85,7 +85,7 @@ pub(crate) fn unit_bytes(bytes: &[u8]) -> Result<&[u8], UnitError>
     Ok(&bytes[LENGTH_SIZE..end])
 }
 
-/// Returns the number of bytes from the unit at the front to the next one, or that of all bytes if there is none.
+/// Returns the number of bytes from the unit at the front to the next one, or the number of all bytes if there is no next one.
 #[tactic(auto, unfolding(crate::specs::Units::unit_size))]
 pub(crate) fn unit_size(bytes: &[u8]) -> usize
     ensures { result ≡ min (unit_size bytes.now) (length bytes.now) }
@@ -103,7 +103,8 @@ pub(crate) fn unit_size(bytes: &[u8]) -> usize
     bytes.len().min(LENGTH_SIZE + unit_length as usize)
 }
 
-// Returns the number of bytes from the unit in 64-bit form at the front to the next one, or that of all bytes if there is none.
+// Returns the number of bytes from the unit at the front to the next one, for a unit in the 64-bit format; the number of all bytes if there
+// is no next one.
 fn long_unit_size(bytes: &[u8]) -> usize
     ensures { result ≡ min (long_unit_size bytes.now) (length bytes.now) }
 {

@@ -16,7 +16,7 @@ use Rattle.rv_list_errors.specs.Explanation.{first_fault_kinds_text, unknown_let
 abbrev pub path_text : List ℕ
 path_text = codes "expected a path of 1 to " ++ (decimal max_path_len ++ codes " bytes")
 
--- whether a text may not be a path: it is empty, or longer than `max_path_len`
+-- whether a text is invalid as a path: it is empty, or longer than `max_path_len`
 abbrev pub is_invalid_path : List ℕ → Bool
 is_invalid_path path = (length path == 0) || nat_lt max_path_len (length path)
 
@@ -30,7 +30,7 @@ abbrev pub negative_exit_text : Bool → List ℕ
 negative_exit_text false = codes ""
 negative_exit_text true = codes "; write -1 as 4294967295"
 
--- the explanation of a bad `expect_exit`, given its number, if it is one: the key whose value is shown, and the words
+-- the explanation of a bad `expect_exit`, given its value, if that is an integer: the key whose value is shown, and the words
 abbrev pub exit_explanation : Option ℤ → Option (List ℕ) × List ℕ
 exit_explanation number = (
   Some (codes "expect_exit"),
@@ -81,13 +81,14 @@ abbrev pub console_explanation_of : Members → Option (List ℕ) × List ℕ
 console_explanation_of ms = console_explanation (text_at_key (codes "expect_console") ms)
     (text_at_key (codes "expect_console_file") ms) (text_at_key (codes "expect_end") ms)
 
--- the explanation of a job's bad `expect_signature`, or, if that is missing or good, of the expected console or end
+-- the explanation of a job's bad `expect_signature`, or, if that is missing or good, of its bad expected console or end: the key whose
+-- value is shown, and the words
 abbrev pub reference_explanation_of : Members → Option (List ℕ) × List ℕ
 reference_explanation_of ms = reference_explanation (is_some (get_member (codes "signature") ms))
     (text_at_key (codes "expect_signature") ms) (console_explanation_of ms)
 
--- `explanation`, the key whose value is shown and the words, explains the first bad expectation of the job: `expect_exit`, if the job has this
--- key, or another expectation
+-- `explanation`, the key whose value is shown and the words, explains the first bad expectation of the job: `expect_exit`, if the job has
+-- this key, or another expectation
 abbrev pub IsExpectationExplanation : Members → Option (List ℕ) × List ℕ → Type 0
 IsExpectationExplanation ms explanation =
     ((is_some (get_member (codes "expect_exit") ms) ≡ true) × (explanation ≡ exit_explanation (number_at_key (codes "expect_exit") ms)))
@@ -101,7 +102,7 @@ unknown_isa_text isa =
     if starts_with nat_eq isa (codes "rv64") then codes "RV64 is not simulated: " ++ known_isas_text
     else if starts_with nat_eq isa (codes "rv32") then unknown_letters_text (drop 4 isa) else known_isas_text
 
--- the explanation of a bad `isa`, given its text, if it has one
+-- the explanation of a bad `isa`, given its text; if it is not a text, only the known instruction sets
 abbrev pub isa_text : Option (List ℕ) → List ℕ
 isa_text None = known_isas_text
 isa_text (Some isa) = unknown_isa_text isa

@@ -36,7 +36,7 @@ abbrev pub IsShownValue : Data → List ℕ → Type 0
 IsShownValue value shown = MatchOption (as_str value)
     ((text : List ℕ) × IsValueText false value text × (shown ≡ printable_value text)) (λ text. shown ≡ quoted text)
 
--- the text that this key is missing
+-- the message that this key is missing
 abbrev pub missing_key_text : List ℕ → List ℕ
 missing_key_text key = codes "missing key \"" ++ (key ++ codes "\"")
 
@@ -77,7 +77,7 @@ too_many_jobs_text count = (codes "too many jobs: expected at most " ++ (decimal
 
 -- ---- keys
 
--- whether the whole list, a job or a region has a key with this name
+-- whether a key with this name is valid in the whole list, in a job or in a region
 abbrev pub is_key_of_owner : Owner → List ℕ → Bool
 is_key_of_owner owner.List key = is_list_key key
 is_key_of_owner owner.Job key = is_job_key key
@@ -89,7 +89,7 @@ first_unknown_key is_known no_members = None
 first_unknown_key is_known (member key value members) =
     if is_known key then first_unknown_key is_known members else Some key
 
--- the text that this key is unknown
+-- the message that this key is unknown
 abbrev pub unknown_key_text : List ℕ → List ℕ
 unknown_key_text key = codes "unknown key " ++ quoted key
 
@@ -105,7 +105,7 @@ abbrev pub nearest_job_text : List (Option (List ℕ)) → Option (List ℕ) →
 nearest_job_text names (Some name) = codes "; a similar name exists: " ++ quoted name
 nearest_job_text names None = codes "; the earlier jobs are " ++ names_text (present names)
 
--- `message` suggests the name that is probably meant by the job name `expected`, or else all of these names
+-- `message` suggests the name that is nearest to `expected`, an unknown name of a job, or, if that is not near, lists all of these names
 abbrev pub IsJobNameSuggestion : List (Option (List ℕ)) → List ℕ → List ℕ → Type 0
 IsJobNameSuggestion names expected message =
     (near : Option (List ℕ)) × IsNearName names expected near × (message ≡ nearest_job_text names near)
@@ -118,7 +118,7 @@ kind_text index =
     (if index == 0 then [] else if index + 1 == length fault_kinds then codes " or " else codes ", ")
     ++ quoted (fault_name (slice_index_or fault_kinds index fault.FetchAccess))
 
--- the names of the first kinds of faults, as a sentence lists them; the number is how many there are
+-- the names of the first kinds of faults, as many as the argument says, as a sentence lists them
 unfoldable pub first_fault_kinds_text : ℕ → List ℕ
 first_fault_kinds_text zero = []
 first_fault_kinds_text (suc count) = first_fault_kinds_text count ++ kind_text count

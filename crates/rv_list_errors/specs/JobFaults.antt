@@ -107,8 +107,8 @@ abbrev pub ExplainsOverlap : List Region → List ℕ → Type 0
 ExplainsOverlap regions message = (index later address : ℕ) × IsFirstOverlap regions index later address
     × (message ≡ overlap_text index later address)
 
--- `message` explains why regions do not form a map: it begins with a region's number or the number of regions, or says what their sizes add up
--- to
+-- `message` explains why regions do not form a map: it begins with a region's number or the number of regions, or says what their sizes add
+-- up to
 abbrev pub ExplainsRegions : List ℕ → Type 0
 ExplainsRegions message = BeginsWith (codes "region") message ⊎ BeginsWith (codes "the sizes of the regions add up to ") message
 
@@ -118,7 +118,7 @@ ExplainsRegions message = BeginsWith (codes "region") message ⊎ BeginsWith (co
 abbrev pub are_digit_pairs : List ℕ → Bool
 are_digit_pairs digits = list_all is_ascii_hexdigit digits && length digits % 2 == 0
 
--- the text of the maximum length of a script
+-- `expected at most COUNT bytes`, with the maximum length of a script
 abbrev pub expected_script_text : List ℕ
 expected_script_text = codes "expected at most " ++ (decimal max_script_len ++ codes " bytes")
 
@@ -149,7 +149,7 @@ shown_byte_count bytes.Untold length = 0
 shown_byte_count bytes.Each length = length
 shown_byte_count bytes.Pairs length = length / 2
 
--- the number of bytes in parentheses, or nothing if it does not exceed the maximum or there is no maximum
+-- the text ` (COUNT bytes)` if the count exceeds the maximum; empty if it does not, or if there is no maximum
 abbrev pub bytes_text : InsertedText → ℕ → List ℕ
 bytes_text (rest.Maximum most) count = if nat_lt most count then codes " (" ++ (decimal count ++ codes " bytes)") else []
 bytes_text _ count = []
@@ -184,7 +184,7 @@ key_of what.Signature = Some (codes "signature")
 key_of what.Misaligned = Some (codes "misaligned")
 key_of _ = None
 
--- ---- values of the kind type
+-- ---- values of the wrong type
 
 -- `message` begins with the key and its value, or that it is missing
 abbrev pub BeginsWithValue : List ℕ → Members → List ℕ → Type 0
@@ -194,7 +194,7 @@ BeginsWithValue key ms message = (key_and_value : List ℕ) × IsKeyAndValue key
 abbrev pub BeginsWithRegion : List ℕ → Members → List ℕ → Type 0
 BeginsWithRegion key ms message = BeginsWithValue key ms message ⊎ BeginsWith (codes "region ") message
 
--- `message` explains that the value of this key does not have the type of this kind
+-- `message` explains that the value of this key does not have this type
 abbrev pub ExplainsWrongType : List ℕ → ValueType → Members → List ℕ → Type 0
 ExplainsWrongType key value_type.Regions ms message = BeginsWithRegion key ms message
 ExplainsWrongType key _ ms message = BeginsWithValue key ms message
@@ -239,12 +239,12 @@ key_and_type key = (key.0.now, key.1)
 abbrev pub has_wrong_type_at_key : Members → Bor (List ℕ) × ValueType → Bool
 has_wrong_type_at_key ms key = has_wrong_type_at ms (key_and_type key)
 
--- `message` explains that the value of this key has the kind type; without a key, that some type is invalid
+-- `message` explains that the value of this key has the wrong type; without a key, it only says that some type is invalid
 abbrev pub ExplainsWrongTypeOfKey : Members → Option (List ℕ × ValueType) → List ℕ → Type 0
 ExplainsWrongTypeOfKey ms None message = message ≡ codes "invalid type"
 ExplainsWrongTypeOfKey ms (Some key) message = ExplainsWrongType key.0 key.1 ms message
 
--- `message` explains the first key of the job, in the order of the format, whose value has the kind type
+-- `message` explains the first key of the job, in the order of the format, whose value has the wrong type
 abbrev pub ExplainsFirstWrongType : Members → List ℕ → Type 0
 ExplainsFirstWrongType ms message = ExplainsWrongTypeOfKey ms (find (has_wrong_type_at ms) types_of_keys) message
 
@@ -255,13 +255,13 @@ abbrev pub job_of_name_text : Option ℕ → List ℕ
 job_of_name_text None = []
 job_of_name_text (Some number) = codes ", but job " ++ (decimal number ++ codes " has this name")
 
--- `message` is a key for a name with its value, then `expected`, which is expected, and then the number of the first job with this name, if
--- any
+-- `message` is the key and its value, or that the key is missing, then what is expected, and then the number of the first job with this
+-- name, if there is one
 abbrev pub ExplainsName : List (Option (List ℕ)) → List ℕ → List ℕ → Members → List ℕ → Type 0
 ExplainsName names key expected ms message = (key_and_value : List ℕ) × IsKeyAndValue key (get_member key ms) key_and_value
     × (message ≡ key_and_value ++ (codes ": " ++ (expected ++ job_of_name_text (number_of_name names (text_at_key key ms)))))
 
--- the text that says what is expected of a job's name that an earlier job has
+-- what is expected instead of a name that an earlier job already has
 abbrev pub unique_name_text : List ℕ
 unique_name_text = codes "expected a unique name"
 

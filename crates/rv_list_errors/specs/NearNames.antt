@@ -21,11 +21,11 @@ Adds before after text = OnOk after.grown (IsOk before.grown × (after.bytes.ite
 abbrev pub text_distance : List ℕ → List ℕ → ℕ
 text_distance text other = levenshtein_row nat_eq (chars text) (chars other) (length (chars other))
 
--- the distance that stands for a missing name, or for a text or name that is too long
+-- the distance that is used if the name is missing, or if the text or the name is too long
 abbrev pub farthest : ℕ
 farthest = 2 ^ 64 - 1
 
--- the edit distance of a text from a name, or `farthest` if there is no name or one of them is longer than a name may be
+-- the edit distance of a text from a name, or `farthest` if there is no name, or if the name or the text is longer than a name may be
 unfoldable pub name_distance : List ℕ → Option (List ℕ) → ℕ
 name_distance text None = farthest
 name_distance text (Some name) =

@@ -44,7 +44,7 @@ pub fn push_all_faults<'a>(
         }
         Err(error) => {
             if error.is_memory() {
-                // Out of memory: `toml` says so of its own error.
+                // Out of memory: `toml` reports that its own allocation failed.
                 return Err(AllocError);
             }
             push_faults(alloc, bytes, file, text, faults)
@@ -52,12 +52,13 @@ pub fn push_all_faults<'a>(
     }
 }
 
-// The values that the lines of errors are made of.
+// What the lines of errors are written from: the path of the list, the list as it was parsed again, the text from each job on, and a cursor
+// in its text.
 #[derive(Drop)]
 struct FaultLineWriter<'a> {
     file: &'a str,
     list: List<'a>,
-    // The text from each job on.
+    // For each job, the list's text from the job on.
     jobs: Vec<&'a str>,
     cursor: Cursor<'a>,
 }

@@ -69,7 +69,7 @@ fn reference_explanation(
     }
 }
 
-// Whether a text may not be a path: it is empty or too long.
+// Whether a text is invalid as a path: it is empty or too long.
 fn is_invalid_path(path: &str) -> bool
     ensures { result ≡ is_invalid_path path.now }
 {

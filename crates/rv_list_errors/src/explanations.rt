@@ -17,14 +17,15 @@ use rv_lists::limits::{
 };
 use toml::Table;
 
-/// The explanation of a bad value: what is expected of the value of one key, or a text about two keys.
+/// The explanation of a bad value: what is expected of the value of one key, or a fixed text.
 #[derive(Clone, Copy)]
 pub(crate) enum Explanation {
     Expected(&'static Expected),
     Text(&'static str),
 }
 
-/// What is expected of the value of a key: words, possibly around an inserted text.
+/// What is expected of the value of a key: the text `before`, the inserted text `rest`, and the text `behind`. If a text at the key is too
+/// long, `bytes` says how its length is shown.
 pub(crate) struct Expected {
     key: &'static str,
     before: &'static str,
@@ -33,7 +34,7 @@ pub(crate) struct Expected {
     bytes: Bytes,
 }
 
-/// The text that is inserted after the first words.
+/// The text that is inserted into what is expected.
 #[derive(Clone, Copy)]
 enum InsertedText {
     Nothing,

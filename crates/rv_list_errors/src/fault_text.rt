@@ -20,7 +20,7 @@ use toml::de::Error;
 /// A list whose text was parsed again to explain its errors.
 #[derive(Drop)]
 pub(crate) enum FaultView<'a> {
-    /// The text is a document.
+    /// The text is a TOML document.
     List(List<'a>),
     /// The text is not a TOML document, for this reason.
     NoToml(&'a [u8], Error),
@@ -78,8 +78,8 @@ fn push_fault_location(
     }
 }
 
-// Appends `: error: ` if the number is 0, which stands for the whole list, and otherwise the line on which the job with this number begins,
-// its number, and its name.
+// Appends `: error: ` if the number is 0, which means the whole list, and otherwise the line on which the job with this number begins, its
+// number, and its name.
 fn push_location_in_list(message: &mut Vec<u8>, list: &List<'_>, job: u32) -> Result<(), AllocError>
     ensures { OnOk result (message.new.items ≡ message.old.items
         ++ fault_location list.now.lines.items (borrowed_names list.now.names.items) job) }

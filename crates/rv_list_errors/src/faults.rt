@@ -40,7 +40,7 @@ pub fn push_faults(
         }
         Err(error) => {
             if error.is_memory() {
-                // Out of memory: `toml` says so of its own error.
+                // Out of memory: `toml` reports that its own allocation failed.
                 return Err(AllocError);
             }
             push_fault_lines(alloc, bytes, file, &FaultView::NoToml(text, error), faults)

@@ -209,8 +209,8 @@ impl<'a> FaultyJob<'a> {
         }
     }
 
-    // Returns `explanation`, the explanation that two keys cannot both be set, if the key `other` is in `earlier_keys`, the keys before this one,
-    // and has a text; otherwise `None`.
+    // Returns `explanation`, the explanation that two keys cannot both be set, if the key `other` is in `earlier_keys`, the keys before
+    // this one, and has a text; otherwise `None`.
     fn both_set_explanation(
         &self,
         other: &str,
@@ -224,8 +224,8 @@ impl<'a> FaultyJob<'a> {
         }
     }
 
-    // Returns the explanation of an invalid expectation, path or other text at a key, or `None` if the text is valid. `earlier_keys` are the keys
-    // before it.
+    // Returns the explanation of an invalid expectation, path or other text at a key, or `None` if the text is valid. `earlier_keys` are
+    // the keys before it.
     fn expectation_or_choice_fault(
         &self,
         key: &str,
@@ -255,8 +255,8 @@ impl<'a> FaultyJob<'a> {
         }
     }
 
-    // Returns the explanation of an `expect_signature` with this path, or `None` if it is valid: the job has a signature, and the path may
-    // be one.
+    // Returns the explanation of an invalid `expect_signature` with this path, or `None` if it is valid. It is invalid if the job has no
+    // signature, or if the path is empty or too long.
     fn reference_fault(&self, path: &str) -> Option<Explanation> {
         if value_at_key(self.table, "signature").is_none() {
             Some(Explanation::Expected(&WITHOUT_SIGNATURE))

@@ -37,7 +37,7 @@ pub(crate) fn unknown_key(table: &Table, owner: Owner) -> Option<&str>
     }
 }
 
-// Returns the first key of a table that is not valid in `owner`, as a string of the table, or `None` if all keys are valid.
+// Returns the first key of a table that is not valid in `owner`, borrowed from the table, or `None` if all keys are valid.
 fn first_unknown_key(table: &Table, owner: Owner) -> Option<&String>
     ensures { option_map (λ key. string_bytes key.now) result
         ≡ first_unknown_key (is_key_of_owner owner) (table_view table.now) }
@@ -93,8 +93,8 @@ pub(crate) fn push_unknown_key(message: &mut Message, key: &str)
     message.push_quoted(key);
 }
 
-/// Appends the first unknown key of a job with the nearest known key, or all known keys if none is near; or, if a region has an unknown
-/// key, that key with the known keys of regions.
+/// Appends the first unknown key of a job, and the nearest known key, or all known keys if none is near. If only a region has an unknown
+/// key, appends that key and the known keys of regions.
 pub(crate) fn push_unknown_job_key(message: &mut Message, table: &Table)
     ensures { AppendsTextThat message.old message.new (ExplainsUnknownKey (table_view table.now)) }
 {

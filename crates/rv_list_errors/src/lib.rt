@@ -28,5 +28,5 @@ pub use all_faults::push_all_faults;
 pub use faults::push_faults;
 pub use name_search::near_job;
 
-// From the crates below: what this interface names, and what its callers need with it.
+// Re-exports from lower crates: the types in this interface, and what its callers need with them.
 pub use rv_text::{Span, push_spans, push_text, text_of_spans};

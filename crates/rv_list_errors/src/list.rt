@@ -29,7 +29,7 @@ pub(crate) struct List<'a> {
 }
 
 impl<'a> List<'a> {
-    /// Returns the list with this text and this table.
+    /// Returns the list with this text, whose table is the one that the text was parsed to.
     pub(crate) fn from_table(
         alloc: Global,
         text: &[u8],
@@ -50,7 +50,7 @@ impl<'a> List<'a> {
         })
     }
 
-    /// Returns the offset in the list's text at which `rest`, a suffix of it, begins.
+    /// Returns the offset in the list's text at which the suffix `rest` of this text begins.
     pub(crate) fn offset_of_suffix(&self, rest: &str) -> usize {
         self.len.saturating_sub(rest.len())
     }
@@ -84,7 +84,7 @@ fn index_of_name(names: &[Option<&str>], name: &str) -> Option<usize>
     names.iter().position(|other| is_name_of(name, *other))
 }
 
-// Whether there is another name, and it equals this one.
+// Whether the other name exists and equals this one.
 fn is_name_of(name: &str, other: Option<&str>) -> bool
     ensures { result ≡ is_name_of name.now (borrowed_name other.entry) }
 {

@@ -24,8 +24,8 @@ pub(crate) struct LocatedFault {
 }
 
 /// Returns all errors of a bad job. If no error is found at one of its keys, returns only the error that is already known. If there are
-/// very many, returns the first ones, followed by a note that the later keys are not checked. `jobs` has, for each job, the suffix of the
-/// list's text that begins with the job.
+/// very many, returns the first ones, followed by a note that the later keys are not checked. `jobs` has, for each job, the list's text
+/// from the job on.
 pub(crate) fn faults_of_job(
     alloc: Global,
     list: &List<'_>,

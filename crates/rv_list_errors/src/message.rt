@@ -15,8 +15,8 @@ use std::fmt::{Display, Formatter};
 use strsim::levenshtein;
 use toml::Value;
 
-/// The text of a message so far. It records the first failed allocation and appends nothing after it, so that its writers have only one
-/// exit.
+/// The text of a message so far. It records the first failed allocation and appends nothing after it, so that an error is handled only
+/// once, in [`finish`](Message::finish).
 #[derive(Drop)]
 pub(crate) struct Message {
     alloc: Global,
@@ -92,7 +92,7 @@ impl Message {
         }
     }
 
-    // Appends a value as in TOML.
+    // Appends a value as TOML writes it, cut off if it is long.
     fn push_value_in_toml(&mut self, value: &Value)
         ensures { AppendsTextThat self.old self.new
             (λ shown. (text : List ℕ) × IsValueText false (view value.now) text × (shown ≡ printable_value text)) }

@@ -41,7 +41,7 @@ pub(crate) fn is_near(distance: usize, name: &str) -> bool
     distance <= name.len() / 3
 }
 
-// Returns the index of the first job with the nearest name to a text, by the edit distance, or `None` if there are no jobs.
+// Returns the index of the first job whose name is nearest to a text, by the edit distance, or `None` if there are no jobs.
 fn nearest_job(alloc: Global, jobs: &[Job], text: &str) -> Result<Option<usize>, AllocError>
     ensures { IfOk result (λ nearest. MatchOption nearest (length jobs.now ≡ 0)
         (λ index. IsJobNameSuggestion jobs.now text.now index)) }

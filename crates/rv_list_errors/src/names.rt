@@ -240,7 +240,8 @@ fn push_listed_name(message: &mut Message, name: &str, index: usize, count: usiz
     message.push_quoted(name);
 }
 
-// Returns the edit distance of a name from a text, or `usize::MAX` if there is no name or one of them is longer than a name may be.
+// Returns the edit distance of a name from a text, or `usize::MAX` if there is no name, or if the name or the text is longer than a name
+// may be.
 #[tactic(auto, unfolding(crate::specs::NearNames::name_distance))]
 fn name_distance(message: &mut Message, name: Option<&str>, text: &str) -> usize
     ensures distance { OnOk message.new.grown (IsOk message.old.grown

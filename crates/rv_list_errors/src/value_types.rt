@@ -50,7 +50,7 @@ fn first_key_of_wrong_type<'k>(
         .find(|known| is_value_of_other_kind(table, known.0, known.1))
 }
 
-// Whether there is a value at a key and it does not have this type.
+// Whether a table has a value at a key, and the value does not have this type.
 fn is_value_of_other_kind(table: &Table, key: &str, kind: ValueType) -> bool
     ensures { result ≡ not (is_absent_or (is_value_of_type kind) key.now (table_view table.now)) }
 {

@@ -37,7 +37,7 @@ pub(crate) fn number_at_key(table: &Table, key: &str) -> Option<i64>
     }
 }
 
-/// Returns the integer at a key, or `None` if there is none or it does not fit in 32 bits without a sign.
+/// Returns the integer at a key, or `None` if there is none or it is not from 0 to 2^32 - 1.
 pub(crate) fn word_at_key(table: &Table, key: &str) -> Option<u32> {
     match value_at_key(table, key) {
         Some(Value::Integer(number)) => u32::try_from(*number).ok(),

@@ -15,7 +15,7 @@ second_part dotted_key = unwrap_or (slice_get dotted_key.0 1) dotted_key.1
 abbrev pub BeginsWithKey : List ℕ → List ℕ → Type 0
 BeginsWithKey name text = (read : Key × List ℕ) × (key text ≡ Some read) × (first_part read.0 ≡ name)
 
--- the suffix of a text, which begins with a header, that begins with the key of the header
+-- the text from the key of a header on, without the opening brackets of the header, with which the given text begins
 unfoldable pub header_key : List ℕ → List ℕ
 header_key text = skip_ws (drop (if slice_index text 1 == left_bracket then 2 else 1) text)
 

@@ -73,16 +73,17 @@ after_value text =
 
 -- ---- after a line
 
--- the suffix of a text that begins with the next header or entry; empty if something other than a comment is left on the line
+-- the text from the next header or entry on; empty if something other than a comment is left on the line
 unfoldable pub text_after_line : List ℕ → List ℕ
 text_after_line text = let rest = skip_ws text in
     if first rest == hash || first rest == line_feed || first rest == carriage_return then skip_blank rest else []
 
--- the suffix of a text that begins with the next element, or with the bracket after the last element
+-- the text from the next element on, or from the bracket after the last element on; the comma in front of it, and blanks, line ends and
+-- comments, are skipped
 unfoldable pub after_comma : List ℕ → List ℕ
 after_comma text = let rest = skip_blank text in if first rest == comma then skip_blank (drop 1 rest) else rest
 
--- the suffix of a text that begins with the value of an entry; the text begins after the entry's key; empty if no equals sign is there
+-- the text from the value of an entry on, without the equals sign with which the given text begins; empty if there is no equals sign
 unfoldable pub after_equals : List ℕ → List ℕ
 after_equals text = if first text == equals then skip_ws (drop 1 text) else []
 
@@ -120,7 +121,7 @@ is_top Table = false
 is_top Element = false
 
 -- the result of scanning the entry with which the text begins, or `None` if it is malformed; before the first header, an array at the key
--- `job` has the jobs, and its elements come next
+-- `job` holds the jobs, and its elements come next
 unfoldable pub keyed_entry : ScanState → List ℕ → Option Step
 keyed_entry state text = key text >>= (λ parsed. let value = after_equals parsed.1 in
     if (is_job parsed.0 && is_top state) && first value == left_bracket
@@ -146,20 +147,19 @@ step Table text = header_or_entry Table text
 
 -- ---- the list
 
--- for each job, the suffix of the list's text that begins with it, given the result of scanning the beginning of this text; `jobs` returns
--- the later ones
+-- for each job, the list's text from the job on, given the result of scanning the beginning of this text; `jobs` returns the later ones
 abbrev pub job_texts_of_step : (ScanState → List ℕ → List (List ℕ)) → List ℕ → Option Step → List (List ℕ)
 job_texts_of_step jobs text None = []
 job_texts_of_step jobs text (Some scanned) =
     if scanned.0 then text ∷ jobs scanned.1 scanned.2 else jobs scanned.1 scanned.2
 
--- for each job, the suffix of the list's text that begins with it, if at most `n` headers, entries and elements are scanned
+-- for each job, the list's text from the job on, if at most `n` headers, entries and elements are scanned
 unfoldable pub job_texts_from : ℕ → ScanState → List ℕ → List (List ℕ)
 job_texts_from zero state text = []
 job_texts_from (suc n) state text =
     if length text == 0 then [] else job_texts_of_step (job_texts_from n) text (step state text)
 
--- for each job, the suffix of the list's text that begins with it; the text has no byte order mark
+-- for each job, the list's text from the job on; the text has no byte order mark
 unfoldable pub jobs_of_text : List ℕ → List (List ℕ)
 jobs_of_text text = job_texts_from (suc (length text)) Top (skip_blank text)
 

@@ -40,7 +40,8 @@ pub(crate) struct KeyStep<'a> {
 }
 
 /// Returns the keys of the job that a text begins with, in order. The name of a dotted key is its first part, and the name of a table in
-/// the job is the part of its header after `job`, so a name may occur several times.
+/// the job is the part of its header after `job`, so a name may occur several times. A text that is not TOML is scanned up to where the
+/// scan fails.
 pub fn job_keys<'a>(alloc: Global, job: &'a str) -> Result<Vec<JobKey<'a>>, AllocError>
     ensures { IfOk result (λ keys. All IsNamedKey keys.items) }
 {
@@ -186,7 +187,7 @@ fn scan_table_name(alloc: Global, header: &str) -> Result<Option<String>, ParseE
     }
 }
 
-/// Returns the suffix of a text, which begins with a header, that begins with the key of the header.
+/// Skips the opening brackets of the header with which a text begins, and returns the text from the header's key on.
 #[tactic(auto, unfolding(crate::specs::JobKeys::header_key))]
 pub(crate) fn after_brackets(header: &str) -> &str
     requires { slice_index header.now 0 ≡ left_bracket }

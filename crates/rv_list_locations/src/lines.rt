@@ -36,8 +36,7 @@ impl<'a> LineRecorder<'a> {
         }
     }
 
-    /// Records the line of the byte before which the text has all but `remaining` bytes, or the line of the last recorded byte if that is
-    /// later.
+    /// Records the line on which the last `remaining` bytes of the text begin, or the line of the last recorded byte if that is later.
     pub(crate) fn push_line(&mut self, remaining: usize) -> Result<(), AllocError>
         ensures text { self.new.text.now ≡ self.old.text.now }
         ensures offset { self.new.offset ≡ max (length self.old.text.now - remaining) self.old.offset }

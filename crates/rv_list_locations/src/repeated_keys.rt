@@ -13,11 +13,12 @@ use toml_parser::{Key, ParseError, dotted_key};
 #[derive(Drop)]
 pub struct RepeatedKey<'a> {
     pub key: Key,
-    /// The text from its first occurrence on, if that was found. For a table with a header it is not looked for.
+    /// The text from the key's first occurrence on, or `None` if none was found. The first occurrence of a table with a header is not
+    /// searched for.
     pub first: Option<&'a str>,
 }
 
-// The entries of a table, given by the text from the first on and what comes next there.
+// The entries of a table: the text from the first of them on, and the context there.
 #[derive(Clone, Copy)]
 struct Entries<'a> {
     text: &'a str,
@@ -38,8 +39,8 @@ pub fn repeated_key<'a>(
     }
 }
 
-// Scans the text, which has no byte order mark, up to the header, entry or element where `remaining` bytes remain, and returns the key that
-// is repeated there, or `None` if there is none.
+// Scans the text up to the header, entry or element at which `remaining` bytes of the text remain, and returns the key that is repeated
+// there, or `None` if there is none. The text has no byte order mark.
 fn find_repeated_key<'a>(
     alloc: Global,
     text: &'a str,

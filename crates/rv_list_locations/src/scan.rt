@@ -17,8 +17,8 @@ use std::alloc::{AllocError, Global};
 use toml_parser::text::{byte_at, first, skip, skip_ws};
 use toml_parser::{ErrorKind, ParseError, dotted_key};
 
-/// Returns the line, counted from 1, on which each job of a list begins: the line of its header, or of its element if the list is an array.
-/// A text that is not TOML is scanned up to where the scan fails.
+/// Returns the line, counted from 1, on which each job of a list begins: the line of its header `[[job]]`, or of its element in an array
+/// `job = [..]`. A text that is not TOML is scanned up to where the scan fails.
 pub fn job_line_numbers(alloc: Global, text: &str) -> Result<Vec<usize>, AllocError>
     ensures lines { IfOk result (λ lines. lines.items ≡ spec.job_lines text.now) }
     ensures sorted { IfOk result (λ lines. IsNonDecreasing lines.items) }
@@ -45,7 +45,7 @@ pub(crate) fn skip_byte_order_mark(text: &str) -> &str
 pub(crate) enum ScanState {
     /// An entry of the whole list, or the first header.
     Top,
-    /// An element of the array that is the list, or the end of the array.
+    /// An element of an array `job = [..]`, or the end of the array.
     Element,
     /// An entry of a table, or a header.
     Table,
@@ -59,7 +59,7 @@ pub(crate) struct Step<'a> {
     pub(crate) rest: &'a str,
 }
 
-/// Returns, for each job of a list, the suffix of the list's text that begins with the job.
+/// Returns, for each job of a list, the list's text from the job on. A text that is not TOML is scanned up to where the scan fails.
 pub fn job_texts<'a>(alloc: Global, text: &'a str) -> Result<Vec<&'a str>, AllocError>
     ensures { IfOk result (λ jobs. texts_of_references jobs.items ≡ spec.jobs_of_text (skip_bom text.now)) }
 {
@@ -70,7 +70,7 @@ pub fn job_texts<'a>(alloc: Global, text: &'a str) -> Result<Vec<&'a str>, Alloc
     }
 }
 
-// Appends, for each job of a list, the suffix of the list's text that begins with the job. The text has no byte order mark.
+// Appends, for each job of a list, the list's text from the job on. The text has no byte order mark.
 fn push_job_texts<'a>(
     alloc: Global,
     text: &'a str,
@@ -197,8 +197,9 @@ fn scan_table_header(alloc: Global, text: &str) -> Result<Step<'_>, ParseError>
     }
 }
 
-// Scans an entry. Before the first header, an array at the key `job` has the jobs, and its elements come next. Returns what comes next, and
-// the text after the entry or after the array's opening bracket.
+// Scans an entry, at which no job begins. If the entry is `job = [..]` and comes before the first header, the elements of the array are the
+// jobs: the first element comes next, and the returned text begins after the opening bracket. Otherwise, returns `state` as what comes
+// next, and the text after the entry.
 #[tactic(auto, unfolding(crate::specs::JobLocations::keyed_entry))]
 fn scan_entry(alloc: Global, text: &str, state: ScanState) -> Result<Step<'_>, ParseError>
     ensures step { GivesStep result (spec.keyed_entry state text.now) }
@@ -221,8 +222,8 @@ fn scan_entry(alloc: Global, text: &str, state: ScanState) -> Result<Step<'_>, P
     })
 }
 
-/// Returns the suffix of a text that begins with the value of an entry. The text begins after the entry's key; without an equals sign
-/// there, returns an empty text.
+/// Skips the equals sign of an entry, with which the text begins, and returns the text from the entry's value on. Without an equals sign,
+/// returns an empty text.
 #[tactic(auto, unfolding(crate::specs::JobLocations::after_equals))]
 pub(crate) fn skip_equals_sign(text: &str) -> &str
     ensures text { result.now ≡ spec.after_equals text.now }
@@ -235,7 +236,8 @@ pub(crate) fn skip_equals_sign(text: &str) -> &str
     }
 }
 
-/// Returns the suffix of a text that begins with the next element, or with the bracket after the last element.
+/// Skips the comma after an element, if there is one, and the blanks, line ends and comments around it. Returns the text from the next
+/// element on, or from the bracket after the last element on.
 #[tactic(auto, unfolding(crate::specs::JobLocations::after_comma))]
 pub(crate) fn skip_comma(text: &str) -> &str
     ensures text { result.now ≡ spec.after_comma text.now }
@@ -249,8 +251,8 @@ pub(crate) fn skip_comma(text: &str) -> &str
     }
 }
 
-// Returns the suffix of a text that begins with the next header or entry, or an empty text if something other than a comment is left on the
-// line.
+// Skips the end of a line, and returns the text from the next header or entry on, or an empty text if something other than a comment is
+// left on the line.
 #[tactic(auto, unfolding(crate::specs::JobLocations::text_after_line))]
 fn skip_line_end(text: &str) -> &str
     ensures text { result.now ≡ spec.text_after_line text.now }
@@ -264,7 +266,7 @@ fn skip_line_end(text: &str) -> &str
     }
 }
 
-// Scans a key, and returns whether it is `job`, and the text after it. The key is dropped here, so that it is not alive at any other exit.
+// Scans a key, and returns whether it is `job`, and the text after it. The key is dropped here, so that no caller holds it at its exits.
 fn scan_key(alloc: Global, text: &str) -> Result<(bool, &str), ParseError>
     ensures key { Reads (λ is_job. is_job) result
         (option_map (λ name. (spec.is_job name.0, name.1)) (key text.now)) }

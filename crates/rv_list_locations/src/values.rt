@@ -102,7 +102,7 @@ fn skip_word(text: &str) -> Result<&str, ParseError>
     Ok(rest)
 }
 
-// Whether the text begins with a byte of a word. A space may separate a date from a time.
+// Whether the text begins with a byte of a word. A space before a digit belongs to a word, since it may separate a date from a time.
 fn begins_with_word_byte(text: &str) -> bool
     ensures { result ≡ is_in_word (slice_index text.now 0) (slice_index text.now 1) }
 {

@@ -80,7 +80,7 @@ abbrev pub script_from_decoded : Result (List ℕ) FromHexError → Result (List
 script_from_decoded (Ok bytes) = script_from_bytes bytes
 script_from_decoded (Err e) = Err what.Input
 
--- the script of a job from the values of `input` and `input_hex`, of which at most one may be set; empty if neither is
+-- the script of a job from the values of `input` and `input_hex`; empty if neither is set, and an error if both are
 abbrev pub script_from_either : Option (List ℕ) → Option (List ℕ) → Result (List ℕ) What
 script_from_either None None = Ok []
 script_from_either (Some text) None = script_from_bytes text
@@ -97,7 +97,7 @@ script_from_table ms = script_from_either (text_at_key (codes "input") ms) (text
 abbrev pub region_word : List ℕ → Members → Result ℕ What
 region_word key ms = parsed_or_fault (number_or_fault 0 0xffff_ffff what.Region) what.Region (number_at_key key ms)
 
--- the region of a table; it is writable unless `write` is false
+-- the region of a table, or an error if its base or size is not a 32-bit number; it is writable unless `write` is false
 unfoldable pub region_from_table : Members → Result Region What
 region_from_table ms = do
   base ← region_word (codes "base") ms
@@ -132,13 +132,14 @@ map_from_table ms = parsed_or_default map_from_elements default_regions (array_a
 
 -- ---- where the image is loaded
 
--- the addresses at which segments are loaded, from the value of `load`: `physical` or `virtual`; any other text is an error
+-- the load addresses that a value of `load` selects: `physical` or `virtual`; any other text is an error
 abbrev pub load_from_text : List ℕ → Result LoadAt What
 load_from_text t = if bytes_eq t (codes "physical") then Ok Physical
     else if bytes_eq t (codes "virtual") then Ok Virtual
     else Err what.Load
 
--- the addresses at which a job's segments are loaded, physical or virtual; the default is physical
+-- whether a job's segments are loaded at their physical or virtual addresses, or an error if `load` has another value; the default is
+-- physical
 unfoldable pub load_from_table : Members → Result LoadAt What
 load_from_table ms = parsed_or_default load_from_text Physical (text_at_key (codes "load") ms)
 
@@ -160,7 +161,7 @@ symbols_from_names ds = do
   end ← signature_symbol 1 ds
   Ok (Some (record { begin = begin; end = end }))
 
--- the symbols of a job's signature, or `None` if it has none
+-- the symbols of a job's signature, `None` if it has none, or an error if they are invalid
 unfoldable pub signature_from_table : Members → Result (Option Symbols) What
 signature_from_table ms = parsed_or_default symbols_from_names None (array_at_key (codes "signature") ms)
 
@@ -170,7 +171,7 @@ signature_from_table ms = parsed_or_default symbols_from_names None (array_at_ke
 abbrev pub exit_from_number : ℤ → Result (Option ℕ) What
 exit_from_number z = number_or_fault 0 0xffff_ffff what.Expect z >>= (λ n. Ok (Some n))
 
--- the expected exit code of a job, or `None` if it expects none
+-- the expected exit code of a job, `None` if it expects none, or an error if it is not a 32-bit number
 unfoldable pub exit_from_table : Members → Result (Option ℕ) What
 exit_from_table ms = parsed_or_default exit_from_number None (number_at_key (codes "expect_exit") ms)
 
@@ -178,7 +179,8 @@ exit_from_table ms = parsed_or_default exit_from_number None (number_at_key (cod
 abbrev pub reference_from_path : Bool → List ℕ → Result (Option (List ℕ)) What
 reference_from_path has_signature path = if has_signature && is_valid_path path then Ok (Some path) else Err what.Expect
 
--- the path of the expected signature of a job, or `None` if it expects none; `has_signature` is whether the job has a signature
+-- the path of the expected signature of a job, `None` if it expects none, or an error if the path is invalid or the job has no signature;
+-- `has_signature` is whether it has one
 unfoldable pub reference_from_table : Bool → Members → Result (Option (List ℕ)) What
 reference_from_table has_signature ms = parsed_or_default (reference_from_path has_signature) None (text_at_key (codes "expect_signature") ms)
 
@@ -198,7 +200,7 @@ console_from_either (Some text) None = console_from_text text
 console_from_either None (Some path) = console_from_path path
 console_from_either (Some text) (Some path) = Err what.Expect
 
--- the expected console of a job, or `None` if it expects none
+-- the expected console of a job, `None` if it expects none, or an error if it is invalid
 unfoldable pub console_from_table : Members → Result (Option ExpectedConsole) What
 console_from_table ms =
     console_from_either (text_at_key (codes "expect_console") ms) (text_at_key (codes "expect_console_file") ms)
@@ -212,7 +214,7 @@ end_from_fault_kind (Some kind) = Ok (Some (expected.Fault kind))
 abbrev pub end_from_text : List ℕ → Result (Option ExpectedEnd) What
 end_from_text t = if bytes_eq t (codes "budget") then Ok (Some expected.Budget) else end_from_fault_kind (fault_named t)
 
--- the expected end of a job's run, or `None` if it expects none
+-- the expected end of a job's run, `None` if it expects none, or an error if it is invalid
 unfoldable pub end_from_table : Members → Result (Option ExpectedEnd) What
 end_from_table ms = parsed_or_default end_from_text None (text_at_key (codes "expect_end") ms)
 

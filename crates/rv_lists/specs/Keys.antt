@@ -73,7 +73,7 @@ is_number d = is_some (as_integer d)
 abbrev pub is_boolean : Data → Bool
 is_boolean d = is_some (as_bool d)
 
--- the keys of a region
+-- the keys that a region may have, each with the type of its value
 abbrev pub region_keys : List Key
 region_keys =
     key (codes "base") is_number ∷ key (codes "size") is_number ∷ key (codes "write") is_boolean ∷ []
@@ -99,7 +99,7 @@ abbrev pub is_region_array : Data → Bool
 is_region_array (array ds) = all_items is_region ds
 is_region_array _ = false
 
--- the keys of a job
+-- the keys that a job may have, each with the type of its value
 abbrev pub job_keys : List Key
 job_keys =
     key (codes "name") is_text

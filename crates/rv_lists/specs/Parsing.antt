@@ -31,7 +31,7 @@ abbrev pub with_job_number : {A : Type 0} → ℕ → Result A What → Result A
 with_job_number n (Ok x) = Ok x
 with_job_number n (Err w) = Err (record { job = n; what = w })
 
--- the list with the elements `front` before its own, or the error
+-- the list with the elements `front` prepended, or the error
 abbrev pub with_prefix : {F A : Type 0} → List A → Result (List A) F → Result (List A) F
 with_prefix front (Ok xs) = Ok (front ++ xs)
 with_prefix front (Err e) = Err e

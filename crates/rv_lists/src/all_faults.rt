@@ -30,7 +30,7 @@ pub fn read_faults(alloc: Global, bytes: &[u8]) -> Result<Vec<JobError>, AllocEr
         Ok(table) => faults_of_table(alloc, &table),
         Err(error) => {
             if error.is_memory() {
-                // Out of memory: `toml` says so of its own error.
+                // Out of memory: `toml` reports that its own allocation failed.
                 return Err(AllocError);
             }
             single_list_fault(alloc, What::NotToml)
@@ -72,7 +72,8 @@ fn faults_of_elements(alloc: Global, elements: &[Value]) -> Result<Vec<JobError>
     Ok(faults)
 }
 
-/// Adds the job of an element to the earlier jobs. If the element is bad, reserves its name and adds its error to `faults`.
+/// Adds the job of an element to the earlier jobs, and returns them. If the element is bad, reserves its name and adds its error to
+/// `faults`.
 fn add_element_or_fault(
     alloc: Global,
     earlier: EarlierJobs,
@@ -97,8 +98,8 @@ fn add_element_or_fault(
     }
 }
 
-/// Returns the earlier jobs with a job that reserves the name of a bad element, if the name is valid and not already reserved. This job has
-/// default values.
+/// Returns the earlier jobs with one more job, which reserves the name of a bad element; unchanged if that name is invalid or already
+/// reserved. The added job has default values.
 fn reserve_bad_job_name(
     alloc: Global,
     earlier: EarlierJobs,
@@ -141,8 +142,8 @@ fn reserved_name<'a>(earlier: &EarlierJobs, element: &'a Value) -> Option<&'a st
     }
 }
 
-/// Proves that the first of all errors is the one for which a list is rejected, and that there is no error exactly if the list is valid.
-/// There is no code to run.
+/// Proves that a list is rejected with the first of all its errors, and that there is no error if and only if the list is valid. There is
+/// no code to run.
 pub fn first_fault_refuses_a_list()
     ensures { (bytes : List ℕ) → slice_get (list_faults bytes) 0 ≡ result_err (job_list_of bytes) }
 {}

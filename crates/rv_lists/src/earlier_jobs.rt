@@ -51,7 +51,7 @@ impl EarlierJobs {
         self.places.get(name).copied()
     }
 
-    /// Returns the jobs with one more job appended, whose name none of them has.
+    /// Appends a job, whose name no earlier job has, and returns all the jobs.
     pub(crate) fn append_job(self, alloc: Global, job: Job) -> Result<EarlierJobs, AllocError>
         requires new_name { index_in (names_of_jobs self) job.name ≡ None }
         requires valid { IsValidJobAt (length self) job }

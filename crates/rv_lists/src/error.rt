@@ -34,7 +34,7 @@ pub enum What {
     Region,
     /// `load` is neither `physical` nor `virtual`.
     Load,
-    /// `signature` does not have two texts, or one of them is not 1 to 255 bytes without a zero byte.
+    /// `signature` does not have exactly two texts, or one of them is not 1 to 255 bytes without a zero byte.
     Signature,
     /// `expect_exit` is not a 32-bit number; `expect_signature` is not 1 to 4,096 bytes, or is set without `signature`; `expect_console`
     /// has more than 65,536 bytes; `expect_console_file` is not 1 to 4,096 bytes, or is set together with `expect_console`; or `expect_end`

@@ -98,7 +98,7 @@ fn console_from_path(alloc: Global, path: &str) -> Result<Option<ExpectedConsole
     }
 }
 
-/// Returns the expected end of a job's run, or `None` if it expects none.
+/// Returns the expected end of a job's run, `None` if it expects none, or an error if `expect_end` is invalid.
 #[tactic(auto, unfolding(crate::specs::JobList::end_from_table))]
 pub(crate) fn end_from_table(table: &Table) -> Result<Option<ExpectedEnd>, What>
     ensures { result ≡ end_from_table (table_view table.now) }

@@ -63,8 +63,8 @@ fn job_from_table(alloc: Global, earlier: &EarlierJobs, table: &Table) -> Result
 }
 
 impl EarlierJobs {
-    /// Returns the job with this name, which no earlier job has, this image and this budget, and the other keys of a table, or the first
-    /// error of these keys.
+    /// Returns the job with this name, image and budget, and with the values of a table's other keys; or the first error of these keys. No
+    /// earlier job may have the name.
     #[tactic(auto, unfolding(crate::specs::JobSteps::job_from_remaining_keys))]
     fn job_from_remaining_keys(
         &self,

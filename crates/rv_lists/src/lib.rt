@@ -26,6 +26,6 @@ pub use job::{ExpectedConsole, ExpectedEnd, Job, JobList, Symbols};
 pub use keys::{JOB_KEYS, ValueType};
 pub use list::read_jobs;
 
-// From the crates below: what this interface names, and what its callers need with it.
+// Re-exports from lower crates: the types in this interface, and what its callers need with them.
 pub use rv_base::{Bytes, ReadError, Store, Text, is_name, limits};
 pub use rv_machine::{FaultKind, Map, MapError, Region};

@@ -29,7 +29,7 @@ pub fn read_jobs(alloc: Global, bytes: &[u8]) -> Result<JobList, JobError>
         Ok(table) => jobs_of_table(alloc, &table),
         Err(error) => {
             if error.is_memory() {
-                // Out of memory: `toml` says so of its own error.
+                // Out of memory: `toml` reports that its own allocation failed.
                 return Err(list_error(What::OutOfMemory));
             }
             Err(list_error(What::NotToml))
@@ -125,7 +125,7 @@ fn jobs_of_elements(alloc: Global, elements: &[Value]) -> Result<JobList, JobErr
             Err(_) => {
                 return Err(JobError {
                     job: number,
-                    // Out of memory: `with` fails by that alone.
+                    // Out of memory: `append_job` fails for no other reason.
                     what: What::OutOfMemory,
                 });
             }

@@ -13,7 +13,8 @@ use rv_machine::{Map, Region};
 use std::alloc::Global;
 use toml::{Table, Value};
 
-/// Returns the memory map of a job: the regions of `region`, or the default map if there is no such key.
+/// Returns the memory map of a job, or an error if its regions do not form one: the regions of `region`, or the default map if there is no
+/// such key.
 #[tactic(auto, unfolding(crate::specs::JobList::map_from_table))]
 pub(crate) fn map_from_table(alloc: Global, table: &Table) -> Result<Map, What>
     ensures { MatchesUnlessOutOfMemory result (map_from_table (table_view table.now)) }

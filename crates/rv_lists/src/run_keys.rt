@@ -13,7 +13,8 @@ use crate::keys::text_at_key;
 use rv_machine::{Isa, Misaligned};
 use toml::Table;
 
-/// The values of the last four keys of a job: how its run should end, the job whose results it must have, and its hart.
+/// The values of the last four keys of a job: how its run should end, the job whose results it must have, its instruction set, and what
+/// misaligned accesses do.
 #[derive(Clone, Copy)]
 pub(crate) struct RunOptions {
     pub(crate) expect_end: Option<ExpectedEnd>,
@@ -61,7 +62,7 @@ fn same_as_from_table(earlier: &EarlierJobs, table: &Table) -> Result<Option<usi
     }
 }
 
-// Returns the instruction set of a job. The default is RV32IMC.
+// Returns the instruction set of a job, or an error if its name is unknown. The default is RV32IMC.
 #[tactic(auto, unfolding(crate::specs::JobList::isa_from_table))]
 fn isa_from_table(table: &Table) -> Result<Isa, What>
     ensures { result ≡ isa_from_table (table_view table.now) }
@@ -89,7 +90,8 @@ fn isa_from_text(text: &str) -> Result<Isa, What>
     }
 }
 
-// Returns what misaligned accesses do in a job's run: they are faults, unless `misaligned` allows them.
+// Returns what misaligned accesses do in a job's run, or an error if `misaligned` is invalid. They are faults, unless `misaligned` allows
+// them.
 #[tactic(auto, unfolding(crate::specs::JobList::misaligned_from_table))]
 fn misaligned_from_table(table: &Table) -> Result<Misaligned, What>
     ensures { result ≡ misaligned_from_table (table_view table.now) }

@@ -20,7 +20,7 @@ use rv_machine::Map;
 use std::alloc::Global;
 use toml::Table;
 
-/// The initial state of a job: its script, its regions, and which addresses of its segments are the load addresses.
+/// The initial state of a job: its script, its regions, and whether its segments are loaded at their physical or virtual addresses.
 #[derive(Drop)]
 pub(crate) struct Setup {
     pub(crate) script: Bytes,
@@ -28,7 +28,8 @@ pub(crate) struct Setup {
     pub(crate) load: LoadAt,
 }
 
-/// Returns the script, the regions and the load addresses of a job, or the first error.
+/// Returns the script and the regions of a job, and whether its segments are loaded at their physical or virtual addresses, or the first
+/// error.
 #[tactic(auto, unfolding(crate::specs::JobSteps::setup_from_table))]
 pub(crate) fn setup_from_table(alloc: Global, table: &Table) -> Result<Setup, What>
     ensures value { MatchesUnlessOutOfMemory result (setup_from_table (table_view table.now)) }
@@ -44,7 +45,8 @@ pub(crate) fn setup_from_table(alloc: Global, table: &Table) -> Result<Setup, Wh
     })
 }
 
-// Returns the script of a job from `input` or `input_hex`, of which at most one may be set. It is empty if neither is.
+// Returns the script of a job from `input` or `input_hex`, or an error if both are set or the script is invalid. It is empty if neither is
+// set.
 #[tactic(auto, unfolding(crate::specs::JobList::script_from_table))]
 fn script_from_table(alloc: Global, table: &Table) -> Result<Bytes, What>
     ensures value { MatchesUnlessOutOfMemory result (script_from_table (table_view table.now)) }
@@ -70,7 +72,7 @@ fn script_from_bytes(alloc: Global, bytes: &[u8]) -> Result<Bytes, What>
     }
 }
 
-// Returns the script from its hexadecimal digits, or an error if they are invalid or it is too long.
+// Returns the script that hexadecimal digits encode, or an error if the digits are invalid or the script is too long.
 fn script_from_hex(alloc: Global, digits: &str) -> Result<Bytes, What>
     ensures value { MatchesUnlessOutOfMemory result (script_from_decoded (decode_of digits.now)) }
     ensures at_most_max { IfOk result (λ s. length s ≤ max_script_len) }
@@ -88,7 +90,8 @@ fn script_from_hex(alloc: Global, digits: &str) -> Result<Bytes, What>
     }
 }
 
-// Returns the addresses at which a job's segments are loaded, physical or virtual. The default is physical.
+// Returns whether a job's segments are loaded at their physical or virtual addresses, or an error if `load` has another value. The default
+// is physical.
 #[tactic(auto, unfolding(crate::specs::JobList::load_from_table))]
 fn load_from_table(table: &Table) -> Result<LoadAt, What>
     ensures { result ≡ load_from_table (table_view table.now) }
@@ -99,7 +102,7 @@ fn load_from_table(table: &Table) -> Result<LoadAt, What>
     }
 }
 
-// Returns the addresses at which segments are loaded, from the value of `load`: `physical` or `virtual`. Any other text is an error.
+// Returns the load addresses that a value of `load` selects: `physical` or `virtual`. Any other text is an error.
 fn load_from_text(text: &str) -> Result<LoadAt, What>
     ensures { result ≡ load_from_text text.now }
 {

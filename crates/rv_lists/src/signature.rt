@@ -17,7 +17,7 @@ use rv_base::limits::MAX_SYMBOL_LEN;
 use std::alloc::Global;
 use toml::{Table, Value};
 
-/// Returns the symbols of a job's signature, or `None` if it has none.
+/// Returns the symbols of a job's signature, `None` if it has none, or an error if they are invalid.
 #[tactic(auto, unfolding(crate::specs::JobList::signature_from_table))]
 pub(crate) fn signature_from_table(alloc: Global, table: &Table) -> Result<Option<Symbols>, What>
     ensures value { MatchesUnlessOutOfMemory result (signature_from_table (table_view table.now)) }

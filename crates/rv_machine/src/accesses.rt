@@ -21,7 +21,8 @@ pub(crate) enum LoadExtension {
 }
 
 impl Hart {
-    /// Executes a load: writes the extended value to its register, and moves the pc to the next instruction.
+    /// Executes a load: writes the extended value to its register, and moves the pc to the next instruction. Fails, and changes nothing, if
+    /// the bus rejects the load.
     #[inline]
     pub(crate) fn load(
         &mut self,
@@ -46,7 +47,8 @@ impl Hart {
         }
     }
 
-    /// Executes a store: writes to memory, invalidates the cache entries that it overlaps, and moves the pc to the next instruction.
+    /// Executes a store: writes to memory, invalidates the cache entries that it overlaps, and moves the pc to the next instruction. Fails,
+    /// and changes nothing, if the bus rejects the store.
     #[inline(always)]
     pub(crate) fn store(
         &mut self,

@@ -11,8 +11,8 @@ use crate::hart::{Hart, set_pc};
 use rv_isa::Instr;
 
 impl Hart {
-    /// Returns the address after an instruction of `length` bytes. It is computed by a processor branch rather than a sum, so that the next
-    /// cache entry is looked up before the length is known.
+    /// Returns the address after an instruction of `length` bytes. It is computed with a branch of the host processor instead of a sum, so
+    /// that the next cache entry is looked up before the length is known.
     #[inline(always)]
     pub(crate) fn following_pc(&mut self, pc: u32, length: u32) -> u32
         requires { (length ≡ 2) ⊎ (length ≡ 4) }
@@ -27,7 +27,8 @@ impl Hart {
         pc.wrapping_add(4)
     }
 
-    /// Executes JALR: the target is computed before the link is written, and its lowest bit is cleared.
+    /// Executes JALR: the target is computed before the link is written, and its lowest bit is cleared. A misaligned target is an error,
+    /// and then nothing is written.
     #[inline]
     pub(crate) fn jump_and_link_register(
         &mut self,
@@ -72,7 +73,8 @@ impl Hart {
         self.complete(pc, instr.rd, next, target)
     }
 
-    /// Executes a branch: moves the pc to its target if it is taken, else to `next`. `here`, the pc, is the address of the branch.
+    /// Executes a branch: moves the pc to its target if it is taken, else to `next`. A taken branch to a misaligned target is an error, and
+    /// then nothing changes. `here`, the pc, is the address of the branch.
     #[inline]
     pub(crate) fn branch(
         &mut self,

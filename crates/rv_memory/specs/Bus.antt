@@ -52,7 +52,7 @@ size_of Byte = 1
 size_of Half = 2
 size_of Word = 4
 
--- the little-endian value in the bytes of the memory `m` at the address `a` that an access of this width reads
+-- the little-endian value of this width in the memory `m` at the address `a`
 abbrev pub value_at : fin.FinMap nat_cmp ℕ → ℕ → Width → ℕ
 value_at m a Byte = byte_at m a
 value_at m a Half = half_at m a
@@ -94,7 +94,7 @@ load_from c a w =
 abbrev pub with_stored_byte : BusContents → ℕ → ℕ → BusContents
 with_stored_byte c a b = record c { memory = fin.insert c.memory a b; stored = set.insert c.stored a }
 
--- the contents after the low bytes of `v`, as many as the width says, are stored at the address `a`, lowest first
+-- the contents after the low bytes of `v`, one for each byte of the width, are stored at the address `a`, lowest first
 abbrev pub put : BusContents → ℕ → Width → ℕ → BusContents
 put c a Byte v = with_stored_byte c a (v % 0x100)
 put c a Half v = with_stored_byte (with_stored_byte c a (v % 0x100)) (a + 1) (v / 0x100 % 0x100)
@@ -125,13 +125,15 @@ store_to c a w v =
 abbrev pub is_stale : BusContents → ℕ → Bool
 is_stale c a = set.contains c.stored a || set.contains c.stored (a + 1)
 
--- a fetch of the halfword at the address `a`: a fault if its two bytes are not in one region, or if one of them was stored to
+-- a fetch of the halfword at the address `a`: a fault if its two bytes are not in one region, or if one of them was stored to since the
+-- last FENCE.I
 abbrev pub fetch_half_from : BusContents → ℕ → Result ℕ FetchFault
 fetch_half_from c a =
     if not (is_in_one_region c.regions a 2) then Err Unmapped
     else (if is_stale c a then Err Stale else Ok (half_at c.memory a))
 
--- a fetch of the word at the address `a`: `None` if its four bytes are not in one region, or if one of them was stored to
+-- a fetch of the word at the address `a`: `None` if its four bytes are not in one region, or if one of them was stored to since the last
+-- FENCE.I
 abbrev pub fetch_word_from : BusContents → ℕ → Option ℕ
 fetch_word_from c a =
     if is_in_one_region c.regions a 4 && not (is_stale c a || is_stale c (a + 2))
@@ -155,7 +157,7 @@ abbrev pub with_bytes_written : fin.FinMap nat_cmp ℕ → ℕ → List ℕ → 
 with_bytes_written m a [] = m
 with_bytes_written m a (b ∷ bs) = with_bytes_written (fin.insert m a b) (a + 1) bs
 
--- the contents after an image's bytes are written at the address `a` and the following addresses; none of these counts as stored to
+-- the contents after an image's bytes are written at the address `a` and the following addresses, which does not mark them as stored to
 abbrev pub with_bytes : BusContents → ℕ → List ℕ → BusContents
 with_bytes c a bytes = record c { memory = with_bytes_written c.memory a bytes }
 

@@ -18,7 +18,7 @@ pub(crate) struct BufferRange {
 }
 
 impl Map {
-    /// Returns where the `len` bytes from an address on are stored, or `None` if they are not in one region.
+    /// Returns where the `len` bytes at an address are stored, or `None` if no region has all of them. `len` must not be 0.
     ///
     /// Every access goes through here, so the first region is tried without a loop: most maps have only one.
     #[inline]
@@ -37,8 +37,8 @@ impl Map {
         search_regions(&self.regions[1..self.count], first.size as usize, addr, len)
     }
 
-    /// Returns where the bytes of an access are stored if they are in the first region. The address must be a multiple of the width:
-    /// regions begin and end at multiples of 4, so one comparison decides.
+    /// Returns where the bytes of an access are stored, or `None` if they are not in the first region. The address must be a multiple of
+    /// the width: regions begin and end at multiples of 4, so one comparison decides.
     #[inline(always)]
     pub(crate) fn locate_in_first_region(&self, addr: u32, width: Width) -> Option<BufferRange>
         requires { addr % size_of width ≡ 0 }
@@ -53,8 +53,8 @@ impl Map {
     }
 }
 
-// Returns where the `len` bytes at an address are stored, or `None` if none of these regions has all of them. The bytes of the first region
-// begin at index `start`.
+// Returns where the `len` bytes at an address are stored, or `None` if none of these regions has all of them. `start` is the index of the
+// first region's bytes in the concatenated bytes of all regions.
 #[inline]
 fn search_regions(regions: &[Region], start: usize, addr: u32, len: u32) -> Option<BufferRange>
     requires positive { 0 < len }

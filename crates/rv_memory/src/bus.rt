@@ -24,7 +24,7 @@ pub struct Bus {
     pub(crate) map: Map,
     /// The bytes of all regions, concatenated.
     pub(crate) bytes: Vec<u8>,
-    /// The mark of each byte.
+    /// One mark for each byte in `bytes`.
     pub(crate) marks: Vec<u16>,
     /// A byte counts as stored if its mark equals this generation; older marks are below it.
     pub(crate) generation: u16,
@@ -51,8 +51,7 @@ impl Model for Bus {
 }
 
 impl Bus {
-    /// Writes an image's bytes at an address and the following ones, even in read-only regions. None of these addresses counts as stored
-    /// to.
+    /// Writes an image's bytes at an address and the following ones, even in read-only regions. It does not mark them as stored to.
     pub fn place(&mut self, addr: u32, bytes: &[u8])
         requires { IsTrue (is_in_one_region self.old.regions addr (length bytes.now)) }
         ensures { self.new ≡ with_bytes self.old addr bytes.now }
@@ -162,7 +161,7 @@ impl Bus {
         Some(read_word(&self.bytes, place.at))
     }
 
-    /// Whether [`Bus::fetch_half`] succeeds for each halfword in the 2 or 4 bytes at an address, which may be odd.
+    /// Whether [`Bus::fetch_half`] succeeds for each halfword in the `len` bytes (2 or 4) at an address, which may be odd.
     #[tactic(auto, unfolding(crate::specs::Bus::is_clean_range))]
     pub fn clean(&self, addr: u32, len: u32) -> bool
         requires { (len ≡ 2) ⊎ (len ≡ 4) }

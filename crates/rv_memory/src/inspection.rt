@@ -27,7 +27,7 @@ impl Bus {
             None => false,
         }
     }
-    /// Returns the number of script bytes left.
+    /// Returns the number of bytes of the script that were not read yet.
     pub fn script_remaining(&self) -> usize
         ensures { result ≡ length self.now.script }
     {

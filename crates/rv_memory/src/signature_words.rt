@@ -12,7 +12,8 @@ use std::alloc::{AllocError, Global};
 const WORD: u32 = 4;
 
 impl Bus {
-    /// Returns the words of memory from `begin` up to `end`.
+    /// Returns the words of memory from `begin` up to, but not including, `end`. Both must be multiples of 4, and one region must have all
+    /// bytes between them.
     pub fn words(&self, alloc: Global, begin: u32, end: u32) -> Result<Vec<u32>, AllocError>
         requires begin { begin % 4 ≡ 0 }
         requires end { end % 4 ≡ 0 }
@@ -28,7 +29,8 @@ impl Bus {
         Ok(words)
     }
 
-    /// Whether `words` are the words of memory from `begin` up to `end`. Does not allocate.
+    /// Whether `words` are the words of memory from `begin` up to, but not including, `end`, as [`Bus::words`] would return them. Does not
+    /// allocate.
     pub fn has_words(&self, begin: u32, end: u32, words: &[u32]) -> bool
         requires begin { begin % 4 ≡ 0 }
         requires end { end % 4 ≡ 0 }
@@ -48,7 +50,7 @@ impl Bus {
         true
     }
 
-    // Returns the word at an address whose four bytes are in one region.
+    // Returns the word at an address. One region must have all four bytes.
     fn word(&self, addr: u32) -> u32
         requires { IsTrue (is_in_one_region self.now.regions addr 4) }
         ensures { result ≡ word_at self.now.memory addr }

@@ -46,7 +46,7 @@ IsRunFlaw _ first shard = ⊥
 
 -- ---- slots
 
--- the slots after each row was written to the slot with the number of its job; `numbers` are the job numbers of the rows, in order
+-- the slots after each row was written to the slot with the number of its job; the first argument has the job numbers of the rows, in order
 abbrev pub filled_slots : {X : Type 0} → List ℕ → List X → List (Option X) → List (Option X)
 filled_slots [] rows slots = slots
 filled_slots (n ∷ ns) [] slots = slots

@@ -41,7 +41,7 @@ pub record IsRunOf (list : List Job) (run : Run) : Type 0 where
   pub few : run.shards ≤ max_jobs
   pub stamp : is_name run.stamp ≡ true
 
--- the bytes are the report of shard `n`, which ran from a plan that has the same result as `answers` for each path that its jobs need
+-- the bytes are the report of shard `n`, whose run had the same result of reading as `answers` for each path that the shard's jobs need
 pub record IsShardText (list : List Job) (answers : List PathResult) (run : Run) (n : ℕ)
     (bytes : List ℕ) : Type 0 where
   pub low : 0 < n

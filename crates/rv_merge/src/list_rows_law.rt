@@ -14,8 +14,9 @@ ghost use Rattle.rv_merge.specs.Numbers.{EndHasWordNumbers, HasNumbers, HasWords
 
 use rv_rows::{Bytes, Row, RowEnd, Words};
 
-/// Proves that the rows of a list that was read can be the rows of a list, whatever the results for its paths are: there are up to 4,096,
-/// with distinct valid names, numbers of 32 bits, consoles of bytes, signatures of at most 65,536 words, and no refusal for lack of memory.
+/// Proves that the rows that a machine computes for a list are valid as the rows of a list, whatever the results for its paths are: there
+/// are up to 4,096, with distinct valid names, numbers that fit in 32 bits, consoles of bytes, signatures of at most 65,536 words, and no
+/// refusal for lack of memory.
 pub fn rows_form_a_list(rows: &[Row])
     ensures { (bytes : List ℕ) (list : List Job) (results : List PathResult)
         → job_list_of bytes ≡ Ok list → rows.now ≡ rows_of (plan_of_jobs list results)
@@ -24,7 +25,7 @@ pub fn rows_form_a_list(rows: &[Row])
     prove_rows_have_numbers(rows);
 }
 
-// Proves that the numbers of all rows have 32 bits, and that their consoles consist of bytes.
+// Proves that the numbers of all rows fit in 32 bits, and that their consoles consist of bytes.
 fn prove_rows_have_numbers(rows: &[Row])
     ensures { All HasNumbers rows.now }
 {
@@ -33,7 +34,7 @@ fn prove_rows_have_numbers(rows: &[Row])
     }
 }
 
-// Proves that the numbers of a row have 32 bits, and that its console consists of bytes.
+// Proves that the numbers of a row fit in 32 bits, and that its console consists of bytes.
 fn prove_row_has_numbers(row: &Row)
     ensures { HasNumbers row.now }
 {
@@ -43,7 +44,7 @@ fn prove_row_has_numbers(row: &Row)
     prove_signature_is_words(&row.signature);
 }
 
-// Proves that the numbers of an ending have 32 bits.
+// Proves that the numbers of an ending fit in 32 bits.
 fn prove_ending_has_words(ending: RowEnd)
     ensures { EndHasWordNumbers ending }
 {
@@ -57,7 +58,7 @@ fn prove_ending_has_words(ending: RowEnd)
     }
 }
 
-// Proves that a `u32` has 32 bits.
+// Proves that a `u32` fits in 32 bits.
 fn prove_number_is_word(number: u32)
     ensures { IsWord number }
 {
@@ -78,7 +79,7 @@ fn prove_slice_is_bytes(bytes: &[u8])
     let _read = bytes;
 }
 
-// Proves that the words of a signature have 32 bits.
+// Proves that the words of a signature fit in 32 bits.
 fn prove_signature_is_words(signature: &Option<Words>)
     ensures { HasWords signature.now }
 {
@@ -87,7 +88,7 @@ fn prove_signature_is_words(signature: &Option<Words>)
     }
 }
 
-// Proves that the elements of a slice of `u32` have 32 bits.
+// Proves that the elements of a slice of `u32` fit in 32 bits.
 fn prove_slice_is_words(words: &[u32])
     ensures { AllByRecursion IsWord words.now }
 {

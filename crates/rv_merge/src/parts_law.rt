@@ -10,8 +10,8 @@ ghost use Rattle.rv_merge.specs.Shards.{AreShardTexts, IsRunOf};
 
 use rv_rows::parts_have_the_rows_of_the_whole;
 
-/// Proves that the texts of a list's shards are the parts of the rows that a single machine computes, if each machine reads the same as the
-/// single one at the paths that its jobs need. So [`merge_parts`](crate::merge_parts) returns these rows.
+/// Proves that the texts of a list's shards are the parts of the rows that a single machine computes, if each machine reads, at the paths
+/// that its jobs need, what the single machine reads there. So [`merge_parts`](crate::merge_parts) returns these rows.
 pub fn shards_give_the_parts_of_the_whole()
     ensures { (list : List Job) (results : List PathResult) (run : Run) (texts : List (List ℕ))
         → AreValidRows (rows_of (plan_of_jobs list results)) → IsRunOf list run

@@ -13,10 +13,10 @@ use crate::list_rows_law::rows_form_a_list;
 use crate::parts_law::shards_give_the_parts_of_the_whole;
 use rv_rows::Row;
 
-/// Proves that the shards of a list merge into its whole report. Suppose a list that was read runs in shards, and each machine reads the
-/// same at the paths that its jobs need as a single machine would. Then the texts of their reports are the parts of the rows that the
-/// single machine computes with `run_fleet`, for every number of workers and every chunk size, and
-/// [`merge_parts`](crate::merge::merge_parts) returns these rows.
+/// Proves that the shards of a list merge into its whole report. Suppose a list runs in shards, and each machine reads, at the paths that
+/// its jobs need, what a single machine would read there. Then the texts of their reports are the parts of the rows that the single machine
+/// computes with `run_fleet`, for every number of workers and every chunk size, and [`merge_parts`](crate::merge::merge_parts) returns
+/// these rows.
 pub fn shards_give_the_whole(rows: &[Row])
     ensures { (bytes : List ℕ) (list : List Job) (results : List PathResult) (run : Run)
         (texts : List (List ℕ))

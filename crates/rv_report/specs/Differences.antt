@@ -33,8 +33,9 @@ begins_last_line b = (b == 100) || (b == 112)
 abbrev pub begins_row : List ℕ → Bool
 begins_row text = bytes_eq (take 4 text) (take (length text) (codes "job "))
 
--- whether the line that differs can still be the beginning of a report's line: its first word equals the expected one; or it can begin a
--- row, `remaining`, where the expected text has its last line, which begins with the byte `expected`
+-- whether the line in which a text first differs from the expected one can still be the beginning of a report's line: either its whole
+-- first word is the expected one; or the line is `remaining`, which can begin a row, and the expected line is the last line of a report,
+-- which begins with the byte `expected`
 abbrev pub can_begin_report_line : FirstWordState → ℕ → List ℕ → Bool
 can_begin_report_line word.NotStarted expected remaining = begins_last_line expected && begins_row remaining
 can_begin_report_line word.Started expected remaining = false

@@ -300,11 +300,11 @@ with_line_at_stage stage.Signature line state = after_signature_line line state
 with_line_at_stage stage.Words line state = after_word_or_verdict_line line state
 with_line_at_stage stage.Done line state = state
 
--- the state after one more line
+-- the state of reading a report after one more line
 unfoldable pub with_line : List ℕ → ReaderStateView → ReaderStateView
 with_line line state = with_line_at_stage state.stage line state
 
--- the state after these lines
+-- the state of reading a report after these lines
 unfoldable pub with_lines : List (List ℕ) → ReaderStateView → ReaderStateView
 with_lines [] state = state
 with_lines (line ∷ lines) state = with_lines lines (with_line line state)
@@ -318,7 +318,7 @@ with_last_row_finished state =
 unfoldable pub state_after_text : List ℕ → ReaderStateView
 state_after_text text = with_last_row_finished (with_lines (lines text) (state_between_rows [] [] extent.Whole))
 
--- ---- the rows before the first row that no report has at its index
+-- ---- the rows before the first that cannot follow the earlier ones
 
 -- the number of leading job numbers that increase strictly, are greater than `previous`, and are at most `max_jobs`
 unfoldable pub increasing_count : ℕ → List ℕ → ℕ

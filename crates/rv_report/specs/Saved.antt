@@ -31,8 +31,8 @@ are_evenly_spaced next step limit [] = nat_lt limit next
 are_evenly_spaced next step limit (n ∷ ns) =
     (n == next) && (nat_le n limit && are_evenly_spaced (next + step) step limit ns)
 
--- whether a shard is valid: its number is from 1 to the number of shards, that number and the number of jobs are at most `max_jobs`, and
--- its stamp is a valid name
+-- whether a shard is valid: its number is from 1 to the number of shards, there are at most `max_jobs` shards and at most `max_jobs` jobs,
+-- and its stamp is a valid name
 unfoldable pub is_valid_shard : Shard → Bool
 is_valid_shard s = nat_le 1 s.number && (nat_le s.number s.shards && (nat_le s.shards max_jobs
     && (nat_le s.jobs max_jobs && is_name s.stamp)))
@@ -73,11 +73,11 @@ saved_text r = numbered_rows_text r.numbers r.rows ++ extent_line r.extent (leng
 
 -- ---- valid reports
 
--- the number has 32 bits
+-- the number fits in 32 bits
 abbrev pub IsWord : ℕ → Type 0
 IsWord word = word < 2 ^ 32
 
--- the ending can be in a row: its numbers have 32 bits, and it is not a refusal for lack of memory
+-- the ending can be in a row: its numbers fit in 32 bits, and it is not a refusal for lack of memory
 abbrev pub IsValidEnd : RowEnd → Type 0
 IsValidEnd (ending.Exit code) = IsWord code
 IsValidEnd (ending.Fault kind pc value) = IsWord pc × IsWord value
@@ -88,12 +88,12 @@ IsValidEnd (ending.Refused why) = why ≡ refusal.Image image.OutOfMemory → �
 abbrev pub max_words : ℕ
 max_words = 65536
 
--- the signature has at most `max_words` words of 32 bits each, or is not given
+-- the signature has at most `max_words` words, each of which fits in 32 bits; or there is no signature
 abbrev pub IsValidSignature : Option (List ℕ) → Type 0
 IsValidSignature None = Unit {0}
 IsValidSignature (Some words) = (length words ≤ max_words) × AllByRecursion IsWord words
 
--- the row is valid: its name is valid, its numbers have 32 bits, and its console consists of bytes
+-- the row is valid: its name is valid, its numbers fit in 32 bits, its console consists of bytes, and its signature is valid
 pub record IsValidRow (row : Row) : Type 0 where
   pub name : is_name row.name ≡ true
   pub ending : IsValidEnd row.ending

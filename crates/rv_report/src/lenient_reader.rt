@@ -1,4 +1,4 @@
-//! The report that is read from a text leniently: its lines, up to the first row that no report has there.
+//! Reads a report leniently: its rows, up to the first that cannot follow the earlier ones.
 
 ghost use Rattle.std.specs.Prelude.{◌≡◌, ◌≤◌, IfOk, length};
 ghost use Rattle.rv_report.specs.LenientReport.{increasing_count, extent_or_selection, lenient_report};
@@ -12,8 +12,8 @@ use crate::saved::{Extent, Numbers, SavedReport};
 use rv_base::limits::MAX_JOBS;
 use std::alloc::{AllocError, Global};
 
-/// Reads a report from a text leniently, and returns its rows before the first whose job number does not increase or whose name is
-/// repeated.
+/// Reads as much of a report as any text contains: its rows up to the first line that cannot come next, but only those before the first
+/// whose job number does not increase or whose name is repeated.
 #[tactic(auto, unfolding(crate::specs::LenientReport::lenient_report))]
 pub(crate) fn lenient_report(alloc: Global, text: &[u8]) -> Result<SavedReport, AllocError>
     ensures value { IfOk result (λ report. report ≡ lenient_report text.now) }

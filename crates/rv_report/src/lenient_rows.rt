@@ -96,7 +96,7 @@ fn initial_state(alloc: Global) -> Result<ReaderState, AllocError>
     })
 }
 
-// Reads the next line.
+// Reads the next line of a text. The stage says what the line should have; after a line that cannot come next, all lines are ignored.
 #[tactic(auto, unfolding(crate::specs::LenientReport::with_line))]
 fn read_line(alloc: Global, state: &mut ReaderState, line: &[u8]) -> Result<(), AllocError>
     ensures { OnOk result (reader_state_view state.new ≡ with_line line.now (reader_state_view state.old)) }
@@ -225,7 +225,7 @@ fn finish_unfinished_row(alloc: Global, state: &mut ReaderState) -> Result<(), A
     finish_row(alloc, state, Verdict::Unasked)
 }
 
-// Appends zeros up to `count` words.
+// Appends words 0 until there are `count` words.
 #[tactic(auto, unfolding(crate::specs::LenientReport::padded_words))]
 fn pad_signature_words(words: &mut Vec<u32>, count: u32) -> Result<(), AllocError>
     ensures { OnOk result (words.new.items ≡ padded_words count words.old.items) }

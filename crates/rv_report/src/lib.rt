@@ -3,8 +3,8 @@
 //! A [`Row`] is the result of one job. [`write_report`] appends a report's text to a sink in few large writes; if a write fails, a prefix
 //! of the text has been written and nothing after it. [`read_report`] returns the [`SavedReport`] with the given text, whether of a whole
 //! list, of selected jobs or of a shard, or the first invalid line ([`ReadError`]). It reads each line for what it appears to contain,
-//! writes the report of that, and compares: a single comparison ensures that the result has exactly this text. [`one_text_one_report`] is a
-//! law of reports.
+//! writes the report of that, and compares: a single comparison ensures that the result has exactly this text. The law
+//! [`one_text_one_report`] says that no two valid reports have the same text.
 #![tactic(auto)]
 
 mod fields;
@@ -32,6 +32,6 @@ pub use saved_report_text::push_extent_line;
 pub use saved_writer::write_saved_report;
 pub use signature_lines::{WORD_LINE_LEN, are_word_lines, word_line};
 
-// From the crates below: what this interface names, and what its callers need with it.
+// Re-exports from lower crates: the types in this interface, and what its callers need with them.
 pub use rv_base::{Bytes, Sequence, Sink, SinkFailed, Text, is_name, put_all};
 pub use rv_text::{Span, is_utf8, push_number, push_spans, push_text, tail_from};

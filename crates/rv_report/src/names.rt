@@ -8,7 +8,7 @@ use crate::row::Row;
 use std::alloc::{AllocError, Global};
 use std::collections::BTreeMap;
 
-/// Returns the number of rows before the first row that has the name of an earlier one.
+/// Returns the number of rows before the first row that has the name of an earlier one; the number of all rows if no name is repeated.
 pub fn count_before_repeated_name(alloc: Global, rows: &[Row]) -> Result<usize, AllocError>
     ensures { IfOk result (λ count. count ≡ count_before_repeated_name [] (row_names rows.now)) }
 {

@@ -24,7 +24,8 @@ pub struct PartialReport {
     pub is_truncated: bool,
 }
 
-/// Returns the report with this text, or the complete rows of a truncated text. Every prefix of a report's text is accepted.
+/// Returns the report with this text, or the complete rows of a truncated text. Every prefix of a report's text is accepted. The error of a
+/// rejected text is its first invalid line.
 pub fn read_partial_report(alloc: Global, bytes: &[u8]) -> Result<PartialReport, ReadError>
     ensures truncation { IfOk result (λ read. IsReadAs bytes.now read.is_truncated read.report) }
     ensures valid { IfOk result (λ read. IsValidReport read.report) }

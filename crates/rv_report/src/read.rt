@@ -41,8 +41,11 @@ impl From<AllocError> for ReadError {
     }
 }
 
-/// Returns the report with this text, whether of a whole list, of chosen jobs or of a shard. Takes memory for its rows, and again for its
-/// text; if the text is not a report, for at most 4,096 rows and one more signature of 65,536 words.
+/// Returns the report with this text, whether of a whole list, of chosen jobs or of a shard; or the first invalid line, or that the text is
+/// truncated.
+///
+/// Takes memory for the report's rows, and again for its text; if the text is not a report, for at most 4,096 rows and one more signature
+/// of 65,536 words.
 pub fn read_report(alloc: Global, bytes: &[u8]) -> Result<SavedReport, ReadError>
     // The result has this text, and is a valid report.
     ensures report { IfOk result (λ report. IsValidReport report × (saved_text report ≡ bytes.now)) }
@@ -56,7 +59,7 @@ pub fn read_report(alloc: Global, bytes: &[u8]) -> Result<SavedReport, ReadError
     ensures first_error { IfErr result (λ error. IsFirstError error bytes.now) }
     // If a prefix of a report's text is rejected, the error is `Truncated`.
     ensures truncated { IsReportPrefix bytes.now → IfErr result (λ error. IsSameReadError error Truncated) }
-    // The location is that of the first difference from the report of the text's content.
+    // The error is at the first difference from the text of the lenient report.
     ensures exact_error { IfErr result (λ error. IsSameReadError error
         (read_error_from 1 word.NotStarted (saved_text (lenient_report bytes.now)) bytes.now)) }
 {
@@ -91,8 +94,9 @@ fn first_read_error(text: &[u8], bytes: &[u8]) -> ReadError
     ReadError::Truncated
 }
 
-// Returns the error, given that the remaining bytes `remaining` differ in their first byte from a text whose next byte is `expected`: this
-// line, or `Truncated` if `remaining` ends in this line, and the line can still be the beginning of a report's line.
+// Returns the error at the first difference between the bytes and a report's text. `remaining` is the rest of the bytes, and `expected` is
+// the next byte of the text. The error is `Truncated` if the line can still be the beginning of a report's line and no line feed follows,
+// and otherwise this line.
 fn read_error_at(line: usize, word: FirstWordState, expected: u8, remaining: &[u8]) -> ReadError
     ensures { result ≡ read_error_at line word expected remaining.now }
 {
@@ -145,7 +149,8 @@ impl FirstWordState {
         }
     }
 
-    // Whether the line that differs from the expected text can still be the beginning of a report's line, judging by its first word.
+    // Whether the line in which a text first differs from the expected one can still be the beginning of a report's line, judging by its
+    // first word.
     fn can_begin_report_line(self, expected: u8, remaining: &[u8]) -> bool
         ensures { result ≡ can_begin_report_line self expected remaining.now }
     {

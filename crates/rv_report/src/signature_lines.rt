@@ -24,7 +24,7 @@ pub(crate) fn push_word_digits(
     text.push_str(digits.as_str())
 }
 
-/// Appends the line of each word.
+/// Appends a line for each word.
 pub(crate) fn push_word_lines(
     alloc: Global,
     text: &mut String,

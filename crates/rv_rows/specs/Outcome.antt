@@ -28,7 +28,7 @@ use Rattle.rv_report.specs.declared.row.RowEnd.TheVariants as ending
 
 -- ---- the files of a job
 
--- the bytes of a file if it was read, or the first refusal if it is unreadable, or the second if it is too long
+-- the bytes of a file if it was read, the refusal `unreadable` if it is unreadable, or the refusal `too_long` if it is too long
 abbrev pub content_or_refusal : Kept → Refusal → Refusal → Result (List ℕ) Refusal
 content_or_refusal (kept.Content bytes) unreadable too_long = Ok bytes
 content_or_refusal kept.Unreadable unreadable too_long = Err unreadable

@@ -18,7 +18,7 @@ use Rattle.rv_report.specs.declared.row.Verdict.{Verdict}
 use Rattle.rv_report.specs.declared.row.Verdict.TheVariants as verdict
 use Rattle.rv_report.specs.Report.{word_line}
 
--- whether a job has expectations
+-- whether a job has at least one expectation: an exit code, an end, a console, a signature or `same_as`
 abbrev pub has_expectations : Job → Bool
 has_expectations job =
     is_some job.expect_exit || (is_some job.expect_end || (is_some job.expect_console
@@ -113,7 +113,7 @@ outcomes_match outcome other = endings_match outcome.ending other.ending
     && (bytes_eq outcome.console other.console && are_same_signatures outcome.signature other.signature)
 
 -- whether an outcome equals the outcome `other` of the job that `same_as` names, as `outcomes_match` compares them; true if there is no
--- `same_as`
+-- `same_as`, and otherwise false if `other` is missing
 abbrev pub matches_same_as : Option ℕ → Option Outcome → Outcome → Bool
 matches_same_as None other outcome = true
 matches_same_as (Some index) None outcome = false

@@ -1,10 +1,10 @@
 //! The result of a job: the run of its image, the verdict on it, and the row that contains both.
 //!
-//! [`row_at`] is the row of a plan's job: the result of the job, given the results for its files, and the verdict on it. [`run_one`]
-//! computes all rows, in list order; [`flat_row`] is the row of a flat image. The results are exactly as defined in `specs/`.
-//! [`machine_at`] is the machine in which that run begins, and [`row_from`] the row of a job whose machine has already run some steps.
-//! [`narrower_sets_only_refuse`] is a law of rows. A [`RowReporter`] produces a text for each row. The rows and their report are those of
-//! `rv_report`, which this crate re-exports.
+//! [`row_at`] returns the row of a plan's job: the result of the job, given the results for its files, and the verdict on it. [`run_one`]
+//! computes all rows, in list order; [`flat_row`] returns the row of a flat image. The results are exactly as defined in `specs/`.
+//! [`machine_at`] returns the machine in which a job's run begins, and [`row_from`] the row of a job whose machine has already run some
+//! steps. [`narrower_sets_only_refuse`] is a law of rows. A [`RowReporter`] produces a text for each row. The rows and their report are
+//! those of `rv_report`, which this crate re-exports.
 #![tactic(auto)]
 
 mod complete_run;
@@ -34,7 +34,7 @@ pub use verdict::{
     has_expected_exit, outcomes_match,
 };
 
-// From the crates below: what this interface names, and what its callers need with it.
+// Re-exports from lower crates: the types in this interface, and what its callers need with them.
 pub use rv_elf::{
     CodeSymbols, Image, ImageError, LoadAt, Segment, SymbolAt, find_symbol, read_image,
     segments_overlap, symbol_at, symbol_of_value, unfit_segment,

@@ -27,7 +27,7 @@ use std::alloc::{AllocError, Global};
 pub fn row_at(alloc: Global, plan: &Plan, i: usize) -> Result<Row, AllocError>
     requires { i < length plan.now.jobs }
 
-    // `d` would be the job past the end of the list, where there is no index.
+    // `d` is the default for an index past the end of the list, which `i` is not.
     ensures { IfOk result (λ row. (d : AJob) → row
         ≡ row_of plan.now (slice_index_or plan.now.jobs i d)) }
 {

@@ -21,7 +21,7 @@ pub(crate) fn verdict_of(
     console: Option<&[u8]>,
     is_same: bool,
 ) -> Verdict
-    // For every outcome of the named job such that `is_same` correctly states whether the two are equal.
+    // This holds for every outcome `other` of the job that `same_as` names, if `is_same` says whether `outcome` equals it.
     ensures { (other : Option AnOutcome) → is_same ≡ matches_same_as job.now.same_as other outcome.now
         → result ≡ verdict_of job.now outcome.now (option_map (λ bytes. bytes.now) reference.entry)
         (option_map (λ bytes. bytes.now) console.entry) other }
@@ -47,7 +47,7 @@ pub(crate) fn verdict_of(
     Verdict::Pass
 }
 
-/// Whether a job has expectations.
+/// Whether a job has at least one expectation: an exit code, an end, a console, a signature or `same_as`.
 pub fn has_expectations(job: &Job) -> bool
     ensures { result ≡ has_expectations job.now }
 {

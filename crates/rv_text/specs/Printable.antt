@@ -14,7 +14,7 @@ abbrev pub begins_with_control : List ℕ → Bool
 begins_with_control text = let first = slice_index text 0 in
     nat_lt first 0x20 || first == 0x7F || (first == 0xC2 && nat_lt (slice_index text 1) 0xA0)
 
--- the first bytes of a text, as many as the UTF-8 character has that the first byte begins, or all bytes if there are fewer
+-- the bytes of the first UTF-8 character of a text, whose length is taken from the first byte; all bytes if the text is shorter
 abbrev pub first_character_bytes : List ℕ → List ℕ
 first_character_bytes text = take (continuation_len (slice_index text 0) + 1) text
 

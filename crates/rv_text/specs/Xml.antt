@@ -42,7 +42,7 @@ character_text context c = reference_or_character (character_reference context c
 
 -- ---- the first character
 
--- the first of these bytes, as many as the UTF-8 character has that the first byte begins, or all bytes if there are fewer
+-- the bytes of the first UTF-8 character, whose length is taken from the first byte; all bytes if there are fewer
 abbrev pub first_xml_bytes : List ℕ → List ℕ
 first_xml_bytes [] = []
 first_xml_bytes (byte ∷ rest) = take (continuation_len byte + 1) (byte ∷ rest)
@@ -73,7 +73,7 @@ bytes_after_first None = 0
 
 -- ---- the text
 
--- the text in XML for the bytes after the first `remaining`, which continue a character that began before them
+-- the text in XML for these bytes without the first `remaining`, which belong to a character that is already written
 unfoldable pub xml_text_from : XmlContext → ℕ → List ℕ → List ℕ
 xml_text_from context remaining [] = []
 xml_text_from context zero (byte ∷ rest) = let front = first_xml_character (byte ∷ rest) in

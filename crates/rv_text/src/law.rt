@@ -6,8 +6,8 @@ ghost use Rattle.rv_text.specs.declared.xml.XmlContext.{XmlContext};
 ghost use Rattle.rv_text.specs.Printable.{IsUtf8WithoutControls, printable_name, printable_text, printable_value};
 ghost use Rattle.rv_text.specs.Xml.{IsXmlText, xml_text};
 
-/// Proves that `xml_text` consists of characters of XML 1.0 whatever the bytes, and that none of them is markup: each is written as its
-/// reference, if it has one, and otherwise as it is in UTF-8.
+/// Proves that `xml_text` consists of characters of XML 1.0 whatever the bytes are, and that none of them is markup: a character that has a
+/// reference is written as the reference, and any other in UTF-8.
 pub fn escaped_bytes_are_xml()
     ensures { (within : XmlContext) (bytes : List ℕ) → IsBytes bytes
         → IsXmlText within (xml_text within bytes) }

@@ -102,7 +102,7 @@ fn plain_first_len(text: &[u8]) -> usize
     }
 }
 
-// Returns the first bytes of a text, as many as the UTF-8 character has that the first byte begins, or all bytes if there are fewer.
+// Returns the bytes of the first UTF-8 character of a text, whose length is taken from the first byte; all bytes if the text is shorter.
 fn first_character_bytes(text: &[u8]) -> &[u8]
     ensures value { result.now ≡ first_character_bytes text.now }
     ensures within { length result.now ≤ length text.now }
@@ -153,7 +153,7 @@ fn is_some_format_char(character: Option<char>) -> bool
     }
 }
 
-// Whether a character is invisible or changes the direction of the text around it.
+// Whether a character is a format character, which is invisible or changes the direction of the text around it.
 fn is_format_char(character: char) -> bool
     ensures { result ≡ is_format_char character }
 {

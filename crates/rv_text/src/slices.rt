@@ -21,7 +21,8 @@ pub fn tail_from(text: &[u8], count: usize) -> &[u8]
     }
 }
 
-/// Returns the length in bytes of the UTF-8 character that this byte begins.
+/// Returns the length in bytes of a UTF-8 character with this first byte. For a byte that begins no character, the length is arbitrary,
+/// from 1 to 4.
 pub(crate) fn char_len(first: u8) -> usize
     ensures { result ≡ continuation_len first + 1 }
 {
@@ -36,7 +37,7 @@ pub(crate) fn char_len(first: u8) -> usize
     }
 }
 
-/// Returns the actual and the expected bytes, both without the bytes before the index `index`.
+/// Returns the actual and the expected bytes, both from the index `index` on.
 pub fn actual_and_expected_from<'a>(
     index: usize,
     actual: &'a [u8],

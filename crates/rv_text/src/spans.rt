@@ -10,7 +10,7 @@ use crate::text_and_numbers::{
 };
 use std::alloc::{AllocError, Global};
 
-/// A part of a line.
+/// A part of a line: a value, and how it is shown.
 #[derive(Clone, Copy)]
 pub enum Span<'a> {
     /// Text, unchanged.

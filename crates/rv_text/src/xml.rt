@@ -80,7 +80,7 @@ fn allowed_xml_character(character: Option<char>) -> Option<char>
     }
 }
 
-// Returns the first of these bytes, as many as the UTF-8 character has that the first byte begins, or all bytes if there are fewer.
+// Returns the bytes of the first UTF-8 character, whose length is taken from the first byte; all bytes if there are fewer.
 fn first_xml_bytes(bytes: &[u8]) -> &[u8]
     ensures { result.now ≡ first_xml_bytes bytes.now }
 {

@@ -1,5 +1,5 @@
--- How the prover stores the contents of a bus: the contract value of a struct is stored as a type that the prover knows, here nested pairs,
--- and is recovered unchanged. This file has no facts about buses.
+-- How the prover encodes the contents of a bus: it encodes the contract value of a struct in a type that it knows, here nested pairs, and
+-- recovers it unchanged. This file states no facts about buses.
 use Rattle.std.specs.Prelude.{◌≡◌, ℕ, Bool, true, false, List, refl}
 use Rattle.std.specs.Ordering.{nat_cmp}
 use Rattle.std.specs.FinMap as fin
@@ -10,29 +10,29 @@ use Rattle.rv_memory.specs.declared.access.Misaligned.{Misaligned as MisalignedP
 use Rattle.rv_memory.specs.declared.access.Misaligned.TheVariants.{Fault, Allow}
 use Rattle.rv_memory.specs.Bus.{BusContents}
 
--- how a region is stored: its base, its size and whether it is writable
+-- how a region is encoded: as its base, its size and whether it is writable
 abbrev pub region_code : Coded Region
 region_code =
     code_by (ℕ × (ℕ × Bool)) (coded× coded_ℕ (coded× coded_ℕ coded_bool))
     (λ r. (r.base, (r.size, r.writable)))
     (λ p. record { base = p.0; size = p.1.0; writable = p.1.1 }) (λ _. refl)
 
--- how the treatment of misaligned accesses is stored: as a Boolean, which is true if they are allowed
+-- the Boolean that encodes the treatment of misaligned accesses: whether they are allowed
 abbrev pub allows : MisalignedPolicy → Bool
 allows Fault = false
 allows Allow = true
 
--- the treatment of misaligned accesses: allowed if the Boolean is true, and rejected with a fault if it is false
+-- the treatment of misaligned accesses that a Boolean encodes: `Allow` if it is true, and `Fault` if it is false
 abbrev pub policy_of : Bool → MisalignedPolicy
 policy_of false = Fault
 policy_of true = Allow
 
--- a treatment of misaligned accesses that is stored as `allows` says and then recovered is unchanged
+-- a treatment of misaligned accesses is recovered unchanged from its Boolean
 abbrev pub policy_round_trips : (m : MisalignedPolicy) → policy_of (allows m) ≡ m
 policy_round_trips Fault = refl
 policy_round_trips Allow = refl
 
--- how the treatment of misaligned accesses is stored, with the proof that it is recovered unchanged
+-- how the treatment of misaligned accesses is encoded: as a Boolean, from which it is recovered unchanged
 abbrev pub policy_code : Coded MisalignedPolicy
 policy_code = code_by Bool coded_bool allows policy_of policy_round_trips
 
@@ -42,7 +42,7 @@ ContentsFields =
     List Region
     × (fin.FinMap nat_cmp ℕ × (set.FinSet nat_cmp × (List ℕ × (List ℕ × MisalignedPolicy))))
 
--- how the fields of a bus's contents are stored
+-- how the fields of a bus's contents are encoded
 abbrev pub contents_fields_code : Coded ContentsFields
 contents_fields_code =
     coded× (coded_list region_code)
@@ -50,7 +50,7 @@ contents_fields_code =
     (coded× (set.code coded_ℕ)
     (coded× (coded_list coded_ℕ) (coded× (coded_list coded_ℕ) policy_code))))
 
--- how a bus's contents are stored: as their fields
+-- how a bus's contents are encoded: as their fields
 abbrev pub contents_code : Coded BusContents
 contents_code =
     code_by ContentsFields contents_fields_code
