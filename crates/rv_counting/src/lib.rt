@@ -42,8 +42,8 @@ pub use table_sum::{HasTable, TableSum};
 // From the crates below: what this interface names, and what its callers need with it.
 pub use rv_count_tables::{CountTable, table_text};
 pub use rv_fleet::{
-    Batch, Both, Crew, Flow, Listener, Observer, Row, RowReporter, Rows, RunError, Work, WorkerState,
-    WriteError, row_at_with_recent, run_batch, run_jobs,
+    Batch, Both, Crew, Flow, Listener, Observer, Row, RowReporter, Rows, RunError, Work,
+    WorkerState, WriteError, row_at_with_recent, run_batch, run_jobs,
 };
 pub use rv_trace::{
     Bus, Code, CodeSymbols, Ending, Isa, JobImage, Machine, Map, Misaligned, Plan, Region,

@@ -33,6 +33,6 @@ pub use rv_rows::{
     JobError, JobList, Kept, LoadableImage, Outcome, Plan, RecentOutcomes, Refusal, Report, Row,
     RowEnd, RowReporter, Rows, SignatureRange, Sink, SinkFailed, SpareBus, Verdict, What, Words,
     WriteError, flat_row, gather, gather_jobs, narrower_sets_only_refuse,
-    parts_have_the_rows_of_the_whole, put_all, read_jobs, row_at, row_at_with_recent, row_from_with_recent, run_one,
-    selected_indices, write_report,
+    parts_have_the_rows_of_the_whole, put_all, read_jobs, row_at, row_at_with_recent,
+    row_from_with_recent, run_one, selected_indices, write_report,
 };

@@ -34,12 +34,7 @@ pub struct PartialRun {
 
 /// Returns the row of the job at an index, counted from 0, given the first part of its run. The row equals that of [`crate::row_at`], but
 /// only the rest of the run is executed. The job that its `same_as` names is run completely.
-pub fn row_from(
-    alloc: Global,
-    plan: &Plan,
-    i: usize,
-    run: PartialRun,
-) -> Result<Row, AllocError>
+pub fn row_from(alloc: Global, plan: &Plan, i: usize, run: PartialRun) -> Result<Row, AllocError>
     requires index { i < length plan.now.jobs }
     requires intermediate { (d : AJob) → let job = slice_index_or plan.now.jobs i d in
         IsIntermediateState (start_state_in plan.now.results job) job.budget run.steps (state_of run.machine) }

@@ -180,7 +180,7 @@ module _ (row_text : ℕ → Row → List ℕ) (batch : Batch) where
           → IsRunDelivered (IsReportedRow row_text batch) (length batch.places.now) has_received stops (outcome_with_sum failed ran)
       rows_delivered None (Ok Continue) h = (all_rows h.0 (λ s. h.1 (inr s)), λ s. h.1 (inr s))
       rows_delivered None (Ok Stop) h =
-          (some_rows h.0.count h.0.hears, elim h.1 [ | inl some ↦ absurd (false≢true some) | inr s ↦ s ])
+          (some_rows h.0.count h.0.hears, elim h.1 [ inl some ↦ absurd (false≢true some) | inr s ↦ s ])
       rows_delivered None (Err error) h = some_rows h.count h.hears
       rows_delivered (Some error) (Ok Continue) h = absurd (h.1 (inl refl))
       rows_delivered (Some error) (Ok Stop) h = some_rows h.0.count h.0.hears
@@ -220,7 +220,8 @@ module _ (row_text : ℕ → Row → List ℕ) (batch : Batch) where
           ((is_some failed ≡ true) ⊎ stops) ran
           → outcome_with_sum failed ran ≡ Ok Continue → (table : CountTable) × ((sum_or_error sum failed ≡ Ok table) × IsTableOfJobsAt batch.plan.now batch.places.now table)
       table_counted None (Ok Continue) h is = (
-        sum, refl,
+        sum,
+        refl,
         all_counted batch.plan.now batch.places.now ranges are sum None Continue
             (tables_of_ranges h.0, λ some. false≢true some),
       )

@@ -29,7 +29,7 @@ pub use stream_spec::StreamSpec;
 
 // From the crates below: what this interface names, and what its callers need with it.
 pub use rv_base::{Bytes, ReadError, Sink, SinkFailed, Store, put_all};
-pub use rv_expect::{Judge, Rule};
 pub use rv_counting::{
     Batch, Both, Crew, Flow, Observer, Row, RowReporter, RunError, WriteError, run_batch,
 };
+pub use rv_expect::{Judge, Rule};

@@ -32,12 +32,7 @@ pub(crate) struct RowStream<'b, 'o, 't, T: RowReporter> {
 }
 
 /// Returns the recipients of a stream's rows: the sink, which receives their texts, the caller's observer, and the rows that are kept.
-pub(crate) fn row_recipients<
-    'k,
-    J: StreamSpec,
-    W: Sink + Drop,
-    B: Observer<ReportedRow> + Drop,
->(
+pub(crate) fn row_recipients<'k, J: StreamSpec, W: Sink + Drop, B: Observer<ReportedRow> + Drop>(
     alloc: Global,
     options: &StreamOptions<'k>,
     out: W,
@@ -62,12 +57,7 @@ pub(crate) fn row_recipients<
 
 impl<T: RowReporter> RowStream<'_, '_, '_, T> {
     /// Writes the buffered text of a run's rows, and returns the sink, the observer and the rows, given the outcome of the run.
-    pub(crate) fn finish<
-        'k,
-        J: StreamSpec,
-        W: Sink + Drop,
-        B: Observer<ReportedRow> + Drop,
-    >(
+    pub(crate) fn finish<'k, J: StreamSpec, W: Sink + Drop, B: Observer<ReportedRow> + Drop>(
         &self,
         recipients: Both<TextSender<J, W>, Both<B, RowsUpToFailure<'k, J>>>,
         ran: Result<Flow, RunError>,

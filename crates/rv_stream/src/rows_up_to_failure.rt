@@ -4,11 +4,11 @@ ghost use Rattle.std.specs.Prelude.{◌≡◌, ◌-◌, ◌++◌, ◌∷◌, [],
 ghost use Rattle.rv_expect.specs.Judgement.{judge_view};
 ghost use Rattle.rv_stream.specs.ReportedRows.{AreRowsUpToFailure};
 
-use crate::stream_options::StreamOptions;
 use crate::reported_row::ReportedRow;
+use crate::stream_options::StreamOptions;
 use crate::stream_spec::StreamSpec;
-use rv_expect::Judge;
 use rv_counting::{Flow, Listener, Row};
+use rv_expect::Judge;
 use std::alloc::Global;
 use std::marker::PhantomData;
 

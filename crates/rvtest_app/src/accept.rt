@@ -236,11 +236,7 @@ fn chosen_list<R, D: Inputs>(
 
 // Returns the jobs of a list without their expectations, with the selection of the jobs that run: the chosen jobs and the jobs that they
 // need.
-fn selected_jobs(
-    alloc: Global,
-    list: &ChosenList,
-    chosen: &[bool],
-) -> Result<BareJobs, AllocError>
+fn selected_jobs(alloc: Global, list: &ChosenList, chosen: &[bool]) -> Result<BareJobs, AllocError>
     requires { length chosen.now ≡ length list.now.jobs }
     ensures jobs { IfOk result (λ selected. selected.jobs ≡ map without_expectations list.now.jobs) }
     ensures selection { IfOk result (λ selected. selected.selection.items

@@ -63,7 +63,11 @@ impl<'x, R: Threads + Wait + Sync + Clock, D: Inputs> ListRun<'x, R, D> {
     }
 
     // Returns the text of the table of counts of the jobs, with call stacks if requested: of this table, if there is one.
-    fn counts_text(&self, planned: &PlannedRun<'_>, table: Option<CountTable>) -> Result<String, Stop>
+    fn counts_text(
+        &self,
+        planned: &PlannedRun<'_>,
+        table: Option<CountTable>,
+    ) -> Result<String, Stop>
         requires { IfSome table (IsCountsTable self.now.args.now.stacks planned.now.reporter.now.plan.now planned.now.indices.now) }
         ensures text { IfOk result (λ text. IsCountsText self.now.args.now.stacks planned.now.reporter.now.plan.now
             planned.now.indices.now (string_bytes text)) }

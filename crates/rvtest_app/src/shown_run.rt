@@ -24,7 +24,8 @@ use rv_files::{Inputs, Sink};
 use rv_job_text::{TextReporter, Verbosity};
 use rv_junit::FailureTexts;
 use rv_stream::{
-    Batch, Both, ReporterOutput, RowSender, StreamError, StreamOptions, StreamSpec, StreamedRun, stream_rows,
+    Batch, Both, ReporterOutput, RowSender, StreamError, StreamOptions, StreamSpec, StreamedRun,
+    stream_rows,
 };
 use rv_terminal::{Progress, ProgressReporter, TerminalSink};
 use rvtest_cli::RunArgs;

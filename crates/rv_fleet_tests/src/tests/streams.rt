@@ -157,7 +157,10 @@ fn push_out(text: &mut String, out: &RecordingSink<'_>) -> Result<(), AllocError
 }
 
 // Appends how the call ended: the number of rows, or the error.
-fn push_end(text: &mut String, outcome: &Result<StreamedRun, StreamError>) -> Result<(), AllocError> {
+fn push_end(
+    text: &mut String,
+    outcome: &Result<StreamedRun, StreamError>,
+) -> Result<(), AllocError> {
     match outcome {
         Ok(run) => {
             let count = run.rows.as_slice().len();
