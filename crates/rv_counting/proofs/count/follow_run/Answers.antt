@@ -1,5 +1,6 @@
 -- From block to block.
 use Rattle.std.proofs.Common.{◌≡◌, ◌+◌, ◌-◌, Ok, sym, subst, arith}
+use Rattle.std.proofs.lemmas.Bool.{not-false, not-true}
 use Rattle.rv_trace.specs.IntermediateState.{IsIntermediateState}
 use Rattle.rv_trace.specs.Machine.{state_of}
 use Rattle.rv_counting.specs.Counters.{counts_of, IsCountingFrom}
@@ -33,15 +34,15 @@ find_block-block-requires c =
     ready_on (counts_of old) old.cache.generation n (n - c.steps.remaining) (state_of c.args.machine) (state_of c.steps.machine) c.steps.counter
     c.ranges.budget.fits c.requires.few c.requires.generations c.steps.invariant.counting
 
-pub step_uncached-step-requires : goal.step_uncached-step-requires
-step_uncached-step-requires c =
+pub step_uncached-requires : goal.step_uncached-requires
+step_uncached-requires c =
     let n = c.args.budget in
     let old = c.args.counter.now in
     ready_on (counts_of old) old.cache.generation n (n - c.steps.remaining) (state_of c.args.machine) (state_of c.steps.machine) c.steps.counter
     c.ranges.budget.fits c.requires.few c.requires.generations c.steps.invariant.counting
 
-pub run_block-outcome-requires-clause-ready : goal.run_block-outcome-requires-clause-ready
-run_block-outcome-requires-clause-ready c =
+pub run_block-requires-clause-ready : goal.run_block-requires-clause-ready
+run_block-requires-clause-ready c =
     let n = c.args.budget in
     let old = c.args.counter.now in
     ready_on (counts_of old) old.cache.generation n (n - c.steps.remaining) (state_of c.args.machine) (state_of c.steps.machine) c.steps.counter
@@ -58,12 +59,12 @@ steps-preserved-then-block-eq0 c =
     let some = c.steps-test.true in
     let sum : n - remaining + 1 ≡ n - (remaining - 1) = omega (arith, w, some) in record {
       within = omega (arith, w);
-      counting = subst (λ k. IsCountingFrom (counts_of old) g n k start (state_of c.step_uncached-step.new.machine) c.step_uncached-step.new.self) sum
-          (c.in_ok-step.ensures.counted.continues c.if-not-step.false (counts_of old) g n (n - remaining) start (omega (arith, w, some))
+      counting = subst (λ k. IsCountingFrom (counts_of old) g n k start (state_of c.step_uncached.new.machine) c.step_uncached.new.self) sum
+          (c.in_ok-step.ensures.counted.continues (not-false c.in_ok-step.step.completed c.if-not-step.false) (counts_of old) g n (n - remaining) start (omega (arith, w, some))
           c.steps.invariant.counting);
-      run = subst (λ k. IsIntermediateState (Ok start) n k (state_of c.step_uncached-step.new.machine)) sum
-          (step_more n (n - remaining) (Ok start) (state_of c.steps.machine) (state_of c.step_uncached-step.new.machine) c.in_ok-step.step
-          c.steps.invariant.run (omega (arith, w, some)) c.in_ok-step.ensures.step c.if-not-step.false);
+      run = subst (λ k. IsIntermediateState (Ok start) n k (state_of c.step_uncached.new.machine)) sum
+          (step_more n (n - remaining) (Ok start) (state_of c.steps.machine) (state_of c.step_uncached.new.machine) c.in_ok-step.step
+          c.steps.invariant.run (omega (arith, w, some)) c.in_ok-step.ensures.step (not-false c.in_ok-step.step.completed c.if-not-step.false));
     }
 
 pub steps-preserved : goal.steps-preserved
@@ -78,11 +79,11 @@ steps-preserved c =
     let few = c.find_block-block.ensures.few in
     let sum : n - remaining + k ≡ n - (remaining - k) = omega (arith, w, few) in record {
       within = omega (arith, w);
-      counting = subst (λ k. IsCountingFrom (counts_of old) g n k start (state_of c.run_block-outcome.new.machine) c.run_block-outcome.new.self) sum
+      counting = subst (λ k. IsCountingFrom (counts_of old) g n k start (state_of c.run_block.new.machine) c.run_block.new.self) sum
           (c.in_ok-outcome.ensures.counted.continues (equal_tests _ _ c.if-outcome-block.false) (counts_of old) g n (n - remaining) start
           (omega (arith, w, few)) c.steps.invariant.counting);
-      run = subst (λ k. IsIntermediateState (Ok start) n k (state_of c.run_block-outcome.new.machine)) sum
-          (block_more n (n - remaining) k (Ok start) (state_of c.steps.machine) (state_of c.run_block-outcome.new.machine) c.in_ok-outcome.outcome
+      run = subst (λ k. IsIntermediateState (Ok start) n k (state_of c.run_block.new.machine)) sum
+          (block_more n (n - remaining) k (Ok start) (state_of c.steps.machine) (state_of c.run_block.new.machine) c.in_ok-outcome.outcome
           c.steps.invariant.run (omega (arith, w, few)) c.in_ok-outcome.ensures.ran c.if-outcome-block.false);
     }
 
@@ -93,7 +94,7 @@ returns-then-not-step-clause-counted c =
     let remaining = c.steps.remaining in
     let w = c.steps.invariant.within in
     let some = c.steps-test.true in
-    c.in_ok-step.ensures.counted.ended c.if-not-step.true (counts_of old) old.cache.generation n (n - remaining)
+    c.in_ok-step.ensures.counted.ended (not-true c.in_ok-step.step.completed c.if-not-step.true) (counts_of old) old.cache.generation n (n - remaining)
     (state_of c.args.machine) (omega (arith, w, some)) c.steps.invariant.counting
 
 pub returns-then-outcome-block-clause-counted : goal.returns-then-outcome-block-clause-counted
@@ -119,7 +120,7 @@ returns-clause-counted c =
 pub returns-then-not-step-clause-run : goal.returns-then-not-step-clause-run
 returns-then-not-step-clause-run c =
     same_part c.args.budget (c.args.budget - c.steps.remaining) (Ok (state_of c.args.machine)) (state_of c.steps.machine)
-    (state_of c.step_uncached-step.new.machine) c.in_ok-step.step c.steps.invariant.run c.in_ok-step.ensures.step c.if-not-step.true
+    (state_of c.step_uncached.new.machine) c.in_ok-step.step c.steps.invariant.run c.in_ok-step.ensures.step (not-true c.in_ok-step.step.completed c.if-not-step.true)
 
 pub returns-then-outcome-block-clause-run : goal.returns-then-outcome-block-clause-run
 returns-then-outcome-block-clause-run c =
@@ -128,7 +129,7 @@ returns-then-outcome-block-clause-run c =
     let w = c.steps.invariant.within in
     let few = c.find_block-block.ensures.few in
     block_part n (n - remaining) c.find_block-block.result.steps (Ok (state_of c.args.machine)) (state_of c.steps.machine)
-    (state_of c.run_block-outcome.new.machine) c.in_ok-outcome.outcome c.steps.invariant.run (omega (arith, w, few)) c.in_ok-outcome.ensures.ran
+    (state_of c.run_block.new.machine) c.in_ok-outcome.outcome c.steps.invariant.run (omega (arith, w, few)) c.in_ok-outcome.ensures.ran
 
 pub returns-clause-run : goal.returns-clause-run
 returns-clause-run c =

@@ -22,22 +22,22 @@ pub loop-k-preserved : goal.loop-k-preserved
 loop-k-preserved c =
     let t = c.loop-k-test.true in record {
       within = omega (arith, t);
-      counted = next_job c.args.plan.now c.args.indices.now c.loop-k.k c.loop-k.counter c.count_row_at-row.new.counter t c.loop-k.invariant.counted
+      counted = next_job c.args.plan.now c.args.indices.now c.loop-k.k c.loop-k.counter c.count_row_at.new.counter t c.loop-k.invariant.counted
           c.in_ok-row.ensures.counted;
       rows = next_row c.args.plan.now c.args.indices.now c.loop-k.k c.loop-k.rows.items _ c.in_ok-row.row t c.loop-k.invariant.rows
-          c.in_ok-row.ensures.row c.in_ok-push.ensures;
+          c.in_ok-row.ensures.row c.in_ok-push.ensures.items;
       recent = c.in_ok-row.ensures.recent;
     }
 
-pub count_row_at-row-requires-clause-within : goal.count_row_at-row-requires-clause-within
-count_row_at-row-requires-clause-within c =
+pub count_row_at-requires-clause-within : goal.count_row_at-requires-clause-within
+count_row_at-requires-clause-within c =
     All-get_or (λ (index : ℕ). index < length c.args.plan.now.jobs) c.args.indices.now c.loop-k.k 0 c.loop-k-test.true c.requires.within
 
-pub count_row_at-row-requires-clause-ready : goal.count_row_at-row-requires-clause-ready
-count_row_at-row-requires-clause-ready c = c.loop-k.invariant.counted.ready
+pub count_row_at-requires-clause-ready : goal.count_row_at-requires-clause-ready
+count_row_at-requires-clause-ready c = c.loop-k.invariant.counted.ready
 
-pub count_row_at-row-requires-clause-few : goal.count_row_at-row-requires-clause-few
-count_row_at-row-requires-clause-few c =
+pub count_row_at-requires-clause-few : goal.count_row_at-requires-clause-few
+count_row_at-requires-clause-few c =
     let plan = c.args.plan.now in
     let indices = c.args.indices.now in
     let first = take c.loop-k.k indices in
@@ -49,8 +49,8 @@ count_row_at-row-requires-clause-few c =
     let all = c.requires.few in
     omega (arith, runs, few, long, most, t, all)
 
-pub table_of_counter-table-requires-clause-counted : goal.table_of_counter-table-requires-clause-counted
-table_of_counter-table-requires-clause-counted c =
+pub table_of_counter-requires-clause-counted : goal.table_of_counter-requires-clause-counted
+table_of_counter-requires-clause-counted c =
     subst (λ ps. HasCountedJobs c.args.plan.now.results (jobs_at c.args.plan.now ps) c.loop-k.counter)
     (take_all c.loop-k.k c.args.indices.now c.loop-k-test.false) c.loop-k.invariant.counted
 

@@ -22,19 +22,19 @@ pub loop-k-preserved : goal.loop-k-preserved
 loop-k-preserved c =
     let t = c.loop-k-test.true in record {
       within = omega (arith, t);
-      counted = next_job c.args.plan.now c.args.indices.now c.loop-k.k c.loop-k.counter c.count_job_at-run.new.counter t c.loop-k.invariant.counted
+      counted = next_job c.args.plan.now c.args.indices.now c.loop-k.k c.loop-k.counter c.count_job_at.new.counter t c.loop-k.invariant.counted
           c.in_ok-run.ensures.counted;
     }
 
-pub count_job_at-run-requires-clause-within : goal.count_job_at-run-requires-clause-within
-count_job_at-run-requires-clause-within c =
+pub count_job_at-requires-clause-within : goal.count_job_at-requires-clause-within
+count_job_at-requires-clause-within c =
     All-get_or (λ (index : ℕ). index < length c.args.plan.now.jobs) c.args.indices.now c.loop-k.k 0 c.loop-k-test.true c.requires.within
 
-pub count_job_at-run-requires-clause-ready : goal.count_job_at-run-requires-clause-ready
-count_job_at-run-requires-clause-ready c = c.loop-k.invariant.counted.ready
+pub count_job_at-requires-clause-ready : goal.count_job_at-requires-clause-ready
+count_job_at-requires-clause-ready c = c.loop-k.invariant.counted.ready
 
-pub count_job_at-run-requires-clause-few : goal.count_job_at-run-requires-clause-few
-count_job_at-run-requires-clause-few c =
+pub count_job_at-requires-clause-few : goal.count_job_at-requires-clause-few
+count_job_at-requires-clause-few c =
     let plan = c.args.plan.now in
     let indices = c.args.indices.now in
     let first = take c.loop-k.k indices in

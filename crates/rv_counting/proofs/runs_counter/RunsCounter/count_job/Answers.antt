@@ -24,8 +24,8 @@ returns-clause-counted c = λ d.
     let plan = c.args.job.now.plan.now in
     let index = c.args.job.now.index in
     let same = get_or_read plan.jobs index c.job.result.now c.args.job.now.within c.job.ensures.value d in
-    ran_job plan.results (job_at plan index d) (state_of c.in-Ok.machine) c.args.self.now c.count_run-run.new.self (start d)
-    (subst (λ (j : Job). AddsRun j.budget (Some (state_of c.in-Ok.machine)) c.args.self.now c.count_run-run.new.self) same
+    ran_job plan.results (job_at plan index d) (state_of c.in-Ok.machine) c.args.self.now c.count_run.new.self (start d)
+    (subst (λ (j : Job). AddsRun j.budget (Some (state_of c.in-Ok.machine)) c.args.self.now c.count_run.new.self) same
     c.in_ok-run.ensures.counted)
 
 pub returns-clause-run : goal.returns-clause-run
@@ -34,7 +34,7 @@ returns-clause-run c = λ d.
     let plan = c.args.job.now.plan.now in
     let index = c.args.job.now.index in
     let same = get_or_read plan.jobs index c.job.result.now c.args.job.now.within c.job.ensures.value d in
-    subst (λ (j : Job). IsIntermediateState (start_state_in plan.results (job_at plan index d)) j.budget c.in_ok-run.run.steps
-    (state_of c.in_ok-run.run.machine)) same
-    (subst (λ (r : Result State Refusal). IsIntermediateState r c.job.result.now.budget c.in_ok-run.run.steps
-    (state_of c.in_ok-run.run.machine)) (sym (start d)) c.in_ok-run.ensures.run)
+    subst (λ (j : Job). IsIntermediateState (start_state_in plan.results (job_at plan index d)) j.budget c.in_ok-run.run'.steps
+    (state_of c.in_ok-run.run'.machine)) same
+    (subst (λ (r : Result State Refusal). IsIntermediateState r c.job.result.now.budget c.in_ok-run.run'.steps
+    (state_of c.in_ok-run.run'.machine)) (sym (start d)) c.in_ok-run.ensures.run)

@@ -6,4 +6,9 @@ use Rattle.rv_counting.proofs.Adding.{one_result_added}
 use Rattle.rv_counting.proofs.table_sum.TableSumObserver.see.Goals as goal
 
 pub returns-clause-seen : goal.returns-clause-seen
-returns-clause-seen g c = λ results seen. ?
+returns-clause-seen g c = λ results seen.
+    let table = g.T.HasTable.table in
+    let now = c.add.new.self in
+    one_result_added table now.sum now.failed results c.args.item.now
+    (subst (λ (t : CountTable). AreTablesAdded now.sum now.failed (map table results ++ t ∷ [])) c.table.ensures.value
+    (c.add.ensures.added (map table results) seen))
