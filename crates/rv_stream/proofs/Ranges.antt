@@ -1,11 +1,10 @@
 -- The rows of ranges are those of the batch, in order.
 use Rattle.std.proofs.Common.{◌≡◌, ◌∙◌, ◌+◌, ◌-◌, ◌<◌, ◌≤◌, ◌⊎◌, ℕ, zero, suc, List, [], ◌∷◌, ◌++◌, Option, Some, None, Result, Ok, Err, length, map, take, drop, get_or, append_assoc, append-nil, refl, sym, ap, subst, arith, inl, inr}
 use Rattle.std.specs.Prelude.{is_some, true, IfOk}
-use Rattle.std.specs.List.{concat}
 use Rattle.std.proofs.Math.Seq.{get_or-append_right, get_or-append_seam}
 use Rattle.std.proofs.lemmas.Bool.{cases_lt, false≢true}
-use Rattle.std.proofs.lemmas.List.{get_or-drop, get_or-map, get_or-take, get_or_append_left, length-append, length-drop, length-map, length-take, map-append, map-id}
-use Rattle.std.proofs.lemmas.List.Folds.{concat-append}
+use Rattle.std.proofs.lemmas.List.{get_or-drop, get_or-map, get_or-take, get_or_append_left, length-append, length-drop, length-map, length-take, map-id}
+use Rattle.std.proofs.lemmas.Grind.{flat_map-append}
 use Rattle.rv_counting.proofs.Public.{all_counted}
 use Rattle.rv_counting.specs.Batches.{row_of_number}
 use Rattle.rv_counting.specs.BatchRanges.{indices_in, range_at, range_start, AreIndexRanges}
@@ -45,8 +44,7 @@ received_range had has stopped stops ranges range goes was more =
     let all : was.first ≡ rows_of_ranges ranges =
     sym (append-nil was.first) ∙ ap (λ rest. was.first ++ rest) (sym (was.all goes)) ∙ was.whole in
     let joined : rows_of_ranges (ranges ++ range ∷ []) ≡ rows_of_ranges ranges ++ range.rows.items =
-    ap concat (map-append items ranges (range ∷ [])) ∙ concat-append (map items ranges) (map items (range ∷ []))
-    ∙ ap (λ rows. rows_of_ranges ranges ++ rows) (append-nil range.rows.items) in record {
+    flat_map-append items ranges (range ∷ []) ∙ ap (λ rows. rows_of_ranges ranges ++ rows) (append-nil range.rows.items) in record {
       first = was.first ++ next.first;
       rest = next.rest;
       whole = append_assoc was.first next.first next.rest ∙ ap (λ rows. was.first ++ rows) next.whole
@@ -223,7 +221,7 @@ module _ (row_text : ℕ → Row → List ℕ) (batch : Batch) where
         sum,
         refl,
         all_counted batch.plan.now batch.places.now ranges are sum None Continue
-            (tables_of_ranges h.0, λ some. false≢true some),
+            (tables_of_ranges h.0, λ some. false≢true some)),
       )
       table_counted None (Ok Stop) h is = cc
       table_counted None (Err error) h is = cc

@@ -1,6 +1,6 @@
 -- Ranges of a batch with the rows of their jobs, the rows' texts, and the table of the same runs.
-use Rattle.std.specs.Prelude.{◌≡◌, ◌+◌, ◌-◌, ◌++◌, ◌<◌, ℕ, List, [], length, map, slice_index_or}
-use Rattle.std.specs.List.{concat}
+use Rattle.std.specs.Prelude.{◌≡◌, ◌+◌, ◌-◌, ◌++◌, ◌<◌, ℕ, List, [], length, slice_index_or}
+use Rattle.std.specs.List.{flat_map}
 use Rattle.rv_counting.specs.BatchRanges.{indices_in}
 use Rattle.rv_counting.specs.JobTables.{IsTableOfRange}
 use Rattle.rv_counting.specs.declared.index_ranges.IndexRange.{IndexRange}
@@ -23,7 +23,7 @@ pub record IsReportedRange (row_text : ℕ → Row → List ℕ) (batch : Batch)
 
 -- the reported rows of some ranges, one after another
 abbrev pub rows_of_ranges : List ReportedRange → List ReportedRow
-rows_of_ranges ranges = concat (map (λ (r : ReportedRange). r.rows.items) ranges)
+rows_of_ranges ranges = flat_map (λ (r : ReportedRange). r.rows.items) ranges
 
 -- a listener that had received the rows `before` has received `rows`, too, in order; only if it has stopped the run may it lack the last
 -- ones

@@ -84,7 +84,7 @@ pub(crate) fn stream_counted_rows<
         Brand,
         ReportedRange,
         R,
-        CountedRangeWork<'_, '_, T>,
+        CountedRangeWork<'_, '_, '_, T>,
         Both<TableSum, RowByRow<Both<TextSender<J, W>, Both<B, RowsUpToFailure<'_, J>>>>>,
     >(&crew, &work, recipients);
     let Both {

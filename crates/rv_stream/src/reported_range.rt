@@ -30,14 +30,14 @@ impl HasTable for ReportedRange {
 
 /// Computes the rows of each range of a batch, their texts, and the table of the same runs.
 #[derive(Drop)]
-pub(crate) struct CountedRangeWork<'b, 't, T: RowReporter> {
+pub(crate) struct CountedRangeWork<'b, 'r, 't, T: RowReporter> {
     pub(crate) batch: &'b Batch<'b>,
-    pub(crate) ranges: &'b [IndexRange],
+    pub(crate) ranges: &'r [IndexRange],
     pub(crate) reporter: &'t T,
     pub(crate) ghost are: { AreIndexRanges batch.now.plan.now batch.now.places.now ranges.now },
 }
 
-impl<T: RowReporter> CountedRangeWork<'_, '_, T> {
+impl<T: RowReporter> CountedRangeWork<'_, '_, '_, T> {
     // Returns the rows of the jobs in a range of the batch with the texts that the reporter returns for them.
     fn reported_rows(
         &self,
@@ -63,7 +63,7 @@ impl<T: RowReporter> CountedRangeWork<'_, '_, T> {
     }
 }
 
-impl<T: RowReporter> Work<ReportedRange> for CountedRangeWork<'_, '_, T> {
+impl<T: RowReporter> Work<ReportedRange> for CountedRangeWork<'_, '_, '_, T> {
     ghost use Rattle.std.specs.Prelude.{length};
     ghost use Rattle.rv_counting.specs.BatchRanges.{range_at};
     ghost use Rattle.rv_counting.specs.RecentOutcomes.{AreOutcomesOfPlan};

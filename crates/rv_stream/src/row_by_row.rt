@@ -38,7 +38,7 @@ impl<L: Listener<ReportedRow> + Drop> Listener<ReportedRange> for RowByRow<L> {
 fn deliver_rows<L: Listener<ReportedRow>>(listener: &mut L, rows: Vec<ReportedRow>) -> Flow
     requires goes { L.stops listener.old → ⊥ }
     ensures received { (before : List AReportedRow) → L.has_received listener.old before
-        → HasReceivedMore (L.has_received listener.new) (L.stops listener.new) before rows.entry.items }
+        → HasReceivedMore (L.has_received listener.new) (L.stops listener.new) before rows.items }
     ensures goes { result ≡ Continue → L.stops listener.new → ⊥ }
     ensures stops { result ≡ Stop → L.stops listener.new }
 {

@@ -1,12 +1,14 @@
 -- From block to block.
-use Rattle.std.proofs.Common.{◌≡◌, ◌+◌, ◌-◌, Ok, sym, subst, arith}
+use Rattle.std.proofs.Common.{◌≡◌, ◌+◌, ◌-◌, Ok, ap, sym, subst, arith}
 use Rattle.std.proofs.lemmas.Bool.{not-false, not-true}
 use Rattle.rv_trace.specs.IntermediateState.{IsIntermediateState}
 use Rattle.rv_trace.specs.Machine.{state_of}
+use Rattle.rv_trace.specs.Run.{RunResult, run_of}
 use Rattle.rv_counting.specs.Counters.{counts_of, IsCountingFrom}
 use Rattle.rv_counting.proofs.Counted.{none_so_far}
 use Rattle.rv_counting.proofs.Counters.{counted_all_on, equal_tests, ready_on, unequal_tests}
 use Rattle.rv_counting.proofs.PartialRuns.{block_more, block_part, first_part, same_part, step_more}
+use Rattle.rv_counting.proofs.Runs.{steps_within}
 use Rattle.rv_counting.proofs.count.follow_run.Goals as goal
 
 pub steps-init : goal.steps-init
@@ -137,3 +139,14 @@ returns-clause-run c =
     let w = c.steps.invariant.within in
     let over = c.steps-test.false in
     subst (λ k. IsIntermediateState (Ok (state_of c.args.machine)) n k (state_of c.steps.machine)) (omega (arith, w, over)) c.steps.invariant.run
+
+pub overflow_add-steps : goal.overflow_add-steps
+overflow_add-steps c =
+    let k = c.find_block-block.result.steps in
+    let s = state_of c.steps.machine in
+    let count : (run_of k s).steps ≡ c.in_ok-outcome.outcome.steps = ap (λ (r : RunResult). r.steps) c.in_ok-outcome.ensures.ran in
+    let few = steps_within k s in
+    let block = c.find_block-block.ensures.few in
+    let w = c.steps.invariant.within in
+    let fits = c.ranges.budget.fits in
+    omega (arith, count, few, block, w, fits)
