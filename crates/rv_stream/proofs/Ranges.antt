@@ -217,12 +217,8 @@ module _ (row_text : ℕ → Row → List ℕ) (batch : Batch) where
           → IsRunDelivered (λ n r. IsReportedRange row_text batch (range_at ranges n) r) (length ranges) (AreAdded failed)
           ((is_some failed ≡ true) ⊎ stops) ran
           → outcome_with_sum failed ran ≡ Ok Continue → (table : CountTable) × ((sum_or_error sum failed ≡ Ok table) × IsTableOfJobsAt batch.plan.now batch.places.now table)
-      table_counted None (Ok Continue) h is = (
-        sum,
-        refl,
-        all_counted batch.plan.now batch.places.now ranges are sum None Continue
-            (tables_of_ranges h.0, λ some. false≢true some)),
-      )
+      table_counted None (Ok Continue) h is =
+          (sum, (refl, all_counted batch.plan.now batch.places.now ranges are sum None Continue (tables_of_ranges h.0, λ some. false≢true some)))
       table_counted None (Ok Stop) h is = cc
       table_counted None (Err error) h is = cc
       table_counted (Some error) (Ok flow) h is = cc
