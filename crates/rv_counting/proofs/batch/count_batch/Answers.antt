@@ -18,7 +18,7 @@ returns-in-Ok g c =
     let are = subst (λ (ps : List IndexRange). AreIndexRanges plan indices ps) (sym c.as_slice.ensures.value) c.in_ok-pieces.ensures in
     let sum = c.run_jobs-sum.result.0 in
     let sums = subst (λ (r : Result CountTable SumError). IfOk r (IsTableOfJobsAt plan indices)) (sym c.into_sum.ensures)
-    (all_counted plan indices pieces are sum.sum sum.failed c.in_ok-_flow._flow c.in_ok-_flow.ensures) in
+    (all_counted plan indices pieces are sum.sum sum.failed c.in_ok-_flow._flow (rw c.in_ok-_flow.was at c.run_jobs-sum.ensures)) in
     rw c.in-Ok.is at sums
 
 pub run_error_of-requires : goal.run_error_of-requires
@@ -29,5 +29,5 @@ run_error_of-requires g c =
     let are = subst (λ (ps : List IndexRange). AreIndexRanges plan indices ps) (sym c.as_slice.ensures.value) c.in_ok-pieces.ensures in
     let sum = c.run_jobs-sum.result.0 in
     let refused = subst (λ (r : Result CountTable SumError). IfErr r (λ error. error ≡ OutOfMemory)) (sym c.into_sum.ensures)
-    (memory_alone plan indices pieces are sum.sum sum.failed c.in_ok-_flow._flow c.in_ok-_flow.ensures c.args.batch.now.few) in
+    (memory_alone plan indices pieces are sum.sum sum.failed c.in_ok-_flow._flow (rw c.in_ok-_flow.was at c.run_jobs-sum.ensures) c.args.batch.now.few) in
     rw c.in-Err.is at refused
