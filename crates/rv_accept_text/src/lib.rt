@@ -15,5 +15,5 @@ pub use accept_summary::{AcceptSummary, Writing};
 pub use golden_file::{GoldenFile, ListFile};
 pub use new_list::{ChangedValue, NewList, accept_values};
 
-// From the crates below: what this interface names, and what its callers need with it.
+// Re-exports from lower crates: the types in this interface, and what its callers need with them.
 pub use rv_list_locations::job_line_numbers;

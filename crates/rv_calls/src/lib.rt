@@ -19,7 +19,7 @@ pub use law::frames_are_few;
 pub use run::{Calls, calls_at_end, calls_of_run};
 pub use transfer::{Transfer, next_transfer, transfer_by};
 
-// From the crates below: what this interface names, and what its callers need with it.
+// Re-exports from lower crates: the types in this interface, and what its callers need with them.
 pub use rv_trace::{
     Bus, ElfFile, Isa, JobImage, Machine, Map, Misaligned, Region, image_bytes, machine_at,
     push_trace, trace_job,

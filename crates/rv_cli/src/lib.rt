@@ -10,5 +10,5 @@ pub mod command_builder;
 pub mod rvfleet;
 pub mod values;
 
-// From the crates below: what this interface names, and what its callers need with it.
+// Re-exports from lower crates: the types in this interface, and what its callers need with them.
 pub use rv_base::{is_name, limits};

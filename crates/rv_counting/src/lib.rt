@@ -39,7 +39,7 @@ pub use step::{is_branch, is_executed_at_end};
 pub use table_of_jobs::{digest_of, empty_table, images_of_one, shown_text};
 pub use table_sum::{HasTable, TableSum};
 
-// From the crates below: what this interface names, and what its callers need with it.
+// Re-exports from lower crates: the types in this interface, and what its callers need with them.
 pub use rv_count_tables::{CountTable, table_text};
 pub use rv_fleet::{
     Batch, Both, Crew, Flow, Listener, Observer, Row, RowReporter, Rows, RunError, Work,

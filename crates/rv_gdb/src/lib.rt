@@ -12,5 +12,5 @@ mod reads;
 pub use conversation::{SessionContext, SessionError, serve};
 pub use job_session::session_at;
 
-// From the crates below: what this interface names, and what its callers need with it.
+// Re-exports from lower crates: the types in this interface, and what its callers need with them.
 pub use rv_session::{EndText, Session};

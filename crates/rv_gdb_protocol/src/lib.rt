@@ -33,5 +33,5 @@ pub use request::{Move, Part, Range, Refusal, Register, Request, Stoppoint, Watc
 pub use stop::{Stop, push_stop};
 pub use target::TARGET;
 
-// From the crates below: what this interface names, and what its callers need with it.
+// Re-exports from lower crates: the types in this interface, and what its callers need with them.
 pub use rv_base::{Bytes, Sequence};

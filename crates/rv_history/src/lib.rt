@@ -34,5 +34,5 @@ pub use outcome::MoveResult;
 pub use start::Start;
 pub use stops::{Stops, Watch, WatchHit};
 
-// From the crates below: what this interface names, and what its callers need with it.
+// Re-exports from lower crates: the types in this interface, and what its callers need with them.
 pub use rv_trace::{Bus, Ending, Isa, Machine, Map, Misaligned, Region, Sequence};

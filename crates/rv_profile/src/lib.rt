@@ -27,5 +27,5 @@ pub use image_stacks::{has_stacks, image_past_64_bits};
 pub use images_text::profile_text;
 pub use law::own_steps_sum_to_all_steps;
 
-// From the crates below: what this interface names, and what its callers need with it.
+// Re-exports from lower crates: the types in this interface, and what its callers need with them.
 pub use rv_cover_view::{ImageFile, cover_text, images_of_jobs, other_image};

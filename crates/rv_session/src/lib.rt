@@ -28,6 +28,6 @@ pub use program::Program;
 pub use reply::Reply;
 pub use session::Session;
 
-// From the crates below: what this interface names, and what its callers need with it.
+// Re-exports from lower crates: the types in this interface, and what its callers need with them.
 pub use rv_gdb_protocol::{Bytes, push_frame};
 pub use rv_history::{Bus, Interrupt, Isa, Machine, Map, Misaligned, Region, Start};

@@ -38,7 +38,7 @@ pub use run::count_with_stacks;
 pub use stacks::Stacks;
 pub use walk::Walk;
 
-// From the crates below: what this interface names, and what its callers need with it.
+// Re-exports from lower crates: the types in this interface, and what its callers need with them.
 pub use rv_counting::{
     Bus, CodeSymbols, Isa, Machine, Map, Misaligned, Region, RunError, count_batch, read_image,
 };

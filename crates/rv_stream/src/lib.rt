@@ -27,7 +27,7 @@ pub use stream::{ReporterOutput, StreamedRun, stream_rows};
 pub use stream_options::StreamOptions;
 pub use stream_spec::StreamSpec;
 
-// From the crates below: what this interface names, and what its callers need with it.
+// Re-exports from lower crates: the types in this interface, and what its callers need with them.
 pub use rv_base::{Bytes, ReadError, Sink, SinkFailed, Store, put_all};
 pub use rv_counting::{
     Batch, Both, Crew, Flow, Observer, Row, RowReporter, RunError, WriteError, run_batch,

@@ -27,7 +27,7 @@ pub use trace::{Trace, trace_job, trace_run};
 pub use trace_lines::push_trace;
 pub use write_targets::accessed_address;
 
-// From the crates below: what this interface names, and what its callers need with it.
+// Re-exports from lower crates: the types in this interface, and what its callers need with them.
 pub use rv_machine::{
     Bus, Ending, FaultKind, Instr, Isa, Machine, Map, Misaligned, Op, Outcome, Region, Width,
     is_long,

@@ -24,7 +24,7 @@ pub use status::{
     write_failure_line,
 };
 
-// From the crates below: what this interface names, and what its callers need with it.
+// Re-exports from lower crates: the types in this interface, and what its callers need with them.
 pub use rv_cli::rvfleet::{Request, read_words};
 pub use rv_files::{FileStore, ReadError, Sink, SinkFailed, Store, StreamSink, Text, put_all};
 pub use rv_fleet::FreeGate;
