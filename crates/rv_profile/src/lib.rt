@@ -1,9 +1,10 @@
 //! Profiles of images by function: the steps in each function itself, the steps including the functions that it called, and how often runs
 //! entered it.
 //!
-//! A table of counts with call trees holds all of this, so no image is read. [`image_past_64_bits`] returns the path of an image whose
-//! steps do not fit in 64 bits, and [`has_stacks`] whether a table has call trees at all. [`profile_text`] formats the functions of images,
-//! those with the most own steps first. The own steps of all functions of an image add up to its steps ([`own_steps_sum_to_all_steps`]).
+//! A table of counts with call trees holds all of this, so no image file is read. [`image_past_64_bits`] returns the path of an image whose
+//! total steps or calls do not fit in 64 bits, and [`has_stacks`] returns whether a table has call trees at all. [`profile_text`] formats
+//! the functions of images, those with the most own steps first. The own steps of all functions of an image add up to its steps
+//! ([`own_steps_sum_to_all_steps`]).
 #![tactic(auto)]
 
 mod columns;
