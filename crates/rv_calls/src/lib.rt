@@ -1,8 +1,8 @@
 //! The calls of a run that have not returned when it ends.
 //!
-//! A job is run once more, one instruction at a time. The effect of each instruction on the stack of calls is the ISA manual's hint for a
-//! return-address stack ([`StackAction`]). [`calls_at_end`] returns the [`Calls`] that are left, and [`push_calls_text`] appends their
-//! line, with the symbols of the job's file.
+//! A job is run once more, one instruction at a time. What each instruction does to the call stack follows the ISA manual's hints for a
+//! return-address stack ([`StackAction`]). [`calls_at_end`] returns the [`Calls`] on the stack at the end, and [`push_calls_text`] appends
+//! their line, with the symbols of the job's file.
 #![tactic(auto)]
 
 mod action;
