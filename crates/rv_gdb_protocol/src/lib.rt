@@ -1,7 +1,8 @@
 //! gdb's remote protocol, as bytes received and bytes to send. Nothing here runs a machine, reads a file or blocks.
 //!
-//! A [`Reader`] takes bytes, however they are split, and returns what it received ([`Incoming`]): bodies with their checksums,
-//! acknowledgements, Ctrl-C. [`push_frame`] frames a body. The other `push_..` functions append the bodies of replies.
+//! A [`Reader`] consumes bytes, in whatever pieces they arrive, and returns what they mean ([`Incoming`]): packets, acknowledgements,
+//! Ctrl-C. [`parse_request`] parses the body of a packet. [`push_frame`] makes a packet of a body, and the other `push_..` functions append
+//! the bodies of replies.
 #![tactic(auto)]
 
 mod arguments;
