@@ -1,8 +1,8 @@
 //! The steps of a run, and a debugger's moves among them, forwards and backwards.
 //!
-//! Runs are deterministic, so the state after any number of steps can be computed again by a run from the start, or by a shorter one from a
-//! stored state. A [`History`] is at a step of a run, and moves to where a search for the next or the previous stop ends: a breakpoint, a
-//! step that triggers a watchpoint ([`Stops`]), or an end of the run. Moves do not change the run.
+//! Runs are deterministic, so the state after any number of steps can be computed again: by a run from the start, or by a shorter one from
+//! a stored state. A [`History`] has a position in a run, and moves to where a search for the next or the previous stop ends: at a
+//! breakpoint, at a step that triggers a watchpoint ([`Stops`]), or at either end of the run. Moves do not change the run.
 #![tactic(auto)]
 
 mod access;
