@@ -1,8 +1,8 @@
-//! A gdb session over a run, as bytes received and bytes to send.
+//! A gdb session that debugs a run, as bytes received and bytes to send.
 //!
-//! A [`Session`] is at a step of a run, and gdb moves it forwards and backwards. It shows registers and memory as they are at that step,
-//! and refuses every write that would change them. It receives one byte at a time. A requested move is made separately, and can be
-//! interrupted. The text about the run's end comes from an [`EndText`].
+//! A [`Session`] has a position in a run, and gdb moves it forwards and backwards. It shows registers and memory as they are at this
+//! position, and refuses every write that would change them. It receives one byte at a time. A requested move is made by a separate call,
+//! and can be interrupted. The text that describes the run's end comes from an [`EndText`].
 #![tactic(auto)]
 
 mod end_text;
