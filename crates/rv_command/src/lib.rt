@@ -1,6 +1,6 @@
-//! What the commands of `rvtest` share: their statuses, why they stop early, and the lists and reports that they read.
+//! What the commands of `rvtest` share: their exit statuses, the reasons why they stop early, and reading lists and reports.
 //!
-//! A [`Stop`] says why a command stopped before its work was done; [`write_stop_message`] reports it and returns the status, 2 or 3.
+//! A [`Stop`] says why a command stopped before its work was done; [`write_stop_message`] reports it and returns the exit status, 2 or 3.
 #![tactic(auto)]
 
 mod files;
