@@ -203,7 +203,7 @@ fn image_path(alloc: Global, root: Option<&str>, image: &str) -> Result<Bytes, A
     Ok(Bytes::new(Vec::from_slice(alloc, path.as_str().as_bytes())?))
 }
 
-// Returns the error that the job at index `index` is refused; its message is the job's result line.
+// // Returns the error for the refused job at index `index`; its message is the result line of the job.
 fn refused_job_stop(alloc: Global, plan: &Plan, unread: &[UnreadablePath], index: usize) -> Stop
     requires { index < length plan.now.jobs }
     ensures { (d : AJob) → IsStop 2 (row_line plan.now unread.now (judge_by_rule Strict)
