@@ -240,7 +240,7 @@ impl<'x, R: Threads + Wait + Sync + Clock, D: Inputs> ListRun<'x, R, D> {
         }
     }
 
-    // Writes the report and the JUnit XML of the rows of a run, and returns the exit status for these rows.
+    // // Writes the report and the JUnit XML of a run's rows, and returns the exit status for these rows.
     fn write_run_files<F: Outputs + Drop, O: Sink + Drop, E: Sink + Drop>(
         &self,
         planned: &PlannedRun<'_>,
