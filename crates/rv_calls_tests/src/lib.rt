@@ -1,4 +1,4 @@
-//! //! Tests of `rv_calls`: small programs whose call frames were determined by hand.
+//! Tests of `rv_calls`: small programs whose call frames were determined by hand.
 #![tactic(auto)]
 
 #[cfg(test)]

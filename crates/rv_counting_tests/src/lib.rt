@@ -1,4 +1,4 @@
-//! //! Tests of `rv_counting`: small programs whose counts were determined by hand, and lists of jobs.
+//! Tests of `rv_counting`: small programs whose counts were determined by hand, and lists of jobs.
 #![tactic(auto)]
 
 #[cfg(test)]

@@ -1,10 +1,10 @@
-//! //! How the packets of gdb and LLDB are parsed as requests, and the replies to malformed ones.
+//! How the packets of gdb and LLDB are parsed as requests, and the replies to malformed ones.
 use rv_gdb_protocol::{Part, TARGET, fixed_reply, parse_request, push_part};
 use samples::{cell_of, check_equal, check_line_count};
 use std::alloc::Global;
 use std::test::Fail;
 
-// // body | the request
+// body | the request
 const ASKED: &str = "\
 qSupported:xmlRegisters=i386,arm,mips,arc;multiprocess+ | Features
 QStartNoAckMode | NoAcknowledgements
@@ -63,7 +63,7 @@ D;1 | Detach
 k | Kill
 ";
 
-// // body | the reply that rejects it; empty if the request is not supported
+// body | the reply that rejects it; empty if the request is not supported
 const REFUSED: &str = "\
  | 
 vMustReplyEmpty | 
@@ -126,7 +126,7 @@ vFile:setfs:1 | F-1,2
 vFile:unlink:2f61 | 
 ";
 
-// // body | the reply, which does not depend on the session
+// body | the reply, which does not depend on the session
 const FIXED: &str = "\
 QStartNoAckMode | OK
 Hg0 | OK
@@ -140,14 +140,14 @@ vFile:setfs:0 | F0
 qSupported | PacketSize=4000;QStartNoAckMode+;ReverseStep+;ReverseContinue+;qXfer:features:read+;qXfer:exec-file:read+
 ";
 
-// // Checks that the body of a line is parsed as the request of the line.
+// Checks that the body of a line is parsed as the request of the line.
 fn check_request(alloc: Global, line: &str) -> Result<(), Fail> {
     let request = parse_request(alloc, cell_of(line, 0).as_bytes())?;
     let told = format!(in alloc; "{request:?}")?;
     check_equal(line, told.as_str(), cell_of(line, 1))
 }
 
-// // Checks that the request with the body of a line has the reply of the line, which does not depend on the session.
+// Checks that the request with the body of a line has the reply of the line, which does not depend on the session.
 fn check_reply(alloc: Global, line: &str) -> Result<(), Fail> {
     let request = parse_request(alloc, cell_of(line, 0).as_bytes())?;
     check_equal(
@@ -167,7 +167,7 @@ fn packets_are_parsed(rt: HostRuntime) -> Result<(), Fail> {
     Ok(())
 }
 
-// // Malformed packets and unsupported requests have the expected replies.
+// Malformed packets and unsupported requests have the expected replies.
 #[test]
 fn malformed_packets_are_rejected(rt: HostRuntime) -> Result<(), Fail> {
     check_line_count(REFUSED, 59)?;
@@ -177,7 +177,7 @@ fn malformed_packets_are_rejected(rt: HostRuntime) -> Result<(), Fail> {
     Ok(())
 }
 
-// // Requests whose reply does not depend on the session have the expected replies.
+// Requests whose reply does not depend on the session have the expected replies.
 #[test]
 fn common_replies_are_expected(rt: HostRuntime) -> Result<(), Fail> {
     check_line_count(FIXED, 10)?;
@@ -187,7 +187,7 @@ fn common_replies_are_expected(rt: HostRuntime) -> Result<(), Fail> {
     Ok(())
 }
 
-// // The target description, requested part by part, each part from the end of the one before, is complete.
+// The target description, requested part by part, each part from the end of the one before, is complete.
 #[test]
 fn parts_make_up_the_description(rt: HostRuntime) -> Result<(), Fail> {
     let mut whole = Vec::new(rt.alloc());

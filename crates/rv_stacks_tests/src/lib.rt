@@ -1,4 +1,4 @@
-//! //! Tests of `rv_stacks`: small programs whose call trees were determined by hand.
+//! Tests of `rv_stacks`: small programs whose call trees were determined by hand.
 #![tactic(auto)]
 
 #[cfg(test)]

@@ -1,11 +1,11 @@
-//! //! Failed writes, each in turn, failed reads of the input, and a failed write to standard error.
+//! Failed writes, each in turn, failed reads of the input, and a failed write to standard error.
 
 use crate::cases::check;
 use std::test::Fail;
 
-// // One write of a report fails: arguments | a key of the first job | the maximum number of bytes per write | how many writes succeed
-// before | their number of bytes. With one worker and with four, each of 405 writes of one byte fails in turn, or the only write if it
-// accepts all rows.
+// One write of a report fails: arguments | a key of the first job | the maximum number of bytes per write | how many writes succeed before
+// | their number of bytes. With one worker and with four, each of 405 writes of one byte fails in turn, or the only write if it accepts all
+// rows.
 const CUT_REPORTS: &str = "\
 4|0|rvfleet $0|
 [[job]]
@@ -80,8 +80,8 @@ run jobs --workers 1 | expect_exit = 5 | 1000000 | 0 | 0
 run jobs --workers 4 --group 2 | expect_exit = 5 | 1000000 | 0 | 0
 ";
 
-// // A flat image that sets x10 to 5 and exits, from a reader that returns one byte per read: label | the maximum number of bytes per write
-// | the number of writes. The report has 71 bytes.
+// A flat image that sets x10 to 5 and exits, from a reader that returns one byte per read: label | the maximum number of bytes per write |
+// the number of writes. The report has 71 bytes.
 const RAW_PUTS: &str = "\
 2|0|rvfleet raw --budget 3|||read_most=1 $1|00500513 X
 ====
@@ -91,7 +91,7 @@ in one put | | 1
 a byte a put | put_most=1 | 71
 ";
 
-// // Writes of ten bytes, one of which fails: label | what fails | how many succeed before | their number of bytes
+// Writes of ten bytes, one of which fails: label | what fails | how many succeed before | their number of bytes
 const CUT_PUTS: &str = "\
 1|0|rvfleet raw --budget 3|||read_most=1 $1|00500513 X
 ====
@@ -101,7 +101,7 @@ none/done 1/
 8 rows: ten bytes a put | put_most=10 puts=% | % | %0
 ";
 
-// // The bytes of a reader that returns one byte per read, and fails after the last one. Nothing is written.
+// The bytes of a reader that returns one byte per read, and fails after the last one. Nothing is written.
 const BROKEN_OFF: &str = "\
 14|0|rvfleet raw --budget 3|||read_most=1 read_fails|$_
 ====
@@ -123,7 +123,7 @@ const BROKEN_OFF: &str = "\
 00500513
 ";
 
-// // At most one byte more than an image may have is read: the number of bytes of the input | how many are left
+// At most one byte more than an image may have is read: the number of bytes of the input | how many are left
 const LEFT_INPUT: &str = "\
 1|0|rvfleet raw --budget 3||||$0
 ====
@@ -132,7 +132,7 @@ const LEFT_INPUT: &str = "\
 01*1048580 | 3
 ";
 
-// // The line on standard error cannot be written: arguments | the status | the number of files that are not found, and the paths that are
+// The line on standard error cannot be written: arguments | the status | the number of files that are not found, and the paths that are
 // read
 const UNTOLD: &str = "\
 2|0|rvfleet $0||jobs = missing|line=0

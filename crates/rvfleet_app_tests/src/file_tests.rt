@@ -1,4 +1,4 @@
-//! //! Reading files of the file system.
+//! Reading files of the file system.
 
 use crate::testing::output_with_store;
 use rvfleet_app::{FileStore, ReadError, Store};
@@ -27,7 +27,7 @@ fn runs_a_file(rt: HostRuntime) -> Result<(), Fail> {
     check_equal(line, told.as_str(), IMAGE_REPORT)
 }
 
-// // Reads the file at a path. Returns as text whether it has these bytes, or why it was not read.
+// Reads the file at a path. Returns as text whether it has these bytes, or why it was not read.
 fn actual_output(rt: &HostRuntime, path: &str, bytes: &[u8]) -> &'static str {
     let mut store = FileStore::new(rt);
     match store.read(rt.alloc(), path) {
@@ -39,7 +39,7 @@ fn actual_output(rt: &HostRuntime, path: &str, bytes: &[u8]) -> &'static str {
     }
 }
 
-// // The path | the bytes of the file | the result of reading it. The files have no bytes, the maximum number, and one more; a UTF-8 byte
+// The path | the bytes of the file | the result of reading it. The files have no bytes, the maximum number, and one more; a UTF-8 byte
 // order mark; some pages of bytes and one byte more; and a path with spaces.
 const FILES: &str = "\
 zeros.bin| | these bytes
@@ -51,7 +51,7 @@ pages.bin| 01 02 03 5a*8190 | these bytes
  spaced | 01 02 03 | these bytes
 ";
 
-// // Writes the file of a line, checks that reading it has the result of the line, removes the file, and checks that it is then not found.
+// Writes the file of a line, checks that reading it has the result of the line, removes the file, and checks that it is then not found.
 fn check_file_row(rt: &HostRuntime, line: &str) -> Result<(), Fail> {
     let path = line.split('|').next().unwrap_or("");
     let bytes = numbers(rt.alloc(), cell_of(line, 1))?;
@@ -61,7 +61,7 @@ fn check_file_row(rt: &HostRuntime, line: &str) -> Result<(), Fail> {
     check_equal(line, actual_output(rt, path, &bytes), "unreadable")
 }
 
-// // Reading a file returns its bytes, or the reason why it cannot be read.
+// Reading a file returns its bytes, or the reason why it cannot be read.
 #[test]
 fn reads_files(rt: HostRuntime) -> Result<(), Fail> {
     for line in FILES.lines() {

@@ -1,5 +1,5 @@
-//! //! Tests of the program with stores, readers and sinks in memory, and with files. They have a crate of their own, so that no code of
-//! the program is proved twice.
+//! Tests of the program with stores, readers and sinks in memory, and with files. They have a crate of their own, so that no code of the
+//! program is proved twice.
 #![tactic(auto)]
 
 #[cfg(test)]

@@ -1,9 +1,9 @@
-//! //! The longest inputs, tested with the whole program: memory does not run out.
+//! The longest inputs, tested with the whole program: memory does not run out.
 
 use crate::cases::check;
 use std::test::Fail;
 
-// // A comment followed by a list of one job, with the maximum number of bytes of a list and with one more: the length of the comment | the
+// A comment followed by a list of one job, with the maximum number of bytes of a list and with one more: the length of the comment | the
 // output
 const COMMENTS: &str = "\
 2|end|rvfleet run jobs| + $0 times # + /[[job]]/name = 'a'/image = 'a.elf'/budget = 3/|a.elf = one
@@ -14,7 +14,7 @@ $1
 16777170 | 3 rvfleet: list too long
 ";
 
-/// /// A text that is not a list, with the maximum number of bytes of a list: its length | the error
+/// A text that is not a list, with the maximum number of bytes of a list: its length | the error
 const NO_LIST: &str = "\
 1|1|rvfleet run jobs| + $0 times x
 ====
@@ -23,7 +23,7 @@ const NO_LIST: &str = "\
 16777216 | job 0: not-toml
 ";
 
-// // The image leaves its signature of 65,536 words 0, and the golden signature has a line for each word. Its path, which is short or the
+// The image leaves its signature of 65,536 words 0, and the golden signature has a line for each word. Its path, which is short or the
 // longest, is a text repeated: how often | the text
 const LONGEST_SIGNATURE: &str = "\
 2|signature verdict|rvfleet run jobs|[[job]]/name = 'a'/image = 'long.elf'/budget = 100/$S/expect_signature = ' + $0 \
@@ -45,7 +45,7 @@ const REGIONS: &str = "\
 17 | job 1: region
 ";
 
-// // The maximum number of jobs in a list, each with its own image and golden signature; the golden signature of the last job is wrong. The
+// The maximum number of jobs in a list, each with its own image and golden signature; the golden signature of the last job is wrong. The
 // row is the number of jobs before it.
 const PATHS: &str = "\
 1|reads verdict|rvfleet run jobs --workers 4 --group 7| + \
@@ -60,7 +60,7 @@ $0 times  pass +  fail done 4096
 4095
 ";
 
-// // The longest inputs are accepted and longer ones are rejected, and memory does not run out.
+// The longest inputs are accepted and longer ones are rejected, and memory does not run out.
 #[test]
 fn accepts_the_longest_inputs(rt: HostRuntime) -> Result<(), Fail> {
     check(

@@ -49,19 +49,19 @@ use std::alloc::{AllocError, Global};
 use std::sync::Wait;
 use std::thread::Threads;
 
-// // The job list of an `accept` command: its text, its jobs, and which of them are chosen.
+// The job list of an `accept` command: its text, its jobs, and which of them are chosen.
 #[derive(Drop)]
 struct ChosenList {
     text: Vec<u8>,
     jobs: JobList,
-    // // Whether each job is chosen; `None` if the command does nothing, because `--failed` was given and no job failed.
+    // Whether each job is chosen; `None` if the command does nothing, because `--failed` was given and no job failed.
     chosen: Option<Vec<bool>>,
-    // // The notes about the choice, which go to standard error.
+    // The notes about the choice, which go to standard error.
     notes: Vec<u8>,
     ghost same_length: { ForSome chosen (λ selection. length selection.items ≡ length jobs) },
 }
 
-// // The jobs of a list without their expectations, and whether each of them is to run.
+// The jobs of a list without their expectations, and whether each of them is to run.
 #[derive(Drop)]
 struct BareJobs {
     jobs: JobList,
@@ -69,7 +69,7 @@ struct BareJobs {
     ghost same_length: { length selection.items ≡ length jobs },
 }
 
-// // What `accept` changes: the text that each run has for a golden file, the golden files, and the new list.
+// What `accept` changes: the text that each run has for a golden file, the golden files, and the new list.
 #[derive(Drop)]
 struct AcceptChanges {
     golden_texts: Vec<GoldenText>,
@@ -77,7 +77,7 @@ struct AcceptChanges {
     new: NewList,
 }
 
-/// /// Runs jobs without their expectations and makes their actual results the expected ones: reports what changes, and unless `--check` is
+/// Runs jobs without their expectations and makes their actual results the expected ones: reports what changes, and unless `--check` is
 /// given, writes the golden files and the list. The status is 1 if a job or file is skipped or if `--check` is given and a file would
 /// change; otherwise it is 0.
 pub(crate) fn accept_runs<
@@ -94,10 +94,10 @@ pub(crate) fn accept_runs<
     ensures status_bound { IfOk result (λ status. status ≤ 1) }
     ensures accepted { IfOk result (λ status. IsAcceptedAt (D.contents host.now.inputs.now) args.now status
         (outputs_of F.committed O.accepted E.accepted E.failure_count destinations.old) (outputs_of F.committed O.accepted E.accepted E.failure_count destinations.new)) }
-    // // With `--check`, no file is opened for writing, not even after an error.
+    // With `--check`, no file is opened for writing, not even after an error.
     ensures check_writes_nothing { args.now.check ≡ true → destinations.new.files ≡ destinations.old.files }
     ensures stopped { IfErr result (IsAcceptStop (D.contents host.now.inputs.now) args.now) }
-    // // No input is overwritten, except the list and the golden files, which `accept` updates.
+    // No input is overwritten, except the list and the golden files, which `accept` updates.
     ensures inputs_preserved { AreAcceptInputsPreserved (D.contents host.now.inputs.now) args.now (F.committed destinations.old.files) (F.committed destinations.new.files) }
 {
     let list = chosen_list(host, args)?;
@@ -108,7 +108,7 @@ pub(crate) fn accept_runs<
     }
 }
 
-// // Runs the chosen jobs and the jobs that they are compared with, and accepts the results of the chosen ones. Returns the exit status.
+// Runs the chosen jobs and the jobs that they are compared with, and accepts the results of the chosen ones. Returns the exit status.
 fn accept_chosen<
     R: Threads + Wait + Sync,
     D: Inputs,
@@ -146,8 +146,8 @@ fn accept_chosen<
     write_accepted(host, args, &list, &changes, destinations)
 }
 
-// // Returns the jobs to run, without their expectations, after writing the warnings about golden files outside of the directory. Returns
-// an error if a file that `accept` would write is one of its inputs, or is outside of the directory without `--outside`.
+// Returns the jobs to run, without their expectations, after writing the warnings about golden files outside of the directory. Returns an
+// error if a file that `accept` would write is one of its inputs, or is outside of the directory without `--outside`.
 fn checked_jobs<R, D, F: Outputs + Drop, O: Sink + Drop, E: Sink + Drop>(
     host: &Host<'_, R, D>,
     args: &AcceptArgs<'_>,
@@ -173,8 +173,8 @@ fn checked_jobs<R, D, F: Outputs + Drop, O: Sink + Drop, E: Sink + Drop>(
     Ok(selected)
 }
 
-// // Returns the run of each job with the decision to accept or to skip it, which follows from the verdict on its row; `None` for a job
-// that did not run.
+// Returns the run of each job with the decision to accept or to skip it, which follows from the verdict on its row; `None` for a job that
+// did not run.
 fn judge_rows<R, D: Inputs>(
     host: &Host<'_, R, D>,
     args: &AcceptArgs<'_>,
@@ -207,7 +207,7 @@ fn acceptance_of(ends: bool) -> Acceptance
     }
 }
 
-// // Reads the list at the path in the arguments, and returns it with the chosen jobs and the notes about the choice.
+// Reads the list at the path in the arguments, and returns it with the chosen jobs and the notes about the choice.
 fn chosen_list<R, D: Inputs>(
     host: &Host<'_, R, D>,
     args: &AcceptArgs<'_>,
@@ -237,7 +237,7 @@ fn chosen_list<R, D: Inputs>(
     })
 }
 
-// // Returns the jobs of a list without their expectations. Selected to run are the chosen jobs and the jobs that they are compared with.
+// Returns the jobs of a list without their expectations. Selected to run are the chosen jobs and the jobs that they are compared with.
 fn selected_jobs(alloc: Global, list: &ChosenList, chosen: &[bool]) -> Result<BareJobs, AllocError>
     requires { length chosen.now ≡ length list.now.jobs }
     ensures jobs { IfOk result (λ selected. selected.jobs ≡ map without_expectations list.now.jobs) }
@@ -249,7 +249,7 @@ fn selected_jobs(alloc: Global, list: &ChosenList, chosen: &[bool]) -> Result<Ba
     Ok(BareJobs { jobs, selection })
 }
 
-// // Runs the selected jobs, and returns one entry per job: its row, or `None` for a job that is not selected.
+// Runs the selected jobs, and returns one entry per job: its row, or `None` for a job that is not selected.
 fn run_selected<
     R: Threads + Wait + Sync,
     D: Inputs,
@@ -288,7 +288,7 @@ fn run_selected<
     }
 }
 
-// // Returns the golden files, with their current and new contents, and the new list, as they are if the runs are accepted.
+// Returns the golden files, with their current and new contents, and the new list, as they are if the runs are accepted.
 fn changes_of_runs<R, D: Inputs>(
     host: &Host<'_, R, D>,
     args: &AcceptArgs<'_>,

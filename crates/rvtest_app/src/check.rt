@@ -20,7 +20,7 @@ use rv_rows::{Plan, gather, read_faults};
 use rvtest_cli::CheckArgs;
 use std::alloc::{AllocError, Global};
 
-/// /// Checks a list and the files of its jobs without running any job, and returns a report of all errors. The status is 2 if there is an
+/// Checks a list and the files of its jobs without running any job, and returns a report of all errors. The status is 2 if there is an
 /// error, and otherwise 0.
 pub(crate) fn check_list<D: Inputs>(
     inputs: &D,
@@ -36,7 +36,7 @@ pub(crate) fn check_list<D: Inputs>(
     check_list_text(inputs, alloc, args, text.as_slice())
 }
 
-// // Returns the report about the text of a list: its errors or, if it has none, the refused jobs and warnings.
+// Returns the report about the text of a list: its errors or, if it has none, the refused jobs and warnings.
 fn check_list_text<D: Inputs>(
     inputs: &D,
     alloc: Global,
@@ -80,7 +80,7 @@ fn check_files<D: Inputs>(
     check_plan(alloc, args, text, &plan, store.unreadable_paths())
 }
 
-// // Returns the report about a list without errors, given its plan and the files that could not be read.
+// Returns the report about a list without errors, given its plan and the files that could not be read.
 #[tactic(auto, unfolding(crate::specs::CheckText::check_text))]
 fn check_plan(
     alloc: Global,

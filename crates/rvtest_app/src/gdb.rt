@@ -41,9 +41,9 @@ struct JobSession {
     ghost same_run: { job_start_state job.plan job.index ≡ session.history.start } by { Coded-set state_code (job_start_state job.plan job.index) session.history.start },
 }
 
-/// /// Debugs the run of the job with the requested name. Reads gdb's packets from `input` and writes the replies to standard output, until
-/// gdb ends the session or its input ends. A command of gdb that runs the job is interrupted only by Ctrl-C or the end of the input. The
-/// status is 0. It is an error if standard output is a terminal.
+/// Debugs the run of the job with the requested name. Reads gdb's packets from `input` and writes the replies to standard output, until gdb
+/// ends the session or its input ends. A command of gdb that runs the job is interrupted only by Ctrl-C or the end of the input. The status
+/// is 0. It is an error if standard output is a terminal.
 pub(crate) fn show_job_to_gdb<
     R: Threads,
     D: Inputs,
@@ -93,7 +93,7 @@ fn limit_memory(alloc: Global, session: &mut Session, megabytes: Option<u32>)
     }
 }
 
-// // Returns the error for a terminal as standard output, which shows how gdb starts the command.
+// Returns the error for a terminal as standard output, which shows how gdb starts the command.
 fn no_gdb_stop(alloc: Global) -> Stop
     ensures { IsNoGdbStop result }
 {
@@ -115,7 +115,7 @@ fn session_error_stop(alloc: Global, error: SessionError) -> Stop
     }
 }
 
-// // Opens a session for the job with the requested name.
+// Opens a session for the job with the requested name.
 fn session_of_named_job<D: Inputs>(
     inputs: &D,
     alloc: Global,
@@ -129,7 +129,7 @@ fn session_of_named_job<D: Inputs>(
     session_of_text(inputs, alloc, args, text.as_slice())
 }
 
-// // Opens a session for the job with the requested name of the list with this text.
+// Opens a session for the job with the requested name of the list with this text.
 fn session_of_text<D: Inputs>(
     inputs: &D,
     alloc: Global,
@@ -145,7 +145,7 @@ fn session_of_text<D: Inputs>(
     session_of_job(inputs, alloc, args, named)
 }
 
-// // Opens a session for the job that was found in the list. Returns an error if the job is refused.
+// Opens a session for the job that was found in the list. Returns an error if the job is refused.
 fn session_of_job<D: Inputs>(
     inputs: &D,
     alloc: Global,
@@ -177,7 +177,7 @@ fn session_of_job<D: Inputs>(
     }
 }
 
-// // Opens a session for the job at index `index` of a plan, with its image's path resolved against `root`. Returns `None` if the job is
+// Opens a session for the job at index `index` of a plan, with its image's path resolved against `root`. Returns `None` if the job is
 // refused.
 fn session_of_plan(
     alloc: Global,
@@ -203,7 +203,7 @@ fn image_path(alloc: Global, root: Option<&str>, image: &str) -> Result<Bytes, A
     Ok(Bytes::new(Vec::from_slice(alloc, path.as_str().as_bytes())?))
 }
 
-// // Returns the error for the refused job at index `index`; its message is the result line of the job.
+// Returns the error for the refused job at index `index`; its message is the result line of the job.
 fn refused_job_stop(alloc: Global, plan: &Plan, unread: &[UnreadablePath], index: usize) -> Stop
     requires { index < length plan.now.jobs }
     ensures { (d : AJob) → IsStop 2 (row_line plan.now unread.now (judge_by_rule Strict)

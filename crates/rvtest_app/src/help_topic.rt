@@ -1,4 +1,4 @@
-//! //! What `help` prints for a topic that is not a command.
+//! What `help` prints for a topic that is not a command.
 
 ghost use Rattle.std.specs.Prelude.{◌≡◌, IfErr, IfOk};
 ghost use Rattle.rv_command.specs.Stops.{IsStop};
@@ -24,14 +24,14 @@ pub(crate) fn topic_help(alloc: Global, args: HelpArgs<'_>) -> Result<CommandRes
     Ok(CommandResult { text, status: DONE })
 }
 
-// // Returns the error for an unknown topic.
+// Returns the error for an unknown topic.
 fn no_topic_stop(alloc: Global, topic: &str) -> Stop
     ensures { IsStop 2 (no_topic_message topic.now) result }
 {
     Stop::rejection(no_topic_message(alloc, topic))
 }
 
-// // Returns the message for an unknown topic.
+// Returns the message for an unknown topic.
 fn no_topic_message(alloc: Global, topic: &str) -> Result<Vec<u8>, AllocError>
     ensures { IfOk result (λ message. message.items ≡ no_topic_message topic.now) }
 {

@@ -1,4 +1,4 @@
-//! //! The file of known failures.
+//! The file of known failures.
 
 ghost use Rattle.std.specs.Prelude.{◌≡◌, ◌++◌, IfErr, IfOk, OnOk};
 ghost use Rattle.rv_command.specs.Texts.{optional_text};
@@ -15,8 +15,7 @@ use rv_rows::Job;
 use rvtest_cli::RunArgs;
 use std::alloc::{AllocError, Global};
 
-/// /// Reads the file of known failures that `--known` names, and returns which jobs of the list are known to fail; `None` without this
-/// option.
+/// Reads the file of known failures that `--known` names, and returns which jobs of the list are known to fail; `None` without this option.
 pub(crate) fn requested_known_jobs<D: Inputs>(
     inputs: &D,
     alloc: Global,
@@ -32,7 +31,7 @@ pub(crate) fn requested_known_jobs<D: Inputs>(
     }
 }
 
-// // Reads the file of known failures at `path`, and returns which of the jobs it names; `list_path` is the path of the job list, for
+// Reads the file of known failures at `path`, and returns which of the jobs it names; `list_path` is the path of the job list, for
 // messages.
 fn read_known_file<D: Inputs>(
     inputs: &D,

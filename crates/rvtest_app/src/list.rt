@@ -18,14 +18,14 @@ use rv_rows::{Job, selected_indices};
 use rvtest_cli::{ChoosingCommand, RunArgs};
 use std::alloc::{AllocError, Global};
 
-// // The names of the chosen jobs, one per line, and the notes about the choice.
+// The names of the chosen jobs, one per line, and the notes about the choice.
 #[derive(Drop)]
 struct ListedJobs {
     names: Vec<u8>,
     notes: Vec<u8>,
 }
 
-/// /// Writes the notes about the choice to standard error, and the names of the jobs that a run with these arguments would run to standard
+/// Writes the notes about the choice to standard error, and the names of the jobs that a run with these arguments would run to standard
 /// output. The status is 0.
 pub(crate) fn list_chosen_jobs<D: Inputs, F: Outputs + Drop, O: Sink + Drop, E: Sink + Drop>(
     inputs: &D,

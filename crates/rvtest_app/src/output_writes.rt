@@ -1,4 +1,4 @@
-//! //! Writing what a command shows, and its report and JUnit XML.
+//! Writing what a command shows, and its report and JUnit XML.
 
 ghost use Rattle.std.specs.Prelude.{◌≡◌, ◌++◌, [], ℕ, List, Option, IfErr, OnErr, OnOk, Some};
 ghost use Rattle.std.specs.Io.KnownBytes.{Appends};
@@ -20,7 +20,7 @@ use rv_junit::Cases;
 use rv_rows::RowReporter;
 use std::alloc::Global;
 
-/// /// Writes the text that a command shows to standard error if `to_stderr` is true, and otherwise to standard output.
+/// Writes the text that a command shows to standard error if `to_stderr` is true, and otherwise to standard output.
 pub(crate) fn write_shown<F: Outputs + Drop, O: Sink + Drop, E: Sink + Drop>(
     destinations: &mut Destinations<F, O, E>,
     text: &[u8],
@@ -38,7 +38,7 @@ pub(crate) fn write_shown<F: Outputs + Drop, O: Sink + Drop, E: Sink + Drop>(
     write_results(&mut destinations.out, text)
 }
 
-/// /// Writes the report and the JUnit XML to their outlets, and then moves the files to their paths, the JUnit file first. After an error
+/// Writes the report and the JUnit XML to their outlets, and then moves the files to their paths, the JUnit file first. After an error
 /// neither file appears at its path, except the JUnit file if only moving the report failed.
 pub(crate) fn put_files<F: Outputs + Drop, O: Sink + Drop, E: Sink + Drop, T: RowReporter>(
     alloc: Global,

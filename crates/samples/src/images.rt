@@ -23,7 +23,7 @@ pub(crate) const TWO_SEGMENTS: [u8; 136] = [
     0x73, 0x00, 0x00, 0x00, 0x2a, 0x00, 0x00, 0x00,
 ];
 
-/// /// An image that stores two words between its symbols `begin_signature` and `end_signature`.
+/// An image that stores two words between its symbols `begin_signature` and `end_signature`.
 pub(crate) const SIGNATURE: &str = "\
 7f454c46 01010100 00000000 00000000 0200f300 01000000 00000080 34000000 d4000000 00000000 \
 34002000 01002800 03000000 01000000 54000000 00000080 00000080 30000000 30000000 07000000 \
@@ -108,7 +108,7 @@ c8000000 00000000 00000000 04000000 00000000 21000000 01000000 03000000 00000880
 7d000000 00000000 00000000 01000000 00000000 11000000 03000000 00000000 00000000 65030000 \
 47000000 00000000 00000000 01000000 00000000";
 
-/// /// The file `upper.elf` after `riscv64-unknown-elf-strip`, which removes its symbols; `checks/images.py` reads it.
+/// The file `upper.elf` after `riscv64-unknown-elf-strip`, which removes its symbols; `checks/images.py` reads it.
 pub const UPPER_STRIPPED: &str = "\
 7f454c46 01010100 00000000 00000000 0200f300 01000000 00000080 34000000 ec010000 01000000 \
 34002000 03002800 07000600 03000070 60010000 00000000 00000000 2f000000 00000000 04000000 \
