@@ -84,8 +84,8 @@ fn push_responses_of_both(
     Ok(())
 }
 
-// Makes one pass of two, as `end` says: joins them (`join`), merges what they drew and joins them (`meet, join`), or merges what they drew
-// and drops the second.
+// Makes one pass of two, as `end` says: joins them (`join`), calls `meet`, which changes neither, and joins them (`meet, join`), or calls
+// `meet` and drops the second.
 fn one_pass_of(claims: &Claims, first: Pass, second: Pass, end: &str) -> Pass
     requires first { first.draw ≡ claims.now }
     requires second { second.draw ≡ claims.now }
